@@ -1,0 +1,363 @@
+-- The width rule: what its list test and its nearest standard are as facts, how a loop finds them, and that a fitted width is within 16 of the width.
+use mathlib.Core.Path.{_≡_, refl, sym, ap, subst, _∙_}
+use mathlib.Core.Bool.{Bool, true, false, cond, _&&_, _||_, and-false}
+use mathlib.Core.List.{List, [], _∷_}
+use mathlib.Core.Logic.{⊎-elim}
+use Prim.Native.Nat.{ℕ, zero, suc, _+_, _-_, _≤_, _<_}
+use native.Mathlib.Nat.{le-of-suc-le-suc}
+use native.Mathlib.Numerals.{add-one}
+use native.Mathlib.Omega.{arith}
+use lib.Dec.{T, ltb, leb, eqb}
+use borrow.Author.Tests.{ltb-true, ltb-false, leb-true, leb-false, eqb-true, lt-ltb, le-ltb, le-leb, lt-leb, eq-eqb, ne-eqb}
+use lib.ListN.{length, getD, drop, drop-of-length-le}
+use lib.Seq.{drop-cons}
+use lib.IntN.{ℤ, pos, negsuc, negℤ, natAbs, _-ℤ_}
+use lib.Signed.{ltZ, leZ, _≤ℤ_, _<ℤ_}
+use Rattle.signed.specs.Parts.{up, dn}
+use Rattle.signed.proofs.Signed.{signed, same, natAbs-is, one-zero, sub-law, up-neg, dn-neg, is-≤ℤ, is-<ℤ, to-≤ℤ, to-<ℤ, to-≡, to-lt-true, to-lt-false, to-le-true, to-le-false, lt-or-le}
+use Rattle.fixed.specs.Width.{risesFrom, standardsHold, ruleHolds, Standards, away, noBetter, isNearest, standardThat, nearest, Nearest, withSign, settled, snapped, fittedWidth}
+use Rattle.fixed.specs.declared.width.WidthRule.{WidthRule}
+use Rattle.fixed.specs.declared.width.WidthRule.the-variants.{Keep, Snap}
+
+-- ---- tests joined
+never : {A : Type 0} → false ≡ true → A
+never e = absurd (subst T (sym e) tt)
+
+and-both : (a b : Bool) → (a && b) ≡ true → (a ≡ true) × (b ≡ true)
+and-both true b e = (refl, e)
+and-both false b e = never e
+
+and-of : (a b : Bool) → a ≡ true → b ≡ true → (a && b) ≡ true
+and-of true b e f = f
+and-of false b e f = never e
+
+abbrev at : List ℤ → ℕ → ℤ
+at xs i = getD xs i (pos 0)
+
+-- ---- the list's own rule, as facts
+record Rises (b x : ℤ) (xs : List ℤ) : Type 0 where
+  above : b <ℤ x
+  most : x ≤ℤ pos 16383
+  rest : risesFrom x xs ≡ true
+
+rises-cons : (b x : ℤ) (xs : List ℤ) → risesFrom b (x ∷ xs) ≡ true → Rises b x xs
+unfolding risesFrom
+rises-cons b x xs e =
+    let l = and-both (ltZ b x) (leZ x (pos 16383) && risesFrom x xs) e in
+    let k = and-both (leZ x (pos 16383)) (risesFrom x xs) (l .1) in
+    record { above = is-<ℤ b x (l .0); most = is-≤ℤ x (pos 16383) (k .0); rest = k .1 }
+
+rises-above : (b : ℤ) (xs : List ℤ) → risesFrom b xs ≡ true → (i : ℕ) → i < length xs → b <ℤ at xs i
+rises-above b [] e i h = absurd (omega arith)
+rises-above b (x ∷ xs) e zero h = rises-cons b x xs e .above
+rises-above b (x ∷ xs) e (suc i) h =
+    let r = rises-cons b x xs e in
+    let k = rises-above x xs (r .rest) i (le-of-suc-le-suc h) in
+    omega (arith, signed)
+
+rises-most : (b : ℤ) (xs : List ℤ) → risesFrom b xs ≡ true → (i : ℕ) → i < length xs → at xs i ≤ℤ pos 16383
+rises-most b [] e i h = absurd (omega arith)
+rises-most b (x ∷ xs) e zero h = rises-cons b x xs e .most
+rises-most b (x ∷ xs) e (suc i) h = rises-most x xs (rises-cons b x xs e .rest) i (le-of-suc-le-suc h)
+
+rises-pairs : (b : ℤ) (xs : List ℤ) → risesFrom b xs ≡ true → (i j : ℕ) → i < j → j < length xs → at xs i <ℤ at xs j
+rises-pairs b [] e i j l h = absurd (omega arith)
+rises-pairs b (x ∷ xs) e i zero l h = absurd (omega arith)
+rises-pairs b (x ∷ xs) e zero (suc j) l h = rises-above x xs (rises-cons b x xs e .rest) j (le-of-suc-le-suc h)
+rises-pairs b (x ∷ xs) e (suc i) (suc j) l h = rises-pairs x xs (rises-cons b x xs e .rest) i j (le-of-suc-le-suc l) (le-of-suc-le-suc h)
+
+-- a list that passes the test keeps the rule
+pub holds-is : (xs : List ℤ) → standardsHold xs ≡ true → Standards xs
+unfolding standardsHold
+holds-is xs e =
+    let l = and-both (leb (length xs) 16) (risesFrom (pos 0) xs) e in
+    record {
+      few = leb-true (length xs) 16 (l .0);
+      least = λ i h. let k = rises-above (pos 0) xs (l .1) i h in omega (arith, signed);
+      most = rises-most (pos 0) xs (l .1);
+      rising = rises-pairs (pos 0) xs (l .1);
+    }
+
+rises-from : (b : ℤ) (xs : List ℤ) → ((i : ℕ) → i < length xs → b <ℤ at xs i) → ((i : ℕ) → i < length xs → at xs i ≤ℤ pos 16383) → ((i j : ℕ) → i < j → j < length xs → at xs i <ℤ at xs j) → risesFrom b xs ≡ true
+unfolding risesFrom
+rises-from b [] l m r = refl
+rises-from b (x ∷ xs) l m r =
+    let p = l 0 (omega arith) in
+    let q = m 0 (omega arith) in
+    and-of (ltZ b x) (leZ x (pos 16383) && risesFrom x xs) (to-lt-true b x (omega (arith, signed)))
+    (and-of (leZ x (pos 16383)) (risesFrom x xs) (to-le-true x (pos 16383) (omega (arith, signed)))
+    (rises-from x xs (λ i h. r 0 (suc i) (omega arith) (omega (arith, h))) (λ i h. m (suc i) (omega (arith, h)))
+    (λ i j h k. r (suc i) (suc j) (omega (arith, h)) (omega (arith, k)))))
+
+-- and one that keeps the rule passes the test
+pub is-holds : (xs : List ℤ) → Standards xs → standardsHold xs ≡ true
+unfolding standardsHold
+is-holds xs s =
+    and-of (leb (length xs) 16) (risesFrom (pos 0) xs) (le-leb (length xs) 16 (s .few))
+    (rises-from (pos 0) xs (λ i h. let k = s .least i h in omega (arith, signed)) (s .most) (s .rising))
+
+-- ---- the test, standard by standard
+pub holds-long : (xs : List ℤ) → 16 < length xs → standardsHold xs ≡ false
+unfolding standardsHold
+holds-long xs h = rw (lt-leb (length xs) 16 h)
+
+pub holds-start : (xs : List ℤ) → length xs ≤ 16 → standardsHold xs ≡ risesFrom (pos 0) xs
+unfolding standardsHold
+holds-start xs h = rw (le-leb (length xs) 16 h)
+
+module _ (b : ℤ) (xs : List ℤ) (i : ℕ) (inside : i < length xs) where
+  step : risesFrom b (drop i xs) ≡ (ltZ b (at xs i) && (leZ (at xs i) (pos 16383) && risesFrom (at xs i) (drop (i + 1) xs)))
+  unfolding risesFrom
+  step = rw (add-one, drop-cons xs i (pos 0) inside)
+
+  pub rises-not-above : up (at xs i) + dn b ≤ up b + dn (at xs i) → risesFrom b (drop i xs) ≡ false
+  rises-not-above h = rw (step, to-lt-false b (at xs i) h)
+
+  pub rises-too-large : 16383 + dn (at xs i) < up (at xs i) → risesFrom b (drop i xs) ≡ false
+  rises-too-large h = rw (step, to-le-false (at xs i) (pos 16383) (omega arith), and-false)
+
+  pub rises-on : up b + dn (at xs i) < up (at xs i) + dn b → up (at xs i) ≤ 16383 + dn (at xs i) → risesFrom b (drop i xs) ≡ risesFrom (at xs i) (drop (i + 1) xs)
+  rises-on h l = rw (step, to-lt-true b (at xs i) h, to-le-true (at xs i) (pos 16383) (omega arith))
+
+pub rises-end : (b : ℤ) (xs : List ℤ) (i : ℕ) → length xs ≤ i → risesFrom b (drop i xs) ≡ true
+unfolding risesFrom
+rises-end b xs i h = rw (drop-of-length-le xs {i = i} h)
+
+-- ---- the nearest of the first n standards, by its place
+pub record NearestOf (n : ℕ) (xs : List ℤ) (m place : ℕ) : Type 0 where
+  pub inside : place < n
+  pub none-nearer : (i : ℕ) → i < n → away m (at xs place) ≤ away m (at xs i)
+  pub smaller-on-a-tie : (i : ℕ) → i < n → away m (at xs place) ≡ away m (at xs i) → at xs place ≤ℤ at xs i
+
+pub nearest-first : (xs : List ℤ) (m : ℕ) → NearestOf 1 xs m 0
+nearest-first xs m = record {
+  inside = omega arith;
+  none-nearer = λ i h. by i h;
+  smaller-on-a-tie = λ i h e. by-tie i h;
+}
+  where
+    by : (i : ℕ) → i < 1 → away m (at xs 0) ≤ away m (at xs i)
+    by zero h = omega arith
+    by (suc i) h = absurd (omega arith)
+
+    by-tie : (i : ℕ) → i < 1 → at xs 0 ≤ℤ at xs i
+    by-tie zero h = to-≤ℤ (at xs 0) (at xs 0) (omega arith)
+    by-tie (suc i) h = absurd (omega arith)
+
+is-last : (i k : ℕ) → k < i + 1 → i ≤ k → i ≡ k
+is-last i k h b = omega arith
+
+-- one standard more, nearer than the nearest before it
+pub nearest-new : (i : ℕ) (xs : List ℤ) (m place : ℕ) → NearestOf i xs m place → away m (at xs i) < away m (at xs place) → NearestOf (i + 1) xs m i
+nearest-new i xs m place n l = record {
+  inside = omega arith;
+  none-nearer = λ k h. ⊎-elim (λ b. omega (arith, n .none-nearer k b)) (λ b. subst (λ (j : ℕ). away m (at xs i) ≤ away m (at xs j)) (is-last i k h b) (omega arith)) (lt-or-le k i);
+  smaller-on-a-tie = λ k h e. ⊎-elim (λ b. absurd (omega (arith, n .none-nearer k b))) (λ b. subst (λ (j : ℕ). at xs i ≤ℤ at xs j) (is-last i k h b) (to-≤ℤ (at xs i) (at xs i) (omega arith))) (lt-or-le k i);
+}
+
+-- one standard more, no nearer: it is larger, since the list rises
+pub nearest-old : (i : ℕ) (xs : List ℤ) (m place : ℕ) → Standards xs → i < length xs → NearestOf i xs m place → away m (at xs place) ≤ away m (at xs i) → NearestOf (i + 1) xs m place
+nearest-old i xs m place s h n l = record {
+  inside = omega (arith, n .inside);
+  none-nearer = λ k b. ⊎-elim (n .none-nearer k) (λ a. subst (λ (j : ℕ). away m (at xs place) ≤ away m (at xs j)) (is-last i k b a) l) (lt-or-le k i);
+  smaller-on-a-tie = λ k b e. ⊎-elim (λ a. n .smaller-on-a-tie k a e) (λ a. subst (λ (j : ℕ). at xs place ≤ℤ at xs j) (is-last i k b a) larger) (lt-or-le k i);
+}
+  where
+    larger : at xs place ≤ℤ at xs i
+    larger = let r = s .rising place i (n .inside) h in omega (arith, signed)
+
+-- the nearest of all
+pub nearest-all : (xs : List ℤ) (m n place : ℕ) → length xs ≤ n → n ≤ length xs → NearestOf n xs m place → Nearest xs m (at xs place)
+nearest-all xs m n place l k s = record {
+  place = place;
+  inside = omega (arith, s .inside);
+  there = refl;
+  none-nearer = λ i h. s .none-nearer i (omega (arith, h));
+  smaller-on-a-tie = λ i h e. s .smaller-on-a-tie i (omega (arith, h)) e;
+}
+
+-- ---- `nearest` is the nearest, and nothing else is
+no-better-of : (m : ℕ) (s t : ℤ) → away m s ≤ away m t → (away m s ≡ away m t → s ≤ℤ t) → noBetter m s t ≡ true
+unfolding noBetter
+no-better-of m s t l k = ⊎-elim nearer equally (lt-or-le (away m s) (away m t))
+  where
+    nearer : away m s < away m t → (ltb (away m s) (away m t) || (eqb (away m s) (away m t) && leZ s t)) ≡ true
+    nearer h = rw (lt-ltb (away m s) (away m t) h)
+
+    equally : away m t ≤ away m s → (ltb (away m s) (away m t) || (eqb (away m s) (away m t) && leZ s t)) ≡ true
+    equally h =
+        let e : away m s ≡ away m t = omega arith in
+        let o = k e in
+        rw (le-ltb (away m s) (away m t) h, eq-eqb (away m s) (away m t) e, to-le-true s t (omega (arith, signed)))
+
+record NoBetter (m : ℕ) (s t : ℤ) : Type 0 where
+  none-nearer : away m s ≤ away m t
+  smaller-on-a-tie : away m s ≡ away m t → s ≤ℤ t
+
+no-better-is : (m : ℕ) (s t : ℤ) → noBetter m s t ≡ true → NoBetter m s t
+unfolding noBetter
+no-better-is m s t e = by (ltb (away m s) (away m t)) refl e
+  where
+    by : (b : Bool) → ltb (away m s) (away m t) ≡ b → (b || (eqb (away m s) (away m t) && leZ s t)) ≡ true → NoBetter m s t
+    by true l e = let h = ltb-true (away m s) (away m t) l in record { none-nearer = omega arith; smaller-on-a-tie = λ q. absurd (omega arith) }
+    by false l e =
+        let h = and-both (eqb (away m s) (away m t)) (leZ s t) e in
+        let q = eqb-true (away m s) (away m t) (h .0) in
+        record { none-nearer = omega arith; smaller-on-a-tie = λ _. is-≤ℤ s t (h .1) }
+
+is-nearest-of : (m : ℕ) (s : ℤ) (ts : List ℤ) → ((i : ℕ) → i < length ts → noBetter m s (at ts i) ≡ true) → isNearest m ts s ≡ true
+unfolding isNearest
+is-nearest-of m s [] h = refl
+is-nearest-of m s (t ∷ ts) h = and-of (noBetter m s t) (isNearest m ts s) (h 0 (omega arith)) (is-nearest-of m s ts (λ i l. h (suc i) (omega (arith, l))))
+
+is-nearest-at : (m : ℕ) (s : ℤ) (ts : List ℤ) → isNearest m ts s ≡ true → (i : ℕ) → i < length ts → noBetter m s (at ts i) ≡ true
+unfolding isNearest
+is-nearest-at m s [] e i h = absurd (omega arith)
+is-nearest-at m s (t ∷ ts) e zero h = and-both (noBetter m s t) (isNearest m ts s) e .0
+is-nearest-at m s (t ∷ ts) e (suc i) h = is-nearest-at m s ts (and-both (noBetter m s t) (isNearest m ts s) e .1) i (le-of-suc-le-suc h)
+
+-- a standard of the list that passes a test
+record Passes (p : ℤ → Bool) (xs : List ℤ) (s : ℤ) : Type 0 where
+  place : ℕ
+  inside : place < length xs
+  there : at xs place ≡ s
+  passes : p s ≡ true
+
+standard-that : (p : ℤ → Bool) (xs : List ℤ) (s : ℤ) → Passes p xs s → Passes p xs (standardThat p xs)
+unfolding standardThat
+standard-that p [] s h = absurd (omega (arith, h .inside))
+standard-that p (x ∷ xs) s h = by (standard-that p xs s) (p x) refl (h .place) (h .inside) (h .there)
+  where
+    by : (Passes p xs s → Passes p xs (standardThat p xs)) → (b : Bool) → p x ≡ b → (i : ℕ) → i < length (x ∷ xs) → at (x ∷ xs) i ≡ s → Passes p (x ∷ xs) (cond b x (standardThat p xs))
+    by again true e i l q = record { place = 0; inside = omega arith; there = refl; passes = e }
+    by again false e zero l q = never (sym e ∙ ap p q ∙ h .passes)
+    by again false e (suc i) l q =
+        let r = again (record { place = i; inside = le-of-suc-le-suc l; there = q; passes = h .passes }) in
+        record { place = suc (r .place); inside = omega (arith, r .inside); there = r .there; passes = r .passes }
+
+-- two nearest standards coincide
+pub nearest-only : (xs : List ℤ) (m : ℕ) (s t : ℤ) → Nearest xs m s → Nearest xs m t → s ≡ t
+nearest-only xs m s t p q =
+    let a : away m s ≤ away m t = subst (λ (z : ℤ). away m s ≤ away m z) (q .there) (p .none-nearer (q .place) (q .inside)) in
+    let b : away m t ≤ away m s = subst (λ (z : ℤ). away m t ≤ away m z) (p .there) (q .none-nearer (p .place) (p .inside)) in
+    let c : s ≤ℤ t = subst (λ (z : ℤ). away m s ≡ away m z → s ≤ℤ z) (q .there) (p .smaller-on-a-tie (q .place) (q .inside)) (omega arith) in
+    let d : t ≤ℤ s = subst (λ (z : ℤ). away m t ≡ away m z → t ≤ℤ z) (p .there) (q .smaller-on-a-tie (p .place) (p .inside)) (omega arith) in
+    to-≡ s t (omega (arith, signed))
+
+-- where there is a nearest standard, `nearest` is it
+pub nearest-found : (xs : List ℤ) (m : ℕ) (s : ℤ) → Nearest xs m s → nearest m xs ≡ s
+unfolding nearest
+nearest-found xs m s n = nearest-only xs m t s nearest-t n
+  where
+    t : ℤ
+    t = standardThat (isNearest m xs) xs
+
+    found : Passes (isNearest m xs) xs t
+    found = standard-that (isNearest m xs) xs s (record {
+      place = n .place;
+      inside = n .inside;
+      there = n .there;
+      passes = is-nearest-of m s xs (λ i h. no-better-of m s (at xs i) (n .none-nearer i h) (n .smaller-on-a-tie i h));
+    })
+
+    no-better : (i : ℕ) → i < length xs → NoBetter m t (at xs i)
+    no-better i h = no-better-is m t (at xs i) (is-nearest-at m t xs (found .passes) i h)
+
+    nearest-t : Nearest xs m t
+    nearest-t = record {
+      place = found .place;
+      inside = found .inside;
+      there = found .there;
+      none-nearer = λ i h. no-better i h .none-nearer;
+      smaller-on-a-tie = λ i h. no-better i h .smaller-on-a-tie;
+    }
+
+-- and there is one in every list of standards that is not empty
+record Some (n : ℕ) (xs : List ℤ) (m : ℕ) : Type 0 where
+  place : ℕ
+  nearest-of : NearestOf n xs m place
+
+one-more : (n : ℕ) (xs : List ℤ) (m : ℕ) → Standards xs → n < length xs → Some n xs m → Some (n + 1) xs m
+one-more n xs m s l f =
+    ⊎-elim (λ k. record { place = n; nearest-of = nearest-new n xs m (f .place) (f .nearest-of) k })
+    (λ k. record { place = f .place; nearest-of = nearest-old n xs m (f .place) s l (f .nearest-of) k })
+    (lt-or-le (away m (at xs n)) (away m (at xs (f .place))))
+
+some-of : (n : ℕ) (xs : List ℤ) (m : ℕ) → Standards xs → n < length xs → Some (n + 1) xs m
+some-of zero xs m s l = record { place = 0; nearest-of = nearest-first xs m }
+some-of (suc n) xs m s l =
+    one-more (suc n) xs m s l (subst (λ (k : ℕ). Some k xs m) (add-one n) (some-of n xs m s (omega arith)))
+
+pub nearest-is : (xs : List ℤ) (m : ℕ) → Standards xs → 0 < length xs → Nearest xs m (nearest m xs)
+nearest-is xs m s h =
+    let f = some-of (length xs - 1) xs m s (omega arith) in
+    let n = nearest-all xs m (length xs - 1 + 1) (f .place) (omega arith) (omega arith) (f .nearest-of) in
+    subst (Nearest xs m) (sym (nearest-found xs m (at xs (f .place)) n)) n
+
+-- ---- a width settles
+pub snapped-empty : (xs : List ℤ) (w : ℤ) → length xs ≡ 0 → snapped xs w ≡ w
+unfolding snapped
+snapped-empty [] w e = refl
+snapped-empty (x ∷ xs) w e = absurd (omega arith)
+
+pub snapped-some : (xs : List ℤ) (w : ℤ) → (length xs ≡ 0 → ⊥) → snapped xs w ≡ settled w (nearest (natAbs w) xs)
+unfolding snapped
+snapped-some [] w h = absurd (h refl)
+snapped-some (x ∷ xs) w h = refl
+
+pub settled-zero : (w s : ℤ) → natAbs w ≡ 0 → settled w s ≡ w
+unfolding settled
+settled-zero w s e = rw (eq-eqb (natAbs w) 0 e)
+
+pub settled-far : (w s : ℤ) → (natAbs w ≡ 0 → ⊥) → 16 < away (natAbs w) s → settled w s ≡ w
+unfolding settled
+settled-far w s h l = rw (ne-eqb (natAbs w) 0 h, lt-leb (away (natAbs w) s) 16 l)
+
+settled-near : (w s : ℤ) → (natAbs w ≡ 0 → ⊥) → away (natAbs w) s ≤ 16 → settled w s ≡ withSign w s
+unfolding settled
+settled-near w s h l = rw (ne-eqb (natAbs w) 0 h, le-leb (away (natAbs w) s) 16 l)
+
+pub settled-pos : (w s : ℤ) → (natAbs w ≡ 0 → ⊥) → away (natAbs w) s ≤ 16 → dn w ≤ up w → settled w s ≡ s
+unfolding withSign
+settled-pos (pos n) s h l k = settled-near (pos n) s h l
+settled-pos (negsuc n) s h l k = absurd (omega arith)
+
+pub settled-neg : (w s : ℤ) → (natAbs w ≡ 0 → ⊥) → away (natAbs w) s ≤ 16 → up w < dn w → settled w s ≡ negℤ s
+unfolding withSign
+settled-neg (pos n) s h l k = absurd (omega arith)
+settled-neg (negsuc n) s h l k = settled-near (negsuc n) s h l
+
+-- ---- a fitted width is within 16 of the width, whatever the list
+pub record Within16 (w r : ℤ) : Type 0 where
+  pub not-above : up r + dn w ≤ up w + dn r + 16
+  pub not-below : up w + dn r ≤ up r + dn w + 16
+
+within-itself : (w : ℤ) → Within16 w w
+within-itself w = record { not-above = omega arith; not-below = omega arith }
+
+with-sign-within : (w s : ℤ) → away (natAbs w) s ≤ 16 → Within16 w (withSign w s)
+unfolding withSign
+with-sign-within (pos n) s l =
+    let z = s -ℤ pos n in
+    record { not-above = omega (arith, natAbs-is z, sub-law s (pos n)); not-below = omega (arith, natAbs-is z, sub-law s (pos n)) }
+with-sign-within (negsuc n) s l =
+    let z = s -ℤ pos (suc n) in
+    record {
+      not-above = omega (arith, natAbs-is z, sub-law s (pos (suc n)), up-neg s, dn-neg s);
+      not-below = omega (arith, natAbs-is z, sub-law s (pos (suc n)), up-neg s, dn-neg s);
+    }
+
+settled-within : (w s : ℤ) → Within16 w (settled w s)
+unfolding settled
+settled-within w s = by (eqb (natAbs w) 0) (leb (away (natAbs w) s) 16) refl
+  where
+    by : (a b : Bool) → leb (away (natAbs w) s) 16 ≡ b → Within16 w (cond a w (cond b (withSign w s) w))
+    by true b e = within-itself w
+    by false false e = within-itself w
+    by false true e = with-sign-within w s (leb-true (away (natAbs w) s) 16 e)
+
+pub fitted-within : (rule : WidthRule) (xs : List ℤ) (w : ℤ) → Within16 w (fittedWidth rule xs w)
+unfolding fittedWidth snapped
+fitted-within Keep xs w = within-itself w
+fitted-within Snap [] w = within-itself w
+fitted-within Snap (x ∷ xs) w = settled-within w (nearest (natAbs w) (x ∷ xs))

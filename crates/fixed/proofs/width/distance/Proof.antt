@@ -1,0 +1,33 @@
+-- `fixed::width::distance` meets its contract. Assumes nothing.
+use borrow.Author.Needs.{needs}
+use native.Mathlib.Omega.{arith}
+use mathlib.Core.Path.{_≡_}
+use lib.IntN.{pos, _-ℤ_}
+use mir.Syntax.{w32, w64}
+use mir.Val.{toZ, ofZ}
+use Rattle.signed.proofs.Signed.{signed, fits, is, range, _also_}
+use Rattle.fixed.proofs.width.distance.Statement.{statement}
+use Rattle.fixed.proofs.width.distance.Tie as tie
+
+cast-magnitude : tie.Need-cast-magnitude
+cast-magnitude c = fits (omega (arith, signed, range (c .fits .standard)))
+
+cast-magnitude-2 : tie.Need-cast-magnitude-2
+cast-magnitude-2 c = search needs
+
+sub-magnitude : tie.Need-sub-magnitude
+sub-magnitude c = let k = cast-magnitude c also cast-magnitude-2 c in fits (omega (arith, signed, range (c .fits .standard)))
+
+magnitude-requires : tie.Need-magnitude-requires
+magnitude-requires c κs =
+    let k = cast-magnitude c also cast-magnitude-2 c also sub-magnitude c in
+    omega (arith, signed, range (c .fits .standard))
+
+returns : tie.Need-returns
+returns c =
+    let s = c .before in
+    cc (c .magnitude .ensures, is (sub-magnitude s), is (cast-magnitude s), is (cast-magnitude-2 s), is (s .fits .standard))
+
+pub distance-spec : {M : Type 1} → statement M
+distance-spec =
+    tie.close (tie.spec cast-magnitude cast-magnitude-2 sub-magnitude magnitude-requires returns)

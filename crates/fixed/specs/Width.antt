@@ -1,0 +1,84 @@
+-- The width rule: Keep, and Snap over a list of standard widths.
+use mathlib.Core.Path.{_≡_}
+use mathlib.Core.Bool.{Bool, true, false, cond, _&&_, _||_}
+use mathlib.Core.List.{List, [], _∷_}
+use Prim.Native.Nat.{ℕ, _≤_, _<_}
+use lib.Dec.{ltb, leb, eqb}
+use lib.ListN.{length, getD}
+use lib.IntN.{ℤ, pos, negsuc, negℤ, natAbs, _-ℤ_}
+use lib.Signed.{ltZ, leZ, _≤ℤ_, _<ℤ_}
+use Rattle.fixed.specs.declared.width.WidthRule.{WidthRule}
+use Rattle.fixed.specs.declared.width.WidthRule.the-variants.{Keep, Snap}
+
+-- ---- the list's own rule
+-- strictly rising from above b, each at most 16,383
+unfoldable pub risesFrom : ℤ → List ℤ → Bool
+risesFrom b [] = true
+risesFrom b (x ∷ xs) = ltZ b x && (leZ x (pos 16383) && risesFrom x xs)
+
+-- 0 to 16 standards, strictly rising, each 1 to 16,383
+unfoldable pub standardsHold : List ℤ → Bool
+standardsHold xs = leb (length xs) 16 && risesFrom (pos 0) xs
+
+-- Keep has no list to break
+unfoldable pub ruleHolds : WidthRule → List ℤ → Bool
+ruleHolds Keep xs = true
+ruleHolds Snap xs = standardsHold xs
+
+-- what `standardsHold` says, as facts: `holds-is` and `is-holds` show that it is the same
+pub record Standards (xs : List ℤ) : Type 0 where
+  pub few : length xs ≤ 16
+  pub least : (i : ℕ) → i < length xs → pos 1 ≤ℤ getD xs i (pos 0)
+  pub most : (i : ℕ) → i < length xs → getD xs i (pos 0) ≤ℤ pos 16383
+  pub rising : (i j : ℕ) → i < j → j < length xs → getD xs i (pos 0) <ℤ getD xs j (pos 0)
+
+-- ---- the nearest standard
+-- how far the standard s is from the magnitude m
+abbrev pub away : ℕ → ℤ → ℕ
+away m s = natAbs (s -ℤ pos m)
+
+-- t is not nearer to m than s, and not smaller where it is equally near
+unfoldable pub noBetter : ℕ → ℤ → ℤ → Bool
+noBetter m s t = ltb (away m s) (away m t) || (eqb (away m s) (away m t) && leZ s t)
+
+-- s is such that no standard of the list is nearer to m and no equally near one is smaller
+unfoldable pub isNearest : ℕ → List ℤ → ℤ → Bool
+isNearest m [] s = true
+isNearest m (t ∷ ts) s = noBetter m s t && isNearest m ts s
+
+-- the standard of the list that passes a test, the first where several do, 0 where none does
+unfoldable pub standardThat : (ℤ → Bool) → List ℤ → ℤ
+standardThat p [] = pos 0
+standardThat p (x ∷ xs) = cond (p x) x (standardThat p xs)
+
+-- the standard nearest to m, the smaller on a tie
+unfoldable pub nearest : ℕ → List ℤ → ℤ
+nearest m xs = standardThat (isNearest m xs) xs
+
+-- what `nearest` gives, as facts: `nearest-is` shows that it does so for every list but the empty one, and `nearest-only` that nothing else has them
+pub record Nearest (xs : List ℤ) (m : ℕ) (s : ℤ) : Type 0 where
+  pub place : ℕ
+  pub inside : place < length xs
+  pub there : getD xs place (pos 0) ≡ s
+  pub none-nearer : (i : ℕ) → i < length xs → away m s ≤ away m (getD xs i (pos 0))
+  pub smaller-on-a-tie : (i : ℕ) → i < length xs → away m s ≡ away m (getD xs i (pos 0)) → s ≤ℤ getD xs i (pos 0)
+
+-- ---- the rule
+-- the standard s with the sign of the width
+unfoldable pub withSign : ℤ → ℤ → ℤ
+withSign (pos n) s = s
+withSign (negsuc n) s = negℤ s
+
+-- the standard s where it is at most 16 away from the width's magnitude, else the width itself; width 0 stays 0
+unfoldable pub settled : ℤ → ℤ → ℤ
+settled w s = cond (eqb (natAbs w) 0) w (cond (leb (away (natAbs w) s) 16) (withSign w s) w)
+
+-- an empty list changes no width
+unfoldable pub snapped : List ℤ → ℤ → ℤ
+snapped [] w = w
+snapped (x ∷ xs) w = settled w (nearest (natAbs w) (x ∷ xs))
+
+-- the fitted width
+unfoldable pub fittedWidth : WidthRule → List ℤ → ℤ → ℤ
+fittedWidth Keep xs w = w
+fittedWidth Snap xs w = snapped xs w

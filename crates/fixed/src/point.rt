@@ -1,0 +1,83 @@
+// Fixed multiply, fixed divide and the derived constant (the Rust's `fixed_mul`, `fixed_div` and `derived_constant`).
+ghost use mathlib.Core.Path.{_≡_};
+ghost use Prim.Native.Nat.{_≤_, _<_};
+ghost use lib.IntN.{natAbs};
+ghost use mir.Syntax.{w32};
+ghost use mir.Val.{SFits};
+ghost use Rattle.signed.specs.Range.{Between};
+ghost use Rattle.fixed.specs.Point.{near, mulFix, divFix, derived};
+
+// The magnitude of x.
+pub fn magnitude(x: i64) -> u64
+    requires { ⌜ Between 4611686018427387904 4611686018427387904 x ⌝ }
+    ensures { λ r. ⌜ r ≡ natAbs x ⌝ }
+{
+    if x < 0 {
+        return (0 - x) as u64;
+    }
+    x as u64
+}
+
+// n / d rounded to nearest, a half upward.
+fn near_quotient(n: u64, d: u64) -> u64
+    requires { ⌜ (0 < d) × (n ≤ 4611686018427387904) × (d ≤ 4611686018427387904) ⌝ }
+    ensures { λ r. ⌜ r ≡ near n d ⌝ }
+{
+    (2 * n + d) / (2 * d)
+}
+
+// Fixed multiply in 64 bits, for every pair. The shift rounds down, so what is below zero gets one less than the half.
+pub fn wide_mul(a: i32, b: i32) -> i64
+    ensures { λ r. ⌜ r ≡ mulFix a b ⌝ }
+{
+    let ab = (a as i64) * (b as i64);
+    if ab < 0 {
+        return (ab + 32767) >> 16;
+    }
+    (ab + 32768) >> 16
+}
+
+// Fixed divide in 64 bits, for every pair with a divisor.
+pub fn wide_div(a: i32, b: i32) -> i64
+    requires { ⌜ 0 < natAbs b ⌝ }
+    ensures { λ r. ⌜ r ≡ divFix a b ⌝ }
+{
+    let n = magnitude(a as i64) * 65536;
+    let q = near_quotient(n, magnitude(b as i64)) as i64;
+    if a < 0 {
+        if b < 0 {
+            return q;
+        }
+        return 0 - q;
+    }
+    if b < 0 {
+        return 0 - q;
+    }
+    q
+}
+
+// FreeType's FT_MulFix, where the answer fits: a·b / 65,536 rounded to nearest, halves away from zero.
+pub fn fixed_mul(a: i32, b: i32) -> i32
+    requires { ⌜ SFits w32 (mulFix a b) ⌝ }
+    ensures { λ r. ⌜ r ≡ mulFix a b ⌝ }
+{
+    wide_mul(a, b) as i32
+}
+
+// FreeType's FT_DivFix, where the answer fits: a·65,536 / b rounded to nearest, halves away from zero.
+pub fn fixed_div(a: i32, b: i32) -> i32
+    requires { ⌜ 0 < natAbs b ⌝ }
+    requires { ⌜ SFits w32 (divFix a b) ⌝ }
+    ensures { λ r. ⌜ r ≡ divFix a b ⌝ }
+{
+    wide_div(a, b) as i32
+}
+
+// c · units per em / 2048, fraction dropped.
+pub fn derived_constant(units_per_em: i32, c: i32) -> i32
+    requires { ⌜ Between 0 65535 c ⌝ }
+    requires { ⌜ Between 0 16384 «units_per_em» ⌝ }
+    ensures { λ r. ⌜ r ≡ derived «units_per_em» c ⌝ }
+{
+    c * units_per_em / 2048
+}

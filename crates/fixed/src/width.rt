@@ -1,0 +1,108 @@
+// The width rule, which stands in place of the Rust's `stem_width`.
+use super::point::magnitude;
+ghost use mathlib.Core.Path.{_≡_};
+ghost use mathlib.Core.Bool.{true};
+ghost use Prim.Native.Nat.{_≤_, _<_};
+ghost use lib.ListN.{length, getD};
+ghost use lib.IntN.{pos};
+ghost use Rattle.fixed.specs.Width.{standardsHold, ruleHolds, Standards, away, Nearest, snapped, fittedWidth};
+
+// What becomes of a stem's width: it is kept, or it snaps to the nearest of a list of standards.
+pub enum WidthRule {
+    Keep,
+    Snap,
+}
+
+// Whether a list of standards keeps its rule: 0 to 16 of them, strictly rising, each 1 to 16,383.
+pub fn standards_hold(standards: &[i32]) -> bool
+    ensures { λ r. ⌜ r ≡ standardsHold (now (standards .entry)) ⌝ }
+{
+    if 16 < standards.len() {
+        return false;
+    }
+    let mut last: i32 = 0;
+    let mut i = 0;
+    while i < standards.len() {
+        let standard = standards[i];
+        if standard <= last {
+            return false;
+        }
+        if 16383 < standard {
+            return false;
+        }
+        last = standard;
+        i += 1;
+    }
+    true
+}
+
+// Whether a rule may be used with a list: Keep reads none.
+pub fn rule_holds(rule: WidthRule, standards: &[i32]) -> bool
+    ensures { λ r. ⌜ r ≡ ruleHolds rule (now (standards .entry)) ⌝ }
+{
+    match rule {
+        WidthRule::Keep => true,
+        WidthRule::Snap => standards_hold(standards),
+    }
+}
+
+// How far a standard is from the magnitude of a width.
+fn distance(width: u64, standard: i32) -> u64
+    requires { ⌜ width ≤ 2147483648 ⌝ }
+    ensures { λ r. ⌜ r ≡ away width standard ⌝ }
+{
+    magnitude((standard as i64) - (width as i64))
+}
+
+// The place of the standard nearest to the magnitude of a width, the smaller on a tie.
+fn nearest_place(standards: &[i32], width: u64) -> usize
+    requires { ⌜ (0 < length (now standards)) × (width ≤ 2147483648) ⌝ }
+    requires { ⌜ Standards (now standards) ⌝ }
+    ensures { λ r. ⌜ (r < length (now (standards .entry))) × Nearest (now (standards .entry)) width (getD (now (standards .entry)) r (pos 0)) ⌝ }
+{
+    let mut best = 0;
+    let mut i = 1;
+    while i < standards.len() {
+        let new = distance(width, standards[i]);
+        let old = distance(width, standards[best]);
+        if new < old {
+            best = i;
+        }
+        i += 1;
+    }
+    best
+}
+
+// The nearest standard with the width's sign where it is at most 16 away, else the width itself.
+fn snap(standards: &[i32], width: i32) -> i32
+    requires { ⌜ Standards (now standards) ⌝ }
+    ensures { λ r. ⌜ r ≡ snapped (now (standards .entry)) width ⌝ }
+{
+    if standards.len() == 0 {
+        return width;
+    }
+    let size = magnitude(width as i64);
+    if size == 0 {
+        return width;
+    }
+    let place = nearest_place(standards, size);
+    let standard = standards[place];
+    if 16 < distance(size, standard) {
+        return width;
+    }
+    if width < 0 {
+        return 0 - standard;
+    }
+    standard
+}
+
+// The fitted width of a stem.
+pub fn stem_width(rule: WidthRule, standards: &[i32], width: i32) -> i32
+    requires { ⌜ ruleHolds rule (now standards) ≡ true ⌝ }
+    ensures { λ r. ⌜ r ≡ fittedWidth rule (now (standards .entry)) width ⌝ }
+{
+    match rule {
+        WidthRule::Keep => width,
+        WidthRule::Snap => snap(standards, width),
+    }
+}

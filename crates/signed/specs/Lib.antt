@@ -1,0 +1,3 @@
+-- What contracts say of signed numbers.
+pub mod Parts
+pub mod Range
