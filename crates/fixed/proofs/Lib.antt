@@ -4,6 +4,5 @@ pub mod Pixels
 pub mod Middles
 pub mod Widths
 pub mod Interpolation
-
--- pub mod Determined
--- pub mod Worked
+pub mod Determined
+pub mod Worked

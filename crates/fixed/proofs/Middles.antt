@@ -1,65 +1,56 @@
--- The middle of two numbers in terms of their bits: what the code computes.
-use mathlib.Core.Path.{_≡_}
-use mathlib.Core.Logic.{⊎-elim}
-use Prim.Native.Nat.{ℕ, _+_, _*_, _/_, _%_, _≤_, _<_}
+-- Wrapping around at a width, in terms of the bits: what the code computes.
+use mathlib.Core.Path.{_≡_, sym, ap, _∙_}
+use Prim.Native.Nat.{ℕ, _+_, _*_, _-_, _/_, _%_, _<_}
+use native.Mathlib.Nat.{mod-lt, mod-eq-of-lt, div-add-mod, add-mul-mod-self-left}
 use native.Mathlib.Omega.{arith}
 use lib.IntN.{ℤ, pos, negsuc, _+ℤ_, _-ℤ_}
-use lib.Signed.{shrZ}
 use mir.Syntax.{w16, w32}
 use mir.Val.{toZ, ofZ, SFits}
 use Rattle.signed.specs.Parts.{up, dn}
-use Rattle.signed.proofs.Signed.{add-law, sub-law, bits-of, neg, read-low, read-high, lt-or-le}
-use Rattle.fixed.specs.Middle.{residue, wrapZ, midPos, midDelta}
+use Rattle.signed.proofs.Signed.{add-law, sub-law, bits-of, neg}
+use Rattle.fixed.specs.Middle.{residue, wrapZ}
 
--- the residue differs from z by a multiple of 2 ^ 32
-record Residue (z : ℤ) : Type 0 where
+-- the residue is below m and differs from z by a multiple of m
+record Residue (z : ℤ) (m : ℕ) : Type 0 where
   more : ℕ
   less : ℕ
-  below : residue z 4294967296 < 4294967296
-  apart : residue z 4294967296 + dn z + 4294967296 * more ≡ up z + 4294967296 * less
+  below : residue z m < m
+  apart : residue z m + dn z + m * more ≡ up z + m * less
 
-residue-is : (z : ℤ) → Residue z
+residue-is : (z : ℤ) (m : ℕ) → 0 < m → Residue z m
 unfolding residue
-residue-is (pos n) = record { more = n / 4294967296; less = 0; below = omega arith; apart = omega arith }
-residue-is (negsuc n) = record { more = 0; less = n / 4294967296 + 1; below = omega arith; apart = omega arith }
+residue-is (pos n) m h = record { more = n / m; less = 0; below = mod-lt n h; apart = omega (arith, div-add-mod n m) }
+residue-is (negsuc n) m h =
+    let l = mod-lt n h in
+    record { more = 0; less = n / m + 1; below = omega arith; apart = omega (arith, div-add-mod n m) }
 
--- a number below 2 ^ 32 is known by what it is up to multiples of 2 ^ 32
-only-sum : (r x p q : ℕ) → r < 4294967296 → r + 4294967296 * p ≡ x + 4294967296 * q → r ≡ x % 4294967296
-only-sum r x p q l e = omega arith
+-- a number below m is known by what it is up to multiples of m
+only : (m r x p q : ℕ) → r < m → r + m * p ≡ x + m * q → r ≡ x % m
+only m r x p q l e = sym (mod-eq-of-lt l) ∙ sym (add-mul-mod-self-left r m p) ∙ ap (λ (n : ℕ). n % m) e ∙ add-mul-mod-self-left x m q
 
-only-difference : (r s x y p q : ℕ) → r < 4294967296 → s < 4294967296 → (s + x) % 4294967296 ≡ y → r + x + 4294967296 * p ≡ y + 4294967296 * q → r ≡ s
-only-difference r s x y p q l k e d = omega arith
-
-residue-sum : (a b : ℤ) → SFits w32 a → SFits w32 b → residue (a +ℤ b) 4294967296 ≡ (ofZ w32 a + ofZ w32 b) % 4294967296
-residue-sum a b h k =
-    let r = residue-is (a +ℤ b) in
+-- the sum of the bits, wrapped around, stands for the sum wrapped around
+pub wrap-sum : (a b : ℤ) → SFits w32 a → SFits w32 b → wrapZ w32 (a +ℤ b) ≡ toZ w32 ((ofZ w32 a + ofZ w32 b) % 4294967296)
+unfolding wrapZ
+wrap-sum a b h k =
+    let r = residue-is (a +ℤ b) 4294967296 (omega arith) in
     let e = bits-of h .bit in
     let f = bits-of k .bit in
-    only-sum _ (ofZ w32 a + ofZ w32 b) (r .more + neg a + neg b) (r .less) (r .below) (omega (arith, r .apart, add-law a b))
+    rw (only 4294967296 (residue (a +ℤ b) 4294967296) (ofZ w32 a + ofZ w32 b) (r .more + neg a + neg b) (r .less) (r .below) (omega (arith, r .apart, add-law a b)))
 
-residue-difference : (a b : ℤ) (s : ℕ) → SFits w32 a → SFits w32 b → s < 4294967296 → (s + ofZ w32 a) % 4294967296 ≡ ofZ w32 b → residue (b -ℤ a) 4294967296 ≡ s
-residue-difference a b s h k l q =
-    let r = residue-is (b -ℤ a) in
+-- s, which the bits of b make up to those of a, stands for the difference wrapped around
+pub wrap-difference : (a b : ℤ) (s : ℕ) → SFits w32 a → SFits w32 b → s < 4294967296 → (s + ofZ w32 b) % 4294967296 ≡ ofZ w32 a → wrapZ w32 (a -ℤ b) ≡ toZ w32 s
+unfolding wrapZ
+wrap-difference a b s h k l q =
+    let r = residue-is (a -ℤ b) 4294967296 (omega arith) in
     let e = bits-of h .bit in
     let f = bits-of k .bit in
-    only-difference _ s (ofZ w32 a) (ofZ w32 b) (r .more + neg b) (r .less + neg a) (r .below) l q (omega (arith, r .apart, sub-law b a))
+    let i : residue (a -ℤ b) 4294967296 ≡ s = omega (arith, r .below, r .apart, sub-law a b) in
+    rw i
 
--- halving downward and halving the bits agree in the low 16 bits
-halved : (s : ℕ) → s < 4294967296 → residue (shrZ (toZ w32 s) 2) 65536 ≡ s / 2 % 65536
-unfolding residue
-halved s l = ⊎-elim low high (lt-or-le s 2147483648)
-  where
-    low : s < 2147483648 → residue (shrZ (toZ w32 s) 2) 65536 ≡ s / 2 % 65536
-    low h = rw (read-low w32 s h)
-
-    high : 2147483648 ≤ s → residue (shrZ (toZ w32 s) 2) 65536 ≡ s / 2 % 65536
-    high h = rw (read-high w32 s h) (omega arith)
-
-pub midPos-bits : (a b : ℤ) → SFits w32 a → SFits w32 b → midPos a b ≡ toZ w16 ((ofZ w32 a + ofZ w32 b) % 4294967296 / 2 % 65536)
-unfolding midPos wrapZ
-midPos-bits a b h k = rw (residue-sum a b h k, halved ((ofZ w32 a + ofZ w32 b) % 4294967296) (omega arith))
-
--- s is the wrapped difference of the bits
-pub midDelta-bits : (a b : ℤ) (s : ℕ) → SFits w32 a → SFits w32 b → s < 4294967296 → (s + ofZ w32 a) % 4294967296 ≡ ofZ w32 b → midDelta a b ≡ toZ w16 (s / 2 % 65536)
-unfolding midDelta wrapZ
-midDelta-bits a b s h k l e = rw (residue-difference a b s h k l e, halved s l)
+-- the low 16 bits of a 32-bit number stand for it wrapped around
+pub wrap-low : (z : ℤ) → SFits w32 z → wrapZ w16 z ≡ toZ w16 (ofZ w32 z % 65536)
+unfolding wrapZ
+wrap-low z h =
+    let r = residue-is z 65536 (omega arith) in
+    let e = bits-of h .bit in
+    rw (only 65536 (residue z 65536) (ofZ w32 z) (r .more + 65536 * neg z) (r .less) (r .below) (omega (arith, r .apart)))

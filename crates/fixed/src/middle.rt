@@ -1,9 +1,10 @@
 // The Rust's `compute_mid_pos` and `compute_mid_delta` (topo/segments.rs), defined for all pairs.
 ghost use mathlib.Core.Path.{_≡_};
-ghost use Prim.Native.Nat.{_%_};
+ghost use lib.IntN.{_+ℤ_, _-ℤ_};
+ghost use lib.Signed.{shrZ};
 ghost use mir.Syntax.{w16, w32};
 ghost use mir.Val.{ofZ, toZ};
-ghost use Rattle.fixed.specs.Middle.{midPos, midDelta};
+ghost use Rattle.fixed.specs.Middle.{wrapZ, midPos, midDelta};
 
 // The bits of x, as an unsigned number.
 fn bits_of(x: i32) -> u32
@@ -16,11 +17,43 @@ fn bits_of(x: i32) -> u32
     x as u32
 }
 
-// The low 16 bits of n, read as signed.
-fn low_16(n: u32) -> i16
-    ensures { λ r. ⌜ r ≡ toZ w16 (n % 65536) ⌝ }
+// The number that 32 bits stand for.
+fn signed_of(bits: u32) -> i32
+    ensures { λ r. ⌜ r ≡ toZ w32 bits ⌝ }
 {
-    let low = (n % 65536) as i32;
+    let wide = bits as i64;
+    if wide < 2147483648 {
+        return wide as i32;
+    }
+    (wide - 4294967296) as i32
+}
+
+// a + b, wrapped around at 32 bits.
+fn wrapping_add(a: i32, b: i32) -> i32
+    ensures { λ r. ⌜ r ≡ wrapZ w32 (a +ℤ b) ⌝ }
+{
+    signed_of(std::num::wrapping_add_u32(bits_of(a), bits_of(b)))
+}
+
+// a - b, wrapped around at 32 bits.
+fn wrapping_sub(a: i32, b: i32) -> i32
+    ensures { λ r. ⌜ r ≡ wrapZ w32 (a -ℤ b) ⌝ }
+{
+    signed_of(std::num::wrapping_sub_u32(bits_of(a), bits_of(b)))
+}
+
+// Half of x, downward: the Rust's `x >> 1`.
+fn half_down(x: i32) -> i32
+    ensures { λ r. ⌜ r ≡ shrZ x 2 ⌝ }
+{
+    x >> 1
+}
+
+// The low 16 bits of x, read as signed: the Rust's `x as i16`.
+fn low_16(x: i32) -> i16
+    ensures { λ r. ⌜ r ≡ wrapZ w16 x ⌝ }
+{
+    let low = (bits_of(x) % 65536) as i32;
     if low < 32768 {
         return low as i16;
     }
@@ -31,14 +64,12 @@ fn low_16(n: u32) -> i16
 pub fn compute_mid_pos(min: i32, max: i32) -> i16
     ensures { λ r. ⌜ r ≡ midPos min max ⌝ }
 {
-    let sum = std::num::wrapping_add_u32(bits_of(min), bits_of(max));
-    low_16(sum / 2)
+    low_16(half_down(wrapping_add(min, max)))
 }
 
 // Half of max - min, the same way.
 pub fn compute_mid_delta(min: i32, max: i32) -> i16
     ensures { λ r. ⌜ r ≡ midDelta min max ⌝ }
 {
-    let difference = std::num::wrapping_sub_u32(bits_of(max), bits_of(min));
-    low_16(difference / 2)
+    low_16(half_down(wrapping_sub(max, min)))
 }
