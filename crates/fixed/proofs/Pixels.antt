@@ -1,6 +1,6 @@
 -- Pixel floor and round: what they are, and how far from the number they lie. Facts to list: `omega (arith, signed, floor-law x)`.
 use mathlib.Core.Path.{_≡_}
-use Prim.Native.Nat.{ℕ, _+_, _*_, _%_, _≤_, _<_}
+use Prim.Native.Nat.{ℕ, _+_, _%_, _≤_, _<_}
 use native.Mathlib.Omega.{arith}
 use lib.IntN.{ℤ, pos, _+ℤ_}
 use lib.Signed.{shrZ}

@@ -1,6 +1,6 @@
 -- Quotients rounded to nearest, and with them fixed multiply and divide: what they are, how large they are, how they grow.
-use mathlib.Core.Path.{_≡_, refl, sym, ap, subst, _∙_}
-use Prim.Native.Nat.{ℕ, zero, suc, _+_, _*_, _/_, _^_, _≤_, _<_}
+use mathlib.Core.Path.{_≡_, refl}
+use Prim.Native.Nat.{ℕ, zero, suc, _+_, _*_, _^_, _≤_, _<_}
 use native.Mathlib.Nat.{div-mul-le-self, lt-div-mul-add, mul-le-mul, mul-le-mul-left, mul-le-mul-right}
 use native.Mathlib.Omega.{arith}
 use mathlib.Core.Logic.{⊎-elim}
@@ -11,7 +11,7 @@ use mir.Syntax.{Width}
 use mir.Val.{SFits, hbits}
 use Rattle.signed.specs.Parts.{up, dn}
 use Rattle.signed.specs.Range.{Between}
-use Rattle.signed.proofs.Signed.{up-neg, dn-neg, mul-up, mul-dn, times-up, times-dn, natAbs-is, natAbs-mul, one-zero, fits-abs, abs-of, lt-or-le, add-law, shr-law, to-≡}
+use Rattle.signed.proofs.Signed.{up-neg, dn-neg, mul-up, mul-dn, times-up, times-dn, natAbs-mul, one-zero, fits-abs, abs-of, lt-or-le, add-law, shr-law, to-≡}
 use Rattle.fixed.specs.Point.{near, nearZ, mulFix, divFix}
 
 -- ---- magnitudes

@@ -8,14 +8,14 @@ use native.Mathlib.Nat.{le-of-suc-le-suc}
 use native.Mathlib.Numerals.{add-one}
 use native.Mathlib.Omega.{arith}
 use lib.Dec.{T, ltb, leb, eqb}
-use borrow.Author.Tests.{ltb-true, ltb-false, leb-true, leb-false, eqb-true, lt-ltb, le-ltb, le-leb, lt-leb, eq-eqb, ne-eqb}
+use borrow.Author.Tests.{ltb-true, leb-true, eqb-true, lt-ltb, le-ltb, le-leb, lt-leb, eq-eqb, ne-eqb}
 use lib.ListN.{length, getD, drop, drop-of-length-le}
 use lib.Seq.{drop-cons}
 use lib.IntN.{ℤ, pos, negsuc, negℤ, natAbs, _-ℤ_}
 use lib.Signed.{ltZ, leZ, _≤ℤ_, _<ℤ_}
 use Rattle.signed.specs.Parts.{up, dn}
-use Rattle.signed.proofs.Signed.{signed, same, natAbs-is, one-zero, sub-law, up-neg, dn-neg, is-≤ℤ, is-<ℤ, to-≤ℤ, to-<ℤ, to-≡, to-lt-true, to-lt-false, to-le-true, to-le-false, lt-or-le}
-use Rattle.fixed.specs.Width.{risesFrom, standardsHold, ruleHolds, Standards, away, noBetter, isNearest, standardThat, nearest, Nearest, withSign, settled, snapped, fittedWidth}
+use Rattle.signed.proofs.Signed.{signed, natAbs-is, sub-law, up-neg, dn-neg, is-≤ℤ, is-<ℤ, to-≤ℤ, to-≡, to-lt-true, to-lt-false, to-le-true, to-le-false, lt-or-le}
+use Rattle.fixed.specs.Width.{risesFrom, standardsHold, Standards, away, noBetter, isNearest, standardThat, nearest, Nearest, withSign, settled, snapped, fittedWidth}
 use Rattle.fixed.specs.declared.width.WidthRule.{WidthRule}
 use Rattle.fixed.specs.declared.width.WidthRule.the-variants.{Keep, Snap}
 

@@ -1,12 +1,10 @@
 -- `fixed::point::wide_div` meets its contract: the rounded quotient of the magnitudes, with the sign that the two tests tell. Assumes nothing.
 use native.Mathlib.Omega.{arith}
-use mathlib.Core.Path.{_≡_, ap, _∙_}
+use mathlib.Core.Path.{_≡_}
 use Prim.Native.Nat.{_*_, _≤_}
 use lib.IntN.{ℤ, pos, negℤ, natAbs, _*ℤ_, +ℤ-idl}
-use mir.Syntax.{w32, w64}
-use mir.Val.{toZ, ofZ}
 use Rattle.signed.proofs.Signed.{signed, fits, is, range, abs-of, between-sfits, natAbs-mul, mul-up, mul-dn, _also_}
-use Rattle.fixed.specs.Point.{near, nearZ, divFix}
+use Rattle.fixed.specs.Point.{near, divFix}
 use Rattle.fixed.proofs.Rounding.{near-pp, near-pn, near-np, near-nn, near-at-most}
 use Rattle.fixed.proofs.point.wide_div.Statement.{statement}
 use Rattle.fixed.proofs.point.wide_div.Tie as tie

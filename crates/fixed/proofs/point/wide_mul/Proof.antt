@@ -1,10 +1,9 @@
 -- `fixed::point::wide_mul` meets its contract: the product of two 32-bit numbers fits 64 bits, and a shift of it and a half rounds it. Assumes nothing.
 use native.Mathlib.Omega.{arith}
 use mathlib.Core.Path.{_≡_}
-use lib.IntN.{ℤ, pos, _+ℤ_, _*ℤ_}
-use lib.Signed.{shrZ}
+use lib.IntN.{ℤ, _*ℤ_}
 use mir.Syntax.{w32, w64}
-use mir.Val.{SFits, toZ, ofZ}
+use mir.Val.{toZ, ofZ}
 use Rattle.signed.specs.Range.{Between}
 use Rattle.signed.proofs.Signed.{signed, fits, is, range, fits-prod, fits-shr, between-prod, between-sfits, back-fits, _also_}
 use Rattle.fixed.specs.Point.{mulFix}

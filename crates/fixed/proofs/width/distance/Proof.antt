@@ -1,10 +1,6 @@
 -- `fixed::width::distance` meets its contract. Assumes nothing.
 use borrow.Author.Needs.{needs}
 use native.Mathlib.Omega.{arith}
-use mathlib.Core.Path.{_≡_}
-use lib.IntN.{pos, _-ℤ_}
-use mir.Syntax.{w32, w64}
-use mir.Val.{toZ, ofZ}
 use Rattle.signed.proofs.Signed.{signed, fits, is, range, _also_}
 use Rattle.fixed.proofs.width.distance.Statement.{statement}
 use Rattle.fixed.proofs.width.distance.Tie as tie

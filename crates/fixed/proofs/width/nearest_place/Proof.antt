@@ -2,12 +2,11 @@
 use borrow.Author.Needs.{needs}
 use native.Mathlib.Omega.{arith}
 use mathlib.Core.Logic.{⊎-elim}
-use mathlib.Core.Path.{_≡_, sym, ap, subst}
-use Prim.Native.Nat.{ℕ, _+_, _≤_, _<_, _-_}
+use mathlib.Core.Path.{_≡_, sym, subst}
+use Prim.Native.Nat.{_+_, _≤_, _-_}
 use lib.ListN.{length, getD}
-use lib.IntN.{ℤ, pos}
+use lib.IntN.{pos}
 use mir.Syntax.{w32}
-use mir.Val.{toZ}
 use Rattle.signed.proofs.Signed.{is, got}
 use Rattle.fixed.specs.Width.{away}
 use Rattle.fixed.proofs.Widths.{NearestOf, nearest-first, nearest-new, nearest-old, nearest-all}

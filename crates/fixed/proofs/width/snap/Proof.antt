@@ -8,7 +8,7 @@ use lib.ListN.{getD}
 use lib.IntN.{ℤ, pos, negℤ, natAbs, +ℤ-idl}
 use mir.Syntax.{w32}
 use mir.Val.{SFits}
-use Rattle.signed.proofs.Signed.{signed, fits, is, range, got, abs-of, between-sfits, _also_}
+use Rattle.signed.proofs.Signed.{signed, fits, is, range, got, abs-of, between-sfits}
 use Rattle.fixed.specs.Width.{away, Nearest, nearest, settled, snapped}
 use Rattle.fixed.proofs.Widths.{nearest-found, snapped-empty, snapped-some, settled-zero, settled-far, settled-pos, settled-neg}
 use Rattle.fixed.proofs.width.snap.Statement.{statement}

@@ -1,7 +1,7 @@
 -- `fixed::width::standards_hold` meets its contract. The invariant: the list holds where what is left rises from the last standard. Assumes nothing.
 use borrow.Author.Needs.{needs}
 use native.Mathlib.Omega.{arith}
-use mathlib.Core.Path.{_≡_, sym, ap}
+use mathlib.Core.Path.{_≡_, sym}
 use Prim.Native.Nat.{_≤_, _-_}
 use lib.ListN.{length, getD, drop}
 use lib.IntN.{ℤ, pos}

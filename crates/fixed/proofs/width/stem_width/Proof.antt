@@ -1,7 +1,5 @@
 -- `fixed::width::stem_width` meets its contract. Assumes nothing.
 use borrow.Author.Needs.{needs}
-use mathlib.Core.Path.{_≡_, sym, ap, _∙_}
-use mathlib.Core.Bool.{true}
 use mir.Syntax.{w32}
 use Rattle.signed.proofs.Signed.{is, got}
 use Rattle.fixed.specs.Width.{ruleHolds, fittedWidth}

@@ -1,0 +1,2 @@
+-- What the probes' contracts cite.
+pub mod Coordinates
