@@ -1,0 +1,154 @@
+// What the fitter computes, for a person to look at: so far the worked values of document 01's arithmetic.
+use fixed::middle::compute_mid_delta;
+use fixed::middle::compute_mid_pos;
+use fixed::pixel::pix_floor;
+use fixed::pixel::pix_round;
+use fixed::point::derived_constant;
+use fixed::point::wide_div;
+use fixed::point::wide_mul;
+use fixed::width::WidthRule;
+use fixed::width::rule_holds;
+use fixed::width::stem_width;
+use libc::STDOUT_FILENO;
+
+// The magnitude of any number.
+fn size(x: i64) -> u64 {
+    if x < 0 {
+        return (-1 - x) as u64 + 1;
+    }
+    x as u64
+}
+
+// A number of 32 bits in 64.
+fn wide(x: i32) -> i64 {
+    x as i64
+}
+
+// A number of 16 bits in 64.
+fn wide_16(x: i16) -> i64 {
+    x as i64
+}
+
+// Writes bytes to standard output.
+fn text(bytes: &[u8]) {
+    io::write_all(STDOUT_FILENO, bytes);
+}
+
+// Writes a number in decimal.
+fn number(x: i64) {
+    if x < 0 {
+        text(b"-");
+    }
+    io::print_decimal(STDOUT_FILENO, size(x));
+}
+
+// Writes `name(a) = r` on a line.
+fn one(name: &[u8], a: i32, r: i64) {
+    text(name);
+    text(b"(");
+    number(wide(a));
+    text(b") = ");
+    number(r);
+    text(b"\n");
+}
+
+// Writes `name(a, b) = r` on a line.
+fn two(name: &[u8], a: i32, b: i32, r: i64) {
+    text(name);
+    text(b"(");
+    number(wide(a));
+    text(b", ");
+    number(wide(b));
+    text(b") = ");
+    number(r);
+    text(b"\n");
+}
+
+// The fixed product of a pair.
+fn product(a: i32, b: i32) {
+    two(b"fixed_mul", a, b, wide_mul(a, b));
+}
+
+// The fixed quotient of a pair.
+fn quotient(a: i32, b: i32) {
+    if b == 0 {
+        return;
+    }
+    two(b"fixed_div", a, b, wide_div(a, b));
+}
+
+// Both pixel roundings of a number.
+fn pixels(x: i32) {
+    one(b"pix_floor", x, wide(pix_floor(x)));
+    if x <= 2147483615 {
+        one(b"pix_round", x, wide(pix_round(x)));
+    }
+}
+
+// The middle of a pair and half its difference.
+fn middle(min: i32, max: i32) {
+    two(
+        b"compute_mid_pos",
+        min,
+        max,
+        wide_16(compute_mid_pos(min, max)),
+    );
+    two(
+        b"compute_mid_delta",
+        min,
+        max,
+        wide_16(compute_mid_delta(min, max)),
+    );
+}
+
+// A width, snapped to a list of standards, or the refusal of the list.
+fn snapped(standards: &[i32], width: i32) {
+    if rule_holds(WidthRule::Snap, standards) {
+        one(
+            b"stem_width",
+            width,
+            wide(stem_width(WidthRule::Snap, standards, width)),
+        );
+        return;
+    }
+    text(b"stem_width: refused by 2, the list of standards breaks its rule\n");
+}
+
+fn main() {
+    text(b"Fixed multiply and divide, halves away from zero\n");
+    product(1, 32768);
+    product(-1, 32768);
+    product(1, 32767);
+    product(-3, 32768);
+    product(16383, 16777216);
+    quotient(64, 3);
+    quotient(-64, 3);
+    quotient(1, -131072);
+    quotient(1, 131073);
+    text(b"Pixel floor and round\n");
+    pixels(31);
+    pixels(32);
+    pixels(-32);
+    pixels(-33);
+    text(b"The middle of two coordinates, wrapping around at 32 bits\n");
+    middle(10, 21);
+    middle(21, 10);
+    middle(2147483647, 1);
+    middle(65536, 0);
+    text(b"A derived constant\n");
+    two(
+        b"derived_constant",
+        1000,
+        8,
+        wide(derived_constant(1000, 8)),
+    );
+    text(b"Widths snapped to 40 and 60\n");
+    let standards = [40, 60];
+    snapped(&standards, 50);
+    snapped(&standards, -51);
+    snapped(&standards, 77);
+    snapped(&standards, 0);
+    text(b"Widths snapped to 60 and 40\n");
+    let falling = [60, 40];
+    snapped(&falling, 50);
+}
