@@ -1,32 +1,11 @@
 // The Rust's `compute_mid_pos` and `compute_mid_delta` (topo/segments.rs), defined for all pairs.
+use super::bits::bits_of;
+use super::bits::signed_of;
 ghost use mathlib.Core.Path.{_≡_};
 ghost use lib.IntN.{_+ℤ_, _-ℤ_};
 ghost use lib.Signed.{shrZ};
 ghost use mir.Syntax.{w16, w32};
-ghost use mir.Val.{ofZ, toZ};
 ghost use Rattle.fixed.specs.Middle.{wrapZ, midPos, midDelta};
-
-// The bits of x, as an unsigned number.
-fn bits_of(x: i32) -> u32
-    ensures { λ r. ⌜ r ≡ ofZ w32 x ⌝ }
-{
-    if x < 0 {
-        let wide = x as i64;
-        return (wide + 4294967296) as u32;
-    }
-    x as u32
-}
-
-// The number that 32 bits stand for.
-fn signed_of(bits: u32) -> i32
-    ensures { λ r. ⌜ r ≡ toZ w32 bits ⌝ }
-{
-    let wide = bits as i64;
-    if wide < 2147483648 {
-        return wide as i32;
-    }
-    (wide - 4294967296) as i32
-}
 
 // a + b, wrapped around at 32 bits.
 fn wrapping_add(a: i32, b: i32) -> i32

@@ -1,10 +1,10 @@
--- `fixed::middle::signed_of` meets its contract: bits of the upper half stand for 2 ^ 32 less. Assumes nothing.
+-- `fixed::bits::signed_of` meets its contract: bits of the upper half stand for 2 ^ 32 less. Assumes nothing.
 use borrow.Author.Needs.{needs}
 use native.Mathlib.Omega.{arith}
 use mir.Syntax.{w32}
 use Rattle.signed.proofs.Signed.{signed, fits, same, read-low, read-high, _also_}
-use Rattle.fixed.proofs.middle.signed_of.Statement.{statement}
-use Rattle.fixed.proofs.middle.signed_of.Tie as tie
+use Rattle.fixed.proofs.bits.signed_of.Statement.{statement}
+use Rattle.fixed.proofs.bits.signed_of.Tie as tie
 
 cast-wide : tie.Need-cast-wide
 cast-wide c = search needs

@@ -1,11 +1,11 @@
--- `fixed::middle::bits_of` meets its contract: below zero the bits are the number and 2 ^ 32. Assumes nothing.
+-- `fixed::bits::bits_of` meets its contract: below zero the bits are the number and 2 ^ 32. Assumes nothing.
 use native.Mathlib.Omega.{arith}
 use lib.IntN.{ℤ, pos, _+ℤ_}
 use mir.Syntax.{w32, w64}
 use mir.Val.{toZ, ofZ}
 use Rattle.signed.proofs.Signed.{signed, fits, range, bits-of, to-unsigned, natAbs-is, one-zero}
-use Rattle.fixed.proofs.middle.bits_of.Statement.{statement}
-use Rattle.fixed.proofs.middle.bits_of.Tie as tie
+use Rattle.fixed.proofs.bits.bits_of.Statement.{statement}
+use Rattle.fixed.proofs.bits.bits_of.Tie as tie
 
 abbrev plain : tie.Start → ℤ
 plain s = toZ w32 (ofZ w32 (s .args .x))

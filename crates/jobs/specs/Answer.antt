@@ -1,0 +1,51 @@
+-- The answer to a word list.
+use mathlib.Core.Path.{_≡_}
+use mathlib.Core.Bool.{cond}
+use mathlib.Core.List.{List, [], _∷_, _++_}
+use Prim.Native.Nat.{ℕ}
+use lib.Dec.{ltb}
+use lib.ListN.{length, getD, drop}
+use lib.IntN.{ℤ, pos, negsuc}
+use Rattle.fixed.specs.Middle.{midPos, midDelta}
+use Rattle.jobs.specs.declared.shape.Call.{Call}
+use Rattle.jobs.specs.declared.shape.Call.the-variants.{NotACall, ComputeMidPos, ComputeMidDelta, AlignWeakPoints, LinkSegmentsCjk, ComputeEdges, AlignEdgesToBlues, AlignLinkedEdge, AlignSerifEdge, AdjustLink, LatinRemainingBounds, HintNormalStemCjk, AlignStemEdges, HintLowercaseM, HintLowercaseMLent}
+use Rattle.jobs.specs.Shape.{jobOf}
+
+-- what is not a job is answered by -1
+abbrev pub notAJob : List ℤ
+notAJob = negsuc 0 ∷ []
+
+-- a job of a call that the port does not have yet, by -2
+abbrev pub notYet : List ℤ
+notYet = negsuc 1 ∷ []
+
+-- the answer to a job of a call
+unfoldable pub answerOf : Call → List ℤ → List ℤ
+answerOf NotACall ws = notAJob
+answerOf ComputeMidPos ws = pos 0 ∷ midPos (getD ws 1 (pos 0)) (getD ws 2 (pos 0)) ∷ []
+answerOf ComputeMidDelta ws = pos 0 ∷ midDelta (getD ws 1 (pos 0)) (getD ws 2 (pos 0)) ∷ []
+answerOf AlignWeakPoints ws = notYet
+answerOf LinkSegmentsCjk ws = notYet
+answerOf ComputeEdges ws = notYet
+answerOf AlignEdgesToBlues ws = notYet
+answerOf AlignLinkedEdge ws = notYet
+answerOf AlignSerifEdge ws = notYet
+answerOf AdjustLink ws = notYet
+answerOf LatinRemainingBounds ws = notYet
+answerOf HintNormalStemCjk ws = notYet
+answerOf AlignStemEdges ws = notYet
+answerOf HintLowercaseM ws = notYet
+answerOf HintLowercaseMLent ws = notYet
+
+-- the answer to a word list
+unfoldable pub answerTo : List ℤ → List ℤ
+answerTo ws = answerOf (jobOf ws) ws
+
+-- the words of the longest answer, that of a call with 512 segments and 128 edges
+abbrev pub longest : ℕ
+longest = 9091
+
+-- a buffer with room for every answer begins with this one, of r words, and keeps the rest; a shorter buffer is kept whole, and r is 0
+pub record Answered (ws out out′ : List ℤ) (r : ℕ) : Type 0 where
+  pub count : r ≡ cond (ltb (length out) longest) 0 (length (answerTo ws))
+  pub words : out′ ≡ cond (ltb (length out) longest) out (answerTo ws ++ drop (length (answerTo ws)) out)

@@ -1,0 +1,3 @@
+-- What the contracts of the crate cite.
+pub mod Shape
+pub mod Answer

@@ -1,0 +1,66 @@
+// The answer to a job, from the call that it names.
+use super::shape::Call;
+use super::shape::job_of;
+use super::shape::word_at;
+use fixed::middle::compute_mid_delta;
+use fixed::middle::compute_mid_pos;
+ghost use mathlib.Core.Path.{_≡_};
+ghost use mathlib.Core.List.{_∷_};
+ghost use Prim.Native.Nat.{_≤_};
+ghost use lib.ListN.{length, drop};
+ghost use Rattle.jobs.specs.Answer.{Answered};
+
+// Writes an answer of one word.
+fn one_word(out: &mut [i32], word: i32) -> usize
+    requires { ⌜ 1 ≤ length (now out) ⌝ }
+    ensures { λ r. ⌜ (r ≡ 1) × (now (out .exit) ≡ word ∷ drop 1 (now (out .entry))) ⌝ }
+{
+    out[0] = word;
+    1
+}
+
+// Writes an answer of two words.
+fn two_words(out: &mut [i32], first: i32, second: i32) -> usize
+    requires { ⌜ 2 ≤ length (now out) ⌝ }
+    ensures { λ r. ⌜ (r ≡ 2) × (now (out .exit) ≡ first ∷ second ∷ drop 2 (now (out .entry))) ⌝ }
+{
+    out[0] = first;
+    out[1] = second;
+    2
+}
+
+// Writes the answer to a word list into a buffer, and tells how many words it has.
+pub fn answer(words: &[i32], out: &mut [i32]) -> usize
+    ensures { λ r. ⌜ Answered (now (words .entry)) (now (out .entry)) (now (out .exit)) r ⌝ }
+{
+    if out.len() < 9091 {
+        return 0;
+    }
+    let call = job_of(words);
+    let a = word_at(words, 1);
+    let b = word_at(words, 2);
+    match call {
+        Call::NotACall => one_word(out, -1),
+        Call::ComputeMidPos => two_words(out, 0, wide(compute_mid_pos(a, b))),
+        Call::ComputeMidDelta => two_words(out, 0, wide(compute_mid_delta(a, b))),
+        Call::AlignWeakPoints => one_word(out, -2),
+        Call::LinkSegmentsCjk => one_word(out, -2),
+        Call::ComputeEdges => one_word(out, -2),
+        Call::AlignEdgesToBlues => one_word(out, -2),
+        Call::AlignLinkedEdge => one_word(out, -2),
+        Call::AlignSerifEdge => one_word(out, -2),
+        Call::AdjustLink => one_word(out, -2),
+        Call::LatinRemainingBounds => one_word(out, -2),
+        Call::HintNormalStemCjk => one_word(out, -2),
+        Call::AlignStemEdges => one_word(out, -2),
+        Call::HintLowercaseM => one_word(out, -2),
+        Call::HintLowercaseMLent => one_word(out, -2),
+    }
+}
+
+// A number of 16 bits in 32.
+fn wide(x: i16) -> i32
+    ensures { λ r. ⌜ r ≡ x ⌝ }
+{
+    x as i32
+}

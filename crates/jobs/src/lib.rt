@@ -1,0 +1,3 @@
+// Jobs: one word list for every public call, its answer, and both as lines of text.
+pub mod answer;
+pub mod shape;

@@ -1,0 +1,476 @@
+// Which word lists are jobs: the fields, records and lists of every call, and the place behind each.
+ghost use mathlib.Core.Path.{_≡_};
+ghost use Prim.Native.Nat.{_<_, min};
+ghost use lib.ListN.{length, getD};
+ghost use lib.IntN.{pos};
+ghost use Rattle.signed.specs.Parts.{up};
+ghost use Rattle.jobs.specs.Shape.{noRange, field, fields, rangesOf, edge, element, elements, countsOf, carriedOf, counted, item, items, formatOf, callOf, jobOf};
+
+// A place in a word list, or nowhere, where the words are not those of a job.
+pub enum Place {
+    Nowhere,
+    At(usize),
+}
+
+// The values of a field of one word.
+pub struct Range {
+    pub low: i32,
+    pub high: i32,
+}
+
+// A record of several words.
+pub enum Record {
+    Segment,
+    Edge,
+}
+
+// What a counted list holds.
+pub enum Element {
+    Number(Range),
+    Segment,
+    Edge,
+    LentEdge,
+}
+
+// An item of a job: one word, or a counted list. End stands behind the last and reads nothing.
+pub enum Item {
+    End,
+    One(Range),
+    Many(Element),
+}
+
+// The calls, as document 01 names them.
+pub enum Call {
+    NotACall,
+    ComputeMidPos,
+    ComputeMidDelta,
+    AlignWeakPoints,
+    LinkSegmentsCjk,
+    ComputeEdges,
+    AlignEdgesToBlues,
+    AlignLinkedEdge,
+    AlignSerifEdge,
+    AdjustLink,
+    LatinRemainingBounds,
+    HintNormalStemCjk,
+    AlignStemEdges,
+    HintLowercaseM,
+    HintLowercaseMLent,
+}
+
+// The call that a job's first word names, by its place.
+const CALLS: [Call; 15] = [
+    Call::NotACall,
+    Call::ComputeMidPos,
+    Call::ComputeMidDelta,
+    Call::AlignWeakPoints,
+    Call::LinkSegmentsCjk,
+    Call::ComputeEdges,
+    Call::AlignEdgesToBlues,
+    Call::AlignLinkedEdge,
+    Call::AlignSerifEdge,
+    Call::AdjustLink,
+    Call::LatinRemainingBounds,
+    Call::HintNormalStemCjk,
+    Call::AlignStemEdges,
+    Call::HintLowercaseM,
+    Call::HintLowercaseMLent,
+];
+
+const WORD: Range = Range {
+    low: -2147483648,
+    high: 2147483647,
+};
+
+const SHORT: Range = Range {
+    low: -32768,
+    high: 32767,
+};
+
+const BYTE: Range = Range { low: 0, high: 255 };
+
+const INDEX: Range = Range {
+    low: 0,
+    high: 65535,
+};
+
+const LINK: Range = Range {
+    low: -1,
+    high: 65535,
+};
+
+const CHOICE: Range = Range { low: 0, high: 1 };
+
+const DIRECTION: Range = Range { low: 0, high: 4 };
+
+const FLAGS: Range = Range { low: 0, high: 15 };
+
+// The 15 words of a segment: flags, direction, pos, delta, min_coord, max_coord, height, score, len, link, serif, first, last, edge, next.
+const SEGMENT: [Range; 15] = [
+    FLAGS,
+    DIRECTION,
+    SHORT,
+    SHORT,
+    SHORT,
+    SHORT,
+    SHORT,
+    WORD,
+    WORD,
+    LINK,
+    LINK,
+    INDEX,
+    INDEX,
+    LINK,
+    LINK,
+];
+
+// The 11 words of an edge: fpos, opos, pos, flags, direction, blue present, blue fitted, link, serif, first, last.
+const EDGE: [Range; 11] = [
+    SHORT,
+    WORD,
+    WORD,
+    FLAGS,
+    DIRECTION,
+    CHOICE,
+    WORD,
+    LINK,
+    LINK,
+    INDEX,
+    INDEX,
+];
+
+// The place behind a field.
+fn skip_field(words: &[i32], at: usize, range: Range) -> Place
+    ensures { λ r. ⌜ r ≡ field range (now (words .entry)) at ⌝ }
+{
+    if words.len() <= at {
+        return Place::Nowhere;
+    }
+    let word = words[at];
+    if word < range.low {
+        return Place::Nowhere;
+    }
+    if range.high < word {
+        return Place::Nowhere;
+    }
+    Place::At(at + 1)
+}
+
+// How many words a record has.
+fn size(kind: Record) -> usize
+    ensures { λ r. ⌜ r ≡ length (rangesOf kind) ⌝ }
+{
+    match kind {
+        Record::Segment => 15,
+        Record::Edge => 11,
+    }
+}
+
+// The values of a record's word.
+fn range_of(kind: Record, i: usize) -> Range
+    requires { ⌜ i < length (rangesOf kind) ⌝ }
+    ensures { λ r. ⌜ r ≡ getD (rangesOf kind) i noRange ⌝ }
+{
+    match kind {
+        Record::Segment => SEGMENT[i],
+        Record::Edge => EDGE[i],
+    }
+}
+
+// The place behind the fields of a record.
+fn skip_record(words: &[i32], at: usize, kind: Record) -> Place
+    ensures { λ r. ⌜ r ≡ fields (rangesOf kind) (now (words .entry)) at ⌝ }
+{
+    let n = size(kind);
+    let mut here = at;
+    let mut i = 0;
+    while i < n {
+        let Place::At(next) = skip_field(words, here, range_of(kind, i)) else {
+            return Place::Nowhere;
+        };
+        here = next;
+        i += 1;
+    }
+    Place::At(here)
+}
+
+// A word, and 0 past the end.
+pub fn word_at(words: &[i32], i: usize) -> i32
+    ensures { λ r. ⌜ r ≡ getD (now (words .entry)) i (pos 0) ⌝ }
+{
+    if i < words.len() {
+        return words[i];
+    }
+    0
+}
+
+// A word that is a count, and 0 where it is below zero.
+pub fn count_at(words: &[i32], i: usize) -> usize
+    ensures { λ r. ⌜ r ≡ up (getD (now (words .entry)) i (pos 0)) ⌝ }
+{
+    let word = word_at(words, i);
+    if word < 0 {
+        return 0;
+    }
+    word as usize
+}
+
+// The place behind an edge, whose fitted position is 0 where it has no blue.
+fn skip_edge(words: &[i32], at: usize) -> Place
+    ensures { λ r. ⌜ r ≡ edge (now (words .entry)) at ⌝ }
+{
+    let Place::At(next) = skip_record(words, at, Record::Edge) else {
+        return Place::Nowhere;
+    };
+    if word_at(words, next - 6) == 1 {
+        return Place::At(next);
+    }
+    if word_at(words, next - 5) == 0 {
+        return Place::At(next);
+    }
+    Place::Nowhere
+}
+
+// The place behind an element of a list.
+fn skip_element(words: &[i32], at: usize, kind: Element) -> Place
+    ensures { λ r. ⌜ r ≡ element kind (now (words .entry)) at ⌝ }
+{
+    match kind {
+        Element::Number(range) => skip_field(words, at, range),
+        Element::Segment => skip_record(words, at, Record::Segment),
+        Element::Edge => skip_edge(words, at),
+        Element::LentEdge => skip_edge(words, at),
+    }
+}
+
+// The place behind n elements of a list.
+fn skip_elements(words: &[i32], at: usize, kind: Element, n: usize) -> Place
+    ensures { λ r. ⌜ r ≡ elements n kind (now (words .entry)) at ⌝ }
+{
+    let mut here = at;
+    let mut i = 0;
+    while i < n {
+        let Place::At(next) = skip_element(words, here, kind) else {
+            return Place::Nowhere;
+        };
+        here = next;
+        i += 1;
+    }
+    Place::At(here)
+}
+
+// The counts that a list may have.
+fn counts(kind: Element) -> Range
+    ensures { λ r. ⌜ r ≡ countsOf kind ⌝ }
+{
+    match kind {
+        Element::Number(_) => Range { low: 0, high: 8191 },
+        Element::Segment => INDEX,
+        Element::Edge => INDEX,
+        Element::LentEdge => Range { low: 0, high: 160 },
+    }
+}
+
+// How many elements of a list a job carries at the most.
+fn carried(kind: Element) -> usize
+    ensures { λ r. ⌜ r ≡ carriedOf kind ⌝ }
+{
+    match kind {
+        Element::Number(_) => 8191,
+        Element::Segment => 512,
+        Element::Edge => 128,
+        Element::LentEdge => 160,
+    }
+}
+
+// The lesser of two.
+fn least(a: usize, b: usize) -> usize
+    ensures { λ r. ⌜ r ≡ min a b ⌝ }
+{
+    if a < b {
+        return a;
+    }
+    b
+}
+
+// The place behind a counted list.
+fn skip_list(words: &[i32], at: usize, kind: Element) -> Place
+    ensures { λ r. ⌜ r ≡ counted kind (now (words .entry)) at ⌝ }
+{
+    let Place::At(next) = skip_field(words, at, counts(kind)) else {
+        return Place::Nowhere;
+    };
+    let n = least(count_at(words, at), carried(kind));
+    skip_elements(words, next, kind, n)
+}
+
+// The place behind an item.
+fn skip_item(words: &[i32], at: usize, kind: Item) -> Place
+    ensures { λ r. ⌜ r ≡ item kind (now (words .entry)) at ⌝ }
+{
+    match kind {
+        Item::End => Place::At(at),
+        Item::One(range) => skip_field(words, at, range),
+        Item::Many(element) => skip_list(words, at, element),
+    }
+}
+
+// The items of a call's job, behind the call's word.
+fn format_of(call: Call) -> [Item; 10]
+    ensures { λ r. ⌜ r ≡ formatOf call ⌝ }
+{
+    let edges = Item::Many(Element::Edge);
+    let numbers = Item::Many(Element::Number(WORD));
+    let word = Item::One(WORD);
+    let index = Item::One(INDEX);
+    let choice = Item::One(CHOICE);
+    let end = Item::End;
+    match call {
+        Call::NotACall => [end; 10],
+        Call::ComputeMidPos => [word, word, end, end, end, end, end, end, end, end],
+        Call::ComputeMidDelta => [word, word, end, end, end, end, end, end, end, end],
+        Call::AlignWeakPoints => [
+            numbers,
+            numbers,
+            Item::Many(Element::Number(BYTE)),
+            Item::Many(Element::Number(INDEX)),
+            end,
+            end,
+            end,
+            end,
+            end,
+            end,
+        ],
+        Call::LinkSegmentsCjk => [
+            Item::Many(Element::Segment),
+            Item::One(DIRECTION),
+            word,
+            word,
+            end,
+            end,
+            end,
+            end,
+            end,
+            end,
+        ],
+        Call::ComputeEdges => [
+            Item::Many(Element::Segment),
+            edges,
+            choice,
+            Item::One(DIRECTION),
+            choice,
+            choice,
+            word,
+            word,
+            word,
+            word,
+        ],
+        Call::AlignEdgesToBlues => [
+            edges,
+            choice,
+            choice,
+            choice,
+            numbers,
+            end,
+            end,
+            end,
+            end,
+            end,
+        ],
+        Call::AlignLinkedEdge => [
+            edges,
+            choice,
+            numbers,
+            index,
+            index,
+            end,
+            end,
+            end,
+            end,
+            end,
+        ],
+        Call::AlignSerifEdge => [edges, index, index, end, end, end, end, end, end, end],
+        Call::AdjustLink => [edges, index, choice, choice, end, end, end, end, end, end],
+        Call::LatinRemainingBounds => [edges, index, end, end, end, end, end, end, end, end],
+        Call::HintNormalStemCjk => [
+            edges,
+            choice,
+            choice,
+            choice,
+            numbers,
+            index,
+            index,
+            word,
+            end,
+            end,
+        ],
+        Call::AlignStemEdges => [
+            edges,
+            choice,
+            choice,
+            choice,
+            choice,
+            Item::One(LINK),
+            choice,
+            numbers,
+            end,
+            end,
+        ],
+        Call::HintLowercaseM => [edges, choice, end, end, end, end, end, end, end, end],
+        Call::HintLowercaseMLent => [
+            Item::Many(Element::LentEdge),
+            choice,
+            end,
+            end,
+            end,
+            end,
+            end,
+            end,
+            end,
+            end,
+        ],
+    }
+}
+
+// The call that the first word names.
+fn call_of(words: &[i32]) -> Call
+    ensures { λ r. ⌜ r ≡ callOf (now (words .entry)) ⌝ }
+{
+    let number = count_at(words, 0);
+    if number < 15 {
+        return CALLS[number];
+    }
+    Call::NotACall
+}
+
+// The place behind all items of a call's job.
+fn skip_items(words: &[i32], call: Call) -> Place
+    ensures { λ r. ⌜ r ≡ items (formatOf call) (now (words .entry)) 1 ⌝ }
+{
+    let format = format_of(call);
+    let mut here = 1;
+    let mut i = 0;
+    while i < 10 {
+        let kind = format[i];
+        let Place::At(next) = skip_item(words, here, kind) else {
+            return Place::Nowhere;
+        };
+        here = next;
+        i += 1;
+    }
+    Place::At(here)
+}
+
+// The call that a word list is a job of, or that it is none.
+pub fn job_of(words: &[i32]) -> Call
+    ensures { λ r. ⌜ r ≡ jobOf (now (words .entry)) ⌝ }
+{
+    let call = call_of(words);
+    let Place::At(end) = skip_items(words, call) else {
+        return Call::NotACall;
+    };
+    if end == words.len() {
+        return call;
+    }
+    Call::NotACall
+}

@@ -1,0 +1,72 @@
+// Answers job lines: reads them from standard input, and writes an answer line for each to standard output.
+mod line;
+mod spell;
+
+use jobs::answer::answer;
+use libc::STDIN_FILENO;
+use libc::STDOUT_FILENO;
+use line::Line;
+use line::feed;
+use line::words_of;
+use spell::spell;
+ghost use Prim.Native.Nat.{_≤_};
+ghost use lib.ListN.{length};
+
+// Writes the answer to the words that a line has.
+fn reply(words: &[i32], line: Line, out: &mut [i32], text: &mut [u8])
+    requires { ⌜ (32769 ≤ length (now words)) × (72729 ≤ length (now text)) ⌝ }
+{
+    let n = words_of(line);
+    let count = answer(&words[..n], out);
+    let size = spell(out, count, text);
+    io::write_all(STDOUT_FILENO, &text[..size]);
+}
+
+// Feeds the first n bytes of a block, answers each line that ends in them, and hands back the line that has begun.
+fn feed_block(
+    block: &[u8],
+    n: usize,
+    words: &mut [i32],
+    begun: Line,
+    out: &mut [i32],
+    text: &mut [u8],
+) -> Line
+    requires { ⌜ (32769 ≤ length (now words)) × (72729 ≤ length (now text)) ⌝ }
+    requires { ⌜ n ≤ length (now block) ⌝ }
+{
+    let mut line = begun;
+    let mut i = 0;
+    while i < n {
+        let byte = block[i];
+        i += 1;
+        if byte != 10 {
+            line = feed(words, line, byte);
+            continue;
+        }
+        reply(words, line, out, text);
+        line = Line::new();
+    }
+    line
+}
+
+fn main() {
+    let mut block = io::large_buffer();
+    let mut words = [0i32; 32769];
+    let mut out = [0i32; 9091];
+    let mut text = [0u8; 72729];
+    let mut line = Line::new();
+    let mut turns: u64 = 18446744073709551615;
+    while 0 < turns {
+        let got = libc::read(STDIN_FILENO, &mut block);
+        let n = io::count(got, &block);
+        if n == 0 {
+            turns = 0;
+            continue;
+        }
+        line = feed_block(&block, n, &mut words, line, &mut out, &mut text);
+        turns -= 1;
+    }
+    if line.begun {
+        reply(&words, line, &mut out, &mut text);
+    }
+}

@@ -1,0 +1,132 @@
+//! Jobs answered by the oracle, as words and as text.
+
+use crate::{
+    calls,
+    decode::decode,
+    job::Job,
+    refusals::{Answer, Refusal},
+    text,
+    words::Words,
+};
+
+/// The answer to what is not a job.
+pub const NOT_A_JOB: i32 = -1;
+
+/// The answer line to a job line, both without their line feeds.
+pub fn answer_line(line: &[u8]) -> String {
+    match text::parse(line).and_then(|words| decode(&words)) {
+        Some(job) => text::write(&answer(job).values),
+        None => text::write(&[NOT_A_JOB]),
+    }
+}
+
+/// A job's answer.
+pub fn answer(job: Job) -> Words {
+    let mut w = Words::default();
+    match job {
+        Job::MidPos(min, max) => value(&mut w, calls::compute_mid_pos(min, max)),
+        Job::MidDelta(min, max) => value(&mut w, calls::compute_mid_delta(min, max)),
+        Job::Weak(mut points) => {
+            done(&mut w, calls::align_weak_points(&mut points));
+            w.numbers("currents", "current", &points.currents);
+        }
+        Job::Link(mut segments, major, units_per_em, scale) => {
+            let result = calls::link_segments_cjk(&mut segments, major, units_per_em, scale);
+            done(&mut w, result);
+            w.segments(&segments);
+        }
+        Job::Build(mut segments, mut edges, given) => {
+            let result = calls::compute_edges(&mut segments, &mut edges, &given);
+            done(&mut w, result);
+            w.segments(&segments);
+            w.edges(edges.count, &edges.items);
+        }
+        Job::MLent(mut edges, group) => {
+            done(&mut w, calls::hint_lowercase_m_lent(&mut edges, group));
+            w.edges(edges.len(), &edges);
+        }
+        Job::Bounds(edges, edge) => {
+            let bounds = number(&mut w, calls::latin_remaining_bounds(&edges, edge));
+            let [lower, upper] = bounds.unwrap_or([None, None]);
+            index(&mut w, "lower", lower);
+            index(&mut w, "upper", upper);
+        }
+        job => on_edges(&mut w, job),
+    }
+    w
+}
+
+/// Calls 6 to 13 but the bounds: the answer ends with a table of edges.
+fn on_edges(w: &mut Words, job: Job) {
+    let edges = match job {
+        Job::Blues(mut edges, dim, group, rule) => {
+            let result = calls::align_edges_to_blues(&mut edges, dim, group, &rule);
+            let anchor = number(w, result).flatten();
+            index(w, "anchor", anchor);
+            edges
+        }
+        Job::Linked(mut edges, rule, base, stem) => {
+            done(w, calls::align_linked_edge(&mut edges, &rule, base, stem));
+            edges
+        }
+        Job::Serif(mut edges, base, serif) => {
+            done(w, calls::align_serif_edge(&mut edges, base, serif));
+            edges
+        }
+        Job::Adjust(mut edges, edge, next, top_to_bottom) => {
+            done(w, calls::adjust_link(&mut edges, edge, next, top_to_bottom));
+            edges
+        }
+        Job::CjkStem(mut edges, given) => {
+            let delta = number(w, calls::hint_normal_stem_cjk(&mut edges, &given));
+            w.put("delta", delta.unwrap_or(0));
+            edges
+        }
+        Job::Stems(mut edges, given) => {
+            let result = number(w, calls::align_stem_edges(&mut edges, &given));
+            let (count, anchor) = result.unwrap_or((0, None));
+            w.count("count", count);
+            index(w, "anchor", anchor);
+            edges
+        }
+        Job::M(mut edges, group) => {
+            done(w, calls::hint_lowercase_m(&mut edges, group));
+            edges
+        }
+        _ => unreachable!("the other calls hand back no table of edges"),
+    };
+    w.edges(edges.count, &edges.items);
+}
+
+/// Appends document 01's number and keeps what was handed back.
+fn number<T>(w: &mut Words, result: Answer<T>) -> Option<T> {
+    match result {
+        Ok(value) => {
+            w.put("answer", 0);
+            Some(value)
+        }
+        Err(Refusal(number)) => {
+            w.put("answer", number);
+            None
+        }
+    }
+}
+
+/// Appends the number of a call that hands back nothing beside it.
+fn done(w: &mut Words, result: Answer<()>) {
+    number(w, result);
+}
+
+/// Appends the answer of calls 1 and 2.
+fn value(w: &mut Words, value: i16) {
+    w.put("answer", 0);
+    w.put("value", value.into());
+}
+
+/// Appends an index or its absence.
+fn index(w: &mut Words, name: &'static str, index: Option<usize>) {
+    w.index(
+        name,
+        index.map(|ix| u16::try_from(ix).expect("tables are small")),
+    );
+}

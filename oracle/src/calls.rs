@@ -1,0 +1,294 @@
+//! The fourteen public calls: document 01's refusals, then the given Rust.
+//!
+//! What is lent is changed in place, and not at all by a refusal.
+
+use crate::{
+    given::{
+        hint_edges::{self, LinkDir},
+        hint_outline,
+        metrics::{Scale, ScaleFlags, ScaledAxisMetrics, WidthMetrics},
+        outline::{Contour, Outline, Point, PointMarker},
+        topo::Axis,
+        topo_edges, topo_segments,
+    },
+    job::{
+        Building, CjkStem, Dimension, Direction, Edge, Points, ScriptGroup, Segment, Stems, Table,
+        WidthRule,
+    },
+    limits::EDGES,
+    refusals::{self, Answer, Refusal},
+};
+use std::mem::take;
+
+/// Call 1.
+pub fn compute_mid_pos(min: i32, max: i32) -> i16 {
+    topo_segments::compute_mid_pos(min, max)
+}
+
+/// Call 2.
+pub fn compute_mid_delta(min: i32, max: i32) -> i16 {
+    topo_segments::compute_mid_delta(min, max)
+}
+
+/// Call 3: `currents` are lent.
+///
+/// The given Rust is run on both axes, each of an outline of its own, and must answer alike.
+pub fn align_weak_points(points: &mut Points) -> Answer<()> {
+    refusals::weak(points)?;
+    let currents = aligned(points, Dimension::Horizontal);
+    assert_eq!(currents, aligned(points, Dimension::Vertical));
+    points.currents = currents;
+    Ok(())
+}
+
+/// The currents that the given Rust makes of these points on one axis.
+fn aligned(points: &Points, dim: Dimension) -> Vec<i32> {
+    let mut outline = Outline {
+        points: (0..points.originals.len())
+            .map(|ix| point(points, ix, dim))
+            .collect(),
+        contours: contours(&points.ends),
+        ..Outline::default()
+    };
+    hint_outline::align_weak_points(&mut outline, dim).expect("contours lie within the points");
+    let current = |point: &Point| match dim {
+        Dimension::Horizontal => point.x,
+        Dimension::Vertical => point.y,
+    };
+    outline.points.iter().map(current).collect()
+}
+
+/// A point that has its coordinates and its mark on one axis.
+fn point(points: &Points, ix: usize, dim: Dimension) -> Point {
+    let (original, current) = (points.originals[ix], points.currents[ix]);
+    let touched = points.touches[ix] != 0;
+    match dim {
+        Dimension::Horizontal => Point {
+            flags: PointMarker::TOUCHED_X.when(touched),
+            ox: original,
+            x: current,
+            ..Point::default()
+        },
+        Dimension::Vertical => Point {
+            flags: PointMarker::TOUCHED_Y.when(touched),
+            oy: original,
+            y: current,
+            ..Point::default()
+        },
+    }
+}
+
+/// The contours that end at these points.
+fn contours(ends: &[u16]) -> Vec<Contour> {
+    let mut first = 0;
+    let mut contours = Vec::new();
+    for last in ends.iter().map(|end| usize::from(*end)) {
+        contours.push(Contour { first, last });
+        first = last + 1;
+    }
+    contours
+}
+
+/// Call 4: the segments are lent.
+pub fn link_segments_cjk(
+    segments: &mut Table<Segment>,
+    major: Direction,
+    units_per_em: i32,
+    scale: i32,
+) -> Answer<()> {
+    refusals::link(segments, units_per_em, scale)?;
+    let outline = Outline {
+        units_per_em,
+        ..Outline::default()
+    };
+    let mut axis = Axis {
+        major_dir: major,
+        segments: take(&mut segments.items),
+        ..Axis::default()
+    };
+    topo_segments::link_segments_cjk(&outline, &mut axis, scale);
+    segments.items = axis.segments;
+    Ok(())
+}
+
+/// Call 5: the segments and the edge table are lent.
+pub fn compute_edges(
+    segments: &mut Table<Segment>,
+    edges: &mut Table<Edge>,
+    given: &Building,
+) -> Answer<()> {
+    refusals::build(segments, edges, given)?;
+    let cleared = |segment: &Segment| Segment {
+        edge_ix: None,
+        edge_next_ix: None,
+        ..*segment
+    };
+    let mut axis = Axis {
+        dim: given.dim,
+        major_dir: given.major,
+        segments: segments.items.iter().map(cleared).collect(),
+        edges: Vec::new(),
+    };
+    let metrics = ScaledAxisMetrics {
+        scale: given.scale,
+        width_metrics: WidthMetrics {
+            edge_distance_threshold: given.distance,
+        },
+        segment_length_threshold: given.length,
+        segment_width_threshold: given.width,
+        ..metrics(&WidthRule::Keep(Vec::new()))
+    };
+    topo_edges::compute_edges(&mut axis, &metrics, given.top_to_bottom, 0, given.group);
+    // The given Rust's table has no end, and an edge never leaves it.
+    if axis.edges.len() > EDGES {
+        return Err(Refusal(5));
+    }
+    segments.items = axis.segments;
+    *edges = Table::of(axis.edges);
+    Ok(())
+}
+
+/// Call 6: the edges are lent; hands back the anchor.
+pub fn align_edges_to_blues(
+    edges: &mut Table<Edge>,
+    dim: Dimension,
+    group: ScriptGroup,
+    rule: &WidthRule,
+) -> Answer<Option<usize>> {
+    refusals::edges_and_rule(edges, rule, &[])?;
+    Ok(on_axis(edges, dim, |axis| {
+        hint_edges::align_edges_to_blues(axis, &metrics(rule), group, &scale(false), None)
+    }))
+}
+
+/// Call 7: the edges are lent.
+pub fn align_linked_edge(
+    edges: &mut Table<Edge>,
+    rule: &WidthRule,
+    base: u16,
+    stem: u16,
+) -> Answer<()> {
+    refusals::edges_and_rule(edges, rule, &[base, stem])?;
+    on_axis(edges, Dimension::Horizontal, |axis| {
+        let (base, stem) = (base.into(), stem.into());
+        let group = ScriptGroup::Default;
+        hint_edges::align_linked_edge(axis, &metrics(rule), group, &scale(false), base, stem, None);
+    });
+    Ok(())
+}
+
+/// Call 8: the edges are lent.
+pub fn align_serif_edge(edges: &mut Table<Edge>, base: u16, serif: u16) -> Answer<()> {
+    refusals::edges(edges, &[base, serif])?;
+    on_axis(edges, Dimension::Horizontal, |axis| {
+        hint_edges::align_serif_edge(axis, base.into(), serif.into());
+    });
+    Ok(())
+}
+
+/// Call 9: the edges are lent.
+pub fn adjust_link(
+    edges: &mut Table<Edge>,
+    edge: u16,
+    next: bool,
+    top_to_bottom: bool,
+) -> Answer<()> {
+    refusals::edges(edges, &[edge])?;
+    let dir = if next { LinkDir::Next } else { LinkDir::Prev };
+    hint_edges::adjust_link(
+        &mut edges.items,
+        Dimension::Horizontal,
+        edge.into(),
+        dir,
+        top_to_bottom,
+        None,
+    );
+    Ok(())
+}
+
+/// Call 10: hands back lower and upper.
+pub fn latin_remaining_bounds(edges: &Table<Edge>, edge: u16) -> Answer<[Option<usize>; 2]> {
+    refusals::edges(edges, &[edge])?;
+    Ok(hint_edges::latin_remaining_bounds(
+        &edges.items,
+        edge.into(),
+    ))
+}
+
+/// Call 11: the edges are lent; hands back the delta.
+pub fn hint_normal_stem_cjk(edges: &mut Table<Edge>, given: &CjkStem) -> Answer<i32> {
+    refusals::cjk_stem(edges, given)?;
+    Ok(on_axis(edges, given.dim, |axis| {
+        hint_edges::hint_normal_stem_cjk(
+            axis,
+            &metrics(&given.rule),
+            ScriptGroup::Cjk,
+            &scale(given.stem_adjust),
+            given.edge.into(),
+            given.edge2.into(),
+            given.delta,
+        )
+    }))
+}
+
+/// Call 12: the edges are lent; hands back the count and the anchor.
+pub fn align_stem_edges(edges: &mut Table<Edge>, given: &Stems) -> Answer<(usize, Option<usize>)> {
+    refusals::stems(edges, given)?;
+    Ok(on_axis(edges, given.dim, |axis| {
+        hint_edges::align_stem_edges(
+            axis,
+            &metrics(&given.rule),
+            given.group,
+            &scale(given.stem_adjust),
+            given.top_to_bottom,
+            given.anchor.map(usize::from),
+            None,
+        )
+    }))
+}
+
+/// Call 13: the edges are lent as a table.
+pub fn hint_lowercase_m(edges: &mut Table<Edge>, group: ScriptGroup) -> Answer<()> {
+    refusals::lowercase_m(edges)?;
+    hint_edges::hint_lowercase_m(&mut edges.items, group);
+    Ok(())
+}
+
+/// Call 14: the edges are lent as a list.
+pub fn hint_lowercase_m_lent(edges: &mut [Edge], group: ScriptGroup) -> Answer<()> {
+    refusals::lowercase_m(&Table::of(edges.to_vec()))?;
+    hint_edges::hint_lowercase_m(edges, group);
+    Ok(())
+}
+
+/// Runs a part of the given Rust on an axis that holds these edges.
+fn on_axis<T>(edges: &mut Table<Edge>, dim: Dimension, run: impl FnOnce(&mut Axis) -> T) -> T {
+    let mut axis = Axis {
+        dim,
+        edges: take(&mut edges.items),
+        ..Axis::default()
+    };
+    let result = run(&mut axis);
+    edges.items = axis.edges;
+    result
+}
+
+/// Metrics that hold the width rule.
+fn metrics(rule: &WidthRule) -> ScaledAxisMetrics {
+    ScaledAxisMetrics {
+        scale: 0,
+        width_metrics: WidthMetrics {
+            edge_distance_threshold: 0,
+        },
+        segment_length_threshold: 0,
+        segment_width_threshold: 0,
+        width_rule: rule.clone(),
+    }
+}
+
+/// A scale that holds the flag.
+fn scale(stem_adjust: bool) -> Scale {
+    Scale {
+        flags: ScaleFlags::new(stem_adjust),
+    }
+}

@@ -1,0 +1,266 @@
+//! Words back to a job, or not a job.
+
+use crate::{
+    job::{
+        Building, CjkStem, Dimension, Direction, Edge, Job, Points, ScaledWidth, ScriptGroup,
+        Segment, Stems, Table, TopoFlags, WidthRule,
+    },
+    limits::{EDGES, LENT, NUMBERS, SEGMENTS},
+};
+
+/// The job that these words are, if they are one.
+pub fn decode(words: &[i32]) -> Option<Job> {
+    let mut r = Reader { words };
+    let job = r.job()?;
+    r.words.is_empty().then_some(job)
+}
+
+/// The words that are still to be read; every read may find that this is not a job.
+struct Reader<'a> {
+    words: &'a [i32],
+}
+
+impl Reader<'_> {
+    /// A number of any value.
+    fn word(&mut self) -> Option<i32> {
+        let (first, rest) = self.words.split_first()?;
+        self.words = rest;
+        Some(*first)
+    }
+
+    /// A number of a narrower type.
+    fn number<T: TryFrom<i32>>(&mut self) -> Option<T> {
+        T::try_from(self.word()?).ok()
+    }
+
+    /// A count up to a limit.
+    fn count(&mut self, limit: usize) -> Option<usize> {
+        self.number().filter(|count| *count <= limit)
+    }
+
+    /// A choice.
+    fn choice(&mut self) -> Option<bool> {
+        match self.word()? {
+            0 => Some(false),
+            1 => Some(true),
+            _ => None,
+        }
+    }
+
+    /// An index or none.
+    fn index(&mut self) -> Option<Option<u16>> {
+        match self.word()? {
+            -1 => Some(None),
+            ix => u16::try_from(ix).ok().map(Some),
+        }
+    }
+
+    /// A direction.
+    fn direction(&mut self) -> Option<Direction> {
+        use Direction::*;
+        let directions = [None, Right, Left, Up, Down];
+        directions.get(self.number::<usize>()?).copied()
+    }
+
+    /// A group.
+    fn group(&mut self) -> Option<ScriptGroup> {
+        Some(match self.choice()? {
+            false => ScriptGroup::Default,
+            true => ScriptGroup::Cjk,
+        })
+    }
+
+    /// A dimension.
+    fn dimension(&mut self) -> Option<Dimension> {
+        Some(match self.choice()? {
+            false => Dimension::Horizontal,
+            true => Dimension::Vertical,
+        })
+    }
+
+    /// Flags.
+    fn flags(&mut self) -> Option<TopoFlags> {
+        let bits = self.number::<u8>()?;
+        (bits <= 15).then(|| TopoFlags::from_bits_truncate(bits))
+    }
+
+    /// A list of numbers.
+    fn numbers<T: TryFrom<i32>>(&mut self) -> Option<Vec<T>> {
+        let count = self.count(NUMBERS)?;
+        (0..count).map(|_| self.number()).collect()
+    }
+
+    /// A width rule.
+    fn rule(&mut self) -> Option<WidthRule> {
+        let snap = self.choice()?;
+        let standards = self.numbers()?;
+        Some(if snap {
+            WidthRule::Snap(standards)
+        } else {
+            WidthRule::Keep(standards)
+        })
+    }
+
+    /// A segment.
+    fn segment(&mut self) -> Option<Segment> {
+        Some(Segment {
+            flags: self.flags()?,
+            dir: self.direction()?,
+            pos: self.number()?,
+            delta: self.number()?,
+            min_coord: self.number()?,
+            max_coord: self.number()?,
+            height: self.number()?,
+            score: self.word()?,
+            len: self.word()?,
+            link_ix: self.index()?,
+            serif_ix: self.index()?,
+            first_ix: self.number()?,
+            last_ix: self.number()?,
+            edge_ix: self.index()?,
+            edge_next_ix: self.index()?,
+        })
+    }
+
+    /// An edge.
+    fn edge(&mut self) -> Option<Edge> {
+        Some(Edge {
+            fpos: self.number()?,
+            opos: self.word()?,
+            pos: self.word()?,
+            flags: self.flags()?,
+            dir: self.direction()?,
+            blue_edge: self.blue()?,
+            link_ix: self.index()?,
+            serif_ix: self.index()?,
+            first_ix: self.number()?,
+            last_ix: self.number()?,
+            ..Edge::default()
+        })
+    }
+
+    /// A blue or its absence; an absent one has fitted 0.
+    fn blue(&mut self) -> Option<Option<ScaledWidth>> {
+        let present = self.choice()?;
+        let fitted = self.word()?;
+        match (present, fitted) {
+            (true, fitted) => Some(Some(ScaledWidth { fitted })),
+            (false, 0) => Some(None),
+            (false, _) => None,
+        }
+    }
+
+    /// As many records as the count says, up to the table's limit.
+    fn table<T>(
+        &mut self,
+        limit: usize,
+        record: impl Fn(&mut Self) -> Option<T>,
+    ) -> Option<Table<T>> {
+        let count = self.count(u16::MAX.into())?;
+        let items = (0..count.min(limit)).map(|_| record(self));
+        Some(Table {
+            count,
+            items: items.collect::<Option<Vec<T>>>()?,
+        })
+    }
+
+    /// A table of segments.
+    fn segments(&mut self) -> Option<Table<Segment>> {
+        self.table(SEGMENTS, Self::segment)
+    }
+
+    /// A table of edges.
+    fn edges(&mut self) -> Option<Table<Edge>> {
+        self.table(EDGES, Self::edge)
+    }
+
+    /// A whole job.
+    fn job(&mut self) -> Option<Job> {
+        Some(match self.word()? {
+            1 => Job::MidPos(self.word()?, self.word()?),
+            2 => Job::MidDelta(self.word()?, self.word()?),
+            3 => Job::Weak(self.points()?),
+            4 => Job::Link(
+                self.segments()?,
+                self.direction()?,
+                self.word()?,
+                self.word()?,
+            ),
+            5 => Job::Build(self.segments()?, self.edges()?, self.building()?),
+            6 => Job::Blues(
+                self.edges()?,
+                self.dimension()?,
+                self.group()?,
+                self.rule()?,
+            ),
+            7 => Job::Linked(self.edges()?, self.rule()?, self.number()?, self.number()?),
+            8 => Job::Serif(self.edges()?, self.number()?, self.number()?),
+            9 => Job::Adjust(
+                self.edges()?,
+                self.number()?,
+                self.choice()?,
+                self.choice()?,
+            ),
+            10 => Job::Bounds(self.edges()?, self.number()?),
+            11 => Job::CjkStem(self.edges()?, self.cjk_stem()?),
+            12 => Job::Stems(self.edges()?, self.stems()?),
+            13 => Job::M(self.edges()?, self.group()?),
+            14 => Job::MLent(self.lent()?, self.group()?),
+            _ => return None,
+        })
+    }
+
+    /// One axis of an outline.
+    fn points(&mut self) -> Option<Points> {
+        Some(Points {
+            originals: self.numbers()?,
+            currents: self.numbers()?,
+            touches: self.numbers()?,
+            ends: self.numbers()?,
+        })
+    }
+
+    /// What building is told.
+    fn building(&mut self) -> Option<Building> {
+        Some(Building {
+            dim: self.dimension()?,
+            major: self.direction()?,
+            group: self.group()?,
+            top_to_bottom: self.choice()?,
+            scale: self.word()?,
+            distance: self.word()?,
+            length: self.word()?,
+            width: self.word()?,
+        })
+    }
+
+    /// What the CJK stem is told.
+    fn cjk_stem(&mut self) -> Option<CjkStem> {
+        Some(CjkStem {
+            dim: self.dimension()?,
+            stem_adjust: self.choice()?,
+            rule: self.rule()?,
+            edge: self.number()?,
+            edge2: self.number()?,
+            delta: self.word()?,
+        })
+    }
+
+    /// What the stem pass is told.
+    fn stems(&mut self) -> Option<Stems> {
+        Some(Stems {
+            dim: self.dimension()?,
+            group: self.group()?,
+            stem_adjust: self.choice()?,
+            top_to_bottom: self.choice()?,
+            anchor: self.index()?,
+            rule: self.rule()?,
+        })
+    }
+
+    /// A lent list of edges.
+    fn lent(&mut self) -> Option<Vec<Edge>> {
+        let count = self.count(LENT)?;
+        (0..count).map(|_| self.edge()).collect()
+    }
+}

@@ -1,0 +1,73 @@
+//! Good jobs, damaged.
+
+use super::{job, Random};
+use crate::{text, words::encode};
+
+/// Words that stand at or beyond some field's values.
+const WORDS: [i32; 20] = [
+    -1,
+    0,
+    1,
+    2,
+    4,
+    5,
+    15,
+    16,
+    160,
+    161,
+    255,
+    256,
+    8_191,
+    8_192,
+    32_768,
+    -32_769,
+    65_535,
+    65_536,
+    i32::MIN,
+    i32::MAX,
+];
+
+/// A damaged line.
+pub fn line(call: usize, random: &mut Random) -> Vec<u8> {
+    let small = random.below(4) > 0;
+    let mut words = encode(&job(call, small, random)).values;
+    if random.below(3) > 0 {
+        damage_words(&mut words, random);
+        return text::write(&words).into_bytes();
+    }
+    let mut line = text::write(&words).into_bytes();
+    damage_text(&mut line, random);
+    line
+}
+
+/// Changes, cuts, appends or moves words.
+fn damage_words(words: &mut Vec<i32>, random: &mut Random) {
+    let at = random.below(words.len());
+    match random.below(12) {
+        0 => words.truncate(at),
+        1 => words.push(random.pick(&WORDS)),
+        2 => words.insert(at, random.pick(&WORDS)),
+        3 => drop(words.remove(at)),
+        4 => words[0] = random.between(-1, 16),
+        5 => words.truncate(words.len() - 1),
+        6 => words[at] = words[at].wrapping_add(random.pick(&[-1, 1])),
+        7 => words[at] = random.bits() as i32,
+        _ => words[at] = random.pick(&WORDS),
+    }
+}
+
+/// Changes the characters of a line.
+fn damage_text(line: &mut Vec<u8>, random: &mut Random) {
+    let at = random.below(line.len());
+    match random.below(9) {
+        0 => line.truncate(at),
+        1 => drop(line.remove(at)),
+        2 => line.insert(at, b'0'),
+        3 => line[at] = random.pick(b"gGxX@`/:.,-+ \t\0\x7F\xFF"),
+        4 => *line = line.to_ascii_lowercase(),
+        5 => line.push(b'\r'),
+        6 => line.clear(),
+        7 => line.insert(0, b' '),
+        _ => line[at] = random.pick(b"0123456789ABCDEFabcdef"),
+    }
+}

@@ -1,0 +1,203 @@
+//! Edges for fitting and for the lowercase m.
+
+use super::{group, segments, Random};
+use crate::{
+    calls,
+    job::{Direction, Edge, ScaledWidth, ScriptGroup, Table, TopoFlags, WidthRule},
+};
+
+/// The rounds in which edges get flags, blues and links, and how often each.
+struct Chances {
+    done: usize,
+    blue: usize,
+    links: usize,
+}
+
+/// Edges within the limits.
+pub fn edges(small: bool, random: &mut Random) -> Vec<Edge> {
+    let mut edges = if !small && random.once_in(3) {
+        built(random)
+    } else {
+        let count = if small {
+            random.below(5) + 1
+        } else {
+            random.below(14) + 2
+        };
+        placed(count, random)
+    };
+    dress(&mut edges, random);
+    edges
+}
+
+/// Edges that linking and building make of made-up segments.
+fn built(random: &mut Random) -> Vec<Edge> {
+    let mut given = segments::building(random);
+    given.scale = random.between(1_000, 32_000);
+    let mut made = segments::linked(&mut given, random);
+    let mut edges = Table::of(Vec::new());
+    match calls::compute_edges(&mut made, &mut edges, &given) {
+        Ok(()) if !edges.items.is_empty() => edges.items,
+        _ => placed(made.count, random),
+    }
+}
+
+/// Edges at positions, without links.
+fn placed(count: usize, random: &mut Random) -> Vec<Edge> {
+    let (kind, gap) = (random.below(5), random.pick(&[2, 17, 64, 100, 300]));
+    let mut at = random.between(-200, 200);
+    let mut edges: Vec<Edge> = Vec::new();
+    for _ in 0..count {
+        at = match kind {
+            0 => random.between(-gap, gap),
+            1 => random.between(-16_383, 16_383),
+            _ => (at + random.between(0, gap)).min(16_383),
+        };
+        edges.push(Edge {
+            fpos: (at * random.pick(&[1, 1, 1, 2])).clamp(-32_768, 32_767) as i16,
+            opos: at,
+            pos: at,
+            dir: random.pick(&[Direction::Up, Direction::Down, Direction::None]),
+            first_ix: random.below(65_536) as u16,
+            last_ix: random.below(65_536) as u16,
+            ..Edge::default()
+        });
+    }
+    edges
+}
+
+/// Moves edges and gives flags, blues, links and serifs.
+fn dress(edges: &mut [Edge], random: &mut Random) {
+    let chances = Chances {
+        done: random.pick(&[2, 4, 100]),
+        blue: random.pick(&[2, 4, 100]),
+        links: random.below(4),
+    };
+    let moves = random.pick(&[0, 1, 18, 64, 300, 16_700_000]);
+    let count = edges.len();
+    for (ix, edge) in edges.iter_mut().enumerate() {
+        if random.coin() {
+            edge.pos += random.between(-moves, moves);
+        }
+        edge.flags = flags(chances.done, random);
+        if random.once_in(chances.blue) {
+            let fitted = (edge.opos / 64 * 64 + random.between(-1, 1)).clamp(-16_383, 16_383);
+            edge.blue_edge = Some(ScaledWidth { fitted });
+        }
+        edge.link_ix = link(ix, count, chances.links, random);
+        edge.serif_ix = random.once_in(4).then(|| random.below(count) as u16);
+    }
+}
+
+/// Flags, done once in so many times.
+fn flags(done: usize, random: &mut Random) -> TopoFlags {
+    let mut flags = TopoFlags::NORMAL;
+    if random.coin() {
+        flags |= TopoFlags::ROUND;
+    }
+    if random.once_in(6) {
+        flags |= TopoFlags::SERIF;
+    }
+    if random.once_in(done) {
+        flags |= TopoFlags::DONE;
+    }
+    if random.once_in(3) {
+        flags |= TopoFlags::NEUTRAL;
+    }
+    flags
+}
+
+/// A link: 0 and 1 to the partner of a pair, 2 mostly so, 3 to any.
+fn link(ix: usize, count: usize, kind: usize, random: &mut Random) -> Option<u16> {
+    if random.once_in(6) {
+        return None;
+    }
+    if kind == 3 || (kind == 2 && random.once_in(3)) {
+        return Some(random.below(count) as u16);
+    }
+    Some((ix ^ 1).min(count - 1) as u16)
+}
+
+/// A few edges whose first two are a stem about a pixel wide.
+pub fn stem(random: &mut Random) -> Vec<Edge> {
+    let count = random.below(2) + 2;
+    let mut edges = placed(count, random);
+    dress(&mut edges, random);
+    edges[0].opos = random.between(-128, 128);
+    edges[1].opos = edges[0].opos + random.between(-20, 150);
+    edges
+}
+
+/// Stems one behind the other, of all the widths that are fitted differently.
+pub fn stems(random: &mut Random) -> Vec<Edge> {
+    let pairs = random.below(4) + 1;
+    let mut edges = placed(2 * pairs, random);
+    dress(&mut edges, random);
+    let moves = random.pick(&[0, 0, 20, 200]);
+    let mut at = random.between(-200, 200);
+    for pair in edges.chunks_exact_mut(2) {
+        let (least, most) =
+            random.pick(&[(0, 64), (60, 70), (65, 95), (90, 100), (97, 300), (-70, 0)]);
+        pair[0].opos = at;
+        pair[1].opos = at + random.between(least, most);
+        at = pair[1].opos + random.between(-10, 120);
+        for edge in pair {
+            edge.pos = edge.opos + random.between(-moves, moves);
+        }
+    }
+    edges
+}
+
+/// What an edge table may hold before building: anything.
+pub fn old_table(random: &mut Random) -> Vec<Edge> {
+    if random.coin() {
+        return Vec::new();
+    }
+    let mut edges = edges(true, random);
+    for edge in &mut edges {
+        edge.pos = random.bits() as i32;
+        edge.opos = random.bits() as i32;
+        edge.link_ix = Some(random.below(65_536) as u16);
+    }
+    edges
+}
+
+/// A width rule.
+pub fn rule(random: &mut Random) -> WidthRule {
+    let count = random.pick(&[0, 1, 2, 3, 5, 16]);
+    let mut standards = Vec::new();
+    let mut at = random.pick(&[0, 20, 60]);
+    for _ in 0..count {
+        at += random.between(1, 60);
+        standards.push(at);
+    }
+    if random.coin() {
+        return WidthRule::Snap(standards);
+    }
+    if random.once_in(4) {
+        standards.push(-1);
+    }
+    WidthRule::Keep(standards)
+}
+
+/// Six or twelve edges whose stems are about equally far apart.
+pub fn lowercase_m(random: &mut Random) -> (Vec<Edge>, ScriptGroup) {
+    let (count, stems) = random.pick(&[(6, [0, 2, 4]), (12, [1, 5, 9])]);
+    let mut edges = placed(count, random);
+    dress(&mut edges, random);
+    let group = group(random);
+    let (start, distance) = (random.between(-300, 300), random.between(-300, 300));
+    edges[stems[0]].opos = start;
+    edges[stems[1]].opos = start + distance;
+    edges[stems[2]].opos = start + 2 * distance + random.between(-9, 9);
+    for stem in stems {
+        if random.below(8) > 0 {
+            edges[stem].link_ix = Some(stem as u16 + 1);
+        }
+    }
+    if group == ScriptGroup::Default && random.coin() {
+        edges[stems[2]].link_ix = random
+            .pick(&[None, Some(stems[2]), Some(count - 1), Some(count - 4)])
+            .map(|ix| ix as u16);
+    }
+    (edges, group)
+}

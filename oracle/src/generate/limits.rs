@@ -1,0 +1,251 @@
+//! Jobs at document 01's limits, and just beyond.
+
+use super::{edges, job, segments, Random};
+use crate::{
+    job::{Building, Direction, Edge, Job, Points, Segment, Table, WidthRule},
+    limits::{EDGES, LENT, POINTS, SEGMENTS},
+    text,
+    words::{encode, Words},
+};
+
+/// A line of a job at the limits.
+pub fn line(call: usize, random: &mut Random) -> Vec<u8> {
+    let small = random.coin();
+    let mut job = job(call, small, random);
+    if random.once_in(4) {
+        resize(&mut job, random);
+    }
+    let mut words = encode(&job);
+    for _ in 0..random.pick(&[0, 1, 1, 1, 1, 2, 2, 3, 8]) {
+        spike(&mut words, random);
+    }
+    text::write(&words.values).into_bytes()
+}
+
+/// Puts one word at a limit of its field.
+fn spike(words: &mut Words, random: &mut Random) {
+    let mut names = words.names.clone();
+    names.sort_unstable();
+    names.dedup();
+    let name = random.pick(&names);
+    let places: Vec<usize> = (0..words.names.len())
+        .filter(|ix| words.names[*ix] == name)
+        .collect();
+    let ix = random.pick(&places);
+    if name == "edge.fitted" && words.values[ix - 1] == 0 {
+        return;
+    }
+    words.values[ix] = match name {
+        "edge.link" | "edge.serif" | "anchor" => index(words, "edges", true, random),
+        "base edge" | "stem edge" | "serif edge" | "edge" | "second edge" => {
+            index(words, "edges", false, random)
+        }
+        "segment.link" | "segment.serif" | "segment.next" => index(words, "segments", true, random),
+        "end" => index(words, "originals", false, random),
+        _ => limit(name, words.values[ix], random),
+    };
+}
+
+/// An index about its list's length.
+fn index(words: &Words, list: &str, may_be_none: bool, random: &mut Random) -> i32 {
+    let place = words.names.iter().position(|name| *name == list);
+    let count = place.map_or(0, |ix| words.values[ix]);
+    let index = random.pick(&[count - 1, count - 1, count, count + 1, 65_535, 0]);
+    index.clamp(if may_be_none { -1 } else { 0 }, 65_535)
+}
+
+/// Positions whose product with a scale of 1, 2 or a half is at the limit.
+const POSITIONS: [i32; 8] = [
+    8_191, 8_192, 16_383, 16_384, 32_765, 32_766, 32_767, -32_768,
+];
+
+/// A limit of a field, or the word that was there.
+fn limit(name: &str, word: i32, random: &mut Random) -> i32 {
+    let ends: &[i32] = match name {
+        "original" | "current" | "edge.opos" | "edge.fitted" | "delta" => &[16_383],
+        "edge.pos" => &[16_777_216],
+        "segment.score" | "segment.len" => &[0, 65_535],
+        "distance threshold" | "length threshold" | "width threshold" => &[0, 65_535],
+        "scale" => &[1, 16_777_216],
+        "units per em" => &[16, 16_384],
+        "standard" => &[1, 16_383],
+        "touch" => return random.pick(&[0, 1, 255]),
+        "segment.pos" => return side(random.pick(&POSITIONS), true, random).min(32_767),
+        "segment.delta" | "segment.min_coord" | "segment.max_coord" | "segment.height"
+        | "edge.fpos" => return random.pick(&[-32_768, 32_767, 0]),
+        _ => return word,
+    };
+    let two_sided = matches!(ends[0], 16_383 | 16_777_216) && ends.len() == 1;
+    let end = random.pick(ends);
+    match random.below(8) {
+        0 => random.pick(&[i32::MIN, i32::MAX, -1, 0]),
+        1..=3 => side(end, two_sided, random),
+        _ => side(end + random.between(-1, 1), two_sided, random),
+    }
+}
+
+/// A value, or its negative where the range has both.
+fn side(value: i32, two_sided: bool, random: &mut Random) -> i32 {
+    if two_sided && random.coin() {
+        -value
+    } else {
+        value
+    }
+}
+
+/// Makes a list as long as its limit or one longer, or breaks a list's rule.
+fn resize(job: &mut Job, random: &mut Random) {
+    match job {
+        Job::MidPos(..) | Job::MidDelta(..) => {}
+        Job::Weak(points) => resize_points(points, random),
+        Job::Link(segments, _, _, scale) => {
+            resize_segments(segments, random);
+            if segments.count > SEGMENTS && random.coin() {
+                *scale = 0;
+            }
+        }
+        Job::Build(segments, old, given) => resize_building(segments, old, given, random),
+        Job::Blues(edges, _, _, rule) | Job::Linked(edges, rule, ..) => {
+            resize_either(edges, rule, random);
+        }
+        Job::CjkStem(edges, given) => resize_either(edges, &mut given.rule, random),
+        Job::Stems(edges, given) => resize_either(edges, &mut given.rule, random),
+        Job::Serif(edges, ..) | Job::Adjust(edges, ..) | Job::Bounds(edges, _) => {
+            resize_edges(edges, random);
+        }
+        Job::M(edges, _) => {
+            let count = m_count(random);
+            resize_to(edges, count, random);
+        }
+        Job::MLent(edges, _) => {
+            let count = m_count(random).min(LENT + 1);
+            edges.resize(count, Edge::default());
+        }
+    }
+}
+
+/// Makes the point lists long or unlike, or breaks the contour ends' rule.
+fn resize_points(points: &mut Points, random: &mut Random) {
+    match random.below(40) {
+        0 => {
+            let count = random.pick(&[POINTS - 1, POINTS, POINTS + 1, 2 * POINTS - 1]);
+            points.originals.resize(count, 5);
+            points.currents.resize(count, 6);
+            points.touches.resize(count, 0);
+            points.ends.push(count as u16 - 1);
+        }
+        1..=6 => drop(points.originals.pop()),
+        7..=12 => points.currents.push(0),
+        13..=18 => points.touches.push(1),
+        19..=24 => points.ends.extend(points.ends.last().copied()),
+        _ => points.ends.reverse(),
+    }
+}
+
+/// Makes the tables of building long, its edges many, or its products large.
+fn resize_building(
+    segments: &mut Table<Segment>,
+    old: &mut Table<Edge>,
+    given: &mut Building,
+    random: &mut Random,
+) {
+    match random.below(8) {
+        0 => resize_edges(old, random),
+        1..=2 => {
+            given.distance = 3;
+            given.scale = 65_536;
+            *segments = apart(random);
+        }
+        3..=5 => {
+            given.scale = random.pick(&[32_768, 65_536, 131_072]);
+            let pos = side(random.pick(&POSITIONS), true, random);
+            segments.items[0].pos = pos.clamp(-32_768, 32_767) as i16;
+        }
+        _ => resize_segments(segments, random),
+    }
+}
+
+/// A count of edges for the lowercase m.
+fn m_count(random: &mut Random) -> usize {
+    if random.below(8) > 0 {
+        return random.pick(&[0, 1, 5, 7, 11, 13]);
+    }
+    random.pick(&[EDGES - 1, EDGES, EDGES + 1, LENT, LENT + 1, 65_535])
+}
+
+/// Breaks the width rule, changes the edges' count, or both.
+fn resize_either(edges: &mut Table<Edge>, rule: &mut WidthRule, random: &mut Random) {
+    let both = random.once_in(16);
+    if both {
+        resize_to(edges, EDGES + 1, random);
+    } else if random.once_in(4) {
+        return resize_edges(edges, random);
+    }
+    if let WidthRule::Snap(standards) = rule {
+        break_rule(standards, random);
+    }
+}
+
+/// Makes standards many, or breaks their order.
+fn break_rule(standards: &mut Vec<i32>, random: &mut Random) {
+    let many = |count: i32| (1..=count).map(|s| s * 7).collect();
+    match random.below(20) {
+        0 => *standards = many(8_191),
+        1 => *standards = many(8_192),
+        2..=9 => *standards = many(random.pick(&[15, 16, 17, 18])),
+        10..=14 => standards.extend(standards.last().copied()),
+        _ => standards.reverse(),
+    }
+}
+
+/// Changes the edges' count: mostly to few, seldom to the limit.
+fn resize_edges(edges: &mut Table<Edge>, random: &mut Random) {
+    let count = match random.below(12) {
+        0 => random.pick(&[EDGES - 1, EDGES, EDGES + 1, 65_535]),
+        1 => 0,
+        _ => random.below(4),
+    };
+    resize_to(edges, count, random);
+}
+
+/// Gives a table this many edges, the ones it had over and over.
+fn resize_to(edges: &mut Table<Edge>, count: usize, random: &mut Random) {
+    if edges.items.is_empty() {
+        edges.items = edges::edges(true, random);
+    }
+    let items = edges.items.iter().copied().cycle();
+    edges.items = items.take(count.min(EDGES)).collect();
+    edges.count = count;
+}
+
+/// Changes the segments' count: mostly to few, seldom to the limit.
+fn resize_segments(segments: &mut Table<Segment>, random: &mut Random) {
+    let count = match random.below(40) {
+        0 => random.pick(&[SEGMENTS - 1, SEGMENTS, SEGMENTS + 1, 65_535]),
+        1..=4 => 0,
+        _ => random.below(4),
+    };
+    let items = segments.items.iter().copied().cycle();
+    segments.items = items.take(count.min(SEGMENTS)).collect();
+    segments.count = count;
+}
+
+/// Segments far enough apart for an edge each, about as many as the table holds.
+fn apart(random: &mut Random) -> Table<Segment> {
+    if random.below(4) > 0 {
+        return Table::of(Vec::new());
+    }
+    let count = random.pick(&[EDGES - 1, EDGES, EDGES, EDGES + 1, EDGES + 2]);
+    let given = segments::building(random);
+    let mut made = segments::building_segments(count, &given, false, random);
+    let order = random.pick(&[1, 7, 31]);
+    for (ix, segment) in made.iter_mut().enumerate() {
+        segment.pos = (ix * order % count * 9) as i16;
+        segment.height = 32_767;
+        segment.delta = 0;
+        if segment.dir == Direction::None || random.below(20) > 0 {
+            segment.dir = Direction::Up;
+        }
+    }
+    Table::of(made)
+}

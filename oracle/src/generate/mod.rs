@@ -1,0 +1,191 @@
+//! Jobs made up from a seed.
+
+mod damage;
+mod edges;
+mod limits;
+mod points;
+mod random;
+mod segments;
+
+pub use random::Random;
+
+use crate::{
+    job::{CjkStem, Dimension, Edge, Job, ScriptGroup, Stems, Table, WidthRule},
+    text,
+    words::encode,
+};
+
+/// What kind of jobs are made up.
+#[derive(Copy, Clone, PartialEq, Debug)]
+pub enum Profile {
+    /// A blend of all, with data like a glyph's.
+    Mixed,
+    /// Few elements over few values, so that ties and equal indices meet.
+    Small,
+    /// Values and counts at document 01's limits and just beyond.
+    Limits,
+    /// Good jobs, damaged: most are no jobs.
+    Damaged,
+}
+
+/// All profiles with their names.
+pub const PROFILES: [(&str, Profile); 4] = [
+    ("mixed", Profile::Mixed),
+    ("small", Profile::Small),
+    ("limits", Profile::Limits),
+    ("damaged", Profile::Damaged),
+];
+
+/// A job line for a call, without its line feed.
+pub fn line(call: usize, profile: Profile, random: &mut Random) -> Vec<u8> {
+    let profile = match profile {
+        Profile::Mixed => mixed(random),
+        other => other,
+    };
+    match profile {
+        Profile::Mixed => good(call, false, random),
+        Profile::Small => good(call, true, random),
+        Profile::Limits => limits::line(call, random),
+        Profile::Damaged => damage::line(call, random),
+    }
+}
+
+/// What a job of the blend is.
+fn mixed(random: &mut Random) -> Profile {
+    match random.below(20) {
+        0..=7 => Profile::Small,
+        8..=15 => Profile::Mixed,
+        16..=18 => Profile::Limits,
+        _ => Profile::Damaged,
+    }
+}
+
+/// The line of a job within the limits.
+fn good(call: usize, small: bool, random: &mut Random) -> Vec<u8> {
+    let job = job(call, small, random);
+    text::write(&encode(&job).values).into_bytes()
+}
+
+/// A job within the limits, or nearly always so.
+fn job(call: usize, small: bool, random: &mut Random) -> Job {
+    match call {
+        1 => Job::MidPos(any_word(random), any_word(random)),
+        2 => Job::MidDelta(any_word(random), any_word(random)),
+        3 => Job::Weak(points::points(small, random)),
+        4 => segments::link(small, random),
+        5 => segments::build(small, random),
+        _ => on_edges(call, small, random),
+    }
+}
+
+/// A job of calls 6 to 14.
+fn on_edges(call: usize, small: bool, random: &mut Random) -> Job {
+    if call >= 13 {
+        let (edges, group) = edges::lowercase_m(random);
+        return match call {
+            13 => Job::M(Table::of(edges), group),
+            _ => Job::MLent(edges, group),
+        };
+    }
+    let edges = edges::edges(small, random);
+    let count = edges.len();
+    let table = Table::of(edges);
+    let rule = edges::rule(random);
+    match call {
+        6 => Job::Blues(table, dimension(random), group(random), rule),
+        7 => Job::Linked(table, rule, named(count, random), named(count, random)),
+        8 => Job::Serif(table, named(count, random), named(count, random)),
+        9 => Job::Adjust(table, named(count, random), random.coin(), random.coin()),
+        10 => Job::Bounds(table, named(count, random)),
+        11 => cjk_stem(table, rule, random),
+        _ => stem_pass(table, rule, random),
+    }
+}
+
+/// A job of the stem pass: mostly on stems one behind the other.
+fn stem_pass(table: Table<Edge>, rule: WidthRule, random: &mut Random) -> Job {
+    let table = if random.once_in(3) {
+        table
+    } else {
+        Table::of(edges::stems(random))
+    };
+    let given = Stems {
+        dim: dimension(random),
+        group: group(random),
+        stem_adjust: random.coin(),
+        top_to_bottom: random.coin(),
+        anchor: random.coin().then(|| named(table.count, random)),
+        rule,
+    };
+    Job::Stems(table, given)
+}
+
+/// A job of the CJK stem: mostly a narrow one.
+fn cjk_stem(table: Table<Edge>, rule: WidthRule, random: &mut Random) -> Job {
+    let narrow = random.below(4) > 0;
+    let table = if narrow {
+        Table::of(edges::stem(random))
+    } else {
+        table
+    };
+    let edge = if narrow {
+        0
+    } else {
+        named(table.count, random)
+    };
+    let edge2 = if narrow {
+        1
+    } else {
+        named(table.count, random)
+    };
+    let given = CjkStem {
+        dim: dimension(random),
+        stem_adjust: random.coin(),
+        rule,
+        edge,
+        edge2,
+        delta: delta(random),
+    };
+    Job::CjkStem(table, given)
+}
+
+/// A word for the middles: often near where the sum, the half or the low 16 bits turn over.
+fn any_word(random: &mut Random) -> i32 {
+    match random.below(6) {
+        0 => random.between(-4, 4),
+        1 => random
+            .pick(&[i32::MIN, i32::MAX])
+            .wrapping_add(random.between(-3, 3)),
+        2 => random.pick(&[-65_536, -32_768, 32_768, 65_536]) + random.between(-3, 3),
+        3 => random.between(-40_000, 40_000),
+        4 => 1i32
+            .wrapping_shl(random.below(32) as u32)
+            .wrapping_sub(random.between(-1, 1)),
+        _ => random.bits() as i32,
+    }
+}
+
+/// An edge named in a call.
+fn named(count: usize, random: &mut Random) -> u16 {
+    random.below(count.max(1)) as u16
+}
+
+/// A delta passed to the CJK stem.
+fn delta(random: &mut Random) -> i32 {
+    match random.below(4) {
+        0 => 0,
+        1 => random.between(-14, 14),
+        2 => random.between(-80, 80),
+        _ => random.between(-16_383, 16_383),
+    }
+}
+
+/// A dimension.
+fn dimension(random: &mut Random) -> Dimension {
+    random.pick(&[Dimension::Horizontal, Dimension::Vertical])
+}
+
+/// A group.
+fn group(random: &mut Random) -> ScriptGroup {
+    random.pick(&[ScriptGroup::Default, ScriptGroup::Cjk])
+}

@@ -1,0 +1,106 @@
+//! Jobs: the fourteen calls with everything that they are given.
+
+pub use crate::given::{
+    metrics::{ScaledWidth, WidthRule},
+    outline::Direction,
+    style::ScriptGroup,
+    topo::{Dimension, Edge, Segment, TopoFlags},
+};
+
+/// A list as it was given: its count, and as many elements as the working table holds.
+#[derive(Clone, PartialEq, Debug)]
+pub struct Table<T> {
+    pub count: usize,
+    pub items: Vec<T>,
+}
+
+impl<T> Table<T> {
+    /// A table that holds all of its list.
+    pub fn of(items: Vec<T>) -> Self {
+        Self {
+            count: items.len(),
+            items,
+        }
+    }
+}
+
+/// One axis of an outline.
+#[derive(Clone, PartialEq, Debug)]
+pub struct Points {
+    pub originals: Vec<i32>,
+    pub currents: Vec<i32>,
+    pub touches: Vec<u8>,
+    pub ends: Vec<u16>,
+}
+
+/// What building is told beside its tables.
+#[derive(Copy, Clone, PartialEq, Debug)]
+pub struct Building {
+    pub dim: Dimension,
+    pub major: Direction,
+    pub group: ScriptGroup,
+    pub top_to_bottom: bool,
+    pub scale: i32,
+    pub distance: i32,
+    pub length: i32,
+    pub width: i32,
+}
+
+/// What the CJK stem is told beside its edges.
+#[derive(Clone, PartialEq, Debug)]
+pub struct CjkStem {
+    pub dim: Dimension,
+    pub stem_adjust: bool,
+    pub rule: WidthRule,
+    pub edge: u16,
+    pub edge2: u16,
+    pub delta: i32,
+}
+
+/// What the stem pass is told beside its edges.
+#[derive(Clone, PartialEq, Debug)]
+pub struct Stems {
+    pub dim: Dimension,
+    pub group: ScriptGroup,
+    pub stem_adjust: bool,
+    pub top_to_bottom: bool,
+    pub anchor: Option<u16>,
+    pub rule: WidthRule,
+}
+
+/// A public call and what it is given; the fields stand in the order of the words.
+#[derive(Clone, PartialEq, Debug)]
+pub enum Job {
+    MidPos(i32, i32),
+    MidDelta(i32, i32),
+    Weak(Points),
+    Link(Table<Segment>, Direction, i32, i32),
+    Build(Table<Segment>, Table<Edge>, Building),
+    Blues(Table<Edge>, Dimension, ScriptGroup, WidthRule),
+    Linked(Table<Edge>, WidthRule, u16, u16),
+    Serif(Table<Edge>, u16, u16),
+    Adjust(Table<Edge>, u16, bool, bool),
+    Bounds(Table<Edge>, u16),
+    CjkStem(Table<Edge>, CjkStem),
+    Stems(Table<Edge>, Stems),
+    M(Table<Edge>, ScriptGroup),
+    MLent(Vec<Edge>, ScriptGroup),
+}
+
+/// The names of the calls, by their word less one.
+pub const CALLS: [&str; 14] = [
+    "compute_mid_pos",
+    "compute_mid_delta",
+    "align_weak_points",
+    "link_segments_cjk",
+    "compute_edges",
+    "align_edges_to_blues",
+    "align_linked_edge",
+    "align_serif_edge",
+    "adjust_link",
+    "latin_remaining_bounds",
+    "hint_normal_stem_cjk",
+    "align_stem_edges",
+    "hint_lowercase_m (table)",
+    "hint_lowercase_m (lent list)",
+];

@@ -1,0 +1,30 @@
+//! The numbers of document 01 that bound the input.
+
+use std::ops::RangeInclusive;
+
+/// Points of an outline.
+pub const POINTS: usize = 4_096;
+/// Segments of an axis.
+pub const SEGMENTS: usize = 512;
+/// Edges of an axis.
+pub const EDGES: usize = 128;
+/// Original and current coordinates of points, `opos`, blue `fitted`, passed delta, building's products.
+pub const COORDINATE: RangeInclusive<i32> = -16_383..=16_383;
+/// `pos` of an edge.
+pub const POSITION: RangeInclusive<i32> = -16_777_216..=16_777_216;
+/// Scale, 16.16.
+pub const SCALE: RangeInclusive<i32> = 1..=16_777_216;
+/// Units per em.
+pub const UNITS_PER_EM: RangeInclusive<i32> = 16..=16_384;
+/// Segment score, segment len, the three build thresholds.
+pub const MEASURE: RangeInclusive<i32> = 0..=65_535;
+/// Edges in the lowercase m call.
+pub const M_EDGES: [usize; 2] = [6, 12];
+/// Standards of the width rule.
+pub const STANDARDS: usize = 16;
+/// One standard.
+pub const STANDARD: RangeInclusive<i32> = 1..=16_383;
+/// The longest list of numbers that is a job.
+pub const NUMBERS: usize = 8_191;
+/// The longest lent list of edges that is a job.
+pub const LENT: usize = 160;

@@ -1,0 +1,230 @@
+//! The command `oracle`.
+
+use oracle::{
+    answer::answer_line,
+    explain,
+    generate::{self, Profile, Random, PROFILES},
+    job::CALLS,
+    text,
+};
+use std::{
+    env, fs,
+    io::{self, BufRead, BufWriter, Read, Write},
+    process::ExitCode,
+};
+
+/// How the command is used.
+const USAGE: &str = "usage:
+  oracle answer                 job lines on stdin to answer lines on stdout
+  oracle gen --call N --count C --seed S --profile mixed|small|limits|damaged
+  oracle explain                job lines on stdin, decoded with their answers
+  oracle diff JOBS FIRST SECOND compares two files of answers to the jobs
+  oracle tally                  job lines on stdin: answers per call and number
+  oracle branches --count C --seed S   (feature `count`) branches of the given Rust";
+
+/// Runs the subcommand that the words name.
+fn main() -> ExitCode {
+    let words: Vec<String> = env::args().skip(1).collect();
+    let words: Vec<&str> = words.iter().map(String::as_str).collect();
+    let done = match words.as_slice() {
+        ["answer"] => answer(),
+        ["gen", options @ ..] => gen(options),
+        ["explain"] => explain_lines(),
+        ["diff", jobs, first, second] => return diff(jobs, first, second),
+        ["tally"] => tally(),
+        #[cfg(feature = "count")]
+        ["branches", options @ ..] => return branches(options),
+        _ => return usage(),
+    };
+    match done {
+        Some(Ok(())) => ExitCode::SUCCESS,
+        Some(Err(error)) if error.kind() == io::ErrorKind::BrokenPipe => ExitCode::SUCCESS,
+        Some(Err(error)) => failed(&error),
+        None => usage(),
+    }
+}
+
+/// What a command came to: nothing where its options are wrong.
+type Done = Option<io::Result<()>>;
+
+/// Says how the command is used.
+fn usage() -> ExitCode {
+    eprintln!("{USAGE}");
+    ExitCode::from(2)
+}
+
+/// Says what went wrong.
+fn failed(error: &io::Error) -> ExitCode {
+    eprintln!("oracle: {error}");
+    ExitCode::from(2)
+}
+
+/// Hands every line of stdin, without its line feed, to an action that may write.
+fn each_line(mut action: impl FnMut(&[u8], &mut dyn Write) -> io::Result<()>) -> io::Result<()> {
+    let mut input = io::stdin().lock();
+    let mut output = BufWriter::with_capacity(1 << 16, io::stdout().lock());
+    let mut line = Vec::new();
+    while input.read_until(b'\n', &mut line)? > 0 {
+        let end = line.strip_suffix(b"\n").unwrap_or(&line);
+        action(end, &mut output)?;
+        line.clear();
+    }
+    output.flush()
+}
+
+/// Answers job lines.
+fn answer() -> Done {
+    Some(each_line(|line, output| {
+        writeln!(output, "{}", answer_line(line))
+    }))
+}
+
+/// Decodes job lines.
+fn explain_lines() -> Done {
+    Some(each_line(|line, output| {
+        writeln!(output, "{}", explain::explain(line))
+    }))
+}
+
+/// The value of a named option.
+fn option<'a>(options: &[&'a str], name: &str) -> Option<&'a str> {
+    let at = options.iter().position(|option| *option == name)?;
+    options.get(at + 1).copied()
+}
+
+/// A numeric option.
+fn number(options: &[&str], name: &str) -> Option<u64> {
+    option(options, name)?.parse().ok()
+}
+
+/// Prints made-up job lines.
+fn gen(options: &[&str]) -> Done {
+    let call = usize::try_from(number(options, "--call")?).ok()?;
+    let count = number(options, "--count")?;
+    let mut random = Random::new(number(options, "--seed")?);
+    let name = option(options, "--profile")?;
+    let profile = PROFILES.iter().find(|profile| profile.0 == name)?.1;
+    if !(1..=CALLS.len()).contains(&call) || options.len() != 8 {
+        return None;
+    }
+    Some(print(call, count, profile, &mut random))
+}
+
+/// Writes so many job lines.
+fn print(call: usize, count: u64, profile: Profile, random: &mut Random) -> io::Result<()> {
+    let mut output = BufWriter::with_capacity(1 << 16, io::stdout().lock());
+    for _ in 0..count {
+        output.write_all(&generate::line(call, profile, random))?;
+        output.write_all(b"\n")?;
+    }
+    output.flush()
+}
+
+/// The call that a job line names, or 0.
+fn call_of(line: &[u8]) -> usize {
+    let word = line.get(..8).and_then(text::parse);
+    let call = word.and_then(|word| usize::try_from(word[0]).ok());
+    call.filter(|call| *call <= CALLS.len()).unwrap_or(0)
+}
+
+/// A call's name, for a report.
+fn name(call: usize) -> &'static str {
+    call.checked_sub(1)
+        .map_or("names no call", |call| CALLS[call])
+}
+
+/// Counts answers per call and document 01's number.
+fn tally() -> Done {
+    let mut counts = [[0u64; 7]; 15];
+    let counted = each_line(|line, _| {
+        let answer = text::parse(&answer_line(line).as_bytes()[..8]).unwrap_or_default();
+        counts[call_of(line)][(answer[0] + 1) as usize] += 1;
+        Ok(())
+    });
+    println!(
+        "{:30} {:>9} {:>9} {:>8} {:>8} {:>8} {:>8} {:>8}",
+        "call", "no job", "done", 1, 2, 3, 4, 5
+    );
+    for (call, row) in counts
+        .iter()
+        .enumerate()
+        .filter(|(_, row)| row.iter().sum::<u64>() > 0)
+    {
+        print!("{:30} {:>9} {:>9}", name(call), row[0], row[1]);
+        println!(
+            " {:>8} {:>8} {:>8} {:>8} {:>8}",
+            row[2], row[3], row[4], row[5], row[6]
+        );
+    }
+    Some(counted)
+}
+
+/// Compares two files of answers, and shows the first differences decoded.
+fn diff(jobs: &str, first: &str, second: &str) -> ExitCode {
+    let read = |path: &str| -> io::Result<Vec<u8>> {
+        let mut text = Vec::new();
+        fs::File::open(path)?.read_to_end(&mut text)?;
+        Ok(text)
+    };
+    match (read(jobs), read(first), read(second)) {
+        (Ok(jobs), Ok(first), Ok(second)) => compare(&jobs, &first, &second),
+        (Err(error), ..) | (_, Err(error), _) | (_, _, Err(error)) => failed(&error),
+    }
+}
+
+/// How many differences are shown.
+const SHOWN: usize = 5;
+
+/// Counts per call what agreed.
+fn compare(jobs: &[u8], first: &[u8], second: &[u8]) -> ExitCode {
+    let (jobs, first, second) = (text::lines(jobs), text::lines(first), text::lines(second));
+    if jobs.len() != first.len() || jobs.len() != second.len() {
+        println!(
+            "{} jobs, {} and {} answers",
+            jobs.len(),
+            first.len(),
+            second.len()
+        );
+        return ExitCode::FAILURE;
+    }
+    let mut agreed = [0u64; 15];
+    let mut differ = 0;
+    for (ix, job) in jobs.iter().enumerate() {
+        if first[ix] == second[ix] {
+            agreed[call_of(job)] += 1;
+            continue;
+        }
+        differ += 1;
+        if differ <= SHOWN {
+            println!(
+                "line {}: {}",
+                ix + 1,
+                explain::difference(job, first[ix], second[ix])
+            );
+        }
+    }
+    for (call, count) in agreed.iter().enumerate().filter(|(_, count)| **count > 0) {
+        println!("{:30} {count:>9} agree", name(call));
+    }
+    println!("{differ} of {} differ", jobs.len());
+    ExitCode::from(u8::from(differ > 0))
+}
+
+/// Runs made-up jobs of all calls and profiles and reports the branches.
+#[cfg(feature = "count")]
+fn branches(options: &[&str]) -> ExitCode {
+    let (Some(count), Some(seed)) = (number(options, "--count"), number(options, "--seed")) else {
+        return usage();
+    };
+    let mut random = Random::new(seed);
+    for call in 1..=CALLS.len() {
+        for (_, profile) in PROFILES {
+            for _ in 0..count {
+                answer_line(&generate::line(call, profile, &mut random));
+            }
+        }
+    }
+    let (report, complete) = oracle::count::report();
+    print!("{report}");
+    ExitCode::from(u8::from(!complete))
+}

@@ -1,0 +1,162 @@
+//! Document 01's five refusals, written from its table alone.
+//!
+//! One function per call tests in the document's order; each test stands in a function of its own.
+
+use crate::{
+    given::metrics::fixed_mul,
+    job::{Building, CjkStem, Edge, Points, Segment, Stems, Table, WidthRule},
+    limits::*,
+};
+
+/// A refusal, by its number.
+#[derive(Copy, Clone, PartialEq, Eq, Debug)]
+pub struct Refusal(pub i32);
+
+/// What a call answers: done, with what it hands back, or refused.
+pub type Answer<T> = Result<T, Refusal>;
+
+/// Refuses by this number when the fault is there.
+fn refuse(number: i32, fault: bool) -> Answer<()> {
+    if fault {
+        Err(Refusal(number))
+    } else {
+        Ok(())
+    }
+}
+
+/// Weak points.
+pub fn weak(points: &Points) -> Answer<()> {
+    let Points {
+        originals,
+        currents,
+        touches,
+        ends,
+    } = points;
+    let count = originals.len();
+    refuse(
+        1,
+        count > POINTS || currents.len() != count || touches.len() != count,
+    )?;
+    refuse(3, !are_contour_ends(ends, count))?;
+    refuse(
+        4,
+        originals
+            .iter()
+            .chain(currents)
+            .any(|c| !COORDINATE.contains(c)),
+    )
+}
+
+/// CJK linking.
+pub fn link(segments: &Table<Segment>, units_per_em: i32, scale: i32) -> Answer<()> {
+    refuse(1, segments.count > SEGMENTS)?;
+    refuse(
+        2,
+        !UNITS_PER_EM.contains(&units_per_em) || !SCALE.contains(&scale),
+    )?;
+    let indices = |s: &Segment| [s.link_ix, s.serif_ix, s.edge_next_ix];
+    refuse(3, names_beyond(segments, indices))?;
+    refuse(4, !segments.items.iter().all(measures_fit))
+}
+
+/// Building, but for refusal 5: that shows while the edges are built.
+pub fn build(segments: &Table<Segment>, edges: &Table<Edge>, given: &Building) -> Answer<()> {
+    refuse(1, segments.count > SEGMENTS || edges.count > EDGES)?;
+    let thresholds = [given.distance, given.length, given.width];
+    refuse(
+        2,
+        !SCALE.contains(&given.scale) || thresholds.iter().any(|t| !MEASURE.contains(t)),
+    )?;
+    refuse(3, names_beyond(segments, |s| [s.link_ix, s.serif_ix]))?;
+    let product_fits = |s: &Segment| COORDINATE.contains(&fixed_mul(s.pos.into(), given.scale));
+    refuse(
+        4,
+        !segments
+            .items
+            .iter()
+            .all(|s| measures_fit(s) && product_fits(s)),
+    )
+}
+
+/// Any call on a table of edges that names these edges.
+pub fn edges(edges: &Table<Edge>, named: &[u16]) -> Answer<()> {
+    refuse(1, edges.count > EDGES)?;
+    edge_indices(edges, named)?;
+    refuse(4, !edges.items.iter().all(edge_fits))
+}
+
+/// Any call on a table of edges with a width rule.
+pub fn edges_and_rule(table: &Table<Edge>, rule: &WidthRule, named: &[u16]) -> Answer<()> {
+    refuse(1, table.count > EDGES)?;
+    refuse(2, !is_rule(rule))?;
+    edges(table, named)
+}
+
+/// The CJK stem.
+pub fn cjk_stem(edges: &Table<Edge>, given: &CjkStem) -> Answer<()> {
+    edges_and_rule(edges, &given.rule, &[given.edge, given.edge2])?;
+    refuse(4, !COORDINATE.contains(&given.delta))
+}
+
+/// The stem pass.
+pub fn stems(edges: &Table<Edge>, given: &Stems) -> Answer<()> {
+    edges_and_rule(edges, &given.rule, given.anchor.as_slice())
+}
+
+/// The lowercase m.
+pub fn lowercase_m(table: &Table<Edge>) -> Answer<()> {
+    refuse(1, table.count > EDGES)?;
+    refuse(2, !M_EDGES.contains(&table.count))?;
+    edges(table, &[])
+}
+
+/// Refusal 3 on edges: a link, a serif, or an edge named in the call.
+fn edge_indices(edges: &Table<Edge>, named: &[u16]) -> Answer<()> {
+    refuse(
+        3,
+        names_beyond(edges, |e| [e.link_ix, e.serif_ix])
+            || named.iter().any(|ix| usize::from(*ix) >= edges.count),
+    )
+}
+
+/// Whether an index of some element is not below the list's length.
+fn names_beyond<T, const N: usize>(
+    table: &Table<T>,
+    indices: impl Fn(&T) -> [Option<u16>; N],
+) -> bool {
+    let beyond = |ix: &u16| usize::from(*ix) >= table.count;
+    table
+        .items
+        .iter()
+        .any(|item| indices(item).iter().flatten().any(beyond))
+}
+
+/// Whether these rise strictly and stay below the point count.
+fn are_contour_ends(ends: &[u16], points: usize) -> bool {
+    ends.windows(2).all(|pair| pair[0] < pair[1])
+        && ends.iter().all(|end| usize::from(*end) < points)
+}
+
+/// Whether score and len are in the table.
+fn measures_fit(segment: &Segment) -> bool {
+    MEASURE.contains(&segment.score) && MEASURE.contains(&segment.len)
+}
+
+/// Whether `opos`, `pos` and a blue's `fitted` are in the table.
+fn edge_fits(edge: &Edge) -> bool {
+    COORDINATE.contains(&edge.opos)
+        && POSITION.contains(&edge.pos)
+        && edge
+            .blue_edge
+            .is_none_or(|blue| COORDINATE.contains(&blue.fitted))
+}
+
+/// Whether a snap rule's standards are few, in range and strictly rising; keep has none.
+fn is_rule(rule: &WidthRule) -> bool {
+    let WidthRule::Snap(standards) = rule else {
+        return true;
+    };
+    standards.len() <= STANDARDS
+        && standards.iter().all(|s| STANDARD.contains(s))
+        && standards.windows(2).all(|pair| pair[0] < pair[1])
+}

@@ -1,0 +1,265 @@
+//! Words with names: what a job or an answer is written into.
+
+use crate::job::{
+    Building, CjkStem, Dimension, Direction, Edge, Job, Points, ScriptGroup, Segment, Stems, Table,
+    WidthRule,
+};
+
+/// A list of words, each with its field's name, and where records begin.
+#[derive(Default)]
+pub struct Words {
+    pub values: Vec<i32>,
+    pub names: Vec<&'static str>,
+    pub heads: Vec<(usize, &'static str, usize)>,
+}
+
+impl Words {
+    /// Appends one word.
+    pub fn put(&mut self, name: &'static str, value: i32) {
+        self.values.push(value);
+        self.names.push(name);
+    }
+
+    /// Appends a choice.
+    pub fn choice(&mut self, name: &'static str, value: bool) {
+        self.put(name, value.into());
+    }
+
+    /// Appends a count.
+    pub fn count(&mut self, name: &'static str, value: usize) {
+        self.put(name, i32::try_from(value).expect("counts are small"));
+    }
+
+    /// Appends an index or its absence.
+    pub fn index(&mut self, name: &'static str, index: Option<u16>) {
+        self.put(name, index.map_or(-1, i32::from));
+    }
+
+    /// Appends a direction.
+    pub fn direction(&mut self, name: &'static str, direction: Direction) {
+        self.put(name, direction as i32);
+    }
+
+    /// Appends a dimension.
+    pub fn dimension(&mut self, dim: Dimension) {
+        self.put("dimension", dim as i32);
+    }
+
+    /// Appends a group.
+    pub fn group(&mut self, group: ScriptGroup) {
+        self.put("group", group as i32);
+    }
+
+    /// Appends a list of numbers.
+    pub fn numbers<T: Copy + Into<i32>>(
+        &mut self,
+        count: &'static str,
+        name: &'static str,
+        list: &[T],
+    ) {
+        self.rest();
+        self.count(count, list.len());
+        for number in list {
+            self.put(name, (*number).into());
+        }
+    }
+
+    /// Appends a width rule.
+    pub fn rule(&mut self, rule: &WidthRule) {
+        let (kind, standards) = match rule {
+            WidthRule::Keep(standards) => (0, standards),
+            WidthRule::Snap(standards) => (1, standards),
+        };
+        self.put("width rule", kind);
+        self.numbers("standards", "standard", standards);
+    }
+
+    /// Appends a segment.
+    fn segment(&mut self, ix: usize, s: &Segment) {
+        self.heads.push((self.values.len(), "segment", ix));
+        self.put("segment.flags", s.flags.to_bits().into());
+        self.direction("segment.direction", s.dir);
+        self.put("segment.pos", s.pos.into());
+        self.put("segment.delta", s.delta.into());
+        self.put("segment.min_coord", s.min_coord.into());
+        self.put("segment.max_coord", s.max_coord.into());
+        self.put("segment.height", s.height.into());
+        self.put("segment.score", s.score);
+        self.put("segment.len", s.len);
+        self.index("segment.link", s.link_ix);
+        self.index("segment.serif", s.serif_ix);
+        self.put("segment.first", s.first_ix.into());
+        self.put("segment.last", s.last_ix.into());
+        self.index("segment.edge", s.edge_ix);
+        self.index("segment.next", s.edge_next_ix);
+    }
+
+    /// Appends an edge.
+    fn edge(&mut self, ix: usize, e: &Edge) {
+        self.heads.push((self.values.len(), "edge", ix));
+        self.put("edge.fpos", e.fpos.into());
+        self.put("edge.opos", e.opos);
+        self.put("edge.pos", e.pos);
+        self.put("edge.flags", e.flags.to_bits().into());
+        self.direction("edge.direction", e.dir);
+        self.choice("edge.blue", e.blue_edge.is_some());
+        self.put("edge.fitted", e.blue_edge.map_or(0, |blue| blue.fitted));
+        self.index("edge.link", e.link_ix);
+        self.index("edge.serif", e.serif_ix);
+        self.put("edge.first", e.first_ix.into());
+        self.put("edge.last", e.last_ix.into());
+    }
+
+    /// Appends a table of segments.
+    pub fn segments(&mut self, table: &Table<Segment>) {
+        self.rest();
+        self.count("segments", table.count);
+        for (ix, segment) in table.items.iter().enumerate() {
+            self.segment(ix, segment);
+        }
+    }
+
+    /// Appends a table or list of edges.
+    pub fn edges(&mut self, count: usize, items: &[Edge]) {
+        self.rest();
+        self.count("edges", count);
+        for (ix, edge) in items.iter().enumerate() {
+            self.edge(ix, edge);
+        }
+    }
+
+    /// Begins a line that is no record.
+    pub fn rest(&mut self) {
+        self.heads.push((self.values.len(), "", 0));
+    }
+}
+
+/// A job as words.
+pub fn encode(job: &Job) -> Words {
+    let mut w = Words::default();
+    match job {
+        Job::MidPos(min, max) => pair(&mut w, 1, *min, *max),
+        Job::MidDelta(min, max) => pair(&mut w, 2, *min, *max),
+        Job::Weak(points) => weak(&mut w, points),
+        Job::Link(segments, major, units_per_em, scale) => {
+            w.put("call", 4);
+            w.segments(segments);
+            w.rest();
+            w.direction("major direction", *major);
+            w.put("units per em", *units_per_em);
+            w.put("scale", *scale);
+        }
+        Job::Build(segments, edges, given) => build(&mut w, segments, edges, given),
+        Job::MLent(edges, group) => {
+            w.put("call", 14);
+            w.edges(edges.len(), edges);
+            w.rest();
+            w.group(*group);
+        }
+        _ => on_edges(&mut w, job),
+    }
+    w
+}
+
+/// Calls 1 and 2.
+fn pair(w: &mut Words, call: i32, min: i32, max: i32) {
+    w.put("call", call);
+    w.put("min", min);
+    w.put("max", max);
+}
+
+/// Call 3.
+fn weak(w: &mut Words, points: &Points) {
+    w.put("call", 3);
+    w.numbers("originals", "original", &points.originals);
+    w.numbers("currents", "current", &points.currents);
+    w.numbers("touch marks", "touch", &points.touches);
+    w.numbers("contour ends", "end", &points.ends);
+}
+
+/// Call 5.
+fn build(w: &mut Words, segments: &Table<Segment>, edges: &Table<Edge>, given: &Building) {
+    w.put("call", 5);
+    w.segments(segments);
+    w.edges(edges.count, &edges.items);
+    w.rest();
+    w.dimension(given.dim);
+    w.direction("major direction", given.major);
+    w.group(given.group);
+    w.choice("top to bottom", given.top_to_bottom);
+    w.put("scale", given.scale);
+    w.put("distance threshold", given.distance);
+    w.put("length threshold", given.length);
+    w.put("width threshold", given.width);
+}
+
+/// Calls 6 to 13: a table of edges first.
+fn on_edges(w: &mut Words, job: &Job) {
+    let (call, edges) = match job {
+        Job::Blues(edges, ..) => (6, edges),
+        Job::Linked(edges, ..) => (7, edges),
+        Job::Serif(edges, ..) => (8, edges),
+        Job::Adjust(edges, ..) => (9, edges),
+        Job::Bounds(edges, ..) => (10, edges),
+        Job::CjkStem(edges, ..) => (11, edges),
+        Job::Stems(edges, ..) => (12, edges),
+        Job::M(edges, ..) => (13, edges),
+        _ => unreachable!("the other calls are not on a table of edges"),
+    };
+    w.put("call", call);
+    w.edges(edges.count, &edges.items);
+    w.rest();
+    behind_edges(w, job);
+}
+
+/// What stands behind the edges in calls 6 to 13.
+fn behind_edges(w: &mut Words, job: &Job) {
+    match job {
+        Job::Blues(_, dim, group, rule) => {
+            w.dimension(*dim);
+            w.group(*group);
+            w.rule(rule);
+        }
+        Job::Linked(_, rule, base, stem) => {
+            w.rule(rule);
+            w.rest();
+            w.put("base edge", (*base).into());
+            w.put("stem edge", (*stem).into());
+        }
+        Job::Serif(_, base, serif) => {
+            w.put("base edge", (*base).into());
+            w.put("serif edge", (*serif).into());
+        }
+        Job::Adjust(_, edge, next, top_to_bottom) => {
+            w.put("edge", (*edge).into());
+            w.choice("next", *next);
+            w.choice("top to bottom", *top_to_bottom);
+        }
+        Job::Bounds(_, edge) => w.put("edge", (*edge).into()),
+        Job::CjkStem(_, given) => cjk_stem(w, given),
+        Job::Stems(_, given) => stems(w, given),
+        Job::M(_, group) => w.group(*group),
+        _ => unreachable!("the other calls are not on a table of edges"),
+    }
+}
+
+/// Call 11 behind its edges.
+fn cjk_stem(w: &mut Words, given: &CjkStem) {
+    w.dimension(given.dim);
+    w.choice("stem adjust", given.stem_adjust);
+    w.rule(&given.rule);
+    w.rest();
+    w.put("edge", given.edge.into());
+    w.put("second edge", given.edge2.into());
+    w.put("delta", given.delta);
+}
+
+/// Call 12 behind its edges.
+fn stems(w: &mut Words, given: &Stems) {
+    w.dimension(given.dim);
+    w.group(given.group);
+    w.choice("stem adjust", given.stem_adjust);
+    w.choice("top to bottom", given.top_to_bottom);
+    w.index("anchor", given.anchor);
+    w.rule(&given.rule);
+}
