@@ -1,0 +1,52 @@
+-- The outcome of the call: what it is for a refused outline and for an accepted one, and that it is determined.
+use mathlib.Core.Path.{_≡_, refl, sym, _∙_, ap}
+use mathlib.Core.List.{List}
+use Prim.Native.Nat.{ℕ, zero, suc, _+_, _<_}
+use native.Mathlib.Nat.{add-zero, lt-irrefl}
+use native.Mathlib.Omega.{arith}
+use borrow.Author.Tests.{eq-eqb, ne-eqb}
+use lib.ListN.{length}
+use lib.Seq.{ext-getD}
+use lib.IntN.{ℤ, pos}
+use Rattle.outline.specs.Weak.{at, refusal, alignedAt, listOf, result, Outcome}
+use Rattle.outline.specs.Steps.{AllDone}
+
+-- ---- `listOf`
+-- its length
+length-listOf : (f : ℕ → ℤ) (i n : ℕ) → length (listOf f i n) ≡ n
+unfolding listOf
+length-listOf f i zero = refl
+length-listOf f i (suc n) = ap suc (length-listOf f (suc i) n)
+
+-- its places
+at-listOf : (f : ℕ → ℤ) (i n k : ℕ) → k < n → at (listOf f i n) k ≡ f (i + k)
+unfolding listOf
+at-listOf f i zero k h = absurd (lt-irrefl k (omega arith))
+at-listOf f i (suc n) zero h = ap f (sym (add-zero i))
+at-listOf f i (suc n) (suc k) h = at-listOf f (suc i) n k (omega arith) ∙ ap f (omega arith)
+
+-- ---- the result
+module _ (o c : List ℤ) (t es : List ℕ) where
+  -- a refusal writes nothing
+  pub result-refused : (refusal o c t es ≡ 0 → ⊥) → result o c t es ≡ c
+  unfolding result
+  result-refused n = rw (ne-eqb (refusal o c t es) 0 n)
+
+  -- an accepted outline keeps its length
+  pub result-length : refusal o c t es ≡ 0 → length (result o c t es) ≡ length c
+  unfolding result
+  result-length e = rw (eq-eqb (refusal o c t es) 0 e) (length-listOf (alignedAt o c t es) 0 (length c))
+
+  -- each of its points comes to its place
+  pub result-at : refusal o c t es ≡ 0 → (i : ℕ) → i < length c → at (result o c t es) i ≡ alignedAt o c t es i
+  unfolding result
+  result-at e i h = rw (eq-eqb (refusal o c t es) 0 e) (at-listOf (alignedAt o c t es) 0 (length c) i h ∙ ap (alignedAt o c t es) (omega arith))
+
+  -- and lists with these places are the result
+  pub result-done : (d : List ℤ) → refusal o c t es ≡ 0 → AllDone o c t es d → d ≡ result o c t es
+  result-done d e a =
+      ext-getD (pos 0) d (result o c t es) (a .len ∙ sym (result-length e)) (λ i h. a .each i (omega (arith, a .len)) ∙ sym (result-at e i (omega (arith, a .len))))
+
+-- ---- two outcomes that the promise of `align_weak_points` allows coincide
+pub determined : (o c : List ℤ) (t es : List ℕ) (a b : ℕ) (d e : List ℤ) → Outcome o c t es a d → Outcome o c t es b e → (a ≡ b) × (d ≡ e)
+determined o c t es a b d e x y = (x .answer ∙ sym (y .answer), x .currents ∙ sym (y .currents))

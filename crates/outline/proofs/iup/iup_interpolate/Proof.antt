@@ -1,0 +1,154 @@
+-- `outline::iup::iup_interpolate` meets its contract: the references are put in their order, and then the points are placed. Assumes nothing.
+use borrow.Author.Needs.{needs}
+use native.Mathlib.Omega.{arith}
+use mathlib.Core.Path.{_≡_, sym}
+use mathlib.Core.Bool.{Bool, true, false}
+use lib.IntN.{ℤ}
+use lib.Signed.{ltZ}
+use mir.Syntax.{w32}
+use mir.Val.{toZ, ofZ}
+use Rattle.signed.proofs.Signed.{signed, atmost, is, fits-in}
+use Rattle.outline.specs.Weak.{at}
+use Rattle.outline.specs.Steps.{Ordered, spanOf}
+use Rattle.outline.proofs.Writing.{wrote-none, wrote-as}
+use Rattle.outline.proofs.Spans.{between-less, between-more, span-holds}
+use Rattle.outline.proofs.iup.iup_interpolate.Statement.{statement}
+use Rattle.outline.proofs.iup.iup_interpolate.Tie as tie
+
+returns : tie.Need-returns
+returns c =
+    let a = c .before .args in
+    let e : a .from ≡ a .to = omega arith in
+    rw (sym e) (wrote-none _ (a .from) (a .currents .now))
+
+mul-v1 : tie.Need-mul-v1
+mul-v1 c = search needs
+
+shared-slice-copy-out-v1 : tie.Need-shared-slice-copy-out-v1
+shared-slice-copy-out-v1 c = search needs
+
+mul-v2 : tie.Need-mul-v2
+mul-v2 c = search needs
+
+shared-slice-copy-out-v2 : tie.Need-shared-slice-copy-out-v2
+shared-slice-copy-out-v2 c = search needs
+
+mul-u1 : tie.Need-mul-u1
+mul-u1 c = search needs
+
+slice-copy-out-u1 : tie.Need-slice-copy-out-u1
+slice-copy-out-u1 c = search needs
+
+mul-u2 : tie.Need-mul-u2
+mul-u2 c = search needs
+
+slice-copy-out-u2 : tie.Need-slice-copy-out-u2
+slice-copy-out-u2 c = search needs
+
+-- the originals and currents of the two references, as the machine reads them
+module _ (s : tie.Start) where
+  abbrev v1 : ℤ
+  v1 = at (s .args .originals .now) (s .args .ref1)
+
+  abbrev v2 : ℤ
+  v2 = at (s .args .originals .now) (s .args .ref2)
+
+  abbrev u1 : ℤ
+  u1 = at (s .args .currents .now) (s .args .ref1)
+
+  abbrev u2 : ℤ
+  u2 = at (s .args .currents .now) (s .args .ref2)
+
+  v1-is : toZ w32 (ofZ w32 v1) ≡ v1
+  v1-is = is (fits-in w32 (s .pre .1 .1 .0 (s .args .ref1)) tt tt)
+
+  v2-is : toZ w32 (ofZ w32 v2) ≡ v2
+  v2-is = is (fits-in w32 (s .pre .1 .1 .0 (s .args .ref2)) tt tt)
+
+  u1-is : toZ w32 (ofZ w32 u1) ≡ u1
+  u1-is = is (fits-in w32 (s .pre .1 .1 .1) tt tt)
+
+  u2-is : toZ w32 (ofZ w32 u2) ≡ u2
+  u2-is = is (fits-in w32 (s .pre .1 .1 .2) tt tt)
+
+  test : (t : Bool) → ltZ (toZ w32 (ofZ w32 v2)) (toZ w32 (ofZ w32 v1)) ≡ t → ltZ v2 v1 ≡ t
+  test t e = rw (v1-is, v2-is) at e
+
+  -- in their order
+  less : ltZ v2 v1 ≡ true → Ordered v2 u2 v1 u1
+  less e = record { original1 = s .pre .1 .1 .0 (s .args .ref2); current1 = s .pre .1 .1 .2; original2 = s .pre .1 .1 .0 (s .args .ref1); current2 = s .pre .1 .1 .1; order = atmost (omega (arith, signed)) }
+
+  more : ltZ v2 v1 ≡ false → Ordered v1 u1 v2 u2
+  more e = record { original1 = s .pre .1 .1 .0 (s .args .ref1); current1 = s .pre .1 .1 .1; original2 = s .pre .1 .1 .0 (s .args .ref2); current2 = s .pre .1 .1 .2; order = atmost (omega (arith, signed)) }
+
+-- the function's entry, from behind the four reads
+abbrev start : tie.After-u2 → tie.Start
+start c = c .before .before .before .before .before
+
+span-of-requires : tie.Need-span-of-requires
+span-of-requires c κs =
+    let s = start (c .before .before) in
+    rw (v1-is s, v2-is s, u1-is s, u2-is s) (less s (test s true (c .before .if2 .taken)))
+
+span-is : (c : tie.After-span-of) → c .span-of .result ≡ spanOf (v2 (start (c .before .before .before))) (u2 (start (c .before .before .before))) (v1 (start (c .before .before .before))) (u1 (start (c .before .before .before)))
+span-is c = let s = start (c .before .before .before) in rw (v1-is s, v2-is s, u1-is s, u2-is s) at (c .span-of .ensures)
+
+fill-requires : tie.Need-fill-requires
+fill-requires c κs =
+    let s = start (c .before .before .before) in
+    rw (span-is c) (s .pre .0, (s .pre .1 .1 .0, span-holds _ _ _ _ (less s (test s true (c .before .before .if2 .taken)))))
+
+span-of-requires-2 : tie.Need-span-of-requires-2
+span-of-requires-2 c κs =
+    let s = start (c .before .before) in
+    rw (v1-is s, v2-is s, u1-is s, u2-is s) (more s (test s false (c .before .if2 .left)))
+
+span-is-2 : (c : tie.After-span-of2) → c .span-of2 .result ≡ spanOf (v1 (start (c .before .before .before))) (u1 (start (c .before .before .before))) (v2 (start (c .before .before .before))) (u2 (start (c .before .before .before)))
+span-is-2 c = let s = start (c .before .before .before) in rw (v1-is s, v2-is s, u1-is s, u2-is s) at (c .span-of2 .ensures)
+
+fill-requires-2 : tie.Need-fill-requires-2
+fill-requires-2 c κs =
+    let s = start (c .before .before .before) in
+    rw (span-is-2 c) (s .pre .0, (s .pre .1 .1 .0, span-holds _ _ _ _ (more s (test s false (c .before .before .if2 .left)))))
+
+same-length : tie.Need-same-length
+same-length c = search needs
+
+returns-2 : tie.Need-returns-2
+returns-2 c =
+    let m = c .before .before in
+    let a = start (m .before .before .before) .args in
+    let e = test (start (m .before .before .before)) true (m .before .before .if2 .taken) in
+    wrote-as _ _ _ _ _ _ (between-less (a .originals .now) (a .currents .now) (a .ref1) (a .ref2) e) (rw (span-is m) at (c .before .fill .ensures))
+
+same-length-2 : tie.Need-same-length-2
+same-length-2 c = search needs
+
+returns-3 : tie.Need-returns-3
+returns-3 c =
+    let m = c .before .before in
+    let a = start (m .before .before .before) .args in
+    let e = test (start (m .before .before .before)) false (m .before .before .if2 .left) in
+    wrote-as _ _ _ _ _ _ (between-more (a .originals .now) (a .currents .now) (a .ref1) (a .ref2) e) (rw (span-is-2 m) at (c .before .fill2 .ensures))
+
+pub iup-interpolate-spec : {M : Type 1} → statement M
+iup-interpolate-spec =
+    tie.close
+    (tie.spec
+    returns
+    mul-v1
+    shared-slice-copy-out-v1
+    mul-v2
+    shared-slice-copy-out-v2
+    mul-u1
+    slice-copy-out-u1
+    mul-u2
+    slice-copy-out-u2
+    span-of-requires
+    fill-requires
+    span-of-requires-2
+    fill-requires-2
+    same-length
+    returns-2
+    same-length-2
+    returns-3)

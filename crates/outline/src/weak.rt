@@ -1,0 +1,42 @@
+// The public call (the Rust's `align_weak_points`, for one axis).
+use super::accept::refusal_of;
+use super::accept::wide;
+use super::contour::align_contour;
+ghost use Rattle.outline.specs.Weak.{Outcome};
+ghost use Rattle.outline.specs.Steps.{Accepted, AllDone};
+
+// Aligns each contour on its own stretch of the lists.
+fn align_contours(originals: &[i32], currents: &mut [i32], touched: &[u8], ends: &[u16])
+    requires { ⌜ Accepted (now originals) (now currents) (now touched) (now ends) ⌝ }
+    ensures { λ _. ⌜ AllDone (now (originals .entry)) (now (currents .entry)) (now (touched .entry)) (now (ends .entry)) (now (currents .exit)) ⌝ }
+{
+    let mut start: usize = 0;
+    let mut k: usize = 0;
+    while k < ends.len() {
+        let end = wide(ends[k]) + 1;
+        align_contour(
+            &originals[start..end],
+            &mut currents[start..end],
+            &touched[start..end],
+        );
+        start = end;
+        k += 1;
+    }
+}
+
+// Aligns the weak points of one axis. The answer is 0, or document 01's number of the refusal, 1, 3 or 4, which writes nothing.
+pub fn align_weak_points(
+    originals: &[i32],
+    currents: &mut [i32],
+    touched: &[u8],
+    ends: &[u16],
+) -> u8
+    ensures { λ r. ⌜ Outcome (now (originals .entry)) (now (currents .entry)) (now (touched .entry)) (now (ends .entry)) r (now (currents .exit)) ⌝ }
+{
+    let answer = refusal_of(originals, currents, touched, ends);
+    if answer != 0 {
+        return answer;
+    }
+    align_contours(originals, currents, touched, ends);
+    0
+}
