@@ -12,7 +12,7 @@ use lib.Seq.{drop-cons}
 use lib.IntN.{ℤ, pos}
 use lib.Signed.{leZ}
 use Rattle.signed.specs.Parts.{up, dn}
-use Rattle.signed.proofs.Signed.{signed, to-le-true, to-le-false, to-≡}
+use Rattle.signed.proofs.Signed.{to-le-true, to-le-false, eqZ-yes, eqZ-no}
 use Rattle.jobs.specs.declared.shape.Place.{Place}
 use Rattle.jobs.specs.declared.shape.Place.the-variants.{Nowhere, At}
 use Rattle.jobs.specs.declared.shape.Range.{Range}
@@ -21,7 +21,7 @@ use Rattle.jobs.specs.declared.shape.Element.{Element}
 use Rattle.jobs.specs.declared.shape.Item.{Item}
 use Rattle.jobs.specs.declared.shape.Call.{Call}
 use Rattle.jobs.specs.declared.shape.Call.the-variants.{NotACall}
-use Rattle.jobs.specs.Shape.{eqZ, andThen, field, fields, rangesOf, blueHolds, edge, element, elements, item, items, itemsOf, padded, formatOf, callOf, jobOf}
+use Rattle.jobs.specs.Shape.{andThen, field, fields, rangesOf, blueHolds, edge, element, elements, item, items, itemsOf, padded, formatOf, callOf, jobOf}
 
 -- ---- readings in a row
 -- x is what the next reading gives from p
@@ -91,17 +91,6 @@ unfolding elements
 elements-end n i e ws at h = let q : n - i ≡ 0 = omega arith in rw q
 
 -- ---- an edge
-eqZ-same : (a b : ℤ) → a ≡ b → eqZ a b ≡ true
-eqZ-same a b e = rw (to-le-true a b (omega (arith, signed)), to-le-true b a (omega (arith, signed)))
-
-eqZ-other : (a b : ℤ) → (a ≡ b → ⊥) → eqZ a b ≡ false
-eqZ-other a b h = by (leZ a b) (leZ b a) refl refl
-  where
-    by : (s t : Bool) → leZ a b ≡ s → leZ b a ≡ t → (s && t) ≡ false
-    by false t p q = refl
-    by true false p q = refl
-    by true true p q = absurd (h (to-≡ a b (omega (arith, signed))))
-
 pub edge-nowhere : (ws : List ℤ) (at : ℕ) → fields (rangesOf Records.Edge) ws at ≡ Nowhere → Nowhere ≡ edge ws at
 unfolding edge andThen
 edge-nowhere ws at e = rw e
@@ -115,19 +104,19 @@ module _ (ws : List ℤ) (at n : ℕ) (there : fields (rangesOf Records.Edge) ws
 
   pub edge-blue : getD ws (n - 6) (pos 0) ≡ pos 1 → At n ≡ edge ws at
   unfolding edge andThen blueHolds
-  edge-blue e = rw (there, eqZ-same (getD ws (at + 5) (pos 0)) (pos 1) (subst (λ (k : ℕ). getD ws k (pos 0) ≡ pos 1) blue-at e))
+  edge-blue e = rw (there, eqZ-yes (getD ws (at + 5) (pos 0)) (pos 1) (subst (λ (k : ℕ). getD ws k (pos 0) ≡ pos 1) blue-at e))
 
   pub edge-plain : getD ws (n - 5) (pos 0) ≡ pos 0 → At n ≡ edge ws at
   unfolding edge andThen blueHolds
-  edge-plain e = rw (there, eqZ-same (getD ws (at + 6) (pos 0)) (pos 0) (subst (λ (k : ℕ). getD ws k (pos 0) ≡ pos 0) fitted-at e), or-true)
+  edge-plain e = rw (there, eqZ-yes (getD ws (at + 6) (pos 0)) (pos 0) (subst (λ (k : ℕ). getD ws k (pos 0) ≡ pos 0) fitted-at e), or-true)
 
   pub edge-breaks : (getD ws (n - 6) (pos 0) ≡ pos 1 → ⊥) → (getD ws (n - 5) (pos 0) ≡ pos 0 → ⊥) → Nowhere ≡ edge ws at
   unfolding edge andThen blueHolds
   edge-breaks p q =
       rw (
         there,
-        eqZ-other (getD ws (at + 5) (pos 0)) (pos 1) (subst (λ (k : ℕ). getD ws k (pos 0) ≡ pos 1 → ⊥) blue-at p),
-        eqZ-other (getD ws (at + 6) (pos 0)) (pos 0) (subst (λ (k : ℕ). getD ws k (pos 0) ≡ pos 0 → ⊥) fitted-at q),
+        eqZ-no (getD ws (at + 5) (pos 0)) (pos 1) (subst (λ (k : ℕ). getD ws k (pos 0) ≡ pos 1 → ⊥) blue-at p),
+        eqZ-no (getD ws (at + 6) (pos 0)) (pos 0) (subst (λ (k : ℕ). getD ws k (pos 0) ≡ pos 0 → ⊥) fitted-at q),
       )
 
 -- ---- items

@@ -6,6 +6,7 @@ use lib.Dec.{ltb, eqb}
 use lib.ListN.{length, getD}
 use lib.IntN.{ℤ, pos, negsuc}
 use lib.Signed.{leZ}
+use Rattle.signed.specs.Equality.{eqZ}
 use Rattle.signed.specs.Parts.{up}
 use Rattle.jobs.specs.declared.shape.Place.{Place}
 use Rattle.jobs.specs.declared.shape.Place.the-variants.{Nowhere, At}
@@ -18,11 +19,6 @@ use Rattle.jobs.specs.declared.shape.Element.{Element}
 use Rattle.jobs.specs.declared.shape.Element.the-variants.{Number, Segment, Edge, LentEdge}
 use Rattle.jobs.specs.declared.shape.Item.{Item}
 use Rattle.jobs.specs.declared.shape.Item.the-variants.{End, One, Many}
-
--- ---- tests
--- two numbers are the same
-abbrev pub eqZ : ℤ → ℤ → Bool
-eqZ a b = leZ a b && leZ b a
 
 -- ---- readings in a row
 -- nowhere stays nowhere; from a place the next reading goes on

@@ -12,7 +12,8 @@ use lib.Signed.{_≤ℤ_}
 use Rattle.signed.specs.Range.{Between}
 use Rattle.signed.proofs.Signed.{add-law, sub-law, between-plain}
 use Rattle.outline.specs.Limits.{mostResult}
-use Rattle.outline.specs.Weak.{at, eqZ, Contour, contourOf, isTouched, References, references, firstOf, secondOf, betweenAt, shiftedAt, followed, weakAt, onContour, alignedAt, Outcome}
+use Rattle.signed.specs.Equality.{eqZ}
+use Rattle.outline.specs.Weak.{at, Contour, contourOf, isTouched, References, references, firstOf, secondOf, betweenAt, shiftedAt, followed, weakAt, onContour, alignedAt, Outcome}
 use Rattle.outline.specs.Steps.{Coordinates}
 use Rattle.outline.proofs.Refusals.{accepted}
 use Rattle.outline.proofs.Interpolated.{bounded}

@@ -1,5 +1,4 @@
 -- The laws by subject, each over plain variables; then `Outcomes`, that the promise determines the outcome, and demand 3: `Faithful` and `Bounds`.
-pub mod Equality
 pub mod Refusals
 pub mod Writing
 pub mod Spans

@@ -6,9 +6,9 @@ use native.Mathlib.Decide.{decLt}
 use native.Mathlib.Omega.{arith}
 use lib.ListN.{length}
 use lib.IntN.{ℤ, _-ℤ_}
+use Rattle.signed.proofs.Signed.{eqZ-yes, eqZ-no}
 use Rattle.outline.specs.Weak.{at, shiftedAt}
 use Rattle.outline.specs.Steps.{Wrote, movedBy, Shifted}
-use Rattle.outline.proofs.Equality.{eqZ-yes, eqZ-no}
 
 -- delta 0 leaves the others
 pub shifted-still : (o c : List ℤ) (p : ℕ) → at c p ≡ at o p → Shifted o c p c

@@ -8,12 +8,12 @@ use native.Mathlib.Omega.{arith}
 use lib.IntN.{ℤ, pos, _+ℤ_, _-ℤ_}
 use lib.Signed.{ltZ, _≤ℤ_}
 use Rattle.signed.specs.Parts.{up, dn}
-use Rattle.signed.proofs.Signed.{sub-law, one-zero, to-le-true, to-le-false, to-≡, lt-or-le, same, signed}
+use Rattle.signed.proofs.Signed.{sub-law, one-zero, to-le-true, to-le-false, to-≡, lt-or-le, same, signed, eqZ-yes, eqZ-no, eqZ-true, eqZ-apart}
 use Rattle.fixed.specs.Point.{mulFix, divFix}
 use Rattle.fixed.proofs.Interpolation.{Interpolation, interpolation}
-use Rattle.outline.specs.Weak.{at, eqZ, refs, firstOf, secondOf, interpolated, betweenAt}
+use Rattle.signed.specs.Equality.{eqZ}
+use Rattle.outline.specs.Weak.{at, refs, firstOf, secondOf, interpolated, betweenAt}
 use Rattle.outline.specs.Steps.{slope, Ordered, spanOf, SpanHolds, spannedAt}
-use Rattle.outline.proofs.Equality.{eqZ-yes, eqZ-no, eqZ-true, eqZ-apart}
 
 -- ---- the scale
 module _ (v1 u1 v2 u2 : ℤ) where

@@ -9,7 +9,8 @@ use lib.Signed.{_≤ℤ_}
 use Rattle.signed.specs.Range.{Between}
 use Rattle.fixed.specs.Point.{divFix}
 use Rattle.outline.specs.Limits.{mostPoints, mostCoordinate}
-use Rattle.outline.specs.Weak.{at, endsHold, eqZ, Contour, interpolated, shiftedAt, weakAt, alignedAt}
+use Rattle.signed.specs.Equality.{eqZ}
+use Rattle.outline.specs.Weak.{at, endsHold, Contour, interpolated, shiftedAt, weakAt, alignedAt}
 use Rattle.outline.specs.declared.iup.Span.{Span}
 
 -- z is an accepted coordinate

@@ -1,14 +1,15 @@
 -- Weak points (document 01, module 2): which outlines are refused, and where each point of the others comes to. An outline is its points' originals o, currents
 -- c and touch marks t, and the ends es of its contours.
 use mathlib.Core.Path.{_≡_}
-use mathlib.Core.Bool.{Bool, true, false, not, cond, _&&_, _||_}
+use mathlib.Core.Bool.{Bool, true, not, cond, _&&_, _||_}
 use mathlib.Core.List.{List, [], _∷_}
 use mathlib.Core.Option.{Option, some, none}
 use Prim.Native.Nat.{ℕ, zero, suc, _+_, _-_}
 use lib.Dec.{leb, ltb, eqb}
 use lib.ListN.{length, getD}
-use lib.IntN.{ℤ, pos, negsuc, natAbs, _+ℤ_, _-ℤ_}
+use lib.IntN.{ℤ, pos, natAbs, _+ℤ_, _-ℤ_}
 use lib.Signed.{ltZ, leZ}
+use Rattle.signed.specs.Equality.{eqZ}
 use Rattle.fixed.specs.Point.{mulFix, divFix}
 use Rattle.outline.specs.Limits.{mostPoints, mostCoordinate}
 
@@ -107,13 +108,6 @@ unfoldable pub secondOf : List ℤ → References → ℕ
 secondOf o r = cond (ltZ (at o (r .behind)) (at o (r .before))) (r .before) (r .behind)
 
 -- ---- where a point comes to
--- whether two coordinates are equal
-abbrev pub eqZ : ℤ → ℤ → Bool
-eqZ (pos a) (pos b) = eqb a b
-eqZ (pos a) (negsuc b) = false
-eqZ (negsuc a) (pos b) = false
-eqZ (negsuc a) (negsuc b) = eqb a b
-
 -- where the original v comes to, by the original v1 and the current u1 of the first reference and v2 and u2 of the second: at or below v1 it gets the first
 -- delta, at or above v2 the second; between, the first's current and, if the currents differ, v - v1 times the fixed quotient of the spans
 unfoldable pub interpolated : ℤ → ℤ → ℤ → ℤ → ℤ → ℤ
