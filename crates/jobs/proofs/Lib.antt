@@ -1,4 +1,6 @@
--- Laws on readings and on answers.
+-- Laws on readings, copies and answers.
 pub mod Shapes
+pub mod Copies
 pub mod Answers
+pub mod Weaks
 pub mod Determined

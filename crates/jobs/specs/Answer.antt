@@ -10,6 +10,7 @@ use Rattle.fixed.specs.Middle.{midPos, midDelta}
 use Rattle.jobs.specs.declared.shape.Call.{Call}
 use Rattle.jobs.specs.declared.shape.Call.the-variants.{NotACall, ComputeMidPos, ComputeMidDelta, AlignWeakPoints, LinkSegmentsCjk, ComputeEdges, AlignEdgesToBlues, AlignLinkedEdge, AlignSerifEdge, AdjustLink, LatinRemainingBounds, HintNormalStemCjk, AlignStemEdges, HintLowercaseM, HintLowercaseMLent}
 use Rattle.jobs.specs.Shape.{jobOf}
+use Rattle.jobs.specs.Weak.{weakAnswer}
 
 -- what is not a job is answered by -1
 abbrev pub notAJob : List ℤ
@@ -24,7 +25,7 @@ unfoldable pub answerOf : Call → List ℤ → List ℤ
 answerOf NotACall ws = notAJob
 answerOf ComputeMidPos ws = pos 0 ∷ midPos (getD ws 1 (pos 0)) (getD ws 2 (pos 0)) ∷ []
 answerOf ComputeMidDelta ws = pos 0 ∷ midDelta (getD ws 1 (pos 0)) (getD ws 2 (pos 0)) ∷ []
-answerOf AlignWeakPoints ws = notYet
+answerOf AlignWeakPoints ws = weakAnswer ws
 answerOf LinkSegmentsCjk ws = notYet
 answerOf ComputeEdges ws = notYet
 answerOf AlignEdgesToBlues ws = notYet

@@ -1,3 +1,4 @@
 -- What the contracts of the crate cite.
 pub mod Shape
+pub mod Weak
 pub mod Answer

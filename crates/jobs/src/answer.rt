@@ -2,11 +2,13 @@
 use super::shape::Call;
 use super::shape::job_of;
 use super::shape::word_at;
+use super::weak::answer_weak;
 use fixed::middle::compute_mid_delta;
 use fixed::middle::compute_mid_pos;
 ghost use mathlib.Core.Path.{_≡_};
-ghost use mathlib.Core.List.{_∷_};
-ghost use Prim.Native.Nat.{_≤_};
+ghost use mathlib.Core.List.{_∷_, _++_};
+ghost use lib.IntN.{pos};
+ghost use Prim.Native.Nat.{_≤_, _+_};
 ghost use lib.ListN.{length, drop};
 ghost use Rattle.jobs.specs.Answer.{Answered};
 
@@ -29,6 +31,22 @@ fn two_words(out: &mut [i32], first: i32, second: i32) -> usize
     2
 }
 
+// Writes an answer of a word and a list.
+pub fn list_answer(out: &mut [i32], word: i32, list: &[i32]) -> usize
+    requires { ⌜ (length (now list) + 2 ≤ length (now out)) × (length (now list) ≤ 8191) ⌝ }
+    ensures { λ r. ⌜ (r ≡ length (now (list .entry)) + 2) × (now (out .exit) ≡ word ∷ pos (length (now (list .entry))) ∷ (now (list .entry) ++ drop (length (now (list .entry)) + 2) (now (out .entry)))) ⌝ }
+{
+    out[0] = word;
+    out[1] = list.len() as i32;
+    let mut i = 0;
+    while i < list.len() {
+        let number = list[i];
+        out[i + 2] = number;
+        i += 1;
+    }
+    i + 2
+}
+
 // Writes the answer to a word list into a buffer, and tells how many words it has.
 pub fn answer(words: &[i32], out: &mut [i32]) -> usize
     ensures { λ r. ⌜ Answered (now (words .entry)) (now (out .entry)) (now (out .exit)) r ⌝ }
@@ -43,7 +61,7 @@ pub fn answer(words: &[i32], out: &mut [i32]) -> usize
         Call::NotACall => one_word(out, -1),
         Call::ComputeMidPos => two_words(out, 0, wide(compute_mid_pos(a, b))),
         Call::ComputeMidDelta => two_words(out, 0, wide(compute_mid_delta(a, b))),
-        Call::AlignWeakPoints => one_word(out, -2),
+        Call::AlignWeakPoints => answer_weak(words, out),
         Call::LinkSegmentsCjk => one_word(out, -2),
         Call::ComputeEdges => one_word(out, -2),
         Call::AlignEdgesToBlues => one_word(out, -2),

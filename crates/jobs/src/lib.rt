@@ -1,3 +1,4 @@
 // Jobs: one word list for every public call, its answer, and both as lines of text.
 pub mod answer;
 pub mod shape;
+mod weak;

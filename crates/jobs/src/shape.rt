@@ -204,15 +204,21 @@ pub fn word_at(words: &[i32], i: usize) -> i32
     0
 }
 
-// A word that is a count, and 0 where it is below zero.
-pub fn count_at(words: &[i32], i: usize) -> usize
-    ensures { λ r. ⌜ r ≡ up (getD (now (words .entry)) i (pos 0)) ⌝ }
+// A word as a count, and 0 where it is below zero.
+pub fn size_of(word: i32) -> usize
+    ensures { λ r. ⌜ r ≡ up word ⌝ }
 {
-    let word = word_at(words, i);
     if word < 0 {
         return 0;
     }
     word as usize
+}
+
+// The word at a place as a count.
+pub fn count_at(words: &[i32], i: usize) -> usize
+    ensures { λ r. ⌜ r ≡ up (getD (now (words .entry)) i (pos 0)) ⌝ }
+{
+    size_of(word_at(words, i))
 }
 
 // The place behind an edge, whose fitted position is 0 where it has no blue.
@@ -284,7 +290,7 @@ fn carried(kind: Element) -> usize
 }
 
 // The lesser of two.
-fn least(a: usize, b: usize) -> usize
+pub fn least(a: usize, b: usize) -> usize
     ensures { λ r. ⌜ r ≡ min a b ⌝ }
 {
     if a < b {
