@@ -43,19 +43,24 @@ pub fn align_weak_points(points: &mut Points) -> Answer<()> {
 
 /// The currents that the given Rust makes of these points on one axis.
 fn aligned(points: &Points, dim: Dimension) -> Vec<i32> {
-    let mut outline = Outline {
-        points: (0..points.originals.len())
-            .map(|ix| point(points, ix, dim))
-            .collect(),
-        contours: contours(&points.ends),
-        ..Outline::default()
-    };
+    let mut outline = outline(points, dim);
     hint_outline::align_weak_points(&mut outline, dim).expect("contours lie within the points");
     let current = |point: &Point| match dim {
         Dimension::Horizontal => point.x,
         Dimension::Vertical => point.y,
     };
     outline.points.iter().map(current).collect()
+}
+
+/// The outline that has these points on one axis.
+pub(crate) fn outline(points: &Points, dim: Dimension) -> Outline {
+    Outline {
+        points: (0..points.originals.len())
+            .map(|ix| point(points, ix, dim))
+            .collect(),
+        contours: contours(&points.ends),
+        ..Outline::default()
+    }
 }
 
 /// A point that has its coordinates and its mark on one axis.

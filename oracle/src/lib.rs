@@ -10,6 +10,7 @@ pub mod generate;
 pub mod given;
 pub mod job;
 pub mod limits;
+pub mod prepared;
 pub mod refusals;
 pub mod text;
 pub mod words;
