@@ -1,4 +1,10 @@
-// What the fitter computes, for a person to look at: so far the worked values of document 01's arithmetic.
+// What the fitter computes, for a person to look at: worked values of document 01's arithmetic, then a glyph.
+mod fit;
+mod glyph;
+mod print;
+
+use fit::fit;
+use fit::refused;
 use fixed::middle::compute_mid_delta;
 use fixed::middle::compute_mid_pos;
 use fixed::pixel::pix_floor;
@@ -9,60 +15,11 @@ use fixed::point::wide_mul;
 use fixed::width::WidthRule;
 use fixed::width::rule_holds;
 use fixed::width::stem_width;
-use libc::STDOUT_FILENO;
-
-// The magnitude of any number.
-fn size(x: i64) -> u64 {
-    if x < 0 {
-        return (-1 - x) as u64 + 1;
-    }
-    x as u64
-}
-
-// A number of 32 bits in 64.
-fn wide(x: i32) -> i64 {
-    x as i64
-}
-
-// A number of 16 bits in 64.
-fn wide_16(x: i16) -> i64 {
-    x as i64
-}
-
-// Writes bytes to standard output.
-fn text(bytes: &[u8]) {
-    io::write_all(STDOUT_FILENO, bytes);
-}
-
-// Writes a number in decimal.
-fn number(x: i64) {
-    if x < 0 {
-        text(b"-");
-    }
-    io::print_decimal(STDOUT_FILENO, size(x));
-}
-
-// Writes `name(a) = r` on a line.
-fn one(name: &[u8], a: i32, r: i64) {
-    text(name);
-    text(b"(");
-    number(wide(a));
-    text(b") = ");
-    number(r);
-    text(b"\n");
-}
-
-// Writes `name(a, b) = r` on a line.
-fn two(name: &[u8], a: i32, b: i32, r: i64) {
-    text(name);
-    text(b"(");
-    number(wide(a));
-    text(b", ");
-    number(wide(b));
-    text(b") = ");
-    number(r);
-    text(b"\n");
-}
+use print::one;
+use print::text;
+use print::two;
+use print::wide;
+use print::wide_16;
 
 // The fixed product of a pair.
 fn product(a: i32, b: i32) {
@@ -151,4 +108,8 @@ fn main() {
     text(b"Widths snapped to 60 and 40\n");
     let falling = [60, 40];
     snapped(&falling, 50);
+    fit(11);
+    fit(16);
+    fit(24);
+    refused();
 }

@@ -1,9 +1,9 @@
--- `specimen::wide` is safe.
+-- `specimen::print::wide` is safe.
 use borrow.Author.Needs.{needs}
 use native.Mathlib.Omega.{arith}
 use Rattle.signed.proofs.Signed.{signed, fits, range}
-use Rattle.specimen.proofs.wide.Statement.{statement}
-use Rattle.specimen.proofs.wide.Tie as tie
+use Rattle.specimen.proofs.print.wide.Statement.{statement}
+use Rattle.specimen.proofs.print.wide.Tie as tie
 
 cast-result : tie.Need-cast-result
 cast-result c = fits (omega (arith, signed, range (c .fits .x)))

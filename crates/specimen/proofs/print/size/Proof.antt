@@ -1,12 +1,12 @@
--- `specimen::size` is safe.
+-- `specimen::print::size` is safe.
 use borrow.Author.Needs.{needs}
 use native.Mathlib.Omega.{arith}
 use lib.IntN.{ℤ, negsuc, _-ℤ_}
 use mir.Syntax.{w64}
 use mir.Val.{toZ, ofZ}
 use Rattle.signed.proofs.Signed.{signed, fits, range, to-unsigned, natAbs-is, one-zero}
-use Rattle.specimen.proofs.size.Statement.{statement}
-use Rattle.specimen.proofs.size.Tie as tie
+use Rattle.specimen.proofs.print.size.Statement.{statement}
+use Rattle.specimen.proofs.print.size.Tie as tie
 
 -- -1 - x, as the machine reads it
 abbrev flipped : tie.Start → ℤ

@@ -1,9 +1,9 @@
--- `specimen::wide_16` is safe.
+-- `specimen::print::wide_16` is safe.
 use borrow.Author.Needs.{needs}
 use native.Mathlib.Omega.{arith}
 use Rattle.signed.proofs.Signed.{signed, fits, range}
-use Rattle.specimen.proofs.wide_16.Statement.{statement}
-use Rattle.specimen.proofs.wide_16.Tie as tie
+use Rattle.specimen.proofs.print.wide_16.Statement.{statement}
+use Rattle.specimen.proofs.print.wide_16.Tie as tie
 
 cast-result : tie.Need-cast-result
 cast-result c = fits (omega (arith, signed, range (c .fits .x)))
