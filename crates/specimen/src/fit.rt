@@ -23,7 +23,7 @@ fn scale_of(pixels: i32) -> i32 {
     pixels * 4096
 }
 
-// A number as a coordinate, moved to the nearest that is refused where it is beyond those.
+// A number as a coordinate; one beyond the limits becomes the nearest outside them.
 fn coordinate(x: i64) -> i32 {
     if x < -16384 {
         return -16384;
@@ -34,7 +34,7 @@ fn coordinate(x: i64) -> i32 {
     x as i32
 }
 
-// Where a point is before the weak points are aligned: at the nearest pixel if it is touched, else at its original.
+// Where a point is before the weak points are aligned: at the nearest pixel if it is touched and within the limits, else at its original.
 fn start(original: i32, mark: u8) -> i32 {
     if mark == 0 {
         return original;

@@ -2,7 +2,7 @@
 use libc::STDOUT_FILENO;
 
 // The magnitude of any number.
-pub fn size(x: i64) -> u64 {
+fn size(x: i64) -> u64 {
     if x < 0 {
         return (-1 - x) as u64 + 1;
     }

@@ -3,7 +3,7 @@
 use std::time::{Duration, Instant};
 
 /// Rounds of each measurement.
-const ROUNDS: usize = 301;
+const ROUNDS: usize = 1_001;
 
 /// One of two that do the same work.
 pub trait Side {

@@ -1,4 +1,7 @@
 //! Weak points.
+//!
+//! The port tests for refusals first, which the given Rust does not. The given Rust's fixed multiply and divide are the oracle's, written from
+//! document 01, and its points the oracle's too: skrifa's own are not among the given sources.
 
 use crate::{
     outlines::{self, Kind},
@@ -17,6 +20,7 @@ const ROUND: usize = 4_096;
 /// Prints a table for each kind of outline.
 pub fn run() {
     println!("align_weak_points, median times of an outline; restoring the currents is not timed");
+    println!("the port tests for refusals, the Rust does not; the Rust multiplies, divides and holds points by the oracle's code");
     for kind in Kind::ALL {
         println!("\n{}", kind.title());
         println!("points    port ns    Rust ns  port/Rust");
