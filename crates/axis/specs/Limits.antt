@@ -1,0 +1,22 @@
+-- Document 01's limits of segments and edges ("Numbers that bound the input"), each named here alone.
+use Prim.Native.Nat.{ℕ}
+
+-- segments of an axis: 0 to 512
+abbrev pub mostSegments : ℕ
+mostSegments = 512
+
+-- edges of an axis: 0 to 128
+abbrev pub mostEdges : ℕ
+mostEdges = 128
+
+-- `opos` and a blue's `fitted`: -16,383 to 16,383 units
+abbrev pub mostUnits : ℕ
+mostUnits = 16383
+
+-- `pos` of an edge: -16,777,216 to 16,777,216
+abbrev pub mostPos : ℕ
+mostPos = 16777216
+
+-- a segment's score and len: 0 to 65,535
+abbrev pub mostScore : ℕ
+mostScore = 65535

@@ -1,0 +1,94 @@
+// Edges, and the axis record by value with its working table of 128 edges.
+use super::flags::Flags;
+use super::flags::NORMAL;
+use super::kinds::Blue;
+use super::kinds::Dimension;
+use super::kinds::Direction;
+use super::kinds::Link;
+ghost use mathlib.Core.Path.{_≡_};
+ghost use Prim.Native.Nat.{_<_};
+ghost use Rattle.axis.specs.Edge.{emptyAxis, edgeAt, putEdge, placed, finished};
+
+// Segments that share a position: the font position, the original and the fitted position in units, and the edges that it is linked to.
+pub struct Edge {
+    pub fpos: i16,
+    pub opos: i32,
+    pub pos: i32,
+    pub flags: Flags,
+    pub dir: Direction,
+    pub blue: Blue,
+    pub link: Link,
+    pub serif: Link,
+    pub first: u16,
+    pub last: u16,
+}
+
+// One dimension of an outline: its edges are the first `len` of the working table.
+pub struct Axis {
+    pub dim: Dimension,
+    pub major_dir: Direction,
+    pub edges: [Edge; 128],
+    pub len: usize,
+}
+
+// The edge of an unused place.
+pub const EMPTY_EDGE: Edge = Edge {
+    fpos: 0,
+    opos: 0,
+    pos: 0,
+    flags: NORMAL,
+    dir: Direction::None,
+    blue: Blue::None,
+    link: Link::None,
+    serif: Link::None,
+    first: 0,
+    last: 0,
+};
+
+// An axis without edges.
+pub fn empty_axis(dim: Dimension, major_dir: Direction) -> Axis
+    ensures { λ r. ⌜ r ≡ emptyAxis dim «major_dir» ⌝ }
+{
+    Axis {
+        dim,
+        major_dir,
+        edges: [EMPTY_EDGE; 128],
+        len: 0,
+    }
+}
+
+// An edge of an axis.
+pub fn edge_at(axis: Axis, i: usize) -> Edge
+    requires { ⌜ i < 128 ⌝ }
+    ensures { λ r. ⌜ r ≡ edgeAt axis i ⌝ }
+{
+    axis.edges[i]
+}
+
+// The axis with another edge in a place.
+pub fn put_edge(axis: Axis, i: usize, edge: Edge) -> Axis
+    requires { ⌜ i < 128 ⌝ }
+    ensures { λ r. ⌜ r ≡ putEdge axis i edge ⌝ }
+{
+    let mut changed = axis;
+    changed.edges[i] = edge;
+    changed
+}
+
+// The edge at another position.
+pub fn with_pos(edge: Edge, pos: i32) -> Edge
+    ensures { λ r. ⌜ r ≡ placed edge pos ⌝ }
+{
+    let mut moved = edge;
+    moved.pos = pos;
+    moved
+}
+
+// The edge, placed for good.
+pub fn with_done_flag(edge: Edge) -> Edge
+    ensures { λ r. ⌜ r ≡ finished edge ⌝ }
+{
+    let mut fixed = edge;
+    fixed.flags.done = true;
+    fixed
+}

@@ -1,0 +1,20 @@
+// Document 01's limits of segments and edges, each named here alone.
+
+// Segments of an axis.
+pub const MOST_SEGMENTS: usize = 512;
+
+// Edges of an axis.
+pub const MOST_EDGES: usize = 128;
+
+// `opos` and a blue's `fitted`, in units.
+pub const LEAST_UNITS: i32 = -16383;
+
+pub const MOST_UNITS: i32 = 16383;
+
+// `pos` of an edge.
+pub const LEAST_POS: i32 = -16777216;
+
+pub const MOST_POS: i32 = 16777216;
+
+// A segment's score and len.
+pub const MOST_SCORE: i32 = 65535;

@@ -1,0 +1,80 @@
+// Segments, and the table of 512 of them.
+use super::flags::Flags;
+use super::flags::NORMAL;
+use super::kinds::Direction;
+use super::kinds::Link;
+ghost use mathlib.Core.Path.{_≡_};
+ghost use Prim.Native.Nat.{_<_};
+ghost use Rattle.axis.specs.Segment.{emptySegments, segmentAt, putSegment};
+
+// Points in a row with one dominant direction: its position, how it is paired with others, its point indices, its edge and the next segment there.
+pub struct Segment {
+    pub flags: Flags,
+    pub dir: Direction,
+    pub pos: i16,
+    pub delta: i16,
+    pub min_coord: i16,
+    pub max_coord: i16,
+    pub height: i16,
+    pub score: i32,
+    pub len: i32,
+    pub link: Link,
+    pub serif: Link,
+    pub first: u16,
+    pub last: u16,
+    pub edge: Link,
+    pub next: Link,
+}
+
+// The segments of an axis are the first `len` of the working table.
+pub struct Segments {
+    pub segments: [Segment; 512],
+    pub len: usize,
+}
+
+// The segment of an unused place.
+pub const EMPTY_SEGMENT: Segment = Segment {
+    flags: NORMAL,
+    dir: Direction::None,
+    pos: 0,
+    delta: 0,
+    min_coord: 0,
+    max_coord: 0,
+    height: 0,
+    score: 0,
+    len: 0,
+    link: Link::None,
+    serif: Link::None,
+    first: 0,
+    last: 0,
+    edge: Link::None,
+    next: Link::None,
+};
+
+// A table without segments.
+pub fn empty_segments() -> Segments
+    ensures { λ r. ⌜ r ≡ emptySegments ⌝ }
+{
+    Segments {
+        segments: [EMPTY_SEGMENT; 512],
+        len: 0,
+    }
+}
+
+// A segment of a table.
+pub fn segment_at(table: Segments, i: usize) -> Segment
+    requires { ⌜ i < 512 ⌝ }
+    ensures { λ r. ⌜ r ≡ segmentAt table i ⌝ }
+{
+    table.segments[i]
+}
+
+// The table with another segment in a place.
+pub fn put_segment(table: Segments, i: usize, segment: Segment) -> Segments
+    requires { ⌜ i < 512 ⌝ }
+    ensures { λ r. ⌜ r ≡ putSegment table i segment ⌝ }
+{
+    let mut changed = table;
+    changed.segments[i] = segment;
+    changed
+}
