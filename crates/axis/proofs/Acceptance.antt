@@ -1,0 +1,139 @@
+-- From tests that hold to the facts that a call may use.
+use mathlib.Core.Path.{_≡_, sym, _∙_}
+use mathlib.Core.Bool.{Bool, true, _&&_}
+use Prim.Native.Nat.{ℕ, _<_, _≤_, min}
+use native.Mathlib.Omega.{arith}
+use borrow.Author.Tests.{ltb-true, leb-true}
+use lib.Dec.{leb}
+use lib.IntN.{ℤ, pos, negℤ}
+use lib.Signed.{leZ}
+use Rattle.signed.specs.Range.{Between}
+use Rattle.signed.proofs.Signed.{signed, up-neg, dn-neg}
+use Rattle.axis.specs.declared.kinds.Link.{Link}
+use Rattle.axis.specs.declared.kinds.Link.the-variants as Links
+use Rattle.axis.specs.declared.kinds.Blue.{Blue}
+use Rattle.axis.specs.declared.kinds.Blue.the-variants as Blues
+use Rattle.axis.specs.declared.edge.Edge.{Edge}
+use Rattle.axis.specs.declared.edge.Axis.{Axis}
+use Rattle.axis.specs.declared.segment.Segment.{Segment}
+use Rattle.axis.specs.declared.segment.Segments.{Segments}
+use Rattle.axis.specs.Edge.{edgeAt}
+use Rattle.axis.specs.Segment.{segmentAt}
+use Rattle.axis.specs.Limits.{mostSegments, mostEdges, mostUnits, mostPos, mostScore}
+use Rattle.axis.specs.Refusals.{inside, within, linkHolds, blueHolds, edgeIndices, edgeNumbers, edgesIndices, edgesNumbers, segmentIndices, segmentNext, segmentNumbers, segmentsIndices, segmentsNexts, segmentsNumbers, edgesRefusal, segmentsRefusal}
+use Rattle.axis.specs.Accepted.{Below, InZone, EdgeWithin, AxisWithin, SegmentWithin, SegmentsWithin}
+use Rattle.axis.proofs.Tests.{and-first, and-second, every-at, all-hold}
+
+-- ---- one number, one index
+pub within-between : (n : ℕ) (z : ℤ) → within n z ≡ true → Between n n z
+within-between n z h = let a = and-first (leZ (negℤ (pos n)) z) _ h in let b = and-second (leZ (negℤ (pos n)) z) _ h in omega (arith, signed, up-neg (pos n), dn-neg (pos n))
+
+pub inside-between : (n : ℕ) (z : ℤ) → inside (pos 0) (pos n) z ≡ true → Between 0 n z
+inside-between n z h = let a = and-first (leZ (pos 0) z) _ h in let b = and-second (leZ (pos 0) z) _ h in omega (arith, signed)
+
+pub link-below : (n : ℕ) (l : Link) → linkHolds n l ≡ true → Below n l
+unfolding linkHolds
+link-below n l h = record { at = λ (k : ℕ) (e : l ≡ Links.To k). at k (rw e at h) }
+  where
+    at : (k : ℕ) → linkHolds n (Links.To k) ≡ true → k < n
+    at k h = ltb-true k n h
+
+blue-in-zone : (b : Blue) → blueHolds b ≡ true → InZone b
+unfolding blueHolds
+blue-in-zone b h = record { at = λ (z : ℤ) (e : b ≡ Blues.Fitted z). at z (rw e at h) }
+  where
+    at : (z : ℤ) → blueHolds (Blues.Fitted z) ≡ true → Between mostUnits mostUnits z
+    at z h = within-between mostUnits z h
+
+-- ---- edges
+edge-within : (n : ℕ) (e : Edge) → edgeIndices n e ≡ true → edgeNumbers e ≡ true → EdgeWithin mostPos n e
+unfolding edgeIndices edgeNumbers
+edge-within n e h g =
+    let r = and-second (within mostUnits (e .opos)) _ g in
+    record {
+      opos = within-between mostUnits (e .opos) (and-first _ _ g);
+      pos = within-between mostPos (e .pos) (and-first _ _ r);
+      blue = blue-in-zone (e .blue) (and-second (within mostPos (e .pos)) _ r);
+      link = link-below n (e .link) (and-first _ _ h);
+      serif = link-below n (e .serif) (and-second (linkHolds n (e .link)) _ h);
+    }
+
+below-min : (i n most : ℕ) → n ≤ most → i < n → i < min n most
+below-min i n most h g = let m : min n most ≡ n = omega arith in rw m g
+
+axis-within : (axis : Axis) → leb (axis .len) mostEdges ≡ true → edgesIndices axis ≡ true → edgesNumbers axis ≡ true → AxisWithin mostPos axis
+unfolding edgesIndices edgesNumbers
+axis-within axis a h g =
+    let few = leb-true (axis .len) mostEdges a in
+    record {
+      few = few;
+      edge = λ (i : ℕ) (q : i < axis .len).
+          let b = below-min i (axis .len) mostEdges few q in
+          edge-within (axis .len) (edgeAt axis i) (every-at _ i (min (axis .len) mostEdges) h b) (every-at _ i (min (axis .len) mostEdges) g b);
+    }
+
+-- what an accepted call on edges may use
+pub record EdgesAccepted (axis : Axis) (right named passed : Bool) : Type 0 where
+  pub axis-holds : AxisWithin mostPos axis
+  pub right-holds : right ≡ true
+  pub named-holds : named ≡ true
+  pub passed-holds : passed ≡ true
+
+pub edges-accepted : (axis : Axis) (right named passed : Bool) (k : ℕ) → k ≡ edgesRefusal axis right named passed → k ≤ 0 → EdgesAccepted axis right named passed
+unfolding edgesRefusal
+edges-accepted axis right named passed k e h =
+    let z : k ≡ 0 = omega arith in
+    let f = all-hold (leb (axis .len) mostEdges) right (edgesIndices axis && named) (edgesNumbers axis && passed) (sym e ∙ z) in
+    record {
+      axis-holds = axis-within axis (f .short-is) (and-first _ _ (f .below-is)) (and-first _ _ (f .near-is));
+      right-holds = f .right-is;
+      named-holds = and-second (edgesIndices axis) _ (f .below-is);
+      passed-holds = and-second (edgesNumbers axis) _ (f .near-is);
+    }
+
+-- ---- segments
+segment-within : (n : ℕ) (s : Segment) → segmentIndices n s ≡ true → segmentNumbers s ≡ true → SegmentWithin n s
+unfolding segmentIndices segmentNumbers
+segment-within n s h g = record {
+  score = inside-between mostScore (s .score) (and-first _ _ g);
+  len = inside-between mostScore (s .len) (and-second (inside (pos 0) (pos mostScore) (s .score)) _ g);
+  link = link-below n (s .link) (and-first _ _ h);
+  serif = link-below n (s .serif) (and-second (linkHolds n (s .link)) _ h);
+}
+
+segments-within : (t : Segments) → leb (t .len) mostSegments ≡ true → segmentsIndices t ≡ true → segmentsNumbers t ≡ true → SegmentsWithin t
+unfolding segmentsIndices segmentsNumbers
+segments-within t a h g =
+    let few = leb-true (t .len) mostSegments a in
+    record {
+      few = few;
+      segment = λ (i : ℕ) (q : i < t .len).
+          let b = below-min i (t .len) mostSegments few q in
+          segment-within (t .len) (segmentAt t i) (every-at _ i (min (t .len) mostSegments) h b) (every-at _ i (min (t .len) mostSegments) g b);
+    }
+
+-- the next of each segment, tested, is a segment
+pub nexts-below : (t : Segments) (i : ℕ) → t .len ≤ mostSegments → segmentsNexts t ≡ true → i < t .len → Below (t .len) (segmentAt t i .next)
+unfolding segmentsNexts segmentNext
+nexts-below t i few h q = link-below (t .len) (segmentAt t i .next) (every-at _ i (min (t .len) mostSegments) h (below-min i (t .len) mostSegments few q))
+
+-- what an accepted call on segments may use
+pub record SegmentsAccepted (t : Segments) (short right below near : Bool) : Type 0 where
+  pub segments-hold : SegmentsWithin t
+  pub short-holds : short ≡ true
+  pub right-holds : right ≡ true
+  pub below-holds : below ≡ true
+  pub near-holds : near ≡ true
+
+pub segments-accepted : (t : Segments) (short right below near : Bool) (k : ℕ) → k ≡ segmentsRefusal t short right below near → k ≤ 0 → SegmentsAccepted t short right below near
+unfolding segmentsRefusal
+segments-accepted t short right below near k e h =
+    let z : k ≡ 0 = omega arith in
+    let f = all-hold (leb (t .len) mostSegments && short) right (segmentsIndices t && below) (segmentsNumbers t && near) (sym e ∙ z) in
+    record {
+      segments-hold = segments-within t (and-first _ _ (f .short-is)) (and-first _ _ (f .below-is)) (and-first _ _ (f .near-is));
+      short-holds = and-second (leb (t .len) mostSegments) _ (f .short-is);
+      right-holds = f .right-is;
+      below-holds = and-second (segmentsIndices t) _ (f .below-is);
+      near-holds = and-second (segmentsNumbers t) _ (f .near-is);
+    }

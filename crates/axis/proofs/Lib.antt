@@ -1,0 +1,3 @@
+-- The laws by subject, each over plain variables: `Tests`, tests of numbers, of every place and in their order; `Acceptance`, from tests that hold to facts.
+pub mod Tests
+pub mod Acceptance
