@@ -1,5 +1,7 @@
 -- What the contracts of `axis` cite, and with it every call over edges and segments.
 pub mod Limits
+pub mod Direction
+pub mod Link
 pub mod Flags
 pub mod Edge
 pub mod Segment

@@ -1,0 +1,11 @@
+-- Indices compared.
+use mathlib.Core.Bool.{Bool, false}
+use Prim.Native.Nat.{ℕ}
+use lib.Dec.{eqb}
+use Rattle.axis.specs.declared.kinds.Link.{Link}
+use Rattle.axis.specs.declared.kinds.Link.the-variants as Links
+
+-- a link is to an index
+unfoldable pub linksTo : Link → ℕ → Bool
+linksTo Links.None ix = false
+linksTo (Links.To k) ix = eqb k ix
