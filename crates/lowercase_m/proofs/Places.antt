@@ -1,0 +1,86 @@
+-- How far the moves take the positions.
+use mathlib.Core.Path.{_≡_, refl}
+use mathlib.Core.Bool.{Bool, true, false}
+use mathlib.Core.List.{List, [], _∷_}
+use Prim.Native.Nat.{ℕ, zero, suc, _+_, _<_, _≤_}
+use native.Mathlib.Omega.{arith}
+use borrow.Author.Tests.{eqb-true}
+use lib.Dec.{eqb}
+use lib.ListN.{getD, set}
+use mir.Syntax.{w32}
+use mir.Val.{toZ, ofZ}
+use lib.IntN.{ℤ, _-ℤ_}
+use Rattle.signed.specs.Range.{Between, I32}
+use Rattle.signed.proofs.Signed.{sub-law, fits-in, is, signed}
+use Rattle.axis.specs.declared.kinds.Link.{Link}
+use Rattle.axis.specs.declared.edge.Edge.{Edge}
+use Rattle.axis.specs.declared.edge.Axis.{Axis}
+use Rattle.axis.specs.Edge.{emptyEdge, edgeAt, putEdge}
+use Rattle.axis.specs.Limits.{mostEdges, mostUnits}
+use Rattle.axis.specs.Accepted.{AxisWithin}
+use Rattle.lowercase_m.specs.M.{stemsOf, countHolds, mostDelta, moveDone, moveOnly}
+use Rattle.lowercase_m.specs.Steps.{Places, StemsOf, unmoved, thriceMoved}
+
+-- what holds of an element and of what is stored holds of the element after the store
+pub at-set : {A : Type 0} (P : A → Type 0) (l : List A) (i k : ℕ) (v d : A) → P (getD l k d) → P v → P (getD (set l i v) k d)
+at-set P [] i k v d h g = h
+at-set P (x ∷ l) zero zero v d h g = g
+at-set P (x ∷ l) zero (suc k) v d h g = h
+at-set P (x ∷ l) (suc i) zero v d h g = h
+at-set P (x ∷ l) (suc i) (suc k) v d h g = at-set P l i k v d h g
+
+wider : (m n : ℕ) (z : ℤ) → m ≤ n → Between m m z → Between n n z
+wider m n z e h = omega arith
+
+-- within once, twice or thrice the moves, and so within the most
+pub further : (m : ℕ) (z : ℤ) → m ≤ thriceMoved → Between m m z → Between thriceMoved thriceMoved z
+further m z e h = wider m thriceMoved z e h
+
+moved : (m : ℕ) (p d : ℤ) → Between m m p → Between mostDelta mostDelta d → Between (m + mostDelta) (m + mostDelta) (p -ℤ d)
+moved m p d h g = omega (arith, signed, sub-law p d)
+
+-- a number within its limit is read back from its bits
+pub units-read : (z : ℤ) → Between mostUnits mostUnits z → toZ w32 (ofZ w32 z) ≡ z
+units-read z h = is (fits-in w32 h tt tt)
+
+pub pos-read : (z : ℤ) → Between unmoved unmoved z → toZ w32 (ofZ w32 z) ≡ z
+pos-read z h = is (fits-in w32 h tt tt)
+
+pub delta-between : (z : ℤ) → I32 mostDelta mostDelta z → Between mostDelta mostDelta z
+delta-between z h = omega (arith, h)
+
+-- the positions of an accepted axis
+pub places-of : (axis : Axis) → AxisWithin unmoved axis → Places unmoved axis
+places-of axis h = record { few = h .few; at = λ (k : ℕ) (q : k < axis .len). h .edge k q .pos }
+
+-- an edge whose position is within n is put into places within m
+pub put-places : (m n i : ℕ) (axis : Axis) (e : Edge) → m ≤ n → Places m axis → Between n n (e .pos) → Places n (putEdge axis i e)
+put-places m n i axis e w h g = record {
+  few = h .few;
+  at = λ (k : ℕ) (q : k < axis .len). at-set (λ (x : Edge). Between n n (x .pos)) (axis .edges) i k e emptyEdge (wider m n _ w (h .at k q)) g;
+}
+
+pub done-places : (m i : ℕ) (axis : Axis) (d : ℤ) → Places m axis → i < axis .len → Between mostDelta mostDelta d → Places (m + mostDelta) (moveDone axis i d)
+unfolding moveDone
+done-places m i axis d h q g = put-places m (m + mostDelta) i axis _ (omega arith) h (moved m (edgeAt axis i .pos) d (h .at i q) g)
+
+-- the moves keep the count
+pub done-len : (axis : Axis) (i : ℕ) (d : ℤ) → moveDone axis i d .len ≡ axis .len
+unfolding moveDone
+done-len axis i d = refl
+
+pub only-places : (m i : ℕ) (axis : Axis) (d : ℤ) → Places m axis → i < axis .len → Between mostDelta mostDelta d → Places (m + mostDelta) (moveOnly axis i d)
+unfolding moveOnly
+only-places m i axis d h q g = put-places m (m + mostDelta) i axis _ (omega arith) h (moved m (edgeAt axis i .pos) d (h .at i q) g)
+
+-- places within m are places within more
+pub wider-places : (m n : ℕ) (axis : Axis) → m ≤ n → Places m axis → Places n axis
+wider-places m n axis w h = record { few = h .few; at = λ (k : ℕ) (q : k < axis .len). wider m n _ w (h .at k q) }
+
+-- the stems of 6 or 12 edges are edges
+pub stems-hold : (axis : Axis) → axis .len ≤ mostEdges → countHolds (axis .len) ≡ true → StemsOf axis (stemsOf (axis .len))
+stems-hold axis few h = by-count (eqb (axis .len) 6) refl
+  where
+    by-count : (six : Bool) → eqb (axis .len) 6 ≡ six → StemsOf axis (stemsOf (axis .len))
+    by-count true e = let n = eqb-true (axis .len) 6 e in rw e (record { few = few; first-below = omega arith; second-below = omega arith; third-below = omega arith })
+    by-count false e = let n = eqb-true (axis .len) 12 (rw e at h) in rw e (record { few = few; first-below = omega arith; second-below = omega arith; third-below = omega arith })

@@ -1,0 +1,118 @@
+-- `lowercase_m::hint::align_stems` meets its contract. Assumes nothing.
+use mathlib.Core.Path.{_≡_, sym, _∙_}
+use mathlib.Core.Bool.{true}
+use borrow.Author.Tests.{not-true, not-false}
+use Rattle.axis.specs.declared.edge.Edge.{Edge}
+use Rattle.axis.specs.Edge.{edgeAt}
+use Rattle.axis.specs.Limits.{mostPos}
+use Rattle.axis.specs.Accepted.{EdgeWithin}
+use Rattle.lowercase_m.specs.M.{even, delta, groupHolds, applies, aligned}
+use Rattle.signed.proofs.Signed.{is}
+use Rattle.lowercase_m.proofs.Places.{units-read, pos-read, delta-between, places-of}
+use borrow.Author.Needs.{needs}
+use Rattle.lowercase_m.proofs.hint.align_stems.Statement.{statement}
+use Rattle.lowercase_m.proofs.hint.align_stems.Tie as tie
+
+-- the three stems, as edges of an accepted axis
+abbrev first : tie.Start → Edge
+first c = edgeAt (c .args .t1) (c .args .stems .first)
+
+abbrev second : tie.Start → Edge
+second c = edgeAt (c .args .t1) (c .args .stems .second)
+
+abbrev third : tie.Start → Edge
+third c = edgeAt (c .args .t1) (c .args .stems .third)
+
+first-holds : (c : tie.Start) → EdgeWithin mostPos (c .args .t1 .len) (first c)
+first-holds c = c .pre .0 .edge _ (c .pre .1 .first-below)
+
+second-holds : (c : tie.Start) → EdgeWithin mostPos (c .args .t1 .len) (second c)
+second-holds c = c .pre .0 .edge _ (c .pre .1 .second-below)
+
+third-holds : (c : tie.Start) → EdgeWithin mostPos (c .args .t1 .len) (third c)
+third-holds c = c .pre .0 .edge _ (c .pre .1 .third-below)
+
+-- the test of the group held
+group-held : (c : tie.Else1) → groupHolds (c .before .before .args .group) (c .before .before .args .t1) (c .before .before .args .stems) ≡ true
+group-held c = sym (c .before .group-holds .ensures) ∙ not-false _ (c .if1 .left)
+
+-- the answer of the test of the distances
+even-is : (c : tie.After-is-even) → c .is-even .result ≡ even (first (c .before .before .before .before .before .before .before .before .before) .opos) (second (c .before .before .before .before .before .before .before .before .before) .opos) (third (c .before .before .before .before .before .before .before .before .before) .opos)
+even-is c =
+    let s = c .before .before .before .before .before .before .before .before .before in
+    rw (units-read _ (first-holds s .opos), units-read _ (second-holds s .opos), units-read _ (third-holds s .opos)) at (c .is-even .ensures)
+
+-- what the third stem is moved by
+delta-is : (c : tie.After-delta-of) → c .delta-of .result ≡ delta (first (c .before .before .before .before .before .before .before .before .before .before .before .before .before .before) .pos) (second (c .before .before .before .before .before .before .before .before .before .before .before .before .before .before) .pos) (third (c .before .before .before .before .before .before .before .before .before .before .before .before .before .before) .pos)
+delta-is c =
+    let s = c .before .before .before .before .before .before .before .before .before .before .before .before .before .before in
+    rw (pos-read _ (first-holds s .pos), pos-read _ (second-holds s .pos), pos-read _ (third-holds s .pos)) at (c .delta-of .ensures .0)
+
+group-holds-requires : tie.Need-group-holds-requires
+group-holds-requires c κs = search needs
+
+returns : tie.Need-returns
+unfolding aligned applies
+returns c = rw (sym (c .before .group-holds .ensures) ∙ not-true _ (c .if1 .taken))
+
+mul-edge1 : tie.Need-mul-edge1
+mul-edge1 c = search needs
+
+element-copy-out-edge1 : tie.Need-element-copy-out-edge1
+element-copy-out-edge1 c = search needs
+
+mul-edge2 : tie.Need-mul-edge2
+mul-edge2 c = search needs
+
+element-copy-out-edge2 : tie.Need-element-copy-out-edge2
+element-copy-out-edge2 c = search needs
+
+mul-edge3 : tie.Need-mul-edge3
+mul-edge3 c = search needs
+
+element-copy-out-edge3 : tie.Need-element-copy-out-edge3
+element-copy-out-edge3 c = search needs
+
+is-even-requires : tie.Need-is-even-requires
+is-even-requires c κs =
+    let s = c .before .before .before .before .before .before .before .before in
+    rw (units-read _ (first-holds s .opos), units-read _ (second-holds s .opos), units-read _ (third-holds s .opos)) (first-holds s .opos, second-holds s .opos, third-holds s .opos)
+
+returns-2 : tie.Need-returns-2
+unfolding aligned applies
+returns-2 c = rw (group-held (c .before .before .before .before .before .before .before .before), sym (even-is (c .before)) ∙ not-true _ (c .if2 .taken))
+
+delta-of-requires : tie.Need-delta-of-requires
+delta-of-requires c κs =
+    let s = c .before .before .before .before .before .before .before .before .before .before .before .before .before in
+    rw (pos-read _ (first-holds s .pos), pos-read _ (second-holds s .pos), pos-read _ (third-holds s .pos)) (first-holds s .pos, second-holds s .pos, third-holds s .pos)
+
+move-stem-requires : tie.Need-move-stem-requires
+move-stem-requires c κs =
+    let s = c .before .before .before .before .before .before .before .before .before .before .before .before .before .before in
+    ((s .pre .1 .third-below, third-holds s .link), (places-of _ (s .pre .0), rw (is (c .delta-of .ensures .1 .fits)) (delta-between _ (c .delta-of .ensures .1))))
+
+returns-3 : tie.Need-returns-3
+unfolding aligned applies
+returns-3 c =
+    let d = c .before in
+    let e = d .before .before .before .before in
+    rw (group-held (e .before .before .before .before .before .before .before .before), sym (even-is (e .before)) ∙ not-false _ (e .if2 .left)) (rw (is (d .delta-of .ensures .1 .fits), delta-is d) at (c .move-stem .ensures))
+
+pub align-stems-spec : {M : Type 1} → statement M
+align-stems-spec =
+    tie.close
+    (tie.spec
+    group-holds-requires
+    returns
+    mul-edge1
+    element-copy-out-edge1
+    mul-edge2
+    element-copy-out-edge2
+    mul-edge3
+    element-copy-out-edge3
+    is-even-requires
+    returns-2
+    delta-of-requires
+    move-stem-requires
+    returns-3)

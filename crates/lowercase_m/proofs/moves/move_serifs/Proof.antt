@@ -1,0 +1,70 @@
+-- `lowercase_m::moves::move_serifs` meets its contract. Assumes nothing.
+use mathlib.Core.Path.{_≡_}
+use native.Mathlib.Omega.{arith}
+use borrow.Author.Tests.{eq-eqb, ne-eqb}
+use Rattle.signed.proofs.Signed.{is}
+use Rattle.axis.specs.Edge.{putEdge, edgeAt}
+use Rattle.lowercase_m.specs.Steps.{Places, twiceMoved, thriceMoved}
+use Rattle.lowercase_m.specs.M.{movedBack, moveSerifs, moveOnly}
+use Rattle.lowercase_m.proofs.Places.{further, only-places}
+use borrow.Author.Needs.{needs}
+use Rattle.lowercase_m.proofs.moves.move_serifs.Statement.{statement}
+use Rattle.lowercase_m.proofs.moves.move_serifs.Tie as tie
+
+-- there are twelve edges
+twelve : (c : tie.Else1) → c .before .before .args .axis .len ≡ 12
+twelve c = c .if1 .left
+
+-- edge 8, moved
+first-moved : (c : tie.After-moved-back) → c .moved-back .result ≡ movedBack (edgeAt (c .before .before .before .before .args .axis) 8) (c .before .before .before .before .args .delta)
+first-moved c = rw (is (c .before .before .before .before .fits .delta)) at (c .moved-back .ensures)
+
+-- the positions behind that move
+first-places : (c : tie.After-moved-back) → Places thriceMoved (putEdge (c .before .before .before .before .args .axis) 8 (c .moved-back .result))
+unfolding moveOnly
+first-places c =
+    let s = c .before .before .before .before in
+    let q = twelve (c .before .before) in
+    rw (first-moved c) (only-places twiceMoved 8 (s .args .axis) (s .args .delta) (s .pre .0) (omega arith) (s .pre .1))
+
+returns : tie.Need-returns
+unfolding moveSerifs
+returns c = rw (ne-eqb (c .before .before .args .axis .len) 12 (c .if1 .taken))
+
+element-copy-out-moved-back : tie.Need-element-copy-out-moved-back
+element-copy-out-moved-back c = search needs
+
+moved-back-requires : tie.Need-moved-back-requires
+moved-back-requires c κs = let s = c .before .before .before in let q = twelve (c .before) in (further twiceMoved _ (omega arith) (s .pre .0 .at 8 (omega arith)), rw (is (s .fits .delta)) (s .pre .1))
+
+element-set-from-moved : tie.Need-element-set-from-moved
+element-set-from-moved c = search needs
+
+element-copy-out-moved-back-2 : tie.Need-element-copy-out-moved-back-2
+element-copy-out-moved-back-2 c = search needs
+
+moved-back-requires-2 : tie.Need-moved-back-requires-2
+moved-back-requires-2 c κs = let o = c .before in let s = o .before .before .before .before in let q = twelve (o .before .before) in (first-places o .at 11 (omega arith), rw (is (s .fits .delta)) (s .pre .1))
+
+element-set-from-moved-2 : tie.Need-element-set-from-moved-2
+element-set-from-moved-2 c = search needs
+
+returns-2 : tie.Need-returns-2
+unfolding moveSerifs moveOnly
+returns-2 c =
+    let o = c .before .before in
+    let s = o .before .before .before .before in
+    rw (eq-eqb (s .args .axis .len) 12 (twelve (o .before .before)), rw (is (s .fits .delta)) at (c .moved-back2 .ensures), first-moved o)
+
+pub move-serifs-spec : {M : Type 1} → statement M
+move-serifs-spec =
+    tie.close
+    (tie.spec
+    returns
+    element-copy-out-moved-back
+    moved-back-requires
+    element-set-from-moved
+    element-copy-out-moved-back-2
+    moved-back-requires-2
+    element-set-from-moved-2
+    returns-2)

@@ -1,0 +1,143 @@
+-- `lowercase_m::moves::move_stem` meets its contract. Assumes nothing.
+use mathlib.Core.Path.{_≡_, ap, _∙_}
+use Prim.Native.Nat.{_<_}
+use native.Mathlib.Omega.{arith}
+use lib.ListN.{set}
+use Rattle.signed.proofs.Signed.{is}
+use Rattle.axis.specs.declared.edge.Axis.{Axis}
+use Rattle.axis.specs.Edge.{putEdge, finished}
+use Rattle.lowercase_m.specs.Steps.{Places, unmoved, onceMoved, twiceMoved}
+use Rattle.lowercase_m.specs.M.{moveDone, moveLink, moveStem}
+use Rattle.lowercase_m.proofs.Places.{further, done-len, done-places, wider-places}
+use borrow.Author.Needs.{needs}
+use Rattle.lowercase_m.proofs.moves.move_stem.Statement.{statement}
+use Rattle.lowercase_m.proofs.moves.move_stem.Tie as tie
+
+-- the function's start, from where the stem is moved
+abbrev start : tie.After-with-done-flag → tie.Start
+start c = c .before .before .before
+
+-- the axis once the stem is moved
+abbrev stemDone : tie.After-with-done-flag → Axis
+stemDone c = moveDone (start c .args .t1) (start c .args .third) (start c .args .delta)
+
+abbrev stemPut : tie.After-with-done-flag → Axis
+stemPut c = putEdge (start c .args .t1) (start c .args .third) (c .with-done-flag .result)
+
+stem-moved : (c : tie.After-with-done-flag) → stemPut c ≡ stemDone c
+unfolding moveDone
+stem-moved c = ap (putEdge (start c .args .t1) (start c .args .third)) (c .with-done-flag .ensures ∙ ap finished (rw (is (start c .fits .delta)) at (c .before .moved-back .ensures)))
+
+stem-edges : (c : tie.After-with-done-flag) → set (start c .args .t1 .edges) (start c .args .third) (c .with-done-flag .result) ≡ stemDone c .edges
+stem-edges c = ap (λ (a : Axis). a .edges) (stem-moved c)
+
+stem-places : (c : tie.After-with-done-flag) → Places onceMoved (stemDone c)
+stem-places c = let s = start c in done-places unmoved (s .args .third) (s .args .t1) (s .args .delta) (s .pre .1 .0) (s .pre .0 .0) (s .pre .1 .1)
+
+-- the linked edge is an edge of the axis, and of the table
+linked-edge : (c : tie.After-link) → c .link .given .0 .0 < start (c .before .before) .args .t1 .len
+linked-edge c = start (c .before .before) .pre .0 .1 .at _ (c .link .given .1)
+
+linked-below : (c : tie.After-link) → c .link .given .0 .0 < 128
+linked-below c = let h = linked-edge c in let g = start (c .before .before) .pre .1 .0 .few in omega arith
+
+linked-place : (c : tie.After-link) → c .link .given .0 .0 < stemDone (c .before .before) .len
+linked-place c = let s = start (c .before .before) in rw (done-len (s .args .t1) (s .args .third) (s .args .delta)) (linked-edge c)
+
+-- the axis once the linked edge is moved too
+abbrev linkDone : tie.After-link → Axis
+linkDone c = moveDone (stemDone (c .before .before)) (c .link .given .0 .0) (start (c .before .before) .args .delta)
+
+link-moved : (c : tie.After-with-done-flag2) → putEdge (stemPut (c .before .before .before .before .before .before)) (c .before .before .before .before .link .given .0 .0) (c .with-done-flag2 .result) ≡ linkDone (c .before .before .before .before)
+unfolding moveDone
+link-moved c =
+    let l = c .before .before .before .before in
+    let w = l .before .before in
+    ap (λ (a : Axis). putEdge a (l .link .given .0 .0) (c .with-done-flag2 .result)) (stem-moved w)
+    ∙ ap (putEdge (stemDone w) (l .link .given .0 .0)) (c .with-done-flag2 .ensures ∙ ap finished (rw (stem-edges w, is (start w .fits .delta)) at (c .before .moved-back2 .ensures)))
+
+link-places : (c : tie.After-link) → Places twiceMoved (linkDone c)
+link-places c = let s = start (c .before .before) in done-places onceMoved (c .link .given .0 .0) (stemDone (c .before .before)) (s .args .delta) (stem-places (c .before .before)) (linked-place c) (s .pre .1 .1)
+
+mul-stem : tie.Need-mul-stem
+mul-stem c = search needs
+
+element-copy-out-stem : tie.Need-element-copy-out-stem
+element-copy-out-stem c = search needs
+
+moved-back-requires : tie.Need-moved-back-requires
+moved-back-requires c κs = let s = c .before in (further unmoved _ (omega arith) (s .pre .1 .0 .at _ (s .pre .0 .0)), rw (is (s .fits .delta)) (s .pre .1 .1))
+
+with-done-flag-requires : tie.Need-with-done-flag-requires
+with-done-flag-requires c κs = search needs
+
+mul-linked : tie.Need-mul-linked
+mul-linked c = search needs
+
+element-set-from-linked : tie.Need-element-set-from-linked
+element-set-from-linked c = search needs
+
+enum-known-link : tie.Need-enum-known-link
+enum-known-link c = search needs
+
+enum-told : tie.Need-enum-told
+enum-told c = search needs
+
+move-serifs-requires : tie.Need-move-serifs-requires
+move-serifs-requires c κs = let w = c .before .before in (rw (stem-moved w) (wider-places onceMoved twiceMoved _ (omega arith) (stem-places w)), rw (is (start w .fits .delta)) (start w .pre .1 .1))
+
+returns : tie.Need-returns
+unfolding moveStem moveLink
+returns c = let e = c .before in let w = e .before .before in rw (e .enum-told .given .1) (rw (stem-moved w, is (start w .fits .delta)) at (c .move-serifs .ensures))
+
+cast-at : tie.Need-cast-at
+cast-at c = search needs
+
+mul-linked-2 : tie.Need-mul-linked-2
+mul-linked-2 c = search needs
+
+element-copy-out-linked : tie.Need-element-copy-out-linked
+element-copy-out-linked c = linked-below (c .before)
+
+moved-back-requires-2 : tie.Need-moved-back-requires-2
+moved-back-requires-2 c κs = let l = c .before .before in let w = l .before .before in (rw (stem-edges w) (further onceMoved _ (omega arith) (stem-places w .at _ (linked-place l))), rw (is (start w .fits .delta)) (start w .pre .1 .1))
+
+with-done-flag-requires-2 : tie.Need-with-done-flag-requires-2
+with-done-flag-requires-2 c κs = search needs
+
+mul-t11 : tie.Need-mul-t11
+mul-t11 c = search needs
+
+element-set-from-moved : tie.Need-element-set-from-moved
+element-set-from-moved c = linked-below (c .before .before .before .before)
+
+move-serifs-requires-2 : tie.Need-move-serifs-requires-2
+move-serifs-requires-2 c κs = let l = c .before .before .before .before in let w = l .before .before in (rw (link-moved c) (link-places l), rw (is (start w .fits .delta)) (start w .pre .1 .1))
+
+returns-2 : tie.Need-returns-2
+unfolding moveStem moveLink
+returns-2 c = let d = c .before in let l = d .before .before .before .before in let w = l .before .before in rw (l .link .given .1) (rw (link-moved d, is (start w .fits .delta)) at (c .move-serifs2 .ensures))
+
+pub move-stem-spec : {M : Type 1} → statement M
+move-stem-spec =
+    tie.close
+    (tie.spec
+    mul-stem
+    element-copy-out-stem
+    moved-back-requires
+    with-done-flag-requires
+    mul-linked
+    element-set-from-linked
+    enum-known-link
+    enum-told
+    move-serifs-requires
+    returns
+    cast-at
+    mul-linked-2
+    element-copy-out-linked
+    moved-back-requires-2
+    with-done-flag-requires-2
+    mul-t11
+    element-set-from-moved
+    move-serifs-requires-2
+    returns-2)

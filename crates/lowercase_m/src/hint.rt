@@ -1,0 +1,95 @@
+// The call.
+use super::moves::move_stem;
+use super::stems::Stems;
+use super::stems::delta_of;
+use super::stems::is_even;
+use super::stems::links_on;
+use super::stems::stems_of;
+use axis::accept::edges_refusal;
+use axis::edge::Axis;
+use axis::kinds::Group;
+ghost use mathlib.Core.Path.{_≡_};
+ghost use Rattle.axis.specs.Limits.{mostPos};
+ghost use Rattle.axis.specs.Accepted.{AxisWithin};
+ghost use Rattle.lowercase_m.specs.M.{linkedOn, groupHolds, aligned, countHolds, hintLowercaseM};
+ghost use Rattle.lowercase_m.specs.Steps.{StemsOf};
+
+// An answer, 0 or the refusal, and the axis.
+pub struct Hinted {
+    pub answer: u8,
+    pub axis: Axis,
+}
+
+// Whether each stem is linked to the edge behind it.
+fn linked_on(axis: Axis, stems: Stems) -> bool
+    requires { ⌜ StemsOf axis stems ⌝ }
+    ensures { λ r. ⌜ r ≡ linkedOn axis stems ⌝ }
+{
+    let first = stems.first;
+    if !links_on(axis.edges[first], first) {
+        return false;
+    }
+    let second = stems.second;
+    if !links_on(axis.edges[second], second) {
+        return false;
+    }
+    let third = stems.third;
+    links_on(axis.edges[third], third)
+}
+
+// Whether the group's own condition holds: CJK wants linked stems.
+fn group_holds(axis: Axis, group: Group, stems: Stems) -> bool
+    requires { ⌜ StemsOf axis stems ⌝ }
+    ensures { λ r. ⌜ r ≡ groupHolds group axis stems ⌝ }
+{
+    match group {
+        Group::Default => true,
+        Group::Cjk => linked_on(axis, stems),
+    }
+}
+
+// Moves the third stem to the same distance as the second, where the rule applies.
+fn align_stems(axis: Axis, group: Group, stems: Stems) -> Axis
+    requires { ⌜ AxisWithin mostPos axis × StemsOf axis stems ⌝ }
+    ensures { λ r. ⌜ r ≡ aligned group axis stems ⌝ }
+{
+    if !group_holds(axis, group, stems) {
+        return axis;
+    }
+    let first = stems.first;
+    let second = stems.second;
+    let third = stems.third;
+    let edge1 = axis.edges[first];
+    let edge2 = axis.edges[second];
+    let edge3 = axis.edges[third];
+    if !is_even(edge1.opos, edge2.opos, edge3.opos) {
+        return axis;
+    }
+    let delta = delta_of(edge1.pos, edge2.pos, edge3.pos);
+    move_stem(axis, third, delta)
+}
+
+// Whether an m has as many edges.
+fn count_holds(count: usize) -> bool
+    ensures { λ r. ⌜ r ≡ countHolds count ⌝ }
+{
+    if count == 6 {
+        return true;
+    }
+    count == 12
+}
+
+// Makes sure that a lowercase m stays symmetric: its third stem comes to the same distance as its second.
+pub fn hint_lowercase_m(axis: Axis, group: Group) -> Hinted
+    ensures { λ r. ⌜ r ≡ hintLowercaseM axis group ⌝ }
+{
+    let answer = edges_refusal(axis, count_holds(axis.len), true, true);
+    if 0 < answer {
+        return Hinted { answer, axis };
+    }
+    let stems = stems_of(axis.len);
+    Hinted {
+        answer: 0,
+        axis: align_stems(axis, group, stems),
+    }
+}
