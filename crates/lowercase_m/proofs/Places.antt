@@ -12,7 +12,6 @@ use mir.Val.{toZ, ofZ}
 use lib.IntN.{ℤ, _-ℤ_}
 use Rattle.signed.specs.Range.{Between, I32}
 use Rattle.signed.proofs.Signed.{sub-law, fits-in, is, signed}
-use Rattle.axis.specs.declared.kinds.Link.{Link}
 use Rattle.axis.specs.declared.edge.Edge.{Edge}
 use Rattle.axis.specs.declared.edge.Axis.{Axis}
 use Rattle.axis.specs.Edge.{emptyEdge, edgeAt, putEdge}

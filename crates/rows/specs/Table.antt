@@ -5,11 +5,24 @@ use Prim.Native.Nat.{ℕ}
 use lib.IntN.{ℤ, pos, negℤ}
 use Rattle.fixed.specs.Point.{near, nearZ, mulFix, divFix}
 use Rattle.outline.specs.Weak.{endsHold, coordinateHolds, coordinatesHold, refusal, contourOf, firstTouched, lastTouched, touchedBefore, touchedBehind, references, firstOf, secondOf, interpolated, betweenAt, shiftedAt, followed, weakAt, onContour, alignedAt, listOf, result}
-use Rattle.rows.specs.Row.{Row, weak, All}
+use Rattle.axis.specs.declared.kinds.Direction.the-variants as Directions
+use Rattle.axis.specs.declared.kinds.Blue.the-variants as Blues
+use Rattle.axis.specs.declared.kinds.Link.the-variants as Links
+use Rattle.axis.specs.declared.kinds.Group.the-variants.{Default}
+use Rattle.axis.specs.declared.edge.Edge.{Edge}
+use Rattle.axis.specs.Flags.{normal}
+use Rattle.axis.specs.Edge.{emptyEdge, finished}
+use Rattle.axis.specs.Refusals.{linkHolds, blueHolds, every, edgeIndices, edgeNumbers, edgesIndices, edgesNumbers, edgesRefusal}
+use Rattle.lowercase_m.specs.M.{linkedOn, groupHolds, applies, moveDone, moveOnly, moveLink, moveSerifs, moveStem, aligned, hintLowercaseM}
+use Rattle.rows.specs.Row.{Row, weak, m, All}
 
 -- -n
 abbrev minus : ℕ → ℤ
 minus n = negℤ (pos n)
+
+-- an unlinked edge, by opos and pos
+abbrev edge : ℕ → ℕ → Edge
+edge o p = record { fpos = pos 0; opos = pos o; pos = pos p; flags = normal; dir = Directions.None; blue = Blues.None; link = Links.None; serif = Links.None; first = 0; last = 0 }
 
 -- the rows, in the document's order
 abbrev pub table : List Row
@@ -28,9 +41,11 @@ table =
     ∷ weak (pos 0 ∷ pos 10 ∷ pos 20 ∷ []) (pos 0 ∷ pos 99 ∷ pos 20 ∷ []) (1 ∷ 0 ∷ 0 ∷ []) (2 ∷ []) 0 (pos 0 ∷ pos 99 ∷ pos 20 ∷ [])
     -- the same, currents 5, 99, 20: 5, 15, 25
     ∷ weak (pos 0 ∷ pos 10 ∷ pos 20 ∷ []) (pos 5 ∷ pos 99 ∷ pos 20 ∷ []) (1 ∷ 0 ∷ 0 ∷ []) (2 ∷ []) 0 (pos 5 ∷ pos 15 ∷ pos 25 ∷ [])
+    -- 6 Latin edges; 0, 2, 4 have opos 0, 100, 207, pos 0, 128, 270; 4 has no link: edge 4 at 256
+    ∷ m Default (edge 0 0 ∷ emptyEdge ∷ edge 100 128 ∷ emptyEdge ∷ edge 207 270 ∷ emptyEdge ∷ []) 0 (edge 0 0 ∷ emptyEdge ∷ edge 100 128 ∷ emptyEdge ∷ finished (edge 207 256) ∷ emptyEdge ∷ [])
     ∷ []
 
 -- every row holds
 pub rows-hold : All table
-unfolding near nearZ mulFix divFix endsHold coordinateHolds coordinatesHold refusal contourOf firstTouched lastTouched touchedBefore touchedBehind references firstOf secondOf interpolated betweenAt shiftedAt followed weakAt onContour alignedAt listOf result
-rows-hold = ((refl, refl), ((refl, refl), ((refl, refl), ((refl, refl), ((refl, refl), ((refl, refl), ((refl, refl), tt)))))))
+unfolding near nearZ mulFix divFix endsHold coordinateHolds coordinatesHold refusal contourOf firstTouched lastTouched touchedBefore touchedBehind references firstOf secondOf interpolated betweenAt shiftedAt followed weakAt onContour alignedAt listOf result linkHolds blueHolds every edgeIndices edgeNumbers edgesIndices edgesNumbers edgesRefusal linkedOn groupHolds applies moveDone moveOnly moveLink moveSerifs moveStem aligned hintLowercaseM
+rows-hold = ((refl, refl), ((refl, refl), ((refl, refl), ((refl, refl), ((refl, refl), ((refl, refl), ((refl, refl), (refl, tt))))))))
