@@ -4,6 +4,7 @@ use fixed::point::fixed_mul;
 ghost use mathlib.Core.Path.{_≡_};
 ghost use Prim.Native.Nat.{_≤_, _<_};
 ghost use lib.ListN.{length};
+ghost use lib.Signed.{ltZ};
 ghost use Rattle.signed.specs.Range.{Between};
 ghost use Rattle.outline.specs.Limits.{mostDelta};
 ghost use Rattle.outline.specs.Weak.{at, refs, interpolated, betweenAt};
@@ -79,6 +80,13 @@ fn fill(originals: &[i32], currents: &mut [i32], from: usize, to: usize, span: S
     }
 }
 
+// Whether the reference behind is the first: its original is the smaller. At equal originals the one before is.
+fn behind_is_first(v1: i32, v2: i32) -> bool
+    ensures { λ r. ⌜ r ≡ ltZ v2 v1 ⌝ }
+{
+    v2 < v1
+}
+
 // Interpolates the points from `from` up to `to` by the references ref1, before them, and ref2, behind them.
 pub fn iup_interpolate(
     originals: &[i32],
@@ -100,7 +108,7 @@ pub fn iup_interpolate(
     let v2 = originals[ref2];
     let u1 = currents[ref1];
     let u2 = currents[ref2];
-    if v2 < v1 {
+    if behind_is_first(v1, v2) {
         fill(originals, currents, from, to, span_of(v2, u2, v1, u1));
     } else {
         fill(originals, currents, from, to, span_of(v1, u1, v2, u2));

@@ -1,7 +1,7 @@
 -- `outline::iup::iup_interpolate` meets its contract: the references are put in their order, and then the points are placed. Assumes nothing.
 use borrow.Author.Needs.{needs}
 use native.Mathlib.Omega.{arith}
-use mathlib.Core.Path.{_≡_, sym}
+use mathlib.Core.Path.{_≡_, sym, _∙_}
 use mathlib.Core.Bool.{Bool, true, false}
 use lib.IntN.{ℤ}
 use lib.Signed.{ltZ}
@@ -81,14 +81,21 @@ module _ (s : tie.Start) where
   more : ltZ v2 v1 ≡ false → Ordered v1 u1 v2 u2
   more e = record { original1 = s .pre .1 .1 .0 (s .args .ref1); current1 = s .pre .1 .1 .1; original2 = s .pre .1 .1 .0 (s .args .ref2); current2 = s .pre .1 .1 .2; order = atmost (omega (arith, signed)) }
 
--- the function's entry, from behind the four reads
-abbrev start : tie.After-u2 → tie.Start
-start c = c .before .before .before .before .before
+-- the function's entry, from behind the four reads and the test
+abbrev start : tie.After-behind-is-first → tie.Start
+start c = c .before .before .before .before .before .before
+
+-- what the test of the originals said
+tested : (c : tie.After-behind-is-first) (t : Bool) → c .behind-is-first .result ≡ t → ltZ (v2 (start c)) (v1 (start c)) ≡ t
+tested c t e = test (start c) t (sym (c .behind-is-first .ensures) ∙ e)
+
+behind-is-first-requires : tie.Need-behind-is-first-requires
+behind-is-first-requires c κs = search needs
 
 span-of-requires : tie.Need-span-of-requires
 span-of-requires c κs =
     let s = start (c .before .before) in
-    rw (v1-is s, v2-is s, u1-is s, u2-is s) (less s (test s true (c .before .if2 .taken)))
+    rw (v1-is s, v2-is s, u1-is s, u2-is s) (less s (tested (c .before .before) true (c .before .if2 .taken)))
 
 span-is : (c : tie.After-span-of) → c .span-of .result ≡ spanOf (v2 (start (c .before .before .before))) (u2 (start (c .before .before .before))) (v1 (start (c .before .before .before))) (u1 (start (c .before .before .before)))
 span-is c = let s = start (c .before .before .before) in rw (v1-is s, v2-is s, u1-is s, u2-is s) at (c .span-of .ensures)
@@ -96,12 +103,12 @@ span-is c = let s = start (c .before .before .before) in rw (v1-is s, v2-is s, u
 fill-requires : tie.Need-fill-requires
 fill-requires c κs =
     let s = start (c .before .before .before) in
-    rw (span-is c) (s .pre .0, (s .pre .1 .1 .0, span-holds _ _ _ _ (less s (test s true (c .before .before .if2 .taken)))))
+    rw (span-is c) (s .pre .0, (s .pre .1 .1 .0, span-holds _ _ _ _ (less s (tested (c .before .before .before) true (c .before .before .if2 .taken)))))
 
 span-of-requires-2 : tie.Need-span-of-requires-2
 span-of-requires-2 c κs =
     let s = start (c .before .before) in
-    rw (v1-is s, v2-is s, u1-is s, u2-is s) (more s (test s false (c .before .if2 .left)))
+    rw (v1-is s, v2-is s, u1-is s, u2-is s) (more s (tested (c .before .before) false (c .before .if2 .left)))
 
 span-is-2 : (c : tie.After-span-of2) → c .span-of2 .result ≡ spanOf (v1 (start (c .before .before .before))) (u1 (start (c .before .before .before))) (v2 (start (c .before .before .before))) (u2 (start (c .before .before .before)))
 span-is-2 c = let s = start (c .before .before .before) in rw (v1-is s, v2-is s, u1-is s, u2-is s) at (c .span-of2 .ensures)
@@ -109,7 +116,7 @@ span-is-2 c = let s = start (c .before .before .before) in rw (v1-is s, v2-is s,
 fill-requires-2 : tie.Need-fill-requires-2
 fill-requires-2 c κs =
     let s = start (c .before .before .before) in
-    rw (span-is-2 c) (s .pre .0, (s .pre .1 .1 .0, span-holds _ _ _ _ (more s (test s false (c .before .before .if2 .left)))))
+    rw (span-is-2 c) (s .pre .0, (s .pre .1 .1 .0, span-holds _ _ _ _ (more s (tested (c .before .before .before) false (c .before .before .if2 .left)))))
 
 same-length : tie.Need-same-length
 same-length c = search needs
@@ -118,7 +125,7 @@ returns-2 : tie.Need-returns-2
 returns-2 c =
     let m = c .before .before in
     let a = start (m .before .before .before) .args in
-    let e = test (start (m .before .before .before)) true (m .before .before .if2 .taken) in
+    let e = tested (m .before .before .before) true (m .before .before .if2 .taken) in
     wrote-as _ _ _ _ _ _ (between-less (a .originals .now) (a .currents .now) (a .ref1) (a .ref2) e) (rw (span-is m) at (c .before .fill .ensures))
 
 same-length-2 : tie.Need-same-length-2
@@ -128,7 +135,7 @@ returns-3 : tie.Need-returns-3
 returns-3 c =
     let m = c .before .before in
     let a = start (m .before .before .before) .args in
-    let e = test (start (m .before .before .before)) false (m .before .before .if2 .left) in
+    let e = tested (m .before .before .before) false (m .before .before .if2 .left) in
     wrote-as _ _ _ _ _ _ (between-more (a .originals .now) (a .currents .now) (a .ref1) (a .ref2) e) (rw (span-is-2 m) at (c .before .fill2 .ensures))
 
 pub iup-interpolate-spec : {M : Type 1} → statement M
@@ -144,6 +151,7 @@ iup-interpolate-spec =
     slice-copy-out-u1
     mul-u2
     slice-copy-out-u2
+    behind-is-first-requires
     span-of-requires
     fill-requires
     span-of-requires-2
