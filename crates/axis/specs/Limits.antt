@@ -1,4 +1,4 @@
--- Document 01's limits of segments and edges ("Numbers that bound the input"), each named here alone.
+-- Document 01's limits of segments and edges and of the numbers passed beside them ("Numbers that bound the input"), each named here alone.
 use Prim.Native.Nat.{ℕ}
 
 -- segments of an axis: 0 to 512
@@ -20,3 +20,17 @@ mostPos = 16777216
 -- a segment's score and len: 0 to 65,535
 abbrev pub mostScore : ℕ
 mostScore = 65535
+
+-- units per em: 16 to 16,384
+abbrev pub leastUnitsPerEm : ℕ
+leastUnitsPerEm = 16
+
+abbrev pub mostUnitsPerEm : ℕ
+mostUnitsPerEm = 16384
+
+-- scale, in 16.16: 1 to 16,777,216
+abbrev pub leastScale : ℕ
+leastScale = 1
+
+abbrev pub mostScale : ℕ
+mostScale = 16777216

@@ -1,4 +1,4 @@
-// Document 01's limits of segments and edges, each named here alone.
+// Document 01's limits of segments and edges and of the numbers passed beside them, each named here alone.
 
 // Segments of an axis.
 pub const MOST_SEGMENTS: usize = 512;
@@ -18,3 +18,13 @@ pub const MOST_POS: i32 = 16777216;
 
 // A segment's score and len.
 pub const MOST_SCORE: i32 = 65535;
+
+// Units per em.
+pub const LEAST_UNITS_PER_EM: i32 = 16;
+
+pub const MOST_UNITS_PER_EM: i32 = 16384;
+
+// Scale, in 16.16.
+pub const LEAST_SCALE: i32 = 1;
+
+pub const MOST_SCALE: i32 = 16777216;

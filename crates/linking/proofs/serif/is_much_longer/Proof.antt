@@ -1,0 +1,20 @@
+-- `linking::serif::is_much_longer` meets its contract: the product is compared in 64 bits. Assumes nothing.
+use borrow.Author.Needs.{needs}
+use mir.Syntax.{w32, w64}
+use Rattle.linking.specs.Pairs as P
+use Rattle.linking.proofs.Reading.{back, cast-32, back-32}
+use Rattle.linking.proofs.serif.is_much_longer.Statement.{statement}
+use Rattle.linking.proofs.serif.is_much_longer.Tie as tie
+
+times-requires : tie.Need-times-requires
+times-requires c κs = search needs
+
+cast-result : tie.Need-cast-result
+cast-result c = cast-32 (c .before .before .before .before .args .seg1 .len) (c .struct-told2 .given .1 .1 .1 .1 .1 .1 .1 .1 .0 .1)
+
+returns : tie.Need-returns
+unfolding P.muchLonger
+returns c = rw (back-32 _ (c .struct-told2 .given .1 .1 .1 .1 .1 .1 .1 .1 .0 .1), back w64 _ (c .before .before .times .ok), c .before .before .times .ensures, back w32 _ (c .before .before .before .struct-told .given .1 .1 .1 .1 .1 .1 .1 .1 .0 .1))
+
+pub is-much-longer-spec : {M : Type 1} → statement M
+is-much-longer-spec = tie.close (tie.spec times-requires cast-result returns)

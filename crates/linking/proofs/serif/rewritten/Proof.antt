@@ -1,0 +1,42 @@
+-- `linking::serif::rewritten` meets its contract: by its two tests. Assumes nothing.
+use borrow.Author.Needs.{needs}
+use mathlib.Core.Path.{sym, _∙_}
+use Rattle.linking.specs.Pairs as P
+use Rattle.linking.proofs.serif.rewritten.Statement.{statement}
+use Rattle.linking.proofs.serif.rewritten.Tie as tie
+
+links-to-requires : tie.Need-links-to-requires
+links-to-requires c κs = search needs
+
+as-serif-requires : tie.Need-as-serif-requires
+as-serif-requires c κs = search needs
+
+returns : tie.Need-returns
+unfolding P.rewritten
+returns c = rw (sym (c .before .before .links-to .ensures) ∙ c .before .if1 .taken) (c .as-serif .ensures)
+
+links-to-requires-2 : tie.Need-links-to-requires-2
+links-to-requires-2 c κs = search needs
+
+as-serif-requires-2 : tie.Need-as-serif-requires-2
+as-serif-requires-2 c κs = search needs
+
+returns-2 : tie.Need-returns-2
+unfolding P.rewritten
+returns-2 c = rw (sym (c .before .before .before .before .links-to .ensures) ∙ c .before .before .before .if1 .left, sym (c .before .before .links-to2 .ensures) ∙ c .before .if2 .taken) (c .as-serif2 .ensures)
+
+returns-3 : tie.Need-returns-3
+unfolding P.rewritten
+returns-3 c = rw (sym (c .before .before .before .links-to .ensures) ∙ c .before .before .if1 .left, sym (c .before .links-to2 .ensures) ∙ c .if2 .left)
+
+pub rewritten-spec : {M : Type 1} → statement M
+rewritten-spec =
+    tie.close
+    (tie.spec
+    links-to-requires
+    as-serif-requires
+    returns
+    links-to-requires-2
+    as-serif-requires-2
+    returns-2
+    returns-3)

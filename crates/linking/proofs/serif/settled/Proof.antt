@@ -1,0 +1,42 @@
+-- `linking::serif::settled` meets its contract: by its two tests. Assumes nothing.
+use borrow.Author.Needs.{needs}
+use mathlib.Core.Path.{sym, _∙_}
+use Rattle.linking.specs.Pairs as P
+use Rattle.linking.proofs.serif.settled.Statement.{statement}
+use Rattle.linking.proofs.serif.settled.Tie as tie
+
+links-to-requires : tie.Need-links-to-requires
+links-to-requires c κs = search needs
+
+returns : tie.Need-returns
+unfolding P.settled
+returns c = rw (sym (c .before .links-to .ensures) ∙ c .if1 .taken)
+
+stays-serif-requires : tie.Need-stays-serif-requires
+stays-serif-requires c κs = search needs
+
+as-serif-requires : tie.Need-as-serif-requires
+as-serif-requires c κs = search needs
+
+returns-2 : tie.Need-returns-2
+unfolding P.settled
+returns-2 c = rw (sym (c .before .before .before .before .links-to .ensures) ∙ c .before .before .before .if1 .left, sym (c .before .before .stays-serif .ensures) ∙ c .before .if2 .taken) (c .as-serif .ensures)
+
+unlinked-requires : tie.Need-unlinked-requires
+unlinked-requires c κs = search needs
+
+returns-3 : tie.Need-returns-3
+unfolding P.settled
+returns-3 c = rw (sym (c .before .before .before .before .links-to .ensures) ∙ c .before .before .before .if1 .left, sym (c .before .before .stays-serif .ensures) ∙ c .before .if2 .left) (c .unlinked .ensures)
+
+pub settled-spec : {M : Type 1} → statement M
+settled-spec =
+    tie.close
+    (tie.spec
+    links-to-requires
+    returns
+    stays-serif-requires
+    as-serif-requires
+    returns-2
+    unlinked-requires
+    returns-3)
