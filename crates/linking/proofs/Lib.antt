@@ -1,2 +1,7 @@
 -- The laws by subject, each over plain variables.
 pub mod Reading
+pub mod Loops
+pub mod Kept
+pub mod Closed
+pub mod Turns
+pub mod Holding
