@@ -5,3 +5,5 @@ pub mod Kept
 pub mod Closed
 pub mod Turns
 pub mod Holding
+pub mod Numbers
+pub mod Calls

@@ -1,16 +1,20 @@
 -- CJK linking (document 01, module 3): the three rounds of the Rust's `link_segments_cjk`, in the order of its reads and writes. What a turn takes from before
 -- its loop is a parameter of the turn; all else it reads from the table that the turn before left.
-use mathlib.Core.Bool.{Bool, false, cond, not, _&&_}
+use mathlib.Core.Bool.{Bool, true, false, cond, not, _&&_}
 use Prim.Native.Nat.{ℕ}
-use lib.IntN.{ℤ}
+use lib.IntN.{ℤ, pos}
+use Rattle.fixed.specs.Point.{divFix, derived}
 use Rattle.axis.specs.declared.kinds.Direction.{Direction}
 use Rattle.axis.specs.declared.kinds.Link.{Link}
 use Rattle.axis.specs.declared.kinds.Link.the-variants as Links
 use Rattle.axis.specs.declared.segment.Segment.{Segment}
 use Rattle.axis.specs.declared.segment.Segments.{Segments}
 use Rattle.axis.specs.Direction.{same}
+use Rattle.axis.specs.Limits.{leastUnitsPerEm, mostUnitsPerEm, leastScale, mostScale}
+use Rattle.axis.specs.Refusals.{inside, segmentsNexts, segmentsRefusal, answered}
 use Rattle.axis.specs.Segment.{segmentAt, putSegment}
 use Rattle.linking.specs.declared.gap.Gap.{Gap}
+use Rattle.linking.specs.declared.link.Linked.{Linked}
 use Rattle.linking.specs.declared.thresholds.Thresholds.{Thresholds}
 use Rattle.linking.specs.Loops.{turns, till}
 use Rattle.linking.specs.Pairs.{gapOf, facing, improvedBy, unlinked, nearStem, encloses, muchLonger, rewritten, settled}
@@ -107,3 +111,24 @@ lastRound by t = turns (lastTurn by) (t .len) t
 -- the three rounds, one after the other
 unfoldable pub linked : Direction → Thresholds → Segments → Segments
 linked major by t = lastRound by (serifRound by (pairRound major by t))
+
+-- ---- the call
+-- the thresholds in font units: the derived constant of 8 for the overlap, three pixels at the scale for the distance
+unfoldable pub thresholdsOf : ℤ → ℤ → Thresholds
+thresholdsOf upem scale = record { len = derived upem (pos 8); dist = divFix (pos 192) scale }
+
+-- units per em and scale are within the table
+unfoldable pub numbersHold : ℤ → ℤ → Bool
+numbersHold upem scale = inside (pos leastUnitsPerEm) (pos mostUnitsPerEm) upem && inside (pos leastScale) (pos mostScale) scale
+
+-- the refusal of the call, or 0: the call has no list and no number in reach of refusals 1 and 4 beside the segments, and tests next with link and serif
+unfoldable pub linkingRefusal : Segments → ℤ → ℤ → ℕ
+linkingRefusal t upem scale = segmentsRefusal t true (numbersHold upem scale) (segmentsNexts t) true
+
+-- an answer beside a table
+abbrev pub beside : Segments → ℕ → Linked
+beside t k = record { answer = k; segments = t }
+
+-- what the call hands back: the three rounds' table beside 0, or the table as it was beside the refusal
+unfoldable pub linkSegmentsCjk : Segments → Direction → ℤ → ℤ → Linked
+linkSegmentsCjk t major upem scale = answered (linkingRefusal t upem scale) (beside t) (beside (linked major (thresholdsOf upem scale) t) 0)

@@ -1,0 +1,26 @@
+-- `linking::thresholds::thresholds_of` meets its contract: both numbers fit where the input is accepted. Assumes nothing.
+use borrow.Author.Needs.{needs}
+use mir.Syntax.{w32}
+use Rattle.signed.proofs.Signed.{is}
+use Rattle.linking.specs.Linking.{thresholdsOf}
+use Rattle.linking.proofs.Numbers.{eight, em-between, scale-some, dist-fits}
+use Rattle.linking.proofs.Reading.{back}
+use Rattle.linking.proofs.thresholds.thresholds_of.Statement.{statement}
+use Rattle.linking.proofs.thresholds.thresholds_of.Tie as tie
+
+derived-constant-requires : tie.Need-derived-constant-requires
+derived-constant-requires c κs = (eight, rw (is (c .fits .units-per-em)) (em-between _ (c .args .scale) (c .pre)))
+
+mul-fixed-div : tie.Need-mul-fixed-div
+mul-fixed-div c = search needs
+
+fixed-div-requires : tie.Need-fixed-div-requires
+fixed-div-requires c κs = let s = c .before in (rw (is (s .fits .scale)) (scale-some (s .args .units-per-em) _ (s .pre)), rw (is (s .fits .scale)) (dist-fits (s .args .units-per-em) _ (s .pre)))
+
+returns : tie.Need-returns
+unfolding thresholdsOf
+returns c = let s = c .before .before in let d = c .before .derived-constant in let q = c .fixed-div in rw (back w32 (d .result) (d .ok), back w32 (q .result) (q .ok), d .ensures, q .ensures, is (s .fits .units-per-em), is (s .fits .scale))
+
+pub thresholds-of-spec : {M : Type 1} → statement M
+thresholds-of-spec =
+    tie.close (tie.spec derived-constant-requires mul-fixed-div fixed-div-requires returns)
