@@ -7,3 +7,4 @@ pub mod Turns
 pub mod Holding
 pub mod Numbers
 pub mod Calls
+pub mod Ranges
