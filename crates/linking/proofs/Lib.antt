@@ -8,3 +8,5 @@ pub mod Holding
 pub mod Numbers
 pub mod Calls
 pub mod Ranges
+pub mod Unchanged
+pub mod Outcomes
