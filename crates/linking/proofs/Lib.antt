@@ -10,3 +10,4 @@ pub mod Calls
 pub mod Ranges
 pub mod Unchanged
 pub mod Outcomes
+pub mod Worked

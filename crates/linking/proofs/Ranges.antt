@@ -116,11 +116,11 @@ pub linked-within : (dir : Direction) (by : Thresholds) (t : Segments) → dn (b
 linked-within dir by t o c w =
     let n = t .len in
     let e = linked-kept n by (Sized n) (inside n) (loosed n)
-        (λ before seg1 seg2 i j x y p a b f.
-        let d = stem-dist by before seg1 seg2 i j f o (p .shorts) (a .shorts) (b .shorts) in
-        let l = stem-len by before seg1 seg2 i j f o (p .shorts) (a .shorts) (b .shorts) in
-        (joined n i j seg1 (gapOf before seg1 seg2) x y d l a, joined n j i seg2 (gapOf before seg1 seg2) y x d l b))
-        dir t (record { size = refl; each = λ i x. record { shorts = c i x; within = w .segment i x } }) in
+    (λ before seg1 seg2 i j x y p a b f.
+    let d = stem-dist by before seg1 seg2 i j f o (p .shorts) (a .shorts) (b .shorts) in
+    let l = stem-len by before seg1 seg2 i j f o (p .shorts) (a .shorts) (b .shorts) in
+    (joined n i j seg1 (gapOf before seg1 seg2) x y d l a, joined n j i seg2 (gapOf before seg1 seg2) y x d l b))
+    dir t (record { size = refl; each = λ i x. record { shorts = c i x; within = w .segment i x } }) in
     record {
       few = omega (arith, e .size, w .few);
       segment = λ (i : ℕ) (x : i < linked dir by t .len). subst (λ (m : ℕ). SegmentWithin m (segmentAt (linked dir by t) i)) (sym (e .size)) (e .each i (omega (arith, e .size)) .within);

@@ -46,6 +46,6 @@ pub linked-only : (dir : Direction) (by : Thresholds) (t : Segments) → Closed 
 linked-only dir by t c =
     let n = t .len in
     let e = linked-kept n by (Kept t n) (λ i s x h. h .inside) (loosed t n)
-        (λ before seg1 seg2 i j x y p a b f. (joined t n i j seg1 (gapOf before seg1 seg2) y a, joined t n j i seg2 (gapOf before seg1 seg2) x b))
-        dir t (record { size = refl; each = λ i x. record { rest = record { same = refl }; inside = c .each i x } }) in
+    (λ before seg1 seg2 i j x y p a b f. (joined t n i j seg1 (gapOf before seg1 seg2) y a, joined t n j i seg2 (gapOf before seg1 seg2) x b))
+    dir t (record { size = refl; each = λ i x. record { rest = record { same = refl }; inside = c .each i x } }) in
     record { size = e .size; rest = λ (i : ℕ) (x : i < n). e .each i x .rest }
