@@ -1,5 +1,5 @@
 -- The inner loop of the serif round: what is left of it gives the whole, until the break.
-use mathlib.Core.Path.{_≡_, refl, sym, ap, _∙_}
+use mathlib.Core.Path.{_≡_}
 use mathlib.Core.Bool.{Bool, true, false}
 use Prim.Native.Nat.{ℕ, _+_, _-_, _<_, _≤_}
 use Rattle.axis.specs.declared.kinds.Link.{Link}

@@ -1,13 +1,12 @@
 -- What every segment keeps through the rounds: one law, for any property of a segment and its place that losing the link and a better stem keep.
-use mathlib.Core.Path.{_≡_, refl, sym, ap, subst, _∙_}
+use mathlib.Core.Path.{_≡_, refl, sym, subst}
 use mathlib.Core.Bool.{Bool, true, false, cond}
 use mathlib.Core.Logic.{_⊎_, inl, inr, ⊎-elim}
 use Prim.Native.Nat.{ℕ, _<_, _≤_}
-use native.Mathlib.Nat.{zero-add}
 use native.Mathlib.Omega.{arith}
 use borrow.Author.Tests.{eqb-true, eqb-false}
 use lib.Dec.{eqb}
-use lib.ListN.{length, getD, set}
+use lib.ListN.{length}
 use lib.Seq.{getD-set-same, getD-set-other, set-out}
 use Rattle.signed.proofs.Signed.{lt-or-le}
 use Rattle.axis.specs.declared.kinds.Direction.{Direction}
@@ -19,9 +18,8 @@ use Rattle.axis.specs.Accepted.{Below}
 use Rattle.axis.specs.Direction.{same}
 use Rattle.axis.specs.Link.{linksTo}
 use Rattle.axis.specs.Segment.{emptySegment, segmentAt, putSegment}
-use Rattle.linking.specs.declared.gap.Gap.{Gap}
 use Rattle.linking.specs.declared.thresholds.Thresholds.{Thresholds}
-use Rattle.linking.specs.Loops.{turns, till}
+use Rattle.linking.specs.Loops.{turns}
 use Rattle.linking.specs.Pairs.{gapOf, facing, checkSeg, joinedTo, improvedBy, serifOf, unlinked, nearStem, encloses, muchLonger, rewritten, staysSerif, settled}
 use Rattle.linking.specs.Linking.{improvePair, pairTurn, majorTurn, pairRound, rewriteTurn, rewriteAll, unlink, heldTo, holdTurn, givenUp, hold, serifTo, serifTurn, serifRound, lastTo, lastTurn, lastRound, linked}
 use Rattle.linking.specs.Steps.{Every, Inside}

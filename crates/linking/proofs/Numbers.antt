@@ -1,6 +1,6 @@
 -- The thresholds of accepted numbers: they fit, and the overlap asked for is not negative.
 use mathlib.Core.Path.{_≡_}
-use mathlib.Core.Bool.{true, _&&_}
+use mathlib.Core.Bool.{true}
 use Prim.Native.Nat.{_<_, _≤_, zero-le}
 use native.Mathlib.Omega.{arith}
 use lib.IntN.{ℤ, pos, negsuc, natAbs, _*ℤ_}
@@ -12,7 +12,7 @@ use Rattle.signed.specs.Range.{Between}
 use Rattle.signed.proofs.Signed.{signed, fits-abs, natAbs-is, times-up, times-dn}
 use Rattle.fixed.specs.Point.{divFix, derived}
 use Rattle.fixed.proofs.Rounding.{div-abs}
-use Rattle.axis.specs.Limits.{leastUnitsPerEm, mostUnitsPerEm, leastScale, mostScale}
+use Rattle.axis.specs.Limits.{leastUnitsPerEm, mostUnitsPerEm, leastScale}
 use Rattle.axis.specs.Refusals.{inside}
 use Rattle.axis.proofs.Tests.{and-first, and-second}
 use Rattle.linking.specs.Linking.{numbersHold, thresholdsOf}

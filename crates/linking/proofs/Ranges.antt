@@ -1,6 +1,6 @@
 -- Scores and lens stay within document 01's table through the rounds, and every product that the Rust forms of them fits 32 bits.
 use mathlib.Core.Path.{_≡_, refl, sym, subst}
-use mathlib.Core.Bool.{true, not, _&&_}
+use mathlib.Core.Bool.{true, not}
 use Prim.Native.Nat.{ℕ, _<_, _≤_}
 use native.Mathlib.Omega.{arith}
 use lib.Dec.{eqb}
@@ -24,7 +24,7 @@ use Rattle.linking.specs.declared.gap.Gap.{Gap}
 use Rattle.linking.specs.declared.thresholds.Thresholds.{Thresholds}
 use Rattle.linking.specs.Pairs.{maxZ, minZ, gapOf, facing, joinedTo, serifOf}
 use Rattle.linking.specs.Linking.{linked}
-use Rattle.linking.specs.Steps.{Every, Inside}
+use Rattle.linking.specs.Steps.{Inside}
 use Rattle.linking.proofs.Closed as Closed
 use Rattle.linking.proofs.Kept.{linked-kept}
 use Rattle.linking.proofs.Loops.{cond-both}

@@ -1,6 +1,6 @@
 -- Signed numbers of segments as the machine reads them back from a local's bits.
 use mathlib.Core.Path.{_≡_, refl, sym, ap, _∙_}
-use mathlib.Core.Bool.{Bool, true, false, not, cond}
+use mathlib.Core.Bool.{Bool, true, false, not}
 use Prim.Native.Nat.{_<_, _^_}
 use native.Mathlib.Omega.{arith}
 use borrow.Author.Tests.{eqb-true, eqb-false}
@@ -11,7 +11,6 @@ use mir.Syntax.{Width, w16, w32, w64}
 use mir.Val.{SFits, toZ, ofZ, hbits}
 use Rattle.signed.specs.Equality.{eqZ}
 use Rattle.signed.proofs.Signed.{signed, fits, range, is, got, to-lt-true, to-lt-false, to-le-true, to-le-false, eqZ-yes, eqZ-no}
-use Rattle.linking.specs.Pairs.{maxZ, minZ}
 
 -- a number that fits is read back
 pub back : (w : Width) (z : ℤ) → mag z < 2 ^ hbits w → toZ w (ofZ w z) ≡ z

@@ -1,6 +1,5 @@
 -- The rounds change score, len, link and serif of a segment, and nothing else.
 use mathlib.Core.Path.{_≡_, refl, ap}
-use mathlib.Core.Bool.{true}
 use Prim.Native.Nat.{ℕ, _<_}
 use lib.IntN.{ℤ}
 use Rattle.axis.specs.declared.kinds.Direction.{Direction}
@@ -13,7 +12,7 @@ use Rattle.linking.specs.declared.gap.Gap.{Gap}
 use Rattle.linking.specs.declared.thresholds.Thresholds.{Thresholds}
 use Rattle.linking.specs.Pairs.{changed, gapOf, joinedTo, serifOf}
 use Rattle.linking.specs.Linking.{linked}
-use Rattle.linking.specs.Steps.{Every, Inside, Closed}
+use Rattle.linking.specs.Steps.{Inside, Closed}
 use Rattle.linking.proofs.Closed as Closed
 use Rattle.linking.proofs.Kept.{linked-kept}
 

@@ -1,7 +1,7 @@
-// Document 01, module 3: CJK linking (the Rust's `link_segments_cjk` of topo/segments.rs).
-pub mod gap;
+// Document 01, module 3: CJK linking (topo/segments.rs of the Rust). `link` has the public call, the others its steps.
+mod gap;
 pub mod link;
-pub mod rounds;
-pub mod serif;
-pub mod stem;
-pub mod thresholds;
+mod rounds;
+mod serif;
+mod stem;
+mod thresholds;

@@ -1,5 +1,4 @@
 -- `linking::gap::times` meets its contract: the product of 32 bits and a small number fits 64. Assumes nothing.
-use mir.Syntax.{w32}
 use Rattle.signed.proofs.Signed.{is, between-sfits, fits-prod}
 use Rattle.linking.proofs.Reading.{cast-32, back-32}
 use Rattle.linking.proofs.gap.times.Statement.{statement}

@@ -1,10 +1,9 @@
 -- `linking::link::link_segments_cjk` meets its contract: a refusal hands back what came, and an accepted call goes through the rounds. Assumes nothing.
 use borrow.Author.Needs.{needs}
-use native.Mathlib.Omega.{arith}
-use mathlib.Core.Path.{_≡_, sym, ap, _∙_}
+use mathlib.Core.Path.{_≡_, ap, _∙_}
 use Rattle.signed.proofs.Signed.{is}
-use Rattle.axis.proofs.Tests.{answered-no, answered-yes}
 use Rattle.axis.specs.declared.segment.Segments.{Segments}
+use Rattle.axis.proofs.Tests.{answered-no, answered-yes}
 use Rattle.linking.specs.declared.thresholds.Thresholds.{Thresholds}
 use Rattle.linking.specs.Linking as L
 use Rattle.linking.proofs.Calls.{Accepted, accepted, Ready, start-closed, after-pairs, after-serifs, whole}
@@ -14,18 +13,27 @@ use Rattle.linking.proofs.link.link_segments_cjk.Tie as tie
 -- the answer is the refusal of the definition
 answer-is : (c : tie.After-segments-refusal) → c .segments-refusal .result ≡ L.linkingRefusal (c .before .before .before .args .segments) (c .before .before .before .args .units-per-em) (c .before .before .before .args .scale)
 unfolding L.linkingRefusal
-answer-is c = let s = c .before .before .before in rw (is (s .fits .units-per-em), is (s .fits .scale)) at (rw (c .before .before .numbers-hold .ensures, c .before .segments-nexts .ensures) at (c .segments-refusal .ensures))
+answer-is c =
+    let numbers-hold = c .before .before in
+    let start = numbers-hold .before in
+    let e = rw (numbers-hold .numbers-hold .ensures, c .before .segments-nexts .ensures) at (c .segments-refusal .ensures) in
+    rw (is (start .fits .units-per-em), is (start .fits .scale)) at e
 
 -- where the code goes on, the call is accepted
 taken : (c : tie.Else1) → Accepted (c .before .before .before .before .args .segments) (c .before .before .before .before .args .units-per-em) (c .before .before .before .before .args .scale)
 taken c = accepted _ _ _ (c .before .segments-refusal .result) (answer-is (c .before)) (c .if1 .left)
 
 measured : (c : tie.After-thresholds-of) → c .thresholds-of .result ≡ L.thresholdsOf (c .before .before .before .before .before .args .units-per-em) (c .before .before .before .before .before .args .scale)
-measured c = let s = c .before .before .before .before .before in rw (is (s .fits .units-per-em), is (s .fits .scale)) at (c .thresholds-of .ensures)
+measured c =
+    let start = c .before .before .before .before .before in
+    rw (is (start .fits .units-per-em), is (start .fits .scale)) at (c .thresholds-of .ensures)
 
 -- what each round hands on
 paired : (c : tie.After-pair-round) → Ready (c .pair-round .result)
-paired c = let w = taken (c .before .before) .within in after-pairs _ _ (record { few = w .few; closed = start-closed _ w }) _ _ (c .pair-round .ensures)
+paired c =
+    let else1 = c .before .before in
+    let w = taken else1 .within in
+    after-pairs _ _ (record { few = w .few; closed = start-closed _ w }) _ _ (c .pair-round .ensures)
 
 held : (c : tie.After-serif-round) → Ready (c .serif-round .result)
 held c = after-serifs _ _ (paired (c .before)) _ (c .serif-round .ensures)
@@ -41,10 +49,14 @@ segments-refusal-requires c κs = search needs
 
 returns : tie.Need-returns
 unfolding L.linkSegmentsCjk
-returns c = answered-no _ _ (L.beside (c .before .before .before .before .args .segments)) _ (answer-is (c .before)) (c .if1 .taken)
+returns c =
+    let start = c .before .before .before .before in
+    answered-no _ _ (L.beside (start .args .segments)) _ (answer-is (c .before)) (c .if1 .taken)
 
 thresholds-of-requires : tie.Need-thresholds-of-requires
-thresholds-of-requires c κs = let s = c .before .before .before .before in rw (is (s .fits .units-per-em), is (s .fits .scale)) (taken c .numbers)
+thresholds-of-requires c κs =
+    let start = c .before .before .before .before in
+    rw (is (start .fits .units-per-em), is (start .fits .scale)) (taken c .numbers)
 
 pair-round-requires : tie.Need-pair-round-requires
 pair-round-requires c κs = taken (c .before) .within .few
@@ -58,9 +70,15 @@ last-round-requires c κs = let r = held c in (r .few, r .closed)
 returns-2 : tie.Need-returns-2
 unfolding L.linkSegmentsCjk
 returns-2 c =
-    let s = c .before .before .before .before .before .before .before .before .args in
-    let t = whole _ _ _ _ _ _ (c .before .before .pair-round .ensures) (c .before .serif-round .ensures) (c .last-round .ensures) in
-    answered-yes _ _ (L.beside (s .segments)) _ _ (answer-is (c .before .before .before .before .before)) (c .before .before .before .before .if1 .left) (ap (λ (u : Segments). L.beside u 0) (t ∙ ap (λ (by : Thresholds). L.linked (s .major-dir) by (s .segments)) (measured (c .before .before .before))))
+    let pair-round = c .before .before in
+    let thresholds-of = pair-round .before in
+    let else1 = thresholds-of .before in
+    let segments-refusal = else1 .before in
+    let start = segments-refusal .before .before .before in
+    let s = start .args in
+    let t = whole _ _ _ _ _ _ (pair-round .pair-round .ensures) (c .before .serif-round .ensures) (c .last-round .ensures) in
+    answered-yes _ _ (L.beside (s .segments)) _ _ (answer-is segments-refusal) (else1 .if1 .left)
+    (ap (λ (u : Segments). L.beside u 0) (t ∙ ap (λ (by : Thresholds). L.linked (s .major-dir) by (s .segments)) (measured thresholds-of)))
 
 pub link-segments-cjk-spec : {M : Type 1} → statement M
 link-segments-cjk-spec =

@@ -20,7 +20,13 @@ abbrev μ-loop : tie.MeasureT-loop
 
 -- the link is to a segment of the table
 target : (c : tie.After-known-told Inv-loop μ-loop) → c .before .link .given .0 .0 < c .before .before .before .before .before .before .args .segments .len
-target c = let o = c .before .before .before .before .before .loop in let s = c .before .before .before .before .before .before in to-below _ (o .ix1) _ (o .table) (last-closed _ (s .args .thresholds) (o .ix1) (s .args .segments) (o .table) (s .pre .1) (o .inv .2) (o .inv .0)) (c .before .before .before .before .loop-test .taken) (c .before .link .given .1)
+target c =
+    let in-outer = c .before .before .before .before in
+    let outer = in-outer .before in
+    let start = outer .before in
+    let o = outer .loop in
+    let closed = last-closed _ (start .args .thresholds) (o .ix1) (start .args .segments) (o .table) (start .pre .1) (o .inv .2) (o .inv .0) in
+    to-below _ (o .ix1) _ (o .table) closed (in-outer .loop-test .taken) (c .before .link .given .1)
 
 loop-holds : tie.Need-loop-holds Inv-loop μ-loop
 loop-holds c = (omega arith, c .pre .0, none _ _)
@@ -44,7 +50,14 @@ loop-less : tie.Need-loop-less Inv-loop μ-loop
 loop-less c = omega arith
 
 loop-again : tie.Need-loop-again Inv-loop μ-loop
-loop-again c = let o = c .before .before .before .before .loop in (omega arith, o .inv .1, turn (L.lastTurn (c .before .before .before .before .before .args .thresholds)) (o .ix1) _ _ _ (o .inv .2) (last-none _ _ _ (c .enum-told .given .1)))
+loop-again c =
+    let outer = c .before .before .before .before in
+    let start = outer .before in (
+      omega arith,
+      outer .loop .inv .1,
+      turn (L.lastTurn (start .args .thresholds)) (outer .loop .ix1) _ _ _ (outer .loop .inv .2)
+          (last-none _ _ _ (c .enum-told .given .1)),
+    )
 
 cast-at2 : tie.Need-cast-at2 Inv-loop μ-loop
 cast-at2 c = omega arith
@@ -53,7 +66,9 @@ mul-seg2 : tie.Need-mul-seg2 Inv-loop μ-loop
 mul-seg2 c = omega arith
 
 element-copy-out-seg2 : tie.Need-element-copy-out-seg2 Inv-loop μ-loop
-element-copy-out-seg2 c = lt-of-lt-of-le (target c) (c .before .before .before .before .before .before .pre .0)
+element-copy-out-seg2 c =
+    let start = c .before .before .before .before .before .before in
+    lt-of-lt-of-le (target c) (start .pre .0)
 
 cast-settled : tie.Need-cast-settled Inv-loop μ-loop
 cast-settled c = omega arith
@@ -74,7 +89,15 @@ loop-less-2 : tie.Need-loop-less-2 Inv-loop μ-loop
 loop-less-2 c = omega arith
 
 loop-again-2 : tie.Need-loop-again-2 Inv-loop μ-loop
-loop-again-2 c = let o = c .before .before .before .before .before .before .before .loop in (omega arith, o .inv .1, turn (L.lastTurn (c .before .before .before .before .before .before .before .before .args .thresholds)) (o .ix1) _ _ _ (o .inv .2) (last-go _ _ _ _ _ (c .before .before .before .link .given .1) (c .settled .ensures)))
+loop-again-2 c =
+    let link = c .before .before .before in
+    let outer = link .before .before .before .before in
+    let start = outer .before in (
+      omega arith,
+      outer .loop .inv .1,
+      turn (L.lastTurn (start .args .thresholds)) (outer .loop .ix1) _ _ _ (outer .loop .inv .2)
+          (last-go _ _ _ _ _ (link .link .given .1) (c .settled .ensures)),
+    )
 
 returns : tie.Need-returns Inv-loop μ-loop
 unfolding L.lastRound

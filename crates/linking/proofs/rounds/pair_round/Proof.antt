@@ -42,7 +42,14 @@ loop-less : tie.Need-loop-less Inv-loop2 μ-loop2 Inv-loop μ-loop
 loop-less c = omega arith
 
 loop-again : tie.Need-loop-again Inv-loop2 μ-loop2 Inv-loop μ-loop
-loop-again c = let o = c .before .before .before .before .loop in let s = c .before .before .before .before .before .args in (omega arith, o .inv .1, turn (L.majorTurn (s .major-dir) (s .thresholds) (s .segments .len)) (o .ix1) _ _ _ (o .inv .2) (major-skip _ _ _ _ _ (sym (c .before .same .ensures) ∙ not-true _ (c .if1 .taken))))
+loop-again c =
+    let outer = c .before .before .before .before in
+    let start = outer .before in (
+      omega arith,
+      outer .loop .inv .1,
+      turn (L.majorTurn (start .args .major-dir) (start .args .thresholds) (start .args .segments .len)) (outer .loop .ix1) _ _ _ (outer .loop .inv .2)
+          (major-skip _ _ _ _ _ (sym (c .before .same .ensures) ∙ not-true _ (c .if1 .taken))),
+    )
 
 loop2-holds : tie.Need-loop2-holds Inv-loop2 μ-loop2 Inv-loop μ-loop
 loop2-holds c = (omega arith, omega arith, none _ _)
@@ -72,7 +79,16 @@ loop2-less : tie.Need-loop2-less Inv-loop2 μ-loop2 Inv-loop μ-loop
 loop2-less c = omega arith
 
 loop2-again : tie.Need-loop2-again Inv-loop2 μ-loop2 Inv-loop μ-loop
-loop2-again c = let o = c .before .before .before .before .before .before .loop2 in (omega arith, o .inv .1, turn (L.pairTurn (c .before .before .before .before .before .before .before .before .before .before .before .before .args .thresholds) _ (c .before .before .before .before .before .before .before .before .before .before .before .loop .ix1)) (o .ix2) _ _ _ (o .inv .2) (pair-skip _ _ _ _ _ (c .before .before .gap-between .result) (c .before .before .gap-between .ensures) (sym (c .before .can-be-stem .ensures) ∙ not-true _ (c .if2 .taken))))
+loop2-again c =
+    let gap-between = c .before .before in
+    let inner = gap-between .before .before .before .before in
+    let outer = inner .before .before .before .before .before in
+    let start = outer .before in (
+      omega arith,
+      inner .loop2 .inv .1,
+      turn (L.pairTurn (start .args .thresholds) _ (outer .loop .ix1)) (inner .loop2 .ix2) _ _ _ (inner .loop2 .inv .2)
+          (pair-skip _ _ _ _ _ _ (gap-between .gap-between .ensures) (sym (c .before .can-be-stem .ensures) ∙ not-true _ (c .if2 .taken))),
+    )
 
 cast-improved : tie.Need-cast-improved Inv-loop2 μ-loop2 Inv-loop μ-loop
 cast-improved c = omega arith
@@ -105,7 +121,18 @@ loop2-less-2 : tie.Need-loop2-less-2 Inv-loop2 μ-loop2 Inv-loop μ-loop
 loop2-less-2 c = omega arith
 
 loop2-again-2 : tie.Need-loop2-again-2 Inv-loop2 μ-loop2 Inv-loop μ-loop
-loop2-again-2 c = let o = c .before .before .before .before .before .before .before .before .loop2 in (omega arith, o .inv .1, turn (L.pairTurn (c .before .before .before .before .before .before .before .before .before .before .before .before .before .before .args .thresholds) _ (c .before .before .before .before .before .before .before .before .before .before .before .before .before .loop .ix1)) (o .ix2) _ _ _ (o .inv .2) (pair-go _ _ _ _ _ (c .before .before .before .before .gap-between .result) (c .before .before .before .before .gap-between .ensures) _ _ (sym (c .before .before .before .can-be-stem .ensures) ∙ not-false _ (c .before .before .if2 .left)) (c .before .improved .ensures) (c .improved2 .ensures)))
+loop2-again-2 c =
+    let else2 = c .before .before in
+    let can-be-stem = else2 .before in
+    let gap-between = can-be-stem .before in
+    let inner = gap-between .before .before .before .before in
+    let outer = inner .before .before .before .before .before in
+    let start = outer .before in (
+      omega arith,
+      inner .loop2 .inv .1,
+      turn (L.pairTurn (start .args .thresholds) _ (outer .loop .ix1)) (inner .loop2 .ix2) _ _ _ (inner .loop2 .inv .2)
+          (pair-go _ _ _ _ _ _ (gap-between .gap-between .ensures) _ _ (sym (can-be-stem .can-be-stem .ensures) ∙ not-false _ (else2 .if2 .left)) (c .before .improved .ensures) (c .improved2 .ensures)),
+    )
 
 add-ix1-2 : tie.Need-add-ix1-2 Inv-loop2 μ-loop2 Inv-loop μ-loop
 add-ix1-2 c = omega arith
@@ -114,7 +141,16 @@ loop-less-2 : tie.Need-loop-less-2 Inv-loop2 μ-loop2 Inv-loop μ-loop
 loop-less-2 c = omega arith
 
 loop-again-2 : tie.Need-loop-again-2 Inv-loop2 μ-loop2 Inv-loop μ-loop
-loop-again-2 c = let o = c .before .before .before .before .before .before .loop in let s = c .before .before .before .before .before .before .before .args in (omega arith, o .inv .1, turn (L.majorTurn (s .major-dir) (s .thresholds) (s .segments .len)) (o .ix1) _ _ _ (o .inv .2) (major-go _ _ _ _ _ _ (sym (c .before .before .before .same .ensures) ∙ not-false _ (c .before .before .if1 .left)) (end _ _ _ _ _ (c .before .loop2 .inv .0) (c .loop2-test .left) (c .before .loop2 .inv .2))))
+loop-again-2 c =
+    let else1 = c .before .before in
+    let same = else1 .before in
+    let outer = same .before .before .before in
+    let start = outer .before in (
+      omega arith,
+      outer .loop .inv .1,
+      turn (L.majorTurn (start .args .major-dir) (start .args .thresholds) (start .args .segments .len)) (outer .loop .ix1) _ _ _ (outer .loop .inv .2)
+          (major-go _ _ _ _ _ _ (sym (same .same .ensures) ∙ not-false _ (else1 .if1 .left)) (end _ _ _ _ _ (c .before .loop2 .inv .0) (c .loop2-test .left) (c .before .loop2 .inv .2))),
+    )
 
 returns : tie.Need-returns Inv-loop2 μ-loop2 Inv-loop μ-loop
 unfolding L.pairRound

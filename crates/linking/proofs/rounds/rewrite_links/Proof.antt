@@ -41,7 +41,14 @@ loop-less : tie.Need-loop-less Inv-loop μ-loop
 loop-less c = omega arith
 
 loop-again : tie.Need-loop-again Inv-loop μ-loop
-loop-again c = let o = c .before .before .before .loop in let s = c .before .before .before .before .args in (omega arith, o .inv .1, turn (L.rewriteTurn (s .ix2) (s .link1-ix) (s .link2-ix) (s .ix1)) (o .i) _ _ _ (o .inv .2) (rewrite-go _ _ _ _ _ _ _ (c .rewritten .ensures)))
+loop-again c =
+    let outer = c .before .before .before in
+    let start = outer .before in (
+      omega arith,
+      outer .loop .inv .1,
+      turn (L.rewriteTurn (start .args .ix2) (start .args .link1-ix) (start .args .link2-ix) (start .args .ix1)) (outer .loop .i) _ _ _ (outer .loop .inv .2)
+          (rewrite-go _ _ _ _ _ _ _ (c .rewritten .ensures)),
+    )
 
 returns : tie.Need-returns Inv-loop μ-loop
 unfolding L.rewriteAll

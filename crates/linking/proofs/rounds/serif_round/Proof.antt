@@ -31,21 +31,33 @@ abbrev μ-loop : tie.MeasureT-loop
 
 -- in the middle of the round, each link is to a segment of the table
 whole : (c : tie.After-known-told Inv-loop2 μ-loop2 Inv-loop μ-loop) → Closed (c .before .before .before .before .before .before .args .segments .len) (c .before .before .before .before .before .loop .table)
-whole c = let o = c .before .before .before .before .before .loop in let s = c .before .before .before .before .before .before in serif-closed _ (s .args .thresholds) (o .ix1) (s .args .segments) (o .table) (s .pre .1) (o .inv .2) (o .inv .0)
+whole c =
+    let outer = c .before .before .before .before .before in
+    let start = outer .before in
+    let o = outer .loop in
+    serif-closed _ (start .args .thresholds) (o .ix1) (start .args .segments) (o .table) (start .pre .1) (o .inv .2) (o .inv .0)
 
 target : (c : tie.After-known-told Inv-loop2 μ-loop2 Inv-loop μ-loop) → c .before .first .given .0 .0 < c .before .before .before .before .before .before .args .segments .len
-target c = let o = c .before .before .before .before .before .loop in to-below _ (o .ix1) _ (o .table) (whole c) (c .before .before .before .before .loop-test .taken) (c .before .first .given .1)
+target c =
+    let in-outer = c .before .before .before .before in
+    let outer = in-outer .before in
+    let o = outer .loop in
+    to-below _ (o .ix1) _ (o .table) (whole c) (in-outer .loop-test .taken) (c .before .first .given .1)
 
 target2 : (c : tie.After-known-told2 Inv-loop2 μ-loop2 Inv-loop μ-loop) → c .before .second .given .0 .0 < c .before .before .before .before .before .before .before .before .before .before .before .before .before .before .before .args .segments .len
-target2 c = let o = c .before .before .before .before .before .loop2 in to-below _ (o .ix2) _ (o .table) (o .inv .4 .closed) (c .before .before .before .before .loop2-test .taken) (c .before .second .given .1)
+target2 c =
+    let in-inner = c .before .before .before .before in
+    let inner = in-inner .before in
+    let o = inner .loop2 in
+    to-below _ (o .ix2) _ (o .table) (o .inv .4 .closed) (in-inner .loop2-test .taken) (c .before .second .given .1)
 
 -- what the inner loop leaves, by its end or by the break
 made : (c : tie.Left-loop2 Inv-loop2 μ-loop2 Inv-loop μ-loop) → c .loop2-test .table ≡ L.hold (segmentAt (c .before .before .before .before .before .before .before .before .before .before .loop .table) (c .before .before .before .before .before .before .before .before .before .before .loop .ix1)) (segmentAt (c .before .before .before .before .before .before .before .before .before .before .loop .table) (c .before .before .before .before .before .before .first .given .0 .0)) (c .before .before .before .before .before .before .before .before .before .before .loop .ix1) (c .before .before .before .before .before .before .first .given .0 .0) (c .before .before .before .before .before .before .before .before .before .before .before .args .segments .len) (c .before .before .before .before .before .before .before .before .before .before .loop .table)
 made c =
-    let o = c .before .loop2 in
+    let start = c .before .before .before .before .before .before .before .before .before .before .before in
     ⊎-elim
-    (λ w. w .1 ∙ H.held-end (c .before .before .before .before .before .before .before .before .before .before .before .args .thresholds) _ _ _ _ _ (o .inv .2) (o .inv .3) _ _ _ (o .inv .4) (w .0 .left))
-    (λ w. w .14 ∙ H.last-turn (c .before .before .before .before .before .before .before .before .before .before .before .args .thresholds) _ _ _ _ _ (o .inv .2) (o .inv .3) _ _ _ _ (o .inv .4) (w .0 .taken) (w .3 .given .1) _ _ (sym (w .6 .ensures) ∙ not-false _ (w .7 .left)) (sym (w .8 .ensures) ∙ w .9 .left) (w .11 .ensures) (w .13 .ensures))
+    (λ w. w .1 ∙ H.held-end (start .args .thresholds) _ _ _ _ _ (c .before .loop2 .inv .2) (c .before .loop2 .inv .3) _ _ _ (c .before .loop2 .inv .4) (w .0 .left))
+    (λ w. w .14 ∙ H.last-turn (start .args .thresholds) _ _ _ _ _ (c .before .loop2 .inv .2) (c .before .loop2 .inv .3) _ _ _ _ (c .before .loop2 .inv .4) (w .0 .taken) (w .3 .given .1) _ _ (sym (w .6 .ensures) ∙ not-false _ (w .7 .left)) (sym (w .8 .ensures) ∙ w .9 .left) (w .11 .ensures) (w .13 .ensures))
     (c .loop2-test .came)
 
 loop-holds : tie.Need-loop-holds Inv-loop2 μ-loop2 Inv-loop μ-loop
@@ -70,7 +82,14 @@ loop-less : tie.Need-loop-less Inv-loop2 μ-loop2 Inv-loop μ-loop
 loop-less c = omega arith
 
 loop-again : tie.Need-loop-again Inv-loop2 μ-loop2 Inv-loop μ-loop
-loop-again c = let o = c .before .before .before .before .loop in let s = c .before .before .before .before .before .args in (omega arith, o .inv .1, turn (L.serifTurn (s .thresholds) (s .segments .len)) (o .ix1) _ _ _ (o .inv .2) (serif-none _ _ _ _ (c .enum-told .given .1)))
+loop-again c =
+    let outer = c .before .before .before .before in
+    let start = outer .before in (
+      omega arith,
+      outer .loop .inv .1,
+      turn (L.serifTurn (start .args .thresholds) (start .args .segments .len)) (outer .loop .ix1) _ _ _ (outer .loop .inv .2)
+          (serif-none _ _ _ _ (c .enum-told .given .1)),
+    )
 
 cast-at1 : tie.Need-cast-at1 Inv-loop2 μ-loop2 Inv-loop μ-loop
 cast-at1 c = omega arith
@@ -79,7 +98,9 @@ mul-link1 : tie.Need-mul-link1 Inv-loop2 μ-loop2 Inv-loop μ-loop
 mul-link1 c = omega arith
 
 element-copy-out-link1 : tie.Need-element-copy-out-link1 Inv-loop2 μ-loop2 Inv-loop μ-loop
-element-copy-out-link1 c = lt-of-lt-of-le (target c) (c .before .before .before .before .before .before .pre .0)
+element-copy-out-link1 c =
+    let start = c .before .before .before .before .before .before in
+    lt-of-lt-of-le (target c) (start .pre .0)
 
 cast-is-near-stem : tie.Need-cast-is-near-stem Inv-loop2 μ-loop2 Inv-loop μ-loop
 cast-is-near-stem c = omega arith
@@ -94,10 +115,28 @@ loop-less-2 : tie.Need-loop-less-2 Inv-loop2 μ-loop2 Inv-loop μ-loop
 loop-less-2 c = omega arith
 
 loop-again-2 : tie.Need-loop-again-2 Inv-loop2 μ-loop2 Inv-loop μ-loop
-loop-again-2 c = let o = c .before .before .before .before .before .before .before .before .loop in let s = c .before .before .before .before .before .before .before .before .before .args in (omega arith, o .inv .1, turn (L.serifTurn (s .thresholds) (s .segments .len)) (o .ix1) _ _ _ (o .inv .2) (serif-skip _ _ _ _ _ (c .before .before .before .before .first .given .1) (sym (c .before .is-near-stem .ensures) ∙ not-true _ (c .if1 .taken))))
+loop-again-2 c =
+    let first = c .before .before .before .before in
+    let outer = first .before .before .before .before in
+    let start = outer .before in (
+      omega arith,
+      outer .loop .inv .1,
+      turn (L.serifTurn (start .args .thresholds) (start .args .segments .len)) (outer .loop .ix1) _ _ _ (outer .loop .inv .2)
+          (serif-skip _ _ _ _ _ (first .first .given .1) (sym (c .before .is-near-stem .ensures) ∙ not-true _ (c .if1 .taken))),
+    )
 
 loop2-holds : tie.Need-loop2-holds Inv-loop2 μ-loop2 Inv-loop μ-loop
-loop2-holds c = (omega arith, c .before .before .before .before .before .before .before .before .loop .inv .1, c .before .before .before .before .before .before .before .loop-test .taken, target (c .before .before .before), H.start (c .before .before .before .before .before .before .before .before .before .args .thresholds) _ _ _ _ _ (c .before .before .before .before .before .before .before .loop-test .taken) (target (c .before .before .before)) _ (whole (c .before .before .before)))
+loop2-holds c =
+    let known-told = c .before .before .before in
+    let in-outer = known-told .before .before .before .before in
+    let outer = in-outer .before in
+    let start = outer .before in (
+      omega arith,
+      outer .loop .inv .1,
+      in-outer .loop-test .taken,
+      target known-told,
+      H.start (start .args .thresholds) _ _ _ _ _ (in-outer .loop-test .taken) (target known-told) _ (whole known-told),
+    )
 
 mul-seg2 : tie.Need-mul-seg2 Inv-loop2 μ-loop2 Inv-loop μ-loop
 mul-seg2 c = omega arith
@@ -118,7 +157,16 @@ loop2-less : tie.Need-loop2-less Inv-loop2 μ-loop2 Inv-loop μ-loop
 loop2-less c = omega arith
 
 loop2-again : tie.Need-loop2-again Inv-loop2 μ-loop2 Inv-loop μ-loop
-loop2-again c = let o = c .before .before .before .before .loop2 in (omega arith, o .inv .1, o .inv .2, o .inv .3, H.step-none (c .before .before .before .before .before .before .before .before .before .before .before .before .before .before .args .thresholds) _ _ _ _ _ (o .inv .2) (o .inv .3) _ _ _ (o .inv .4) (c .before .before .before .loop2-test .taken) (c .enum-told2 .given .1))
+loop2-again c =
+    let in-inner = c .before .before .before in
+    let inner = in-inner .before in
+    let start = inner .before .before .before .before .before .before .before .before .before .before in (
+      omega arith,
+      inner .loop2 .inv .1,
+      inner .loop2 .inv .2,
+      inner .loop2 .inv .3,
+      H.step-none (start .args .thresholds) _ _ _ _ _ (inner .loop2 .inv .2) (inner .loop2 .inv .3) _ _ _ (inner .loop2 .inv .4) (in-inner .loop2-test .taken) (c .enum-told2 .given .1),
+    )
 
 cast-at2 : tie.Need-cast-at2 Inv-loop2 μ-loop2 Inv-loop μ-loop
 cast-at2 c = omega arith
@@ -127,7 +175,9 @@ mul-link2 : tie.Need-mul-link2 Inv-loop2 μ-loop2 Inv-loop μ-loop
 mul-link2 c = omega arith
 
 element-copy-out-link2 : tie.Need-element-copy-out-link2 Inv-loop2 μ-loop2 Inv-loop μ-loop
-element-copy-out-link2 c = lt-of-lt-of-le (target2 c) (c .before .before .before .before .before .loop2 .inv .1)
+element-copy-out-link2 c =
+    let inner = c .before .before .before .before .before in
+    lt-of-lt-of-le (target2 c) (inner .loop2 .inv .1)
 
 cast-encloses : tie.Need-cast-encloses Inv-loop2 μ-loop2 Inv-loop μ-loop
 cast-encloses c = omega arith
@@ -145,7 +195,17 @@ loop2-less-2 : tie.Need-loop2-less-2 Inv-loop2 μ-loop2 Inv-loop μ-loop
 loop2-less-2 c = omega arith
 
 loop2-again-2 : tie.Need-loop2-again-2 Inv-loop2 μ-loop2 Inv-loop μ-loop
-loop2-again-2 c = let o = c .before .before .before .before .before .before .before .before .loop2 in (omega arith, o .inv .1, o .inv .2, o .inv .3, H.step-skip (c .before .before .before .before .before .before .before .before .before .before .before .before .before .before .before .before .before .before .args .thresholds) _ _ _ _ _ (o .inv .2) (o .inv .3) _ _ _ _ (o .inv .4) (c .before .before .before .before .before .before .before .loop2-test .taken) (c .before .before .before .before .second .given .1) (sym (c .before .encloses .ensures) ∙ not-true _ (c .if2 .taken)))
+loop2-again-2 c =
+    let second = c .before .before .before .before in
+    let in-inner = second .before .before .before in
+    let inner = in-inner .before in
+    let start = inner .before .before .before .before .before .before .before .before .before .before in (
+      omega arith,
+      inner .loop2 .inv .1,
+      inner .loop2 .inv .2,
+      inner .loop2 .inv .3,
+      H.step-skip (start .args .thresholds) _ _ _ _ _ (inner .loop2 .inv .2) (inner .loop2 .inv .3) _ _ _ _ (inner .loop2 .inv .4) (in-inner .loop2-test .taken) (second .second .given .1) (sym (c .before .encloses .ensures) ∙ not-true _ (c .if2 .taken)),
+    )
 
 is-much-longer-requires : tie.Need-is-much-longer-requires Inv-loop2 μ-loop2 Inv-loop μ-loop
 is-much-longer-requires c κs = search needs
@@ -157,7 +217,9 @@ cast-rewrite-links-2 : tie.Need-cast-rewrite-links-2 Inv-loop2 μ-loop2 Inv-loop
 cast-rewrite-links-2 c = omega arith
 
 rewrite-links-requires : tie.Need-rewrite-links-requires Inv-loop2 μ-loop2 Inv-loop μ-loop
-rewrite-links-requires c κs = let o = c .before .before .before .before .before .before .before .before .before .before .loop2 in omega (arith, o .inv .4 .closed .size)
+rewrite-links-requires c κs =
+    let inner = c .before .before .before .before .before .before .before .before .before .before in
+    omega (arith, inner .loop2 .inv .4 .closed .size)
 
 add-ix2-3 : tie.Need-add-ix2-3 Inv-loop2 μ-loop2 Inv-loop μ-loop
 add-ix2-3 c = omega arith
@@ -166,7 +228,20 @@ loop2-less-3 : tie.Need-loop2-less-3 Inv-loop2 μ-loop2 Inv-loop μ-loop
 loop2-less-3 c = omega arith
 
 loop2-again-3 : tie.Need-loop2-again-3 Inv-loop2 μ-loop2 Inv-loop μ-loop
-loop2-again-3 c = let o = c .before .before .before .before .before .before .before .before .before .before .before .loop2 in (omega arith, o .inv .1, o .inv .2, o .inv .3, H.step-serifs (c .before .before .before .before .before .before .before .before .before .before .before .before .before .before .before .before .before .before .before .before .before .args .thresholds) _ _ _ _ _ (o .inv .2) (o .inv .3) _ _ _ _ (o .inv .4) (c .before .before .before .before .before .before .before .before .before .before .loop2-test .taken) (c .before .before .before .before .before .before .before .second .given .1) _ (sym (c .before .before .before .before .encloses .ensures) ∙ not-false _ (c .before .before .before .if2 .left)) (sym (c .before .before .is-much-longer .ensures) ∙ c .before .if3 .taken) (c .rewrite-links .ensures))
+loop2-again-3 c =
+    let is-much-longer = c .before .before in
+    let else2 = is-much-longer .before in
+    let encloses = else2 .before in
+    let second = encloses .before .before .before in
+    let in-inner = second .before .before .before in
+    let inner = in-inner .before in
+    let start = inner .before .before .before .before .before .before .before .before .before .before in (
+      omega arith,
+      inner .loop2 .inv .1,
+      inner .loop2 .inv .2,
+      inner .loop2 .inv .3,
+      H.step-serifs (start .args .thresholds) _ _ _ _ _ (inner .loop2 .inv .2) (inner .loop2 .inv .3) _ _ _ _ (inner .loop2 .inv .4) (in-inner .loop2-test .taken) (second .second .given .1) _ (sym (encloses .encloses .ensures) ∙ not-false _ (else2 .if2 .left)) (sym (is-much-longer .is-much-longer .ensures) ∙ c .before .if3 .taken) (c .rewrite-links .ensures),
+    )
 
 mul-own : tie.Need-mul-own Inv-loop2 μ-loop2 Inv-loop μ-loop
 mul-own c = omega arith
@@ -193,10 +268,14 @@ unlinked-requires-2 : tie.Need-unlinked-requires-2 Inv-loop2 μ-loop2 Inv-loop �
 unlinked-requires-2 c κs = search needs
 
 mul-t29 : tie.Need-mul-t29 Inv-loop2 μ-loop2 Inv-loop μ-loop
-mul-t29 c = let o = c .before .before .before .before .before .before .before .before .before .before .before .before .before .before .loop2 in omega (arith, o .inv .3, o .inv .1)
+mul-t29 c =
+    let inner = c .before .before .before .before .before .before .before .before .before .before .before .before .before .before in
+    omega (arith, inner .loop2 .inv .3, inner .loop2 .inv .1)
 
 element-set-from-table : tie.Need-element-set-from-table Inv-loop2 μ-loop2 Inv-loop μ-loop
-element-set-from-table c = let o = c .before .before .before .before .before .before .before .before .before .before .before .before .before .before .loop2 in omega (arith, o .inv .3, o .inv .1)
+element-set-from-table c =
+    let inner = c .before .before .before .before .before .before .before .before .before .before .before .before .before .before in
+    omega (arith, inner .loop2 .inv .3, inner .loop2 .inv .1)
 
 add-ix1-3 : tie.Need-add-ix1-3 Inv-loop2 μ-loop2 Inv-loop μ-loop
 add-ix1-3 c = omega arith
@@ -205,7 +284,17 @@ loop-less-3 : tie.Need-loop-less-3 Inv-loop2 μ-loop2 Inv-loop μ-loop
 loop-less-3 c = omega arith
 
 loop-again-3 : tie.Need-loop-again-3 Inv-loop2 μ-loop2 Inv-loop μ-loop
-loop-again-3 c = let o = c .before .before .before .before .before .before .before .before .before .before .loop in let s = c .before .before .before .before .before .before .before .before .before .before .before .args in (omega arith, o .inv .1, turn (L.serifTurn (s .thresholds) (s .segments .len)) (o .ix1) _ _ _ (o .inv .2) (serif-go _ _ _ _ _ _ (c .before .before .before .before .before .before .first .given .1) (sym (c .before .before .before .is-near-stem .ensures) ∙ not-false _ (c .before .before .if1 .left)) (made c)))
+loop-again-3 c =
+    let else1 = c .before .before in
+    let is-near-stem = else1 .before in
+    let first = is-near-stem .before .before .before in
+    let outer = first .before .before .before .before in
+    let start = outer .before in (
+      omega arith,
+      outer .loop .inv .1,
+      turn (L.serifTurn (start .args .thresholds) (start .args .segments .len)) (outer .loop .ix1) _ _ _ (outer .loop .inv .2)
+          (serif-go _ _ _ _ _ _ (first .first .given .1) (sym (is-near-stem .is-near-stem .ensures) ∙ not-false _ (else1 .if1 .left)) (made c)),
+    )
 
 returns : tie.Need-returns Inv-loop2 μ-loop2 Inv-loop μ-loop
 unfolding L.serifRound

@@ -5,7 +5,13 @@ use Rattle.linking.proofs.serif.as_serif.Statement.{statement}
 use Rattle.linking.proofs.serif.as_serif.Tie as tie
 
 returns : tie.Need-returns
-returns c = rw (back w16 _ (c .before .before .before .before .before .before .struct-told .given .1 .1 .0 .1), back w16 _ (c .before .before .before .before .before .struct-told2 .given .1 .1 .1 .0 .1), back w16 _ (c .before .before .before .before .struct-told3 .given .1 .1 .1 .1 .0 .1), back w16 _ (c .before .before .before .struct-told4 .given .1 .1 .1 .1 .1 .0 .1), back w16 _ (c .before .before .struct-told5 .given .1 .1 .1 .1 .1 .1 .0 .1), back w32 _ (c .before .struct-told6 .given .1 .1 .1 .1 .1 .1 .1 .0 .1), back w32 _ (c .struct-told7 .given .1 .1 .1 .1 .1 .1 .1 .1 .0 .1))
+returns c =
+    let told5 = c .before .before in
+    let told4 = told5 .before in
+    let told3 = told4 .before in
+    let told2 = told3 .before in
+    let told = told2 .before in
+    rw (back w16 _ (told .struct-told .given .1 .1 .0 .1), back w16 _ (told2 .struct-told2 .given .1 .1 .1 .0 .1), back w16 _ (told3 .struct-told3 .given .1 .1 .1 .1 .0 .1), back w16 _ (told4 .struct-told4 .given .1 .1 .1 .1 .1 .0 .1), back w16 _ (told5 .struct-told5 .given .1 .1 .1 .1 .1 .1 .0 .1), back w32 _ (c .before .struct-told6 .given .1 .1 .1 .1 .1 .1 .1 .0 .1), back w32 _ (c .struct-told7 .given .1 .1 .1 .1 .1 .1 .1 .1 .0 .1))
 
 pub as-serif-spec : {M : Type 1} → statement M
 as-serif-spec = tie.close (tie.spec returns)

@@ -14,7 +14,12 @@ returns : tie.Need-returns
 returns c = rw (sym (c .before .links-to .ensures) ∙ not-true _ (c .if1 .taken))
 
 returns-2 : tie.Need-returns-2
-returns-2 c = rw (sym (c .before .before .before .before .before .links-to .ensures) ∙ not-false _ (c .before .before .before .before .if1 .left)) (le-same w16 (c .before .before .before .before .before .before .args .link1 .pos) (c .before .before .before .before .before .before .args .link2 .pos) (c .before .before .struct-told .given .1 .1 .0 .1) (c .struct-told2 .given .1 .1 .0 .1))
+returns-2 c =
+    let told = c .before .before in
+    let else1 = told .before .before in
+    let links-to = else1 .before in
+    let start = links-to .before in
+    rw (sym (links-to .links-to .ensures) ∙ not-false _ (else1 .if1 .left)) (le-same w16 (start .args .link1 .pos) (start .args .link2 .pos) (told .struct-told .given .1 .1 .0 .1) (c .struct-told2 .given .1 .1 .0 .1))
 
 pub ends-outside-spec : {M : Type 1} → statement M
 ends-outside-spec = tie.close (tie.spec links-to-requires returns returns-2)

@@ -10,11 +10,16 @@ times-requires : tie.Need-times-requires
 times-requires c κs = search needs
 
 cast-result : tie.Need-cast-result
-cast-result c = cast-32 (c .before .before .before .before .args .seg1 .len) (c .struct-told2 .given .1 .1 .1 .1 .1 .1 .1 .1 .0 .1)
+cast-result c =
+    let start = c .before .before .before .before in
+    cast-32 (start .args .seg1 .len) (c .struct-told2 .given .1 .1 .1 .1 .1 .1 .1 .1 .0 .1)
 
 returns : tie.Need-returns
 unfolding P.muchLonger
-returns c = rw (back-32 _ (c .struct-told2 .given .1 .1 .1 .1 .1 .1 .1 .1 .0 .1), back w64 _ (c .before .before .times .ok), c .before .before .times .ensures, back w32 _ (c .before .before .before .struct-told .given .1 .1 .1 .1 .1 .1 .1 .1 .0 .1))
+returns c =
+    let times = c .before .before in
+    let told = times .before in
+    rw (back-32 _ (c .struct-told2 .given .1 .1 .1 .1 .1 .1 .1 .1 .0 .1), back w64 _ (times .times .ok), times .times .ensures, back w32 _ (told .struct-told .given .1 .1 .1 .1 .1 .1 .1 .1 .0 .1))
 
 pub is-much-longer-spec : {M : Type 1} → statement M
 is-much-longer-spec = tie.close (tie.spec times-requires cast-result returns)

@@ -13,7 +13,9 @@ as-serif-requires c κs = search needs
 
 returns : tie.Need-returns
 unfolding P.rewritten
-returns c = rw (sym (c .before .before .links-to .ensures) ∙ c .before .if1 .taken) (c .as-serif .ensures)
+returns c =
+    let links-to = c .before .before in
+    rw (sym (links-to .links-to .ensures) ∙ c .before .if1 .taken) (c .as-serif .ensures)
 
 links-to-requires-2 : tie.Need-links-to-requires-2
 links-to-requires-2 c κs = search needs
@@ -23,11 +25,18 @@ as-serif-requires-2 c κs = search needs
 
 returns-2 : tie.Need-returns-2
 unfolding P.rewritten
-returns-2 c = rw (sym (c .before .before .before .before .links-to .ensures) ∙ c .before .before .before .if1 .left, sym (c .before .before .links-to2 .ensures) ∙ c .before .if2 .taken) (c .as-serif2 .ensures)
+returns-2 c =
+    let links-to2 = c .before .before in
+    let else1 = links-to2 .before in
+    let links-to = else1 .before in
+    rw (sym (links-to .links-to .ensures) ∙ else1 .if1 .left, sym (links-to2 .links-to2 .ensures) ∙ c .before .if2 .taken) (c .as-serif2 .ensures)
 
 returns-3 : tie.Need-returns-3
 unfolding P.rewritten
-returns-3 c = rw (sym (c .before .before .before .links-to .ensures) ∙ c .before .before .if1 .left, sym (c .before .links-to2 .ensures) ∙ c .if2 .left)
+returns-3 c =
+    let else1 = c .before .before in
+    let links-to = else1 .before in
+    rw (sym (links-to .links-to .ensures) ∙ else1 .if1 .left, sym (c .before .links-to2 .ensures) ∙ c .if2 .left)
 
 pub rewritten-spec : {M : Type 1} → statement M
 rewritten-spec =

@@ -20,14 +20,22 @@ as-serif-requires c κs = search needs
 
 returns-2 : tie.Need-returns-2
 unfolding P.settled
-returns-2 c = rw (sym (c .before .before .before .before .links-to .ensures) ∙ c .before .before .before .if1 .left, sym (c .before .before .stays-serif .ensures) ∙ c .before .if2 .taken) (c .as-serif .ensures)
+returns-2 c =
+    let stays-serif = c .before .before in
+    let else1 = stays-serif .before in
+    let links-to = else1 .before in
+    rw (sym (links-to .links-to .ensures) ∙ else1 .if1 .left, sym (stays-serif .stays-serif .ensures) ∙ c .before .if2 .taken) (c .as-serif .ensures)
 
 unlinked-requires : tie.Need-unlinked-requires
 unlinked-requires c κs = search needs
 
 returns-3 : tie.Need-returns-3
 unfolding P.settled
-returns-3 c = rw (sym (c .before .before .before .before .links-to .ensures) ∙ c .before .before .before .if1 .left, sym (c .before .before .stays-serif .ensures) ∙ c .before .if2 .left) (c .unlinked .ensures)
+returns-3 c =
+    let stays-serif = c .before .before in
+    let else1 = stays-serif .before in
+    let links-to = else1 .before in
+    rw (sym (links-to .links-to .ensures) ∙ else1 .if1 .left, sym (stays-serif .stays-serif .ensures) ∙ c .before .if2 .left) (c .unlinked .ensures)
 
 pub settled-spec : {M : Type 1} → statement M
 settled-spec =

@@ -13,7 +13,9 @@ joined-requires c κs = search needs
 
 returns : tie.Need-returns
 unfolding P.improvedBy
-returns c = rw (sym (c .before .before .check-seg .ensures) ∙ c .before .if1 .taken) (c .joined .ensures)
+returns c =
+    let check-seg = c .before .before in
+    rw (sym (check-seg .check-seg .ensures) ∙ c .before .if1 .taken) (c .joined .ensures)
 
 returns-2 : tie.Need-returns-2
 unfolding P.improvedBy

@@ -12,14 +12,19 @@ is-inside-requires c κs = search needs
 
 returns : tie.Need-returns
 unfolding numbersHold
-returns c = let s = c .before .before in rw (sym (rw (is (s .fits .units-per-em)) at (c .before .is-inside .ensures)) ∙ not-true _ (c .if1 .taken))
+returns c =
+    let start = c .before .before in
+    rw (sym (rw (is (start .fits .units-per-em)) at (c .before .is-inside .ensures)) ∙ not-true _ (c .if1 .taken))
 
 is-inside-requires-2 : tie.Need-is-inside-requires-2
 is-inside-requires-2 c κs = search needs
 
 returns-2 : tie.Need-returns-2
 unfolding numbersHold
-returns-2 c = let s = c .before .before .before in rw (sym (rw (is (s .fits .units-per-em)) at (c .before .before .is-inside .ensures)) ∙ not-false _ (c .before .if1 .left)) (rw (is (s .fits .scale)) at (c .is-inside2 .ensures))
+returns-2 c =
+    let is-inside = c .before .before in
+    let start = is-inside .before in
+    rw (sym (rw (is (start .fits .units-per-em)) at (is-inside .is-inside .ensures)) ∙ not-false _ (c .before .if1 .left)) (rw (is (start .fits .scale)) at (c .is-inside2 .ensures))
 
 pub numbers-hold-spec : {M : Type 1} → statement M
 numbers-hold-spec = tie.close (tie.spec is-inside-requires returns is-inside-requires-2 returns-2)

@@ -15,11 +15,15 @@ mul-fixed-div : tie.Need-mul-fixed-div
 mul-fixed-div c = search needs
 
 fixed-div-requires : tie.Need-fixed-div-requires
-fixed-div-requires c κs = let s = c .before in (rw (is (s .fits .scale)) (scale-some (s .args .units-per-em) _ (s .pre)), rw (is (s .fits .scale)) (dist-fits (s .args .units-per-em) _ (s .pre)))
+fixed-div-requires c κs = (rw (is (c .before .fits .scale)) (scale-some (c .before .args .units-per-em) _ (c .before .pre)), rw (is (c .before .fits .scale)) (dist-fits (c .before .args .units-per-em) _ (c .before .pre)))
 
 returns : tie.Need-returns
 unfolding thresholdsOf
-returns c = let s = c .before .before in let d = c .before .derived-constant in let q = c .fixed-div in rw (back w32 (d .result) (d .ok), back w32 (q .result) (q .ok), d .ensures, q .ensures, is (s .fits .units-per-em), is (s .fits .scale))
+returns c =
+    let start = c .before .before in
+    let d = c .before .derived-constant in
+    let q = c .fixed-div in
+    rw (back w32 (d .result) (d .ok), back w32 (q .result) (q .ok), d .ensures, q .ensures, is (start .fits .units-per-em), is (start .fits .scale))
 
 pub thresholds-of-spec : {M : Type 1} → statement M
 thresholds-of-spec =
