@@ -11,13 +11,15 @@ use Rattle.linking.proofs.gap.gap_between.Tie as tie
 low : (c : tie.After-larger) → c .larger .result ≡ P.maxZ (c .before .before .before .args .seg1 .«min_coord») (c .before .before .before .args .seg2 .«min_coord»)
 low c =
     let told = c .before .before in
-    rw (back w16 _ (told .struct-told .given .1 .1 .1 .1 .0 .1), back w16 _ (c .before .struct-told2 .given .1 .1 .1 .1 .0 .1)) at (c .larger .ensures)
+    let start = told .before in
+    rw (back w16 (start .args .seg1 .«min_coord») (told .struct-told .given .1 .1 .1 .1 .0 .1), back w16 (start .args .seg2 .«min_coord») (c .before .struct-told2 .given .1 .1 .1 .1 .0 .1)) at (c .larger .ensures)
 
 -- its end
 high : (c : tie.After-smaller) → c .smaller .result ≡ P.minZ (c .before .before .before .before .before .before .args .seg1 .«max_coord») (c .before .before .before .before .before .before .args .seg2 .«max_coord»)
 high c =
     let told3 = c .before .before in
-    rw (back w16 _ (told3 .struct-told3 .given .1 .1 .1 .1 .1 .0 .1), back w16 _ (c .before .struct-told4 .given .1 .1 .1 .1 .1 .0 .1)) at (c .smaller .ensures)
+    let start = told3 .before .before .before .before in
+    rw (back w16 (start .args .seg1 .«max_coord») (told3 .struct-told3 .given .1 .1 .1 .1 .1 .0 .1), back w16 (start .args .seg2 .«max_coord») (c .before .struct-told4 .given .1 .1 .1 .1 .1 .0 .1)) at (c .smaller .ensures)
 
 larger-requires : tie.Need-larger-requires
 larger-requires c κs = search needs

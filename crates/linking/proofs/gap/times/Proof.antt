@@ -11,10 +11,10 @@ cast-result-2 : tie.Need-cast-result-2
 cast-result-2 c = cast-32 (c .args .k) (c .fits .k .sfits)
 
 mul-result : tie.Need-mul-result
-mul-result c = rw (back-32 _ (c .fits .x .sfits), back-32 _ (c .fits .k .sfits)) (fits-prod (between-sfits (c .fits .x)) (c .pre) tt)
+mul-result c = rw (back-32 (c .args .x) (c .fits .x .sfits), back-32 (c .args .k) (c .fits .k .sfits)) (fits-prod (between-sfits (c .fits .x)) (c .pre) tt)
 
 returns : tie.Need-returns
-returns c = rw (back-32 _ (c .fits .x .sfits), back-32 _ (c .fits .k .sfits)) (is (fits-prod (between-sfits (c .fits .x)) (c .pre) tt))
+returns c = rw (back-32 (c .args .x) (c .fits .x .sfits), back-32 (c .args .k) (c .fits .k .sfits)) (is (fits-prod (between-sfits (c .fits .x)) (c .pre) tt))
 
 pub times-spec : {M : Type 1} → statement M
 times-spec = tie.close (tie.spec cast-result cast-result-2 mul-result returns)
