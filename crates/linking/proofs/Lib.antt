@@ -9,5 +9,6 @@ pub mod Numbers
 pub mod Calls
 pub mod Ranges
 pub mod Unchanged
+pub mod Accepting
 pub mod Outcomes
 pub mod Worked

@@ -1,14 +1,17 @@
 -- The outcome of the call: for refused segments, for accepted ones, and that the promise determines it.
 use mathlib.Core.Path.{_≡_, sym, _∙_}
+use mathlib.Core.Bool.{Bool}
 use Prim.Native.Nat.{ℕ, suc, _<_}
 use native.Mathlib.Omega.{arith}
 use lib.IntN.{ℤ}
 use Rattle.axis.specs.declared.kinds.Direction.{Direction}
 use Rattle.axis.specs.declared.segment.Segments.{Segments}
 use Rattle.axis.specs.Accepted.{SegmentsWithin}
+use Rattle.axis.specs.Refusals.{firstRefusal, segmentsRefusal}
 use Rattle.axis.specs.Segment.{segmentAt}
 use Rattle.linking.specs.declared.link.Linked.{Linked}
 use Rattle.linking.specs.Linking.{linked, thresholdsOf, linkingRefusal, beside, linkSegmentsCjk}
+use Rattle.linking.proofs.Accepting.{no-reason}
 use Rattle.linking.proofs.Calls.{accepted, start-closed}
 use Rattle.linking.proofs.Numbers.{len-not-below-0}
 use Rattle.linking.proofs.Ranges.{Shorts, linked-within}
@@ -29,9 +32,13 @@ module _ (t : Segments) (major : Direction) (upem scale : ℤ) where
   pub only-linked : linkingRefusal t upem scale ≡ 0 → OnlyLinked t (linkSegmentsCjk t major upem scale .segments)
   only-linked e = let a = accepted t upem scale 0 (sym e) (omega arith) in rw (done e) (linked-only major (thresholdsOf upem scale) t (start-closed t (a .within)))
 
-  -- and which building accepts: each link and serif is below the count, each score and len within the table
+  -- and which is within document 01's limits: each link and serif is below the count, each score and len within the table
   pub handed-on : linkingRefusal t upem scale ≡ 0 → ((i : ℕ) → i < t .len → Shorts (segmentAt t i)) → SegmentsWithin (linkSegmentsCjk t major upem scale .segments)
   handed-on e c = let a = accepted t upem scale 0 (sym e) (omega arith) in rw (done e) (linked-within major (thresholdsOf upem scale) t (len-not-below-0 upem scale (a .numbers)) c (a .within))
+
+  -- so that it is no reason for a refusal by building, whatever the other parts of that call are
+  pub accepted-by-building : linkingRefusal t upem scale ≡ 0 → ((i : ℕ) → i < t .len → Shorts (segmentAt t i)) → (short right below near : Bool) → segmentsRefusal (linkSegmentsCjk t major upem scale .segments) short right below near ≡ firstRefusal short right below near
+  accepted-by-building e c = no-reason (linkSegmentsCjk t major upem scale .segments) (handed-on e c)
 
   -- two outcomes that the promise of `link_segments_cjk` allows coincide
   pub determined : (a b : Linked) → a ≡ linkSegmentsCjk t major upem scale → b ≡ linkSegmentsCjk t major upem scale → a ≡ b
