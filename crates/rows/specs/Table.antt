@@ -3,18 +3,27 @@ use mathlib.Core.Path.{refl}
 use mathlib.Core.List.{List, [], _∷_}
 use Prim.Native.Nat.{ℕ}
 use lib.IntN.{ℤ, pos, negℤ}
-use Rattle.fixed.specs.Point.{near, nearZ, mulFix, divFix}
+use Rattle.fixed.specs.Point.{near, nearZ, mulFix, divFix, derived}
 use Rattle.outline.specs.Weak.{endsHold, coordinateHolds, coordinatesHold, refusal, contourOf, firstTouched, lastTouched, touchedBefore, touchedBehind, references, firstOf, secondOf, interpolated, betweenAt, shiftedAt, followed, weakAt, onContour, alignedAt, listOf, result}
+use Rattle.axis.specs.declared.kinds.Direction.{Direction}
 use Rattle.axis.specs.declared.kinds.Direction.the-variants as Directions
+use Rattle.axis.specs.declared.kinds.Direction.the-variants.{Up, Down}
 use Rattle.axis.specs.declared.kinds.Blue.the-variants as Blues
+use Rattle.axis.specs.declared.kinds.Link.{Link}
 use Rattle.axis.specs.declared.kinds.Link.the-variants as Links
 use Rattle.axis.specs.declared.kinds.Group.the-variants.{Default}
 use Rattle.axis.specs.declared.edge.Edge.{Edge}
+use Rattle.axis.specs.declared.segment.Segment.{Segment}
+use Rattle.axis.specs.Direction as D
 use Rattle.axis.specs.Flags.{normal}
+use Rattle.axis.specs.Link.{linksTo}
 use Rattle.axis.specs.Edge.{emptyEdge, finished}
-use Rattle.axis.specs.Refusals.{linkHolds, blueHolds, every, edgeIndices, edgeNumbers, edgesIndices, edgesNumbers, edgesRefusal}
+use Rattle.axis.specs.Refusals.{linkHolds, blueHolds, every, edgeIndices, edgeNumbers, edgesIndices, edgesNumbers, edgesRefusal, segmentIndices, segmentNext, segmentNumbers, segmentsIndices, segmentsNexts, segmentsNumbers, segmentsRefusal}
+use Rattle.linking.specs.Loops.{turns, till}
+use Rattle.linking.specs.Pairs as P
+use Rattle.linking.specs.Linking as L
 use Rattle.lowercase_m.specs.M.{linkedOn, groupHolds, applies, moveDone, moveOnly, moveLink, moveSerifs, moveStem, aligned, hintLowercaseM}
-use Rattle.rows.specs.Row.{Row, weak, m, All}
+use Rattle.rows.specs.Row.{Row, weak, link, m, All}
 
 -- -n
 abbrev minus : ℕ → ℤ
@@ -23,6 +32,10 @@ minus n = negℤ (pos n)
 -- an unlinked edge, by opos and pos
 abbrev edge : ℕ → ℕ → Edge
 edge o p = record { fpos = pos 0; opos = pos o; pos = pos p; flags = normal; dir = Directions.None; blue = Blues.None; link = Links.None; serif = Links.None; first = 0; last = 0 }
+
+-- a segment from 0 to 200, by direction, position, score, len and link
+abbrev segment : Direction → ℕ → ℕ → ℕ → Link → Segment
+segment dir p score len to = record { flags = normal; dir = dir; pos = pos p; delta = pos 0; «min_coord» = pos 0; «max_coord» = pos 200; height = pos 0; score = pos score; len = pos len; link = to; serif = Links.None; first = 0; last = 0; edge = Links.None; next = Links.None }
 
 -- the rows, in the document's order
 abbrev pub table : List Row
@@ -43,9 +56,11 @@ table =
     ∷ weak (pos 0 ∷ pos 10 ∷ pos 20 ∷ []) (pos 5 ∷ pos 99 ∷ pos 20 ∷ []) (1 ∷ 0 ∷ 0 ∷ []) (2 ∷ []) 0 (pos 5 ∷ pos 15 ∷ pos 25 ∷ [])
     -- 6 Latin edges; 0, 2, 4 have opos 0, 100, 207, pos 0, 128, 270; 4 has no link: edge 4 at 256
     ∷ m Default (edge 0 0 ∷ emptyEdge ∷ edge 100 128 ∷ emptyEdge ∷ edge 207 270 ∷ emptyEdge ∷ []) 0 (edge 0 0 ∷ emptyEdge ∷ edge 100 128 ∷ emptyEdge ∷ finished (edge 207 256) ∷ emptyEdge ∷ [])
+    -- positions 0 (major) and 100 (opposite), both 0 to 200 wide, score 32,000, len 0, 1000 per em, scale 65,536: linked to each other, score 100, len 200
+    ∷ link (segment Up 0 32000 0 Links.None ∷ segment Down 100 32000 0 Links.None ∷ []) Up (pos 1000) (pos 65536) 0 (segment Up 0 100 200 (Links.To 1) ∷ segment Down 100 100 200 (Links.To 0) ∷ [])
     ∷ []
 
 -- every row holds
 pub rows-hold : All table
-unfolding near nearZ mulFix divFix endsHold coordinateHolds coordinatesHold refusal contourOf firstTouched lastTouched touchedBefore touchedBehind references firstOf secondOf interpolated betweenAt shiftedAt followed weakAt onContour alignedAt listOf result linkHolds blueHolds every edgeIndices edgeNumbers edgesIndices edgesNumbers edgesRefusal linkedOn groupHolds applies moveDone moveOnly moveLink moveSerifs moveStem aligned hintLowercaseM
-rows-hold = ((refl, refl), ((refl, refl), ((refl, refl), ((refl, refl), ((refl, refl), ((refl, refl), ((refl, refl), (refl, tt))))))))
+unfolding near nearZ mulFix divFix endsHold coordinateHolds coordinatesHold refusal contourOf firstTouched lastTouched touchedBefore touchedBehind references firstOf secondOf interpolated betweenAt shiftedAt followed weakAt onContour alignedAt listOf result linkHolds blueHolds every edgeIndices edgeNumbers edgesIndices edgesNumbers edgesRefusal linkedOn groupHolds applies moveDone moveOnly moveLink moveSerifs moveStem aligned hintLowercaseM D.same D.opposite linksTo segmentIndices segmentNext segmentNumbers segmentsIndices segmentsNexts segmentsNumbers segmentsRefusal derived turns till P.maxZ P.minZ P.gapOf P.facing P.checkSeg P.improvedBy P.nearStem P.encloses P.muchLonger P.rewritten P.staysSerif P.settled L.improvePair L.pairTurn L.majorTurn L.pairRound L.rewriteTurn L.rewriteAll L.unlink L.heldTo L.givenUpTo L.holdTurn L.givenUp L.hold L.serifTo L.serifTurn L.serifRound L.lastTo L.lastTurn L.lastRound L.linked L.thresholdsOf L.numbersHold L.linkingRefusal L.linkSegmentsCjk
+rows-hold = ((refl, refl), ((refl, refl), ((refl, refl), ((refl, refl), ((refl, refl), ((refl, refl), ((refl, refl), (refl, (refl, tt)))))))))
