@@ -48,20 +48,17 @@ coordinate-of : (x : ℤ) → coordinateHolds x ≡ true → Coordinate x
 unfolding coordinateHolds
 coordinate-of x e = omega (arith, natAbs-is x, leb-true (natAbs x) mostCoordinate e)
 
--- the test from the element i on: one that holds hands over to the rest
-pub coordinates-on : (l : List ℤ) (i : ℕ) → i < length l → coordinateHolds (at l i) ≡ true → coordinatesHold (drop i l) ≡ coordinatesHold (drop (i + 1) l)
+-- a test's answer, gathered with those before it
+pub coordinates-next : (l : List ℤ) (i : ℕ) (before here : Bool) → i < length l → here ≡ coordinateHolds (at l i) → (before && coordinatesHold (drop i l)) ≡ ((before && here) && coordinatesHold (drop (i + 1) l))
 unfolding coordinatesHold
-coordinates-on l i h e = rw (drop-one l i (pos 0) h, e)
-
--- one that does not decides
-pub coordinates-stop : (l : List ℤ) (i : ℕ) → i < length l → coordinateHolds (at l i) ≡ false → coordinatesHold (drop i l) ≡ false
-unfolding coordinatesHold
-coordinates-stop l i h e = rw (drop-one l i (pos 0) h, e)
+coordinates-next l i true here h e = rw (drop-one l i (pos 0) h, e)
+coordinates-next l i false here h e = refl
 
 -- behind the last nothing is left to test
-pub coordinates-end : (l : List ℤ) (i : ℕ) → length l ≤ i → coordinatesHold (drop i l) ≡ true
+pub coordinates-end : (l : List ℤ) (i : ℕ) (before : Bool) → length l ≤ i → (before && coordinatesHold (drop i l)) ≡ before
 unfolding coordinatesHold
-coordinates-end l i h = rw (drop-of-length-le l h)
+coordinates-end l i true h = rw (drop-of-length-le l h)
+coordinates-end l i false h = refl
 
 -- a list that passes is accepted
 coordinates-of : (l : List ℤ) → coordinatesHold l ≡ true → Coordinates l

@@ -46,14 +46,14 @@ fn coordinate_holds(x: i32) -> bool
 fn coordinates_hold(list: &[i32]) -> bool
     ensures { λ r. ⌜ r ≡ coordinatesHold (now (list .entry)) ⌝ }
 {
+    let mut all = true;
     let mut i: usize = 0;
     while i < list.len() {
-        if !coordinate_holds(list[i]) {
-            return false;
-        }
+        let holds = coordinate_holds(list[i]);
+        all = all & holds;
         i += 1;
     }
-    true
+    all
 }
 
 // The first refusal that applies to an outline, or 0.

@@ -1,6 +1,6 @@
--- `outline::accept::coordinates_hold` meets its contract. The invariant: the list holds where what is left of it does. Assumes nothing.
+-- `outline::accept::coordinates_hold` meets its contract. The invariant: the list holds where what was tested and what is left of it do. Assumes nothing.
 use borrow.Author.Needs.{needs}
-use borrow.Author.Tests.{not-true, not-false}
+use mathlib.Core.Bool.{_&&_}
 use native.Mathlib.Omega.{arith}
 use mathlib.Core.Path.{_≡_, sym, _∙_}
 use Prim.Native.Nat.{_≤_, _-_}
@@ -8,15 +8,15 @@ use lib.ListN.{length, drop}
 use mir.Syntax.{w32}
 use Rattle.signed.proofs.Signed.{is, got}
 use Rattle.outline.specs.Weak.{at, coordinateHolds, coordinatesHold}
-use Rattle.outline.proofs.Refusals.{coordinates-on, coordinates-stop, coordinates-end}
+use Rattle.outline.proofs.Refusals.{coordinates-next, coordinates-end}
 use Rattle.outline.proofs.accept.coordinates_hold.Statement.{statement}
 use Rattle.outline.proofs.accept.coordinates_hold.Tie as tie
 
 abbrev Inv-loop : tie.InvT-loop
-Inv-loop list i₀ i = (i ≤ length list) × (coordinatesHold list ≡ coordinatesHold (drop i list))
+Inv-loop list all₀ i₀ all i = (i ≤ length list) × (coordinatesHold list ≡ (all && coordinatesHold (drop i list)))
 
 abbrev μ-loop : tie.MeasureT-loop
-μ-loop list i₀ i = length list - i
+μ-loop list all₀ i₀ all i = length list - i
 
 -- the head of the loop, from behind the turn's test
 abbrev at-loop : tie.After-coordinate-holds Inv-loop μ-loop → tie.At-loop Inv-loop μ-loop
@@ -38,12 +38,6 @@ shared-slice-copy-out-coordinate-holds c = search needs
 coordinate-holds-requires : tie.Need-coordinate-holds-requires Inv-loop μ-loop
 coordinate-holds-requires c κs = search needs
 
-returns : tie.Need-returns Inv-loop μ-loop
-returns c =
-    let l = at-loop (c .before) in
-    let f = not-true (c .before .coordinate-holds .result) (c .if1 .taken) in
-    cc (l .loop .inv .1, coordinates-stop (l .before .args .list .now) (l .loop .i) (omega arith) (sym (told (c .before)) ∙ f))
-
 add-i : tie.Need-add-i Inv-loop μ-loop
 add-i c = search needs
 
@@ -52,12 +46,11 @@ loop-less c = search needs
 
 loop-again : tie.Need-loop-again Inv-loop μ-loop
 loop-again c =
-    let l = at-loop (c .before) in
-    let f = not-false (c .before .coordinate-holds .result) (c .if1 .left) in
-    (omega arith, cc (l .loop .inv .1, coordinates-on (l .before .args .list .now) (l .loop .i) (omega arith) (sym (told (c .before)) ∙ f)))
+    let l = at-loop c in
+    (omega arith, l .loop .inv .1 ∙ coordinates-next (l .before .args .list .now) (l .loop .i) (l .loop .all) (c .coordinate-holds .result) (omega arith) (told c))
 
-returns-2 : tie.Need-returns-2 Inv-loop μ-loop
-returns-2 c = let l = c .before in cc (l .loop .inv .1, coordinates-end (l .before .args .list .now) (l .loop .i) (omega arith))
+returns : tie.Need-returns Inv-loop μ-loop
+returns c = let l = c .before in sym (l .loop .inv .1 ∙ coordinates-end (l .before .args .list .now) (l .loop .i) (l .loop .all) (omega arith))
 
 pub coordinates-hold-spec : {M : Type 1} → statement M
 coordinates-hold-spec =
@@ -69,8 +62,7 @@ coordinates-hold-spec =
     mul-coordinate-holds
     shared-slice-copy-out-coordinate-holds
     coordinate-holds-requires
-    returns
     add-i
     loop-less
     loop-again
-    returns-2)
+    returns)
