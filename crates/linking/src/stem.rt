@@ -6,6 +6,9 @@ use axis::direction::opposite;
 use axis::kinds::Link;
 use axis::segment::Segment;
 ghost use mathlib.Core.Path.{_≡_};
+ghost use lib.IntN.{pos, _*ℤ_};
+ghost use lib.Signed.{ltZ};
+ghost use Rattle.signed.specs.Range.{Between};
 ghost use Rattle.linking.specs.Pairs.{facing, checkSeg, joinedTo, improvedBy};
 
 // Whether segments ix1 and ix2 can be a stem: different ones, in opposite directions, the second not before the first, with enough overlap.
@@ -33,15 +36,22 @@ pub fn can_be_stem(
     thresholds.len <= gap.len
 }
 
+// Whether dist times 8 is below score times k.
+fn is_below(dist: i32, score: i32, k: i32) -> bool
+    requires { ⌜ Between 0 9 k ⌝ }
+    ensures { λ r. ⌜ r ≡ ltZ (dist *ℤ pos 8) (score *ℤ k) ⌝ }
+{
+    times(dist, 8) < times(score, k)
+}
+
 // Whether a stem of this gap is better than the one that the segment has.
 fn check_seg(seg: Segment, gap: Gap) -> bool
     ensures { λ r. ⌜ r ≡ checkSeg seg gap ⌝ }
 {
-    let dist = times(gap.dist, 8);
-    if times(seg.score, 9) <= dist {
+    if !is_below(gap.dist, seg.score, 9) {
         return false;
     }
-    if dist < times(seg.score, 7) {
+    if is_below(gap.dist, seg.score, 7) {
         return true;
     }
     seg.len < gap.len
