@@ -1,4 +1,5 @@
--- The laws by subject, each over plain variables.
+-- The laws by subject, each over plain variables; then `Outcomes`, what the call hands back and that its promise determines it, and `Worked`, document 01's
+-- row with values worked out by hand.
 pub mod Reading
 pub mod Loops
 pub mod Kept

@@ -68,10 +68,11 @@ module _ (seg1 link1 : Segment) (ix1 link1-ix : ℕ) where
   givenUpTo ix2 Links.None t = false
   givenUpTo ix2 (Links.To link2-ix) t = encloses seg1 link1 (segmentAt t ix2) (segmentAt t link2-ix) ix1 ix2 && not (muchLonger seg1 (segmentAt t ix2))
 
-  -- the turn ix2 of the inner loop, and whether it is the last
+  -- the turn ix2 of the inner loop, by the link in the table
   unfoldable pub holdTurn : ℕ → Segments → Segments
   holdTurn ix2 t = heldTo ix2 (segmentAt t ix2 .link) t
 
+  -- whether it is the last
   unfoldable pub givenUp : ℕ → Segments → Bool
   givenUp ix2 t = givenUpTo ix2 (segmentAt t ix2 .link) t
 
@@ -87,6 +88,7 @@ serifTo by n ix1 (Links.To link1-ix) t =
     (hold (segmentAt t ix1) (segmentAt t link1-ix) ix1 link1-ix n t)
     t
 
+-- that turn, by the link in the table
 unfoldable pub serifTurn : Thresholds → ℕ → ℕ → Segments → Segments
 serifTurn by n ix1 t = serifTo by n ix1 (segmentAt t ix1 .link) t
 
@@ -100,6 +102,7 @@ unfoldable pub lastTo : Thresholds → ℕ → Link → Segments → Segments
 lastTo by ix1 Links.None t = t
 lastTo by ix1 (Links.To ix2) t = putSegment t ix1 (settled by (segmentAt t ix1) (segmentAt t ix2) ix1)
 
+-- that turn, by the link in the table
 unfoldable pub lastTurn : Thresholds → ℕ → Segments → Segments
 lastTurn by ix1 t = lastTo by ix1 (segmentAt t ix1 .link) t
 
@@ -121,7 +124,7 @@ thresholdsOf upem scale = record { len = derived upem (pos 8); dist = divFix (po
 unfoldable pub numbersHold : ℤ → ℤ → Bool
 numbersHold upem scale = inside (pos leastUnitsPerEm) (pos mostUnitsPerEm) upem && inside (pos leastScale) (pos mostScale) scale
 
--- the refusal of the call, or 0: the call has no list and no number in reach of refusals 1 and 4 beside the segments, and tests next with link and serif
+-- the refusal of the call, or 0: next is tested with link and serif, and beside the segments the call has no list and no number of refusals 1 and 4
 unfoldable pub linkingRefusal : Segments → ℤ → ℤ → ℕ
 linkingRefusal t upem scale = segmentsRefusal t true (numbersHold upem scale) (segmentsNexts t) true
 

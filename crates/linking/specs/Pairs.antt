@@ -13,10 +13,11 @@ use Rattle.axis.specs.Link.{linksTo}
 use Rattle.linking.specs.declared.gap.Gap.{Gap}
 use Rattle.linking.specs.declared.thresholds.Thresholds.{Thresholds}
 
--- the larger and the smaller of two numbers
+-- the larger of two numbers
 unfoldable pub maxZ : ℤ → ℤ → ℤ
 maxZ a b = cond (ltZ a b) b a
 
+-- the smaller of two numbers
 unfoldable pub minZ : ℤ → ℤ → ℤ
 minZ a b = cond (ltZ a b) a b
 
