@@ -1,0 +1,6 @@
+-- Laws on words, fields and tables.
+pub mod Fields
+pub mod Writing
+pub mod Tables
+pub mod Edges
+pub mod Segments

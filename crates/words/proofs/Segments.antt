@@ -1,0 +1,44 @@
+-- Segments as words.
+use mathlib.Core.Path.{_≡_, refl}
+use mathlib.Core.List.{List}
+use Prim.Native.Nat.{ℕ, _+_, _*_, _<_, min}
+use native.Mathlib.Omega.{arith}
+use lib.ListN.{length}
+use lib.IntN.{ℤ}
+use Rattle.signed.specs.Parts.{up}
+use Rattle.axis.specs.declared.segment.Segment.{Segment}
+use Rattle.axis.specs.declared.segment.Segments.{Segments}
+use Rattle.axis.specs.Segment.{emptySegment, emptySegments, putSegment}
+use Rattle.axis.specs.Limits.{mostSegments}
+use Rattle.words.specs.Word.{wordAt}
+use Rattle.words.specs.Segment.{segmentOf, carriedSegments, segmentsTo, segmentsFrom, segmentWords, segmentWordsAt, segmentsWords}
+use Rattle.words.proofs.Tables.{table-none, table-more, joined-length}
+
+-- ---- reading
+module _ (ws : List ℤ) (at : ℕ) where
+  -- no segment yet
+  pub segments-none : (len : ℕ) (t : Segments) → t ≡ emptySegments → record { segments = t .segments; len = len } ≡ segmentsTo ws at len 0
+  segments-none len t e = rw (e, table-none mostSegments emptySegment (segmentOf ws at))
+
+  -- one segment more
+  pub segments-more : {len : ℕ} (t : Segments) (i : ℕ) (segment : Segment) → t ≡ segmentsTo ws at len i → i < mostSegments → segment ≡ segmentOf ws at i → putSegment t i segment ≡ segmentsTo ws at len (i + 1)
+  segments-more t i segment p h q = rw (p, table-more mostSegments emptySegment (segmentOf ws at) i segment h q)
+
+  -- at the end
+  pub segments-all : {t : Segments} {len n : ℕ} → t ≡ segmentsTo ws at len n → len ≡ up (wordAt ws at) → n ≡ carriedSegments ws at → t ≡ segmentsFrom ws at
+  unfolding segmentsFrom
+  segments-all p l m = rw (p, l, m)
+
+-- ---- writing
+-- a segment is 15 words
+pub segment-length : (s : Segment) → length (segmentWords s) ≡ 15
+unfolding segmentWords
+segment-length s = refl
+
+pub segment-lengths : (t : Segments) (i : ℕ) → length (segmentWordsAt t i) ≡ 15
+segment-lengths t i = segment-length _
+
+-- the segments of a table are one word and 15 for each that the table holds
+pub segments-length : (t : Segments) → length (segmentsWords t) ≡ 1 + 15 * min (t .len) mostSegments
+unfolding segmentsWords
+segments-length t = omega (arith, joined-length (segmentWordsAt t) 15 (segment-lengths t) (min (t .len) mostSegments))

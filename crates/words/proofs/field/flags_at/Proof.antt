@@ -1,0 +1,48 @@
+-- `words::field::flags_at` meets its contract. Assumes nothing.
+use borrow.Author.Needs.{needs}
+use Rattle.words.specs.Field.{flagsOf}
+use mathlib.Core.Path.{_≡_}
+use mir.Syntax.{w32}
+use Rattle.signed.specs.Parts.{up}
+use Rattle.signed.proofs.Signed.{is, got}
+use Rattle.words.specs.Word.{wordAt}
+use Rattle.words.proofs.field.flags_at.Statement.{statement}
+use Rattle.words.proofs.field.flags_at.Tie as tie
+
+-- the number is the word's
+number : (c : tie.After-size-of) → c .size-of .result ≡ up (wordAt (c .before .before .args .words .now) (c .before .before .args .i))
+number c = cc (c .size-of .ensures, c .before .word-at .ensures, is (got w32 (c .before .word-at .result) (c .before .word-at .ok)))
+
+word-at-requires : tie.Need-word-at-requires
+word-at-requires c κs = search needs
+
+size-of-requires : tie.Need-size-of-requires
+size-of-requires c κs = search needs
+
+odd-requires : tie.Need-odd-requires
+odd-requires c κs = search needs
+
+odd-requires-2 : tie.Need-odd-requires-2
+odd-requires-2 c κs = search needs
+
+odd-requires-3 : tie.Need-odd-requires-3
+odd-requires-3 c κs = search needs
+
+odd-requires-4 : tie.Need-odd-requires-4
+odd-requires-4 c κs = search needs
+
+returns : tie.Need-returns
+unfolding flagsOf
+returns c = let n = c .before .before .before .before in rw (← number n) (cc (c .before .before .before .odd .ensures))
+
+pub flags-at-spec : {M : Type 1} → statement M
+flags-at-spec =
+    tie.close
+    (tie.spec
+    word-at-requires
+    size-of-requires
+    odd-requires
+    odd-requires-2
+    odd-requires-3
+    odd-requires-4
+    returns)

@@ -1,0 +1,171 @@
+-- `words::segment::segment_from` meets its contract. Assumes nothing.
+use borrow.Author.Needs.{needs}
+use mir.Syntax.{w16, w32}
+use Rattle.words.specs.Segment.{segmentFrom}
+use Rattle.words.proofs.Fields.{kept}
+use Rattle.words.proofs.segment.segment_from.Statement.{statement}
+use Rattle.words.proofs.segment.segment_from.Tie as tie
+
+flags-at-requires : tie.Need-flags-at-requires
+flags-at-requires c κs = search needs
+
+add-direction-at : tie.Need-add-direction-at
+add-direction-at c = search needs
+
+direction-at-requires : tie.Need-direction-at-requires
+direction-at-requires c κs = search needs
+
+add-short-at : tie.Need-add-short-at
+add-short-at c = search needs
+
+short-at-requires : tie.Need-short-at-requires
+short-at-requires c κs = search needs
+
+add-short-at-2 : tie.Need-add-short-at-2
+add-short-at-2 c = search needs
+
+short-at-requires-2 : tie.Need-short-at-requires-2
+short-at-requires-2 c κs = search needs
+
+add-short-at-3 : tie.Need-add-short-at-3
+add-short-at-3 c = search needs
+
+short-at-requires-3 : tie.Need-short-at-requires-3
+short-at-requires-3 c κs = search needs
+
+add-short-at-4 : tie.Need-add-short-at-4
+add-short-at-4 c = search needs
+
+short-at-requires-4 : tie.Need-short-at-requires-4
+short-at-requires-4 c κs = search needs
+
+add-short-at-5 : tie.Need-add-short-at-5
+add-short-at-5 c = search needs
+
+short-at-requires-5 : tie.Need-short-at-requires-5
+short-at-requires-5 c κs = search needs
+
+add-word-at : tie.Need-add-word-at
+add-word-at c = search needs
+
+word-at-requires : tie.Need-word-at-requires
+word-at-requires c κs = search needs
+
+add-word-at-2 : tie.Need-add-word-at-2
+add-word-at-2 c = search needs
+
+word-at-requires-2 : tie.Need-word-at-requires-2
+word-at-requires-2 c κs = search needs
+
+add-link-at : tie.Need-add-link-at
+add-link-at c = search needs
+
+link-at-requires : tie.Need-link-at-requires
+link-at-requires c κs = search needs
+
+add-link-at-2 : tie.Need-add-link-at-2
+add-link-at-2 c = search needs
+
+link-at-requires-2 : tie.Need-link-at-requires-2
+link-at-requires-2 c κs = search needs
+
+add-index-at : tie.Need-add-index-at
+add-index-at c = search needs
+
+index-at-requires : tie.Need-index-at-requires
+index-at-requires c κs = search needs
+
+add-index-at-2 : tie.Need-add-index-at-2
+add-index-at-2 c = search needs
+
+index-at-requires-2 : tie.Need-index-at-requires-2
+index-at-requires-2 c κs = search needs
+
+add-link-at-3 : tie.Need-add-link-at-3
+add-link-at-3 c = search needs
+
+link-at-requires-3 : tie.Need-link-at-requires-3
+link-at-requires-3 c κs = search needs
+
+add-link-at-4 : tie.Need-add-link-at-4
+add-link-at-4 c = search needs
+
+link-at-requires-4 : tie.Need-link-at-requires-4
+link-at-requires-4 c κs = search needs
+
+returns : tie.Need-returns
+unfolding segmentFrom
+returns c =
+    let edge = c .before in
+    let last = edge .before in
+    let first = last .before in
+    let serif = first .before in
+    let link = serif .before in
+    let len = link .before in
+    let score = len .before in
+    let height = score .before in
+    let high = height .before in
+    let low = high .before in
+    let delta = low .before in
+    let pos = delta .before in
+    let dir = pos .before in
+    let flags = dir .before in
+    rw (
+      kept w16 (pos .short-at .result) (pos .short-at .ok),
+      kept w16 (delta .short-at2 .result) (delta .short-at2 .ok),
+      kept w16 (low .short-at3 .result) (low .short-at3 .ok),
+      kept w16 (high .short-at4 .result) (high .short-at4 .ok),
+      kept w16 (height .short-at5 .result) (height .short-at5 .ok),
+      kept w32 (score .word-at .result) (score .word-at .ok),
+      kept w32 (len .word-at2 .result) (len .word-at2 .ok),
+      flags .flags-at .ensures,
+      dir .direction-at .ensures,
+      pos .short-at .ensures,
+      delta .short-at2 .ensures,
+      low .short-at3 .ensures,
+      high .short-at4 .ensures,
+      height .short-at5 .ensures,
+      score .word-at .ensures,
+      len .word-at2 .ensures,
+      link .link-at .ensures,
+      serif .link-at2 .ensures,
+      first .index-at .ensures,
+      last .index-at2 .ensures,
+      edge .link-at3 .ensures,
+      c .link-at4 .ensures,
+    )
+
+pub segment-from-spec : {M : Type 1} → statement M
+segment-from-spec =
+    tie.close
+    (tie.spec
+    flags-at-requires
+    add-direction-at
+    direction-at-requires
+    add-short-at
+    short-at-requires
+    add-short-at-2
+    short-at-requires-2
+    add-short-at-3
+    short-at-requires-3
+    add-short-at-4
+    short-at-requires-4
+    add-short-at-5
+    short-at-requires-5
+    add-word-at
+    word-at-requires
+    add-word-at-2
+    word-at-requires-2
+    add-link-at
+    link-at-requires
+    add-link-at-2
+    link-at-requires-2
+    add-index-at
+    index-at-requires
+    add-index-at-2
+    index-at-requires-2
+    add-link-at-3
+    link-at-requires-3
+    add-link-at-4
+    link-at-requires-4
+    returns)

@@ -1,0 +1,5 @@
+-- What the contracts of `words` cite.
+pub mod Word
+pub mod Field
+pub mod Edge
+pub mod Segment

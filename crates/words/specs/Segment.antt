@@ -1,0 +1,64 @@
+-- Segments as words: the count, and 15 words for each segment that the table holds.
+use mathlib.Core.List.{List, [], _∷_}
+use Prim.Native.Nat.{ℕ, _+_, _*_, _%_, min}
+use lib.IntN.{ℤ, pos}
+use Rattle.signed.specs.Parts.{up}
+use Rattle.axis.specs.declared.segment.Segment.{Segment}
+use Rattle.axis.specs.declared.segment.Segments.{Segments}
+use Rattle.axis.specs.Segment.{emptySegment, segmentAt}
+use Rattle.axis.specs.Limits.{mostSegments}
+use Rattle.words.specs.Word.{wordAt, joined, table}
+use Rattle.words.specs.Field.{shortOf, indexOf, linkOf, directionOf, flagsOf, linkWord, directionWord, flagsWord}
+
+-- ---- words as segments
+-- the segment whose words stand at a place
+unfoldable pub segmentFrom : List ℤ → ℕ → Segment
+segmentFrom ws at = record {
+  flags = flagsOf (wordAt ws at);
+  dir = directionOf (wordAt ws (at + 1));
+  pos = shortOf (wordAt ws (at + 2));
+  delta = shortOf (wordAt ws (at + 3));
+  «min_coord» = shortOf (wordAt ws (at + 4));
+  «max_coord» = shortOf (wordAt ws (at + 5));
+  height = shortOf (wordAt ws (at + 6));
+  score = wordAt ws (at + 7);
+  len = wordAt ws (at + 8);
+  link = linkOf (wordAt ws (at + 9));
+  serif = linkOf (wordAt ws (at + 10));
+  first = indexOf (wordAt ws (at + 11));
+  last = indexOf (wordAt ws (at + 12));
+  edge = linkOf (wordAt ws (at + 13));
+  next = linkOf (wordAt ws (at + 14));
+}
+
+-- a segment of the list whose count stands at a place
+abbrev pub segmentOf : List ℤ → ℕ → ℕ → Segment
+segmentOf ws at i = segmentFrom ws (at + 1 + 15 * i)
+
+-- how many segments the list carries
+abbrev pub carriedSegments : List ℤ → ℕ → ℕ
+carriedSegments ws at = min (up (wordAt ws at)) mostSegments
+
+-- the place behind the list
+abbrev pub behindSegments : List ℤ → ℕ → ℕ
+behindSegments ws at = at + 1 + 15 * carriedSegments ws at
+
+-- a table that holds the first n segments of the list; its other places are empty
+abbrev pub segmentsTo : List ℤ → ℕ → ℕ → ℕ → Segments
+segmentsTo ws at len n = record { segments = table mostSegments emptySegment (segmentOf ws at) n; len = len }
+
+-- the segments of the list
+unfoldable pub segmentsFrom : List ℤ → ℕ → Segments
+segmentsFrom ws at = segmentsTo ws at (up (wordAt ws at)) (carriedSegments ws at)
+
+-- ---- segments as words
+unfoldable pub segmentWords : Segment → List ℤ
+segmentWords s = flagsWord (s .flags) ∷ directionWord (s .dir) ∷ s .pos ∷ s .delta ∷ s .«min_coord» ∷ s .«max_coord» ∷ s .height ∷ s .score ∷ s .len ∷ linkWord (s .link) ∷ linkWord (s .serif) ∷ pos (s .first) ∷ pos (s .last) ∷ linkWord (s .edge) ∷ linkWord (s .next) ∷ []
+
+-- a segment of a table
+abbrev pub segmentWordsAt : Segments → ℕ → List ℤ
+segmentWordsAt t i = segmentWords (segmentAt t i)
+
+-- the segments of a table; in an answer the count is below 65,536, and the remainder is the count
+unfoldable pub segmentsWords : Segments → List ℤ
+segmentsWords t = pos (t .len % 65536) ∷ joined (segmentWordsAt t) (min (t .len) mostSegments)

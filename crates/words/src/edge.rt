@@ -1,0 +1,107 @@
+// Edges as words, and back.
+use super::field::blue_at;
+use super::field::direction_at;
+use super::field::direction_word;
+use super::field::fitted_word;
+use super::field::flags_at;
+use super::field::flags_word;
+use super::field::index_at;
+use super::field::index_word;
+use super::field::link_at;
+use super::field::link_word;
+use super::field::present_word;
+use super::field::short_at;
+use super::field::short_word;
+use super::word::count_at;
+use super::word::count_word;
+use super::word::least;
+use super::word::word_at;
+use super::word::write_words;
+use axis::edge::Axis;
+use axis::edge::Edge;
+use axis::edge::empty_axis;
+use axis::kinds::Dimension;
+use axis::kinds::Direction;
+ghost use mathlib.Core.Path.{_≡_};
+ghost use Prim.Native.Nat.{_+_, _≤_};
+ghost use lib.ListN.{length};
+ghost use Rattle.words.specs.Word.{written};
+ghost use Rattle.words.specs.Edge.{edgeFrom, axisFrom, edgeWords, edgesWords};
+
+// The edge whose words stand at a place.
+fn edge_from(words: &[i32], at: usize) -> Edge
+    requires { ⌜ at ≤ 131072 ⌝ }
+    ensures { λ r. ⌜ r ≡ edgeFrom (now (words .entry)) at ⌝ }
+{
+    Edge {
+        fpos: short_at(words, at),
+        opos: word_at(words, at + 1),
+        pos: word_at(words, at + 2),
+        flags: flags_at(words, at + 3),
+        dir: direction_at(words, at + 4),
+        blue: blue_at(words, at + 5),
+        link: link_at(words, at + 7),
+        serif: link_at(words, at + 8),
+        first: index_at(words, at + 9),
+        last: index_at(words, at + 10),
+    }
+}
+
+// The axis whose edges are the list at a place.
+pub fn axis_from(words: &[i32], at: usize, dim: Dimension, major_dir: Direction) -> Axis
+    requires { ⌜ at ≤ 65536 ⌝ }
+    ensures { λ r. ⌜ r ≡ axisFrom (now (words .entry)) at dim «major_dir» ⌝ }
+{
+    let count = count_at(words, at);
+    let n = least(count, 128);
+    let mut axis = empty_axis(dim, major_dir);
+    axis.len = count;
+    let mut i = 0;
+    while i < n {
+        let edge = edge_from(words, at + 1 + 11 * i);
+        axis.edges[i] = edge;
+        i += 1;
+    }
+    axis
+}
+
+// The 11 words of an edge.
+fn edge_words(edge: Edge) -> [i32; 11]
+    ensures { λ r. ⌜ r ≡ edgeWords edge ⌝ }
+{
+    let flags = edge.flags;
+    let dir = edge.dir;
+    let blue = edge.blue;
+    let link = edge.link;
+    let serif = edge.serif;
+    [
+        short_word(edge.fpos),
+        edge.opos,
+        edge.pos,
+        flags_word(flags),
+        direction_word(dir),
+        present_word(blue),
+        fitted_word(blue),
+        link_word(link),
+        link_word(serif),
+        index_word(edge.first),
+        index_word(edge.last),
+    ]
+}
+
+// Writes the edges of an axis from a place on, and tells how many words they are.
+pub fn write_edges(out: &mut [i32], at: usize, axis: Axis) -> usize
+    requires { ⌜ at + 1409 ≤ length (now out) ⌝ }
+    ensures { λ r. ⌜ (r ≡ length (edgesWords axis)) × (now (out .exit) ≡ written (now (out .entry)) at (edgesWords axis)) ⌝ }
+{
+    let n = least(axis.len, 128);
+    out[at] = count_word(axis.len);
+    let mut i = 0;
+    while i < n {
+        let edge = axis.edges[i];
+        let words = edge_words(edge);
+        write_words(out, at + 1 + 11 * i, &words);
+        i += 1;
+    }
+    1 + 11 * n
+}

@@ -1,0 +1,208 @@
+// The fields of records as words, and back. In a job every word is within its field's values, so what another word reads as is what is simplest.
+use super::word::size_of;
+use super::word::word_at;
+use axis::flags::Flags;
+use axis::kinds::Blue;
+use axis::kinds::Dimension;
+use axis::kinds::Direction;
+use axis::kinds::Group;
+use axis::kinds::Link;
+ghost use mathlib.Core.Path.{_≡_};
+ghost use Prim.Native.Nat.{_+_, _≤_};
+ghost use lib.IntN.{pos};
+ghost use Rattle.words.specs.Word.{wordAt};
+ghost use Rattle.words.specs.Field.{shortOf, indexOf, linkOf, choiceOf, directionOf, groupOf, dimensionOf, blueOf, flagsOf, oddOf, weightOf, linkWord, directionWord, presentWord, fittedWord, flagsWord};
+
+// The directions, by their words.
+const DIRECTIONS: [Direction; 5] = [
+    Direction::None,
+    Direction::Right,
+    Direction::Left,
+    Direction::Up,
+    Direction::Down,
+];
+
+// A 16-bit number.
+pub fn short_at(words: &[i32], i: usize) -> i16
+    ensures { λ r. ⌜ r ≡ shortOf (wordAt (now (words .entry)) i) ⌝ }
+{
+    let word = word_at(words, i);
+    if word < -32768 {
+        return 0;
+    }
+    if 32767 < word {
+        return 0;
+    }
+    word as i16
+}
+
+// An index.
+pub fn index_of(word: i32) -> u16
+    ensures { λ r. ⌜ r ≡ indexOf word ⌝ }
+{
+    (size_of(word) % 65536) as u16
+}
+
+// The index at a place.
+pub fn index_at(words: &[i32], i: usize) -> u16
+    ensures { λ r. ⌜ r ≡ indexOf (wordAt (now (words .entry)) i) ⌝ }
+{
+    index_of(word_at(words, i))
+}
+
+// An index or none.
+pub fn link_at(words: &[i32], i: usize) -> Link
+    ensures { λ r. ⌜ r ≡ linkOf (wordAt (now (words .entry)) i) ⌝ }
+{
+    let word = word_at(words, i);
+    if word < 0 {
+        return Link::None;
+    }
+    Link::To(index_of(word))
+}
+
+// A choice.
+pub fn choice_at(words: &[i32], i: usize) -> bool
+    ensures { λ r. ⌜ r ≡ choiceOf (wordAt (now (words .entry)) i) ⌝ }
+{
+    word_at(words, i) == 1
+}
+
+// A direction.
+pub fn direction_at(words: &[i32], i: usize) -> Direction
+    ensures { λ r. ⌜ r ≡ directionOf (wordAt (now (words .entry)) i) ⌝ }
+{
+    let number = size_of(word_at(words, i));
+    if number < 5 {
+        return DIRECTIONS[number];
+    }
+    Direction::None
+}
+
+// A group.
+pub fn group_at(words: &[i32], i: usize) -> Group
+    ensures { λ r. ⌜ r ≡ groupOf (wordAt (now (words .entry)) i) ⌝ }
+{
+    if choice_at(words, i) {
+        return Group::Cjk;
+    }
+    Group::Default
+}
+
+// A dimension.
+pub fn dimension_at(words: &[i32], i: usize) -> Dimension
+    ensures { λ r. ⌜ r ≡ dimensionOf (wordAt (now (words .entry)) i) ⌝ }
+{
+    if choice_at(words, i) {
+        return Dimension::Vertical;
+    }
+    Dimension::Horizontal
+}
+
+// A blue by two words, whether it is there and its fitted position.
+pub fn blue_at(words: &[i32], i: usize) -> Blue
+    requires { ⌜ i ≤ 262144 ⌝ }
+    ensures { λ r. ⌜ r ≡ blueOf (wordAt (now (words .entry)) i) (wordAt (now (words .entry)) (i + 1)) ⌝ }
+{
+    if choice_at(words, i) {
+        return Blue::Fitted(word_at(words, i + 1));
+    }
+    Blue::None
+}
+
+// Whether a number is odd.
+fn odd(n: usize) -> bool
+    ensures { λ r. ⌜ r ≡ oddOf n ⌝ }
+{
+    n % 2 == 1
+}
+
+// Flags.
+pub fn flags_at(words: &[i32], i: usize) -> Flags
+    ensures { λ r. ⌜ r ≡ flagsOf (wordAt (now (words .entry)) i) ⌝ }
+{
+    let n = size_of(word_at(words, i));
+    Flags {
+        round: odd(n),
+        serif: odd(n / 2),
+        done: odd(n / 4),
+        neutral: odd(n / 8),
+    }
+}
+
+// A 16-bit number as a word.
+pub fn short_word(number: i16) -> i32
+    ensures { λ r. ⌜ r ≡ number ⌝ }
+{
+    number as i32
+}
+
+// An index as a word.
+pub fn index_word(index: u16) -> i32
+    ensures { λ r. ⌜ r ≡ pos index ⌝ }
+{
+    index as i32
+}
+
+// An index or none as a word.
+pub fn link_word(link: Link) -> i32
+    ensures { λ r. ⌜ r ≡ linkWord link ⌝ }
+{
+    match link {
+        Link::None => -1,
+        Link::To(index) => index_word(index),
+    }
+}
+
+// A direction as a word.
+pub fn direction_word(direction: Direction) -> i32
+    ensures { λ r. ⌜ r ≡ directionWord direction ⌝ }
+{
+    match direction {
+        Direction::None => 0,
+        Direction::Right => 1,
+        Direction::Left => 2,
+        Direction::Up => 3,
+        Direction::Down => 4,
+    }
+}
+
+// Whether there is a blue, as a word.
+pub fn present_word(blue: Blue) -> i32
+    ensures { λ r. ⌜ r ≡ presentWord blue ⌝ }
+{
+    match blue {
+        Blue::None => 0,
+        Blue::Fitted(_) => 1,
+    }
+}
+
+// The fitted position of a blue as a word, and 0 where there is none.
+pub fn fitted_word(blue: Blue) -> i32
+    ensures { λ r. ⌜ r ≡ fittedWord blue ⌝ }
+{
+    match blue {
+        Blue::None => 0,
+        Blue::Fitted(fitted) => fitted,
+    }
+}
+
+// A weight where a flag is set, and 0 where it is not.
+fn weight(set: bool, n: u8) -> u8
+    ensures { λ r. ⌜ (r ≡ weightOf set n) × (r ≤ n) ⌝ }
+{
+    if set {
+        return n;
+    }
+    0
+}
+
+// Flags as a word.
+pub fn flags_word(flags: Flags) -> i32
+    ensures { λ r. ⌜ r ≡ flagsWord flags ⌝ }
+{
+    (weight(flags.round, 1)
+        + weight(flags.serif, 2)
+        + weight(flags.done, 4)
+        + weight(flags.neutral, 8)) as i32
+}
