@@ -13,10 +13,11 @@ use lib.IntN.{ℤ, pos}
 use Rattle.signed.proofs.Signed.{lt-or-le}
 use Rattle.outline.specs.Weak.{refusal, result, Outcome}
 use Rattle.outline.proofs.Outcomes.{result-refused, result-length}
-use Rattle.jobs.specs.Weak.{countOf, listAt, behind, markOf, endOf, weakWords, weakAnswer, PartOf}
+use Rattle.words.specs.Field.{indexOf}
+use Rattle.jobs.specs.Weak.{countOf, listAt, behind, markOf, weakWords, weakAnswer, PartOf}
 
 -- an outcome of the call, written as a word and a list
-pub weak-written : (o c m e out d l : List ℤ) (a : ℕ) (w : ℤ) {out′ : List ℤ} {r : ℕ} → Outcome o c (map markOf m) (map endOf e) a d → l ≡ d → length d ≡ length c → w ≡ pos a → (r ≡ length l + 2) × (out′ ≡ w ∷ pos (length l) ∷ (l ++ drop (length l + 2) out)) → (r ≡ length c + 2) × (out′ ≡ weakWords o c m e ++ drop (length c + 2) out)
+pub weak-written : (o c m e out d l : List ℤ) (a : ℕ) (w : ℤ) {out′ : List ℤ} {r : ℕ} → Outcome o c (map markOf m) (map indexOf e) a d → l ≡ d → length d ≡ length c → w ≡ pos a → (r ≡ length l + 2) × (out′ ≡ w ∷ pos (length l) ∷ (l ++ drop (length l + 2) out)) → (r ≡ length c + 2) × (out′ ≡ weakWords o c m e ++ drop (length c + 2) out)
 unfolding weakWords
 weak-written o c m e out d l a w outcome p q s h =
     let n : length l ≡ length c = ap length p ∙ q in
@@ -67,7 +68,7 @@ part-short {ws} {at} p = rw (p .part, length-take) (omega arith)
 -- the answer has the currents and two words more
 weak-length : (o c m e : List ℤ) → length (weakWords o c m e) ≡ length c + 2
 unfolding weakWords
-weak-length o c m e = omega (arith, outcome-length o c (map markOf m) (map endOf e) _ _ (record { answer = refl; currents = refl }))
+weak-length o c m e = omega (arith, outcome-length o c (map markOf m) (map indexOf e) _ _ (record { answer = refl; currents = refl }))
 
 -- the answer to the four lists of a job is the answer to the job
 pub weak-answered : (ws out o c m e : List ℤ) {out′ : List ℤ} {r : ℕ} → o ≡ listAt ws 1 → c ≡ listAt ws (behind ws 1) → m ≡ listAt ws (behind ws (behind ws 1)) → e ≡ listAt ws (behind ws (behind ws (behind ws 1))) → (r ≡ length c + 2) × (out′ ≡ weakWords o c m e ++ drop (length c + 2) out) → (r ≡ length (weakAnswer ws)) × (out′ ≡ weakAnswer ws ++ drop (length (weakAnswer ws)) out)

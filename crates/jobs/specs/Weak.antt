@@ -6,6 +6,7 @@ use lib.ListN.{length, getD, take, drop}
 use lib.IntN.{ℤ, pos}
 use Rattle.signed.specs.Parts.{up}
 use Rattle.outline.specs.Weak.{refusal, result}
+use Rattle.words.specs.Field.{indexOf}
 
 -- how many numbers the list has whose count stands at a place
 abbrev pub countOf : List ℤ → ℕ → ℕ
@@ -19,16 +20,13 @@ listAt ws at = take (countOf ws at) (drop (at + 1) ws)
 unfoldable pub behind : List ℤ → ℕ → ℕ
 behind ws at = at + 1 + countOf ws at
 
--- a word as a touch mark and as a contour end; in a job the remainder is the word
+-- a word as a touch mark; in a job the remainder is the word
 abbrev pub markOf : ℤ → ℕ
 markOf w = up w % 256
 
-abbrev pub endOf : ℤ → ℕ
-endOf w = up w % 65536
-
 -- the answer to originals, currents, touch marks and contour ends: its number, and the currents as a list
 unfoldable pub weakWords : List ℤ → List ℤ → List ℤ → List ℤ → List ℤ
-weakWords o c m e = pos (refusal o c (map markOf m) (map endOf e)) ∷ pos (length c) ∷ result o c (map markOf m) (map endOf e)
+weakWords o c m e = pos (refusal o c (map markOf m) (map indexOf e)) ∷ pos (length c) ∷ result o c (map markOf m) (map indexOf e)
 
 -- the answer to a job: four lists, one behind the other
 unfoldable pub weakAnswer : List ℤ → List ℤ

@@ -1,10 +1,11 @@
 // The answer to a job, from the call that it names.
 use super::shape::Call;
 use super::shape::job_of;
-use super::shape::word_at;
 use super::weak::answer_weak;
 use fixed::middle::compute_mid_delta;
 use fixed::middle::compute_mid_pos;
+use words::word::word_at;
+use words::word::write_words;
 ghost use mathlib.Core.Path.{_≡_};
 ghost use mathlib.Core.List.{_∷_, _++_};
 ghost use lib.IntN.{pos};
@@ -38,13 +39,8 @@ pub fn list_answer(out: &mut [i32], word: i32, list: &[i32]) -> usize
 {
     out[0] = word;
     out[1] = list.len() as i32;
-    let mut i = 0;
-    while i < list.len() {
-        let number = list[i];
-        out[i + 2] = number;
-        i += 1;
-    }
-    i + 2
+    write_words(out, 2, list);
+    list.len() + 2
 }
 
 // Writes the answer to a word list into a buffer, and tells how many words it has.

@@ -1,9 +1,10 @@
 // Which word lists are jobs: the fields, records and lists of every call, and the place behind each.
+use words::word::count_at;
+use words::word::least;
+use words::word::word_at;
 ghost use mathlib.Core.Path.{_≡_};
-ghost use Prim.Native.Nat.{_<_, min};
+ghost use Prim.Native.Nat.{_<_};
 ghost use lib.ListN.{length, getD};
-ghost use lib.IntN.{pos};
-ghost use Rattle.signed.specs.Parts.{up};
 ghost use Rattle.jobs.specs.Shape.{noRange, field, fields, rangesOf, edge, element, elements, countsOf, carriedOf, counted, item, items, formatOf, callOf, jobOf};
 
 // A place in a word list, or nowhere, where the words are not those of a job.
@@ -194,33 +195,6 @@ fn skip_record(words: &[i32], at: usize, kind: Record) -> Place
     Place::At(here)
 }
 
-// A word, and 0 past the end.
-pub fn word_at(words: &[i32], i: usize) -> i32
-    ensures { λ r. ⌜ r ≡ getD (now (words .entry)) i (pos 0) ⌝ }
-{
-    if i < words.len() {
-        return words[i];
-    }
-    0
-}
-
-// A word as a count, and 0 where it is below zero.
-pub fn size_of(word: i32) -> usize
-    ensures { λ r. ⌜ r ≡ up word ⌝ }
-{
-    if word < 0 {
-        return 0;
-    }
-    word as usize
-}
-
-// The word at a place as a count.
-pub fn count_at(words: &[i32], i: usize) -> usize
-    ensures { λ r. ⌜ r ≡ up (getD (now (words .entry)) i (pos 0)) ⌝ }
-{
-    size_of(word_at(words, i))
-}
-
 // The place behind an edge, whose fitted position is 0 where it has no blue.
 fn skip_edge(words: &[i32], at: usize) -> Place
     ensures { λ r. ⌜ r ≡ edge (now (words .entry)) at ⌝ }
@@ -287,16 +261,6 @@ fn carried(kind: Element) -> usize
         Element::Edge => 128,
         Element::LentEdge => 160,
     }
-}
-
-// The lesser of two.
-pub fn least(a: usize, b: usize) -> usize
-    ensures { λ r. ⌜ r ≡ min a b ⌝ }
-{
-    if a < b {
-        return a;
-    }
-    b
 }
 
 // The place behind a counted list.

@@ -1,28 +1,23 @@
 // Weak points, call 3: from the words of its job to those of its answer.
 use super::answer::list_answer;
-use super::shape::count_at;
-use super::shape::least;
-use super::shape::size_of;
 use outline::weak::align_weak_points;
+use words::field::index_of;
+use words::word::count_at;
+use words::word::least;
+use words::word::size_of;
 ghost use mathlib.Core.Path.{_≡_};
 ghost use mathlib.Core.List.{_++_, map};
 ghost use Prim.Native.Nat.{_≤_, _+_};
 ghost use lib.ListN.{length, take, drop};
 ghost use lib.IntN.{pos};
-ghost use Rattle.jobs.specs.Weak.{markOf, endOf, weakWords, PartOf, weakAnswer};
+ghost use Rattle.words.specs.Field.{indexOf};
+ghost use Rattle.jobs.specs.Weak.{markOf, weakWords, PartOf, weakAnswer};
 
 // A word as a touch mark.
 fn mark_of(word: i32) -> u8
     ensures { λ r. ⌜ r ≡ markOf word ⌝ }
 {
     (size_of(word) % 256) as u8
-}
-
-// A word as a contour end.
-fn end_of(word: i32) -> u16
-    ensures { λ r. ⌜ r ≡ endOf word ⌝ }
-{
-    (size_of(word) % 65536) as u16
 }
 
 // Writes a list's touch marks.
@@ -40,11 +35,11 @@ fn copy_marks(list: &[i32], to: &mut [u8])
 // Writes a list's contour ends.
 fn copy_ends(list: &[i32], to: &mut [u16])
     requires { ⌜ length (now list) ≤ length (now to) ⌝ }
-    ensures { λ _. ⌜ take (length (now (list .entry))) (now (to .exit)) ≡ map endOf (now (list .entry)) ⌝ }
+    ensures { λ _. ⌜ take (length (now (list .entry))) (now (to .exit)) ≡ map indexOf (now (list .entry)) ⌝ }
 {
     let mut i = 0;
     while i < list.len() {
-        to[i] = end_of(list[i]);
+        to[i] = index_of(list[i]);
         i += 1;
     }
 }

@@ -9,7 +9,7 @@ use lib.ListN.{length, set, replicate, length-append}
 use lib.Seq.{append-snoc, set-at}
 use lib.IntN.{ℤ}
 use Rattle.words.specs.Word.{written, firsts, joined, table}
-use Rattle.words.proofs.Writing.{written-length, written-none, written-one, written-more}
+use Rattle.words.proofs.Writing.{written-length, written-none, written-more, written-next}
 
 -- ---- filling
 firsts-length : {A : Type 0} (f : ℕ → A) (n : ℕ) → length (firsts f n) ≡ n
@@ -65,4 +65,4 @@ module _ (f : ℕ → List ℤ) (k : ℕ) (sized : (i : ℕ) → length (f i) �
   pub joined-all : (entry : List ℤ) (at : ℕ) (w : ℤ) {out : List ℤ} {n i : ℕ} → Joined f (set entry at w) out (at + 1) n i → n ≤ i → at + 1 + k * n ≤ length entry → out ≡ written entry at (w ∷ joined f n)
   joined-all entry at w {out} {n} {i} j h room =
       let e : i ≡ n = omega (arith, j .within) in
-      rw (j .so-far, e, written-one entry w at (omega arith)) (written-more entry (w ∷ []) (joined f n) at (omega (arith, joined-length n)))
+      rw (j .so-far, e) (written-next entry (joined f n) w at (omega (arith, joined-length n)))

@@ -67,3 +67,12 @@ written-more out xs ys at h = rw (take-at front rest (at + length xs) front-leng
 
     end : at + length (xs ++ ys) ≡ at + length xs + length ys
     end = simp length-append (omega arith)
+
+-- words behind one word
+pub written-next : (out ws : List ℤ) (w : ℤ) (at : ℕ) → at + 1 + length ws ≤ length out → written (set out at w) (at + 1) ws ≡ written out at (w ∷ ws)
+written-next out ws w at h = rw (written-one out w at (omega arith)) (written-more out (w ∷ []) ws at h)
+
+-- words from the front on
+pub written-front : (out ws : List ℤ) → written out 0 ws ≡ ws ++ drop (length ws) out
+unfolding written
+written-front out ws = let q : 0 + length ws ≡ length ws = omega arith in rw q

@@ -9,7 +9,8 @@ use lib.IntN.{ℤ}
 use mir.Syntax.{w32}
 use Rattle.signed.proofs.Signed.{is, got}
 use Rattle.outline.specs.Weak.{Outcome}
-use Rattle.jobs.specs.Weak.{markOf, endOf}
+use Rattle.words.specs.Field.{indexOf}
+use Rattle.jobs.specs.Weak.{markOf}
 use Rattle.jobs.proofs.Weaks.{weak-written, outcome-length}
 use Rattle.jobs.proofs.weak.align_lists.Statement.{statement}
 use Rattle.jobs.proofs.weak.align_lists.Tie as tie
@@ -25,7 +26,7 @@ module _ (c : tie.After-contours2) where
   touched-is : take (length (start .args .marks .now)) (c .before .before .before .before .copy-marks .last .1 .0) ≡ map markOf (start .args .marks .now)
   touched-is = c .before .before .before .before .copy-marks .ensures
 
-  contours-is : take (length (start .args .ends .now)) (c .before .copy-ends .last .1 .0) ≡ map endOf (start .args .ends .now)
+  contours-is : take (length (start .args .ends .now)) (c .before .copy-ends .last .1 .0) ≡ map indexOf (start .args .ends .now)
   contours-is = c .before .copy-ends .ensures
 
 slice-aggregate-copy-numbers : tie.Need-slice-aggregate-copy-numbers
@@ -62,7 +63,7 @@ array-share-prefix-contours : tie.Need-array-share-prefix-contours
 array-share-prefix-contours c = search needs
 
 slice-aggregate-align-weak-points-3 : tie.Need-slice-aggregate-align-weak-points-3
-slice-aggregate-align-weak-points-3 c = sym (ap length (contours-is (c .before .before .before)) ∙ length-map (start (c .before .before .before) .args .ends .now) endOf)
+slice-aggregate-align-weak-points-3 c = sym (ap length (contours-is (c .before .before .before)) ∙ length-map (start (c .before .before .before) .args .ends .now) indexOf)
 
 align-weak-points-requires : tie.Need-align-weak-points-requires
 align-weak-points-requires c κs = search needs
@@ -77,7 +78,7 @@ begun x = x .before .before .before .before
 abbrev after : tie.After-align-weak-points → List ℤ
 after x = x .align-weak-points .last .1 .0
 
-outcome : (x : tie.After-align-weak-points) → Outcome (start (begun x) .args .originals .now) (start (begun x) .args .currents .now) (map markOf (start (begun x) .args .marks .now)) (map endOf (start (begun x) .args .ends .now)) (x .align-weak-points .result) (after x)
+outcome : (x : tie.After-align-weak-points) → Outcome (start (begun x) .args .originals .now) (start (begun x) .args .currents .now) (map markOf (start (begun x) .args .marks .now)) (map indexOf (start (begun x) .args .ends .now)) (x .align-weak-points .result) (after x)
 outcome x = rw (moved-is (begun x), touched-is (begun x), contours-is (begun x)) at (x .align-weak-points .ensures)
 
 after-length : (x : tie.After-align-weak-points) → length (after x) ≡ length (start (begun x) .args .currents .now)

@@ -6,28 +6,28 @@ use lib.ListN.{length, getD}
 use lib.IntN.{pos}
 use mir.Syntax.{w32}
 use Rattle.signed.proofs.Signed.{is, got}
-use Rattle.jobs.specs.Weak.{endOf}
+use Rattle.words.specs.Field.{indexOf}
 use Rattle.jobs.proofs.Copies.{Copied, copied-none, copied-more, copied-all}
 use Rattle.jobs.proofs.weak.copy_ends.Statement.{statement}
 use Rattle.jobs.proofs.weak.copy_ends.Tie as tie
 
 abbrev Inv-loop : tie.InvT-loop
-Inv-loop list to₀ i₀ to i = Copied endOf list to₀ to i
+Inv-loop list to₀ i₀ to i = Copied indexOf list to₀ to i
 
 abbrev μ-loop : tie.MeasureT-loop
 μ-loop list to₀ i₀ to i = length list - i
 
 loop-holds : tie.Need-loop-holds Inv-loop μ-loop
-loop-holds c = copied-none endOf (c .before .args .list .now) (c .before .args .to .now)
+loop-holds c = copied-none indexOf (c .before .args .list .now) (c .before .args .to .now)
 
-mul-end-of : tie.Need-mul-end-of Inv-loop μ-loop
-mul-end-of c = search needs
+mul-index-of : tie.Need-mul-index-of Inv-loop μ-loop
+mul-index-of c = search needs
 
-shared-slice-copy-out-end-of : tie.Need-shared-slice-copy-out-end-of Inv-loop μ-loop
-shared-slice-copy-out-end-of c = omega arith
+shared-slice-copy-out-index-of : tie.Need-shared-slice-copy-out-index-of Inv-loop μ-loop
+shared-slice-copy-out-index-of c = omega arith
 
-end-of-requires : tie.Need-end-of-requires Inv-loop μ-loop
-end-of-requires c κs = search needs
+index-of-requires : tie.Need-index-of-requires Inv-loop μ-loop
+index-of-requires c κs = search needs
 
 mul-to : tie.Need-mul-to Inv-loop μ-loop
 mul-to c = search needs
@@ -45,8 +45,8 @@ loop-again : tie.Need-loop-again Inv-loop μ-loop
 loop-again c =
     let l = c .before .before .before .loop in
     let s = c .before .before .before .before .before in
-    copied-more (pos 0) (c .end-of .result) (l .inv) (omega arith) (omega arith)
-    (cc (c .end-of .ensures, is (got w32 (getD (s .args .list .now) (l .i) (pos 0)) (c .before .end-of-arg .given))))
+    copied-more (pos 0) (c .index-of .result) (l .inv) (omega arith) (omega arith)
+    (cc (c .index-of .ensures, is (got w32 (getD (s .args .list .now) (l .i) (pos 0)) (c .before .index-of-arg .given))))
 
 same-length : tie.Need-same-length Inv-loop μ-loop
 same-length c = c .before .loop .inv .kept
@@ -61,9 +61,9 @@ copy-ends-spec =
     Inv-loop
     μ-loop
     loop-holds
-    mul-end-of
-    shared-slice-copy-out-end-of
-    end-of-requires
+    mul-index-of
+    shared-slice-copy-out-index-of
+    index-of-requires
     mul-to
     slice-write-to
     add-i
