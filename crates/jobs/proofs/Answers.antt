@@ -1,13 +1,13 @@
--- Answers of one word, of two, and of a word and a list, as they stand in a buffer with room.
+-- Answers of one word, of two, of a word and a list, and of a number and a table, as they stand in a buffer with room.
 use mathlib.Core.Path.{_≡_, refl, ap, _∙_}
 use mathlib.Core.List.{List, [], _∷_, _++_}
 use Prim.Native.Nat.{ℕ, suc, _+_, _≤_, _<_}
 use native.Mathlib.Omega.{arith}
 use borrow.Author.Tests.{lt-ltb, le-ltb}
 use lib.ListN.{length, drop, set, length-set}
-use lib.IntN.{ℤ}
+use lib.IntN.{ℤ, pos}
 use Rattle.words.specs.Word.{written}
-use Rattle.words.proofs.Writing.{written-next, written-front}
+use Rattle.words.proofs.Writing.{written-length, written-next, written-front}
 use Rattle.jobs.specs.declared.shape.Call.{Call}
 use Rattle.jobs.specs.Shape.{jobOf}
 use Rattle.jobs.specs.Answer.{answerOf, answerTo, longest, Answered}
@@ -45,9 +45,21 @@ module _ (ws out : List ℤ) (call : Call) (room : longest ≤ length out) (job 
   pub answered-two : {out′ : List ℤ} {r : ℕ} (a b : ℤ) → answerOf call ws ≡ a ∷ b ∷ [] → (r ≡ 2) × (out′ ≡ a ∷ b ∷ drop 2 out) → Answered ws out out′ r
   answered-two a b e h = answered-all (a ∷ b ∷ []) e h
 
+-- ---- equal answers
+pub same-answer : (a b out : List ℤ) {out′ : List ℤ} {r : ℕ} → a ≡ b → (r ≡ length a) × (out′ ≡ a ++ drop (length a) out) → (r ≡ length b) × (out′ ≡ b ++ drop (length b) out)
+same-answer a b out e h = rw e at h
+
 -- ---- a word and a list
 pub listed : (out list : List ℤ) (a b : ℤ) → length list + 2 ≤ length out → written (set (set out 0 a) 1 b) 2 list ≡ a ∷ b ∷ (list ++ drop (length list + 2) out)
 listed out list a b h =
     let q : suc (suc (length list)) ≡ length list + 2 = omega arith in
     written-next (set out 0 a) list b 1 (simp length-set (omega arith)) ∙ written-next out (b ∷ list) a 0 (omega arith) ∙ written-front out (a ∷ b ∷ list)
     ∙ ap (λ (k : ℕ). a ∷ b ∷ (list ++ drop k out)) q
+
+-- ---- a number and a table
+pub tabled : (out table : List ℤ) (answer : ℕ) (w : ℤ) {out′ : List ℤ} {r : ℕ} → w ≡ pos answer → 1 + length table ≤ length out → (r ≡ length table) × (out′ ≡ written (set out 0 w) 1 table) → (1 + r ≡ length (pos answer ∷ table)) × (out′ ≡ pos answer ∷ table ++ drop (length (pos answer ∷ table)) out)
+tabled out table answer w e room h = (omega (arith, h .0), rw (h .1, e) (written-next out table (pos answer) 0 room ∙ written-front out (pos answer ∷ table)))
+
+-- which keeps the buffer's length
+pub tabled-length : (out table : List ℤ) (w : ℤ) {out′ : List ℤ} → 1 + length table ≤ length out → out′ ≡ written (set out 0 w) 1 table → length out′ ≡ length out
+tabled-length out table w room e = rw e (written-length (set out 0 w) table 1 (simp length-set room) ∙ length-set out 0 w)

@@ -11,6 +11,7 @@ use Rattle.jobs.specs.declared.shape.Call.{Call}
 use Rattle.jobs.specs.declared.shape.Call.the-variants.{NotACall, ComputeMidPos, ComputeMidDelta, AlignWeakPoints, LinkSegmentsCjk, ComputeEdges, AlignEdgesToBlues, AlignLinkedEdge, AlignSerifEdge, AdjustLink, LatinRemainingBounds, HintNormalStemCjk, AlignStemEdges, HintLowercaseM, HintLowercaseMLent}
 use Rattle.jobs.specs.Shape.{jobOf}
 use Rattle.jobs.specs.Weak.{weakAnswer}
+use Rattle.jobs.specs.M.{mAnswer}
 
 -- what is not a job is answered by -1
 abbrev pub notAJob : List ℤ
@@ -35,7 +36,7 @@ answerOf AdjustLink ws = notYet
 answerOf LatinRemainingBounds ws = notYet
 answerOf HintNormalStemCjk ws = notYet
 answerOf AlignStemEdges ws = notYet
-answerOf HintLowercaseM ws = notYet
+answerOf HintLowercaseM ws = mAnswer ws
 answerOf HintLowercaseMLent ws = notYet
 
 -- the answer to a word list

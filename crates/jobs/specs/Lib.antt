@@ -1,4 +1,6 @@
 -- What the contracts of the crate cite.
 pub mod Shape
 pub mod Weak
+pub mod Tables
+pub mod M
 pub mod Answer

@@ -1,9 +1,12 @@
 // The answer to a job, from the call that it names.
+use super::m::answer_m;
 use super::shape::Call;
 use super::shape::job_of;
 use super::weak::answer_weak;
+use axis::edge::Axis;
 use fixed::middle::compute_mid_delta;
 use fixed::middle::compute_mid_pos;
+use words::edge::write_edges;
 use words::word::word_at;
 use words::word::write_words;
 ghost use mathlib.Core.Path.{_≡_};
@@ -11,6 +14,7 @@ ghost use mathlib.Core.List.{_∷_, _++_};
 ghost use lib.IntN.{pos};
 ghost use Prim.Native.Nat.{_≤_, _+_};
 ghost use lib.ListN.{length, drop};
+ghost use Rattle.jobs.specs.Tables.{edgesAnswer};
 ghost use Rattle.jobs.specs.Answer.{Answered};
 
 // Writes an answer of one word.
@@ -43,6 +47,22 @@ pub fn list_answer(out: &mut [i32], word: i32, list: &[i32]) -> usize
     list.len() + 2
 }
 
+// An answer's number as a word.
+pub fn number_of(answer: u8) -> i32
+    ensures { λ r. ⌜ r ≡ pos answer ⌝ }
+{
+    answer as i32
+}
+
+// Writes an answer of a number and the edges of an axis.
+pub fn edges_answer(out: &mut [i32], answer: u8, axis: Axis) -> usize
+    requires { ⌜ 1410 ≤ length (now out) ⌝ }
+    ensures { λ r. ⌜ (r ≡ length (edgesAnswer answer axis)) × (now (out .exit) ≡ edgesAnswer answer axis ++ drop (length (edgesAnswer answer axis)) (now (out .entry))) ⌝ }
+{
+    out[0] = number_of(answer);
+    1 + write_edges(out, 1, axis)
+}
+
 // Writes the answer to a word list into a buffer, and tells how many words it has.
 pub fn answer(words: &[i32], out: &mut [i32]) -> usize
     ensures { λ r. ⌜ Answered (now (words .entry)) (now (out .entry)) (now (out .exit)) r ⌝ }
@@ -67,7 +87,7 @@ pub fn answer(words: &[i32], out: &mut [i32]) -> usize
         Call::LatinRemainingBounds => one_word(out, -2),
         Call::HintNormalStemCjk => one_word(out, -2),
         Call::AlignStemEdges => one_word(out, -2),
-        Call::HintLowercaseM => one_word(out, -2),
+        Call::HintLowercaseM => answer_m(words, out),
         Call::HintLowercaseMLent => one_word(out, -2),
     }
 }

@@ -1,4 +1,5 @@
 // Jobs: one word list for every public call, its answer, and both as lines of text.
 pub mod answer;
+mod m;
 pub mod shape;
 mod weak;

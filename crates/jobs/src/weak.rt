@@ -1,5 +1,6 @@
 // Weak points, call 3: from the words of its job to those of its answer.
 use super::answer::list_answer;
+use super::answer::number_of;
 use outline::weak::align_weak_points;
 use words::field::index_of;
 use words::word::count_at;
@@ -9,7 +10,6 @@ ghost use mathlib.Core.Path.{_≡_};
 ghost use mathlib.Core.List.{_++_, map};
 ghost use Prim.Native.Nat.{_≤_, _+_};
 ghost use lib.ListN.{length, take, drop};
-ghost use lib.IntN.{pos};
 ghost use Rattle.words.specs.Field.{indexOf};
 ghost use Rattle.jobs.specs.Weak.{markOf, weakWords, PartOf, weakAnswer};
 
@@ -55,13 +55,6 @@ fn copy_numbers(list: &[i32], to: &mut [i32])
         to[i] = number;
         i += 1;
     }
-}
-
-// An answer's number as a word.
-fn number_of(answer: u8) -> i32
-    ensures { λ r. ⌜ r ≡ pos answer ⌝ }
-{
-    answer as i32
 }
 
 // Aligns the outline that four lists give, and writes the answer.

@@ -26,7 +26,7 @@ ghost use mathlib.Core.Path.{_≡_};
 ghost use Prim.Native.Nat.{_+_, _≤_};
 ghost use lib.ListN.{length};
 ghost use Rattle.words.specs.Word.{written};
-ghost use Rattle.words.specs.Edge.{edgeFrom, axisFrom, edgeWords, edgesWords};
+ghost use Rattle.words.specs.Edge.{edgeFrom, axisFrom, behindEdges, edgeWords, edgesWords};
 
 // The edge whose words stand at a place.
 fn edge_from(words: &[i32], at: usize) -> Edge
@@ -63,6 +63,15 @@ pub fn axis_from(words: &[i32], at: usize, dim: Dimension, major_dir: Direction)
         i += 1;
     }
     axis
+}
+
+// The place behind the list of edges at a place.
+pub fn behind_edges(words: &[i32], at: usize) -> usize
+    requires { ⌜ at ≤ 65536 ⌝ }
+    ensures { λ r. ⌜ r ≡ behindEdges (now (words .entry)) at ⌝ }
+{
+    let n = least(count_at(words, at), 128);
+    at + 1 + 11 * n
 }
 
 // The 11 words of an edge.

@@ -21,7 +21,7 @@ ghost use mathlib.Core.Path.{_≡_};
 ghost use Prim.Native.Nat.{_+_, _≤_};
 ghost use lib.ListN.{length};
 ghost use Rattle.words.specs.Word.{written};
-ghost use Rattle.words.specs.Segment.{segmentFrom, segmentsFrom, segmentWords, segmentsWords};
+ghost use Rattle.words.specs.Segment.{segmentFrom, segmentsFrom, behindSegments, segmentWords, segmentsWords};
 
 // The segment whose words stand at a place.
 fn segment_from(words: &[i32], at: usize) -> Segment
@@ -63,6 +63,15 @@ pub fn segments_from(words: &[i32], at: usize) -> Segments
         i += 1;
     }
     table
+}
+
+// The place behind the list of segments at a place.
+pub fn behind_segments(words: &[i32], at: usize) -> usize
+    requires { ⌜ at ≤ 65536 ⌝ }
+    ensures { λ r. ⌜ r ≡ behindSegments (now (words .entry)) at ⌝ }
+{
+    let n = least(count_at(words, at), 512);
+    at + 1 + 15 * n
 }
 
 // The 15 words of a segment.

@@ -11,6 +11,7 @@ use Rattle.jobs.specs.declared.shape.Call.{Call}
 use Rattle.jobs.specs.declared.shape.Call.the-variants.{NotACall, ComputeMidPos, ComputeMidDelta, AlignWeakPoints, LinkSegmentsCjk, ComputeEdges, AlignEdgesToBlues, AlignLinkedEdge, AlignSerifEdge, AdjustLink, LatinRemainingBounds, HintNormalStemCjk, AlignStemEdges, HintLowercaseM, HintLowercaseMLent}
 use Rattle.jobs.specs.Shape.{jobOf}
 use Rattle.jobs.specs.Weak.{weakAnswer}
+use Rattle.jobs.specs.M.{mAnswer}
 use Rattle.jobs.specs.Answer.{answerOf, longest}
 use Rattle.jobs.proofs.Answers.{answered-none, answered-all, answered-one, answered-two}
 use Rattle.jobs.proofs.answer.answer.Statement.{statement}
@@ -144,14 +145,14 @@ one-word-requires-10 c κs = search needs
 enum-told-14 : tie.Need-enum-told-14
 enum-told-14 c = search needs
 
-one-word-requires-11 : tie.Need-one-word-requires-11
-one-word-requires-11 c κs = search needs
+answer-m-requires : tie.Need-answer-m-requires
+answer-m-requires c κs = search needs
 
 enum-told-15 : tie.Need-enum-told-15
 enum-told-15 c = search needs
 
-one-word-requires-12 : tie.Need-one-word-requires-12
-one-word-requires-12 c κs = search needs
+one-word-requires-11 : tie.Need-one-word-requires-11
+one-word-requires-11 c κs = search needs
 
 same-length : tie.Need-same-length
 same-length c = search needs
@@ -299,7 +300,7 @@ unfolding answerOf
 returns-15 c =
     let e = c .before .before .before in
     let a = e .before .before in
-    answered-one (list a) (out a) HintLowercaseM (room a) (job a (e .enum-told14 .given .1)) (negsuc 1) refl (c .before .one-word11 .ensures)
+    answered-all (list a) (out a) HintLowercaseM (room a) (job a (e .enum-told14 .given .1)) (mAnswer (list a)) refl (c .before .answer-m .ensures)
 
 same-length-15 : tie.Need-same-length-15
 same-length-15 c = search needs
@@ -309,7 +310,7 @@ unfolding answerOf
 returns-16 c =
     let e = c .before .before .before in
     let a = e .before .before in
-    answered-one (list a) (out a) HintLowercaseMLent (room a) (job a (e .enum-told15 .given .1)) (negsuc 1) refl (c .before .one-word12 .ensures)
+    answered-one (list a) (out a) HintLowercaseMLent (room a) (job a (e .enum-told15 .given .1)) (negsuc 1) refl (c .before .one-word11 .ensures)
 
 pub answer-spec : {M : Type 1} → statement M
 answer-spec =
@@ -350,9 +351,9 @@ answer-spec =
     enum-told-13
     one-word-requires-10
     enum-told-14
-    one-word-requires-11
+    answer-m-requires
     enum-told-15
-    one-word-requires-12
+    one-word-requires-11
     same-length
     returns-2
     same-length-2

@@ -1,8 +1,8 @@
--- `jobs::weak::number_of` meets its contract. Assumes nothing.
+-- `jobs::answer::number_of` meets its contract. Assumes nothing.
 use borrow.Author.Needs.{needs}
 use Rattle.signed.proofs.Signed.{is}
-use Rattle.jobs.proofs.weak.number_of.Statement.{statement}
-use Rattle.jobs.proofs.weak.number_of.Tie as tie
+use Rattle.jobs.proofs.answer.number_of.Statement.{statement}
+use Rattle.jobs.proofs.answer.number_of.Tie as tie
 
 cast-result : tie.Need-cast-result
 cast-result c = search needs
