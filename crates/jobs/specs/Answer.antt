@@ -11,6 +11,7 @@ use Rattle.jobs.specs.declared.shape.Call.{Call}
 use Rattle.jobs.specs.declared.shape.Call.the-variants.{NotACall, ComputeMidPos, ComputeMidDelta, AlignWeakPoints, LinkSegmentsCjk, ComputeEdges, AlignEdgesToBlues, AlignLinkedEdge, AlignSerifEdge, AdjustLink, LatinRemainingBounds, HintNormalStemCjk, AlignStemEdges, HintLowercaseM, HintLowercaseMLent}
 use Rattle.jobs.specs.Shape.{jobOf}
 use Rattle.jobs.specs.Weak.{weakAnswer}
+use Rattle.jobs.specs.Link.{linkingAnswer}
 use Rattle.jobs.specs.M.{mAnswer}
 
 -- what is not a job is answered by -1
@@ -27,7 +28,7 @@ answerOf NotACall ws = notAJob
 answerOf ComputeMidPos ws = pos 0 ∷ midPos (getD ws 1 (pos 0)) (getD ws 2 (pos 0)) ∷ []
 answerOf ComputeMidDelta ws = pos 0 ∷ midDelta (getD ws 1 (pos 0)) (getD ws 2 (pos 0)) ∷ []
 answerOf AlignWeakPoints ws = weakAnswer ws
-answerOf LinkSegmentsCjk ws = notYet
+answerOf LinkSegmentsCjk ws = linkingAnswer ws
 answerOf ComputeEdges ws = notYet
 answerOf AlignEdgesToBlues ws = notYet
 answerOf AlignLinkedEdge ws = notYet

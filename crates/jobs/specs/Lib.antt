@@ -2,5 +2,6 @@
 pub mod Shape
 pub mod Weak
 pub mod Tables
+pub mod Link
 pub mod M
 pub mod Answer

@@ -1,12 +1,15 @@
 // The answer to a job, from the call that it names.
+use super::link::answer_linking;
 use super::m::answer_m;
 use super::shape::Call;
 use super::shape::job_of;
 use super::weak::answer_weak;
 use axis::edge::Axis;
+use axis::segment::Segments;
 use fixed::middle::compute_mid_delta;
 use fixed::middle::compute_mid_pos;
 use words::edge::write_edges;
+use words::segment::write_segments;
 use words::word::word_at;
 use words::word::write_words;
 ghost use mathlib.Core.Path.{_≡_};
@@ -14,7 +17,7 @@ ghost use mathlib.Core.List.{_∷_, _++_};
 ghost use lib.IntN.{pos};
 ghost use Prim.Native.Nat.{_≤_, _+_};
 ghost use lib.ListN.{length, drop};
-ghost use Rattle.jobs.specs.Tables.{edgesAnswer};
+ghost use Rattle.jobs.specs.Tables.{edgesAnswer, segmentsAnswer};
 ghost use Rattle.jobs.specs.Answer.{Answered};
 
 // Writes an answer of one word.
@@ -63,6 +66,15 @@ pub fn edges_answer(out: &mut [i32], answer: u8, axis: Axis) -> usize
     1 + write_edges(out, 1, axis)
 }
 
+// Writes an answer of a number and the segments of a table.
+pub fn segments_answer(out: &mut [i32], answer: u8, table: Segments) -> usize
+    requires { ⌜ 7682 ≤ length (now out) ⌝ }
+    ensures { λ r. ⌜ (r ≡ length (segmentsAnswer answer table)) × (now (out .exit) ≡ segmentsAnswer answer table ++ drop (length (segmentsAnswer answer table)) (now (out .entry))) ⌝ }
+{
+    out[0] = number_of(answer);
+    1 + write_segments(out, 1, table)
+}
+
 // Writes the answer to a word list into a buffer, and tells how many words it has.
 pub fn answer(words: &[i32], out: &mut [i32]) -> usize
     ensures { λ r. ⌜ Answered (now (words .entry)) (now (out .entry)) (now (out .exit)) r ⌝ }
@@ -78,7 +90,7 @@ pub fn answer(words: &[i32], out: &mut [i32]) -> usize
         Call::ComputeMidPos => two_words(out, 0, wide(compute_mid_pos(a, b))),
         Call::ComputeMidDelta => two_words(out, 0, wide(compute_mid_delta(a, b))),
         Call::AlignWeakPoints => answer_weak(words, out),
-        Call::LinkSegmentsCjk => one_word(out, -2),
+        Call::LinkSegmentsCjk => answer_linking(words, out),
         Call::ComputeEdges => one_word(out, -2),
         Call::AlignEdgesToBlues => one_word(out, -2),
         Call::AlignLinkedEdge => one_word(out, -2),

@@ -11,6 +11,7 @@ use Rattle.jobs.specs.declared.shape.Call.{Call}
 use Rattle.jobs.specs.declared.shape.Call.the-variants.{NotACall, ComputeMidPos, ComputeMidDelta, AlignWeakPoints, LinkSegmentsCjk, ComputeEdges, AlignEdgesToBlues, AlignLinkedEdge, AlignSerifEdge, AdjustLink, LatinRemainingBounds, HintNormalStemCjk, AlignStemEdges, HintLowercaseM, HintLowercaseMLent}
 use Rattle.jobs.specs.Shape.{jobOf}
 use Rattle.jobs.specs.Weak.{weakAnswer}
+use Rattle.jobs.specs.Link.{linkingAnswer}
 use Rattle.jobs.specs.M.{mAnswer}
 use Rattle.jobs.specs.Answer.{answerOf, longest}
 use Rattle.jobs.proofs.Answers.{answered-none, answered-all, answered-one, answered-two}
@@ -91,56 +92,56 @@ answer-weak-requires c κs = search needs
 enum-told-5 : tie.Need-enum-told-5
 enum-told-5 c = search needs
 
-one-word-requires-2 : tie.Need-one-word-requires-2
-one-word-requires-2 c κs = search needs
+answer-linking-requires : tie.Need-answer-linking-requires
+answer-linking-requires c κs = search needs
 
 enum-told-6 : tie.Need-enum-told-6
 enum-told-6 c = search needs
 
-one-word-requires-3 : tie.Need-one-word-requires-3
-one-word-requires-3 c κs = search needs
+one-word-requires-2 : tie.Need-one-word-requires-2
+one-word-requires-2 c κs = search needs
 
 enum-told-7 : tie.Need-enum-told-7
 enum-told-7 c = search needs
 
-one-word-requires-4 : tie.Need-one-word-requires-4
-one-word-requires-4 c κs = search needs
+one-word-requires-3 : tie.Need-one-word-requires-3
+one-word-requires-3 c κs = search needs
 
 enum-told-8 : tie.Need-enum-told-8
 enum-told-8 c = search needs
 
-one-word-requires-5 : tie.Need-one-word-requires-5
-one-word-requires-5 c κs = search needs
+one-word-requires-4 : tie.Need-one-word-requires-4
+one-word-requires-4 c κs = search needs
 
 enum-told-9 : tie.Need-enum-told-9
 enum-told-9 c = search needs
 
-one-word-requires-6 : tie.Need-one-word-requires-6
-one-word-requires-6 c κs = search needs
+one-word-requires-5 : tie.Need-one-word-requires-5
+one-word-requires-5 c κs = search needs
 
 enum-told-10 : tie.Need-enum-told-10
 enum-told-10 c = search needs
 
-one-word-requires-7 : tie.Need-one-word-requires-7
-one-word-requires-7 c κs = search needs
+one-word-requires-6 : tie.Need-one-word-requires-6
+one-word-requires-6 c κs = search needs
 
 enum-told-11 : tie.Need-enum-told-11
 enum-told-11 c = search needs
 
-one-word-requires-8 : tie.Need-one-word-requires-8
-one-word-requires-8 c κs = search needs
+one-word-requires-7 : tie.Need-one-word-requires-7
+one-word-requires-7 c κs = search needs
 
 enum-told-12 : tie.Need-enum-told-12
 enum-told-12 c = search needs
 
-one-word-requires-9 : tie.Need-one-word-requires-9
-one-word-requires-9 c κs = search needs
+one-word-requires-8 : tie.Need-one-word-requires-8
+one-word-requires-8 c κs = search needs
 
 enum-told-13 : tie.Need-enum-told-13
 enum-told-13 c = search needs
 
-one-word-requires-10 : tie.Need-one-word-requires-10
-one-word-requires-10 c κs = search needs
+one-word-requires-9 : tie.Need-one-word-requires-9
+one-word-requires-9 c κs = search needs
 
 enum-told-14 : tie.Need-enum-told-14
 enum-told-14 c = search needs
@@ -151,8 +152,8 @@ answer-m-requires c κs = search needs
 enum-told-15 : tie.Need-enum-told-15
 enum-told-15 c = search needs
 
-one-word-requires-11 : tie.Need-one-word-requires-11
-one-word-requires-11 c κs = search needs
+one-word-requires-10 : tie.Need-one-word-requires-10
+one-word-requires-10 c κs = search needs
 
 same-length : tie.Need-same-length
 same-length c = search needs
@@ -210,7 +211,7 @@ unfolding answerOf
 returns-6 c =
     let e = c .before .before .before in
     let a = e .before .before in
-    answered-one (list a) (out a) LinkSegmentsCjk (room a) (job a (e .enum-told5 .given .1)) (negsuc 1) refl (c .before .one-word2 .ensures)
+    answered-all (list a) (out a) LinkSegmentsCjk (room a) (job a (e .enum-told5 .given .1)) (linkingAnswer (list a)) refl (c .before .answer-linking .ensures)
 
 same-length-6 : tie.Need-same-length-6
 same-length-6 c = search needs
@@ -220,7 +221,7 @@ unfolding answerOf
 returns-7 c =
     let e = c .before .before .before in
     let a = e .before .before in
-    answered-one (list a) (out a) ComputeEdges (room a) (job a (e .enum-told6 .given .1)) (negsuc 1) refl (c .before .one-word3 .ensures)
+    answered-one (list a) (out a) ComputeEdges (room a) (job a (e .enum-told6 .given .1)) (negsuc 1) refl (c .before .one-word2 .ensures)
 
 same-length-7 : tie.Need-same-length-7
 same-length-7 c = search needs
@@ -230,7 +231,7 @@ unfolding answerOf
 returns-8 c =
     let e = c .before .before .before in
     let a = e .before .before in
-    answered-one (list a) (out a) AlignEdgesToBlues (room a) (job a (e .enum-told7 .given .1)) (negsuc 1) refl (c .before .one-word4 .ensures)
+    answered-one (list a) (out a) AlignEdgesToBlues (room a) (job a (e .enum-told7 .given .1)) (negsuc 1) refl (c .before .one-word3 .ensures)
 
 same-length-8 : tie.Need-same-length-8
 same-length-8 c = search needs
@@ -240,7 +241,7 @@ unfolding answerOf
 returns-9 c =
     let e = c .before .before .before in
     let a = e .before .before in
-    answered-one (list a) (out a) AlignLinkedEdge (room a) (job a (e .enum-told8 .given .1)) (negsuc 1) refl (c .before .one-word5 .ensures)
+    answered-one (list a) (out a) AlignLinkedEdge (room a) (job a (e .enum-told8 .given .1)) (negsuc 1) refl (c .before .one-word4 .ensures)
 
 same-length-9 : tie.Need-same-length-9
 same-length-9 c = search needs
@@ -250,7 +251,7 @@ unfolding answerOf
 returns-10 c =
     let e = c .before .before .before in
     let a = e .before .before in
-    answered-one (list a) (out a) AlignSerifEdge (room a) (job a (e .enum-told9 .given .1)) (negsuc 1) refl (c .before .one-word6 .ensures)
+    answered-one (list a) (out a) AlignSerifEdge (room a) (job a (e .enum-told9 .given .1)) (negsuc 1) refl (c .before .one-word5 .ensures)
 
 same-length-10 : tie.Need-same-length-10
 same-length-10 c = search needs
@@ -260,7 +261,7 @@ unfolding answerOf
 returns-11 c =
     let e = c .before .before .before in
     let a = e .before .before in
-    answered-one (list a) (out a) AdjustLink (room a) (job a (e .enum-told10 .given .1)) (negsuc 1) refl (c .before .one-word7 .ensures)
+    answered-one (list a) (out a) AdjustLink (room a) (job a (e .enum-told10 .given .1)) (negsuc 1) refl (c .before .one-word6 .ensures)
 
 same-length-11 : tie.Need-same-length-11
 same-length-11 c = search needs
@@ -270,7 +271,7 @@ unfolding answerOf
 returns-12 c =
     let e = c .before .before .before in
     let a = e .before .before in
-    answered-one (list a) (out a) LatinRemainingBounds (room a) (job a (e .enum-told11 .given .1)) (negsuc 1) refl (c .before .one-word8 .ensures)
+    answered-one (list a) (out a) LatinRemainingBounds (room a) (job a (e .enum-told11 .given .1)) (negsuc 1) refl (c .before .one-word7 .ensures)
 
 same-length-12 : tie.Need-same-length-12
 same-length-12 c = search needs
@@ -280,7 +281,7 @@ unfolding answerOf
 returns-13 c =
     let e = c .before .before .before in
     let a = e .before .before in
-    answered-one (list a) (out a) HintNormalStemCjk (room a) (job a (e .enum-told12 .given .1)) (negsuc 1) refl (c .before .one-word9 .ensures)
+    answered-one (list a) (out a) HintNormalStemCjk (room a) (job a (e .enum-told12 .given .1)) (negsuc 1) refl (c .before .one-word8 .ensures)
 
 same-length-13 : tie.Need-same-length-13
 same-length-13 c = search needs
@@ -290,7 +291,7 @@ unfolding answerOf
 returns-14 c =
     let e = c .before .before .before in
     let a = e .before .before in
-    answered-one (list a) (out a) AlignStemEdges (room a) (job a (e .enum-told13 .given .1)) (negsuc 1) refl (c .before .one-word10 .ensures)
+    answered-one (list a) (out a) AlignStemEdges (room a) (job a (e .enum-told13 .given .1)) (negsuc 1) refl (c .before .one-word9 .ensures)
 
 same-length-14 : tie.Need-same-length-14
 same-length-14 c = search needs
@@ -310,7 +311,7 @@ unfolding answerOf
 returns-16 c =
     let e = c .before .before .before in
     let a = e .before .before in
-    answered-one (list a) (out a) HintLowercaseMLent (room a) (job a (e .enum-told15 .given .1)) (negsuc 1) refl (c .before .one-word11 .ensures)
+    answered-one (list a) (out a) HintLowercaseMLent (room a) (job a (e .enum-told15 .given .1)) (negsuc 1) refl (c .before .one-word10 .ensures)
 
 pub answer-spec : {M : Type 1} → statement M
 answer-spec =
@@ -333,27 +334,27 @@ answer-spec =
     enum-told-4
     answer-weak-requires
     enum-told-5
-    one-word-requires-2
+    answer-linking-requires
     enum-told-6
-    one-word-requires-3
+    one-word-requires-2
     enum-told-7
-    one-word-requires-4
+    one-word-requires-3
     enum-told-8
-    one-word-requires-5
+    one-word-requires-4
     enum-told-9
-    one-word-requires-6
+    one-word-requires-5
     enum-told-10
-    one-word-requires-7
+    one-word-requires-6
     enum-told-11
-    one-word-requires-8
+    one-word-requires-7
     enum-told-12
-    one-word-requires-9
+    one-word-requires-8
     enum-told-13
-    one-word-requires-10
+    one-word-requires-9
     enum-told-14
     answer-m-requires
     enum-told-15
-    one-word-requires-11
+    one-word-requires-10
     same-length
     returns-2
     same-length-2
