@@ -61,5 +61,5 @@ pub tabled : (out table : List ℤ) (answer : ℕ) (w : ℤ) {out′ : List ℤ}
 tabled out table answer w e room h = (omega (arith, h .0), rw (h .1, e) (written-next out table (pos answer) 0 room ∙ written-front out (pos answer ∷ table)))
 
 -- which keeps the buffer's length
-pub tabled-length : (out table : List ℤ) (w : ℤ) {out′ : List ℤ} → 1 + length table ≤ length out → out′ ≡ written (set out 0 w) 1 table → length out′ ≡ length out
-tabled-length out table w room e = rw e (written-length (set out 0 w) table 1 (simp length-set room) ∙ length-set out 0 w)
+pub tabled-length : (out table : List ℤ) (w : ℤ) (at : ℕ) {out′ : List ℤ} → out′ ≡ written (set out 0 w) at table → at + length table ≤ length out → length out′ ≡ length out
+tabled-length out table w at e room = rw e (written-length (set out 0 w) table at (simp length-set room) ∙ length-set out 0 w)

@@ -26,7 +26,7 @@ add-result : tie.Need-add-result
 add-result c = search needs
 
 same-length : tie.Need-same-length
-same-length c = ap length (c .before .write-words .ensures) ∙ written-length _ _ 2 (simp length-set (omega arith)) ∙ simp length-set
+same-length c = ap length (c .before .write-words .ensures) ∙ written-length _ _ _ (simp length-set (omega arith)) ∙ simp length-set
 
 returns : tie.Need-returns
 returns c =

@@ -28,7 +28,7 @@ add-result : tie.Need-add-result
 add-result c = omega (arith, room c, c .before .write-segments .ensures .0)
 
 same-length : tie.Need-same-length
-same-length c = let s = c .before .before .before .before .args in tabled-length (s .out .now) (segmentsWords (s .table)) _ (room c) (c .before .write-segments .ensures .1)
+same-length c = let s = c .before .before .before .before .args in tabled-length (s .out .now) (segmentsWords (s .table)) _ _ (c .before .write-segments .ensures .1) (omega (arith, room c))
 
 returns : tie.Need-returns
 returns c =
