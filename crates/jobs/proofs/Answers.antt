@@ -8,7 +8,7 @@ use lib.ListN.{length, drop, set, length-set}
 use lib.IntN.{ℤ, pos}
 use Rattle.words.specs.Word.{written}
 use Rattle.words.proofs.Writing.{written-length, written-next, written-front}
-use Rattle.jobs.specs.declared.shape.Call.{Call}
+use Rattle.jobs.specs.declared.call.Call.{Call}
 use Rattle.jobs.specs.Shape.{jobOf}
 use Rattle.jobs.specs.Answer.{answerOf, answerTo, longest, Answered}
 

@@ -19,8 +19,8 @@ use Rattle.jobs.specs.declared.shape.Range.{Range}
 use Rattle.jobs.specs.declared.shape.Record.the-variants as Records
 use Rattle.jobs.specs.declared.shape.Element.{Element}
 use Rattle.jobs.specs.declared.shape.Item.{Item}
-use Rattle.jobs.specs.declared.shape.Call.{Call}
-use Rattle.jobs.specs.declared.shape.Call.the-variants.{NotACall}
+use Rattle.jobs.specs.declared.call.Call.{Call}
+use Rattle.jobs.specs.declared.call.Call.the-variants.{NotACall}
 use Rattle.jobs.specs.Shape.{andThen, field, fields, rangesOf, blueHolds, edge, element, elements, item, items, itemsOf, padded, formatOf, callOf, jobOf}
 
 -- ---- readings in a row

@@ -13,8 +13,8 @@ use Rattle.jobs.specs.declared.shape.Place.the-variants.{Nowhere, At}
 use Rattle.jobs.specs.declared.shape.Range.{Range}
 use Rattle.jobs.specs.declared.shape.Record.{Record}
 use Rattle.jobs.specs.declared.shape.Record.the-variants as Records
-use Rattle.jobs.specs.declared.shape.Call.{Call}
-use Rattle.jobs.specs.declared.shape.Call.the-variants.{NotACall, ComputeMidPos, ComputeMidDelta, AlignWeakPoints, LinkSegmentsCjk, ComputeEdges, AlignEdgesToBlues, AlignLinkedEdge, AlignSerifEdge, AdjustLink, LatinRemainingBounds, HintNormalStemCjk, AlignStemEdges, HintLowercaseM, HintLowercaseMLent}
+use Rattle.jobs.specs.declared.call.Call.{Call}
+use Rattle.jobs.specs.declared.call.Call.the-variants.{NotACall, ComputeMidPos, ComputeMidDelta, AlignWeakPoints, LinkSegmentsCjk, ComputeEdges, AlignEdgesToBlues, AlignLinkedEdge, AlignSerifEdge, AdjustLink, LatinRemainingBounds, HintNormalStemCjk, AlignStemEdges, HintLowercaseM, HintLowercaseMLent}
 use Rattle.jobs.specs.declared.shape.Element.{Element}
 use Rattle.jobs.specs.declared.shape.Element.the-variants.{Number, Segment, Edge, LentEdge}
 use Rattle.jobs.specs.declared.shape.Item.{Item}

@@ -1,8 +1,8 @@
 // The answer to a job, from the call that it names.
+use super::call::Call;
+use super::call::job_of;
 use super::link::answer_linking;
 use super::m::answer_m;
-use super::shape::Call;
-use super::shape::job_of;
 use super::weak::answer_weak;
 use axis::edge::Axis;
 use axis::segment::Segments;

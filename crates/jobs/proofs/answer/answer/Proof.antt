@@ -7,8 +7,8 @@ use lib.ListN.{length, getD}
 use lib.IntN.{ℤ, pos, negsuc}
 use mir.Syntax.{w16, w32}
 use Rattle.signed.proofs.Signed.{is, got}
-use Rattle.jobs.specs.declared.shape.Call.{Call}
-use Rattle.jobs.specs.declared.shape.Call.the-variants.{NotACall, ComputeMidPos, ComputeMidDelta, AlignWeakPoints, LinkSegmentsCjk, ComputeEdges, AlignEdgesToBlues, AlignLinkedEdge, AlignSerifEdge, AdjustLink, LatinRemainingBounds, HintNormalStemCjk, AlignStemEdges, HintLowercaseM, HintLowercaseMLent}
+use Rattle.jobs.specs.declared.call.Call.{Call}
+use Rattle.jobs.specs.declared.call.Call.the-variants.{NotACall, ComputeMidPos, ComputeMidDelta, AlignWeakPoints, LinkSegmentsCjk, ComputeEdges, AlignEdgesToBlues, AlignLinkedEdge, AlignSerifEdge, AdjustLink, LatinRemainingBounds, HintNormalStemCjk, AlignStemEdges, HintLowercaseM, HintLowercaseMLent}
 use Rattle.jobs.specs.Shape.{jobOf}
 use Rattle.jobs.specs.Weak.{weakAnswer}
 use Rattle.jobs.specs.Link.{linkingAnswer}

@@ -1,12 +1,12 @@
--- `jobs::shape::job_of` meets its contract. Assumes nothing.
+-- `jobs::call::job_of` meets its contract. Assumes nothing.
 use borrow.Author.Needs.{needs}
 use mathlib.Core.Path.{_≡_, _∙_}
 use Prim.Native.Nat.{ℕ}
 use Rattle.jobs.specs.declared.shape.Place.the-variants.{At}
 use Rattle.jobs.specs.Shape.{items, formatOf, callOf}
 use Rattle.jobs.proofs.Shapes.{job-none, job-whole, job-more}
-use Rattle.jobs.proofs.shape.job_of.Statement.{statement}
-use Rattle.jobs.proofs.shape.job_of.Tie as tie
+use Rattle.jobs.proofs.call.job_of.Statement.{statement}
+use Rattle.jobs.proofs.call.job_of.Tie as tie
 
 abbrev start : tie.After-skip-items → tie.Start
 start c = c .before .before

@@ -1,4 +1,4 @@
--- `jobs::shape::skip_items` meets its contract. The invariant: the items that are left, read from here, give the whole. Assumes nothing.
+-- `jobs::call::skip_items` meets its contract. The invariant: the items that are left, read from here, give the whole. Assumes nothing.
 use borrow.Author.Needs.{needs}
 use native.Mathlib.Omega.{arith}
 use mathlib.Core.Path.{_≡_, refl, ap, _∙_}
@@ -9,8 +9,8 @@ use Rattle.jobs.specs.declared.shape.Item.{Item}
 use Rattle.jobs.specs.declared.shape.Item.the-variants.{End}
 use Rattle.jobs.specs.Shape.{items, formatOf}
 use Rattle.jobs.proofs.Shapes.{Goes, then-nowhere, then-at, items-step, items-end, format-length}
-use Rattle.jobs.proofs.shape.skip_items.Statement.{statement}
-use Rattle.jobs.proofs.shape.skip_items.Tie as tie
+use Rattle.jobs.proofs.call.skip_items.Statement.{statement}
+use Rattle.jobs.proofs.call.skip_items.Tie as tie
 
 abbrev Inv-loop : tie.InvT-loop
 Inv-loop words format here₀ i₀ here i = (i ≤ 10) × (items format words 1 ≡ items (drop i format) words here)

@@ -1,4 +1,4 @@
--- `jobs::shape::call_of` meets its contract. Assumes nothing.
+-- `jobs::call::call_of` meets its contract. Assumes nothing.
 use borrow.Author.Needs.{needs}
 use native.Mathlib.Omega.{arith}
 use mathlib.Core.Path.{sym, ap}
@@ -6,10 +6,10 @@ use Prim.Native.Nat.{ℕ}
 use lib.ListN.{getD, List·getD-eq-default}
 use lib.IntN.{pos}
 use Rattle.signed.specs.Parts.{up}
-use Rattle.jobs.specs.declared.shape.Call.the-variants.{NotACall}
+use Rattle.jobs.specs.declared.call.Call.the-variants.{NotACall}
 use Rattle.jobs.specs.Shape.{calls, callOf}
-use Rattle.jobs.proofs.shape.call_of.Statement.{statement}
-use Rattle.jobs.proofs.shape.call_of.Tie as tie
+use Rattle.jobs.proofs.call.call_of.Statement.{statement}
+use Rattle.jobs.proofs.call.call_of.Tie as tie
 
 count-at-requires : tie.Need-count-at-requires
 count-at-requires c κs = search needs

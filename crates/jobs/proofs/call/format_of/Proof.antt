@@ -1,7 +1,7 @@
--- `jobs::shape::format_of` meets its contract. Assumes nothing.
+-- `jobs::call::format_of` meets its contract. Assumes nothing.
 use borrow.Author.Needs.{needs}
-use Rattle.jobs.proofs.shape.format_of.Statement.{statement}
-use Rattle.jobs.proofs.shape.format_of.Tie as tie
+use Rattle.jobs.proofs.call.format_of.Statement.{statement}
+use Rattle.jobs.proofs.call.format_of.Tie as tie
 
 enum-told : tie.Need-enum-told
 enum-told c = search needs
