@@ -1,9 +1,9 @@
-//! The given Rust's weak points on an outline that is built once, for benchmarks: what is timed is `align` alone.
+//! The given Rust's calls on what is built once, for benchmarks: what is timed is `align` or `link` alone.
 
 use crate::{
     calls,
-    given::{hint_outline, outline::Outline},
-    job::{Dimension, Points},
+    given::{hint_outline, outline::Outline, topo::Axis, topo_segments},
+    job::{Dimension, Direction, Points, Segment},
 };
 
 /// An outline of the given Rust, with its points on the vertical axis.
@@ -30,5 +30,43 @@ impl Prepared {
     /// The current coordinates.
     pub fn currents(&self) -> Vec<i32> {
         self.0.points.iter().map(|point| point.y).collect()
+    }
+}
+
+/// An axis of the given Rust with segments to link.
+pub struct PreparedSegments {
+    given: Vec<Segment>,
+    outline: Outline,
+    axis: Axis,
+    scale: i32,
+}
+
+impl PreparedSegments {
+    /// The axis of these segments, which must be accepted.
+    pub fn new(segments: &[Segment], major: Direction, units_per_em: i32, scale: i32) -> Self {
+        let outline = Outline {
+            units_per_em,
+            ..Outline::default()
+        };
+        let axis = Axis {
+            major_dir: major,
+            ..Axis::default()
+        };
+        Self {
+            given: segments.to_vec(),
+            outline,
+            axis,
+            scale,
+        }
+    }
+
+    /// Sets the segments anew.
+    pub fn restore(&mut self) {
+        self.axis.segments.clone_from(&self.given);
+    }
+
+    /// Runs the given Rust.
+    pub fn link(&mut self) {
+        topo_segments::link_segments_cjk(&self.outline, &mut self.axis, self.scale);
     }
 }

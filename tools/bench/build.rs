@@ -1,15 +1,15 @@
-//! Links the port's static library, which the script `bench` builds in the repository's `target/`.
+//! Links the port's static libraries, which the script `bench` builds in the repository's `target/`.
 
 use std::{env, path::PathBuf};
 
-/// Tells cargo where the library is.
+/// Tells cargo where the libraries are.
 fn main() {
     let package = env::var("CARGO_MANIFEST_DIR").expect("cargo sets CARGO_MANIFEST_DIR");
     let target = PathBuf::from(package).join("../../target");
-    println!(
-        "cargo:rerun-if-changed={}",
-        target.join("libkhsaemudol.a").display()
-    );
     println!("cargo:rustc-link-search=native={}", target.display());
-    println!("cargo:rustc-link-lib=static=khsaemudol");
+    for name in ["khsaemudol", "bench_c"] {
+        let library = target.join(format!("lib{name}.a"));
+        println!("cargo:rerun-if-changed={}", library.display());
+        println!("cargo:rustc-link-lib=static={name}");
+    }
 }

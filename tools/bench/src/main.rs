@@ -1,7 +1,9 @@
-//! `bench weak`: the port's and the given Rust's weak points on the same outlines, timed side by side.
+//! `bench weak`, `bench link`: the port's and the given Rust's work on the same inputs, timed side by side.
 
+mod link;
 mod outlines;
 mod port;
+mod segments;
 mod time;
 mod weak;
 
@@ -10,10 +12,13 @@ use std::process::ExitCode;
 /// Runs the benchmark that is named.
 fn main() -> ExitCode {
     let words: Vec<String> = std::env::args().skip(1).collect();
-    if words != ["weak"] {
-        eprintln!("usage: bench weak");
-        return ExitCode::from(2);
+    match words.iter().map(String::as_str).collect::<Vec<_>>()[..] {
+        ["weak"] => weak::run(),
+        ["link"] => link::run(),
+        _ => {
+            eprintln!("usage: bench weak | link");
+            return ExitCode::from(2);
+        }
     }
-    weak::run();
     ExitCode::SUCCESS
 }

@@ -12,6 +12,9 @@ extern "C" {
         ends: *const u16,
         ends_len: usize,
     ) -> u8;
+
+    /// Links the segments of a job as often as is said, and tells how often the answer was 0.
+    fn bench_link_segments_cjk(words: *const i32, words_len: usize, rounds: usize) -> usize;
 }
 
 /// The port's answer; the currents are lent.
@@ -34,4 +37,10 @@ pub fn align_weak_points(
             ends.len(),
         )
     }
+}
+
+/// How many of so many runs of linking on a job's segments were done.
+pub fn link_segments_cjk(words: &[i32], rounds: usize) -> usize {
+    // SAFETY: the pointer and the length are of one live slice.
+    unsafe { bench_link_segments_cjk(words.as_ptr(), words.len(), rounds) }
 }

@@ -5,7 +5,7 @@ use std::time::{Duration, Instant};
 /// Rounds of each measurement.
 const ROUNDS: usize = 1_001;
 
-/// One of two that do the same work.
+/// One of those that are timed against each other.
 pub trait Side {
     /// Sets back what the work changes; not timed.
     fn restore(&mut self);
@@ -13,12 +13,13 @@ pub trait Side {
     fn work(&mut self);
 }
 
-/// The median times of two sides in nanoseconds, taken turn by turn.
-pub fn medians(first: &mut dyn Side, second: &mut dyn Side) -> [f64; 2] {
-    let mut times = [Vec::new(), Vec::new()];
+/// The median times of some sides in nanoseconds, taken turn by turn.
+pub fn medians<const N: usize>(mut sides: [&mut dyn Side; N]) -> [f64; N] {
+    let mut times = [const { Vec::new() }; N];
     for _ in 0..ROUNDS {
-        times[0].push(timed(first));
-        times[1].push(timed(second));
+        for (times, side) in times.iter_mut().zip(&mut sides) {
+            times.push(timed(*side));
+        }
     }
     times.map(median)
 }

@@ -43,7 +43,7 @@ fn measure(kind: Kind, size: usize) -> [f64; 2] {
     port.work();
     rust.work();
     assert_eq!(port.currents, rust.currents(), "the results differ");
-    time::medians(&mut port, &mut rust).map(|time| time / count as f64)
+    time::medians([&mut port, &mut rust]).map(|time| time / count as f64)
 }
 
 /// The port's side.
