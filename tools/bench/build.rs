@@ -1,4 +1,4 @@
-//! Links the port's static libraries, which the script `bench` builds in the repository's `target/`.
+//! Links the port's static libraries, which `tools/native` builds in the repository's `target/`.
 
 use std::{env, path::PathBuf};
 
@@ -7,7 +7,7 @@ fn main() {
     let package = env::var("CARGO_MANIFEST_DIR").expect("cargo sets CARGO_MANIFEST_DIR");
     let target = PathBuf::from(package).join("../../target");
     println!("cargo:rustc-link-search=native={}", target.display());
-    for name in ["khsaemudol", "bench_c"] {
+    for name in ["khsaemudol", "jobs_c"] {
         let library = target.join(format!("lib{name}.a"));
         println!("cargo:rerun-if-changed={}", library.display());
         println!("cargo:rustc-link-lib=static={name}");

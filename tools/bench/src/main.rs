@@ -1,5 +1,7 @@
-//! `bench weak`, `bench link`: the port's and the given Rust's work on the same inputs, timed side by side.
+//! The port, compiled for this machine, as tools use it. `bench weak` and `bench link` time it and the given Rust side by side on the same inputs; `bench answer`
+//! answers job lines.
 
+mod answer;
 mod link;
 mod outlines;
 mod port;
@@ -9,14 +11,20 @@ mod weak;
 
 use std::process::ExitCode;
 
-/// Runs the benchmark that is named.
+/// Does what is named.
 fn main() -> ExitCode {
     let words: Vec<String> = std::env::args().skip(1).collect();
     match words.iter().map(String::as_str).collect::<Vec<_>>()[..] {
         ["weak"] => weak::run(),
         ["link"] => link::run(),
+        ["answer"] => {
+            if let Err(error) = answer::run() {
+                eprintln!("bench: {error}");
+                return ExitCode::from(2);
+            }
+        }
         _ => {
-            eprintln!("usage: bench weak | link");
+            eprintln!("usage: bench weak | link | answer");
             return ExitCode::from(2);
         }
     }

@@ -13,8 +13,11 @@ extern "C" {
         ends_len: usize,
     ) -> u8;
 
+    /// Writes the answer to a word list, and tells how many words it has.
+    fn jobs_c_answer(words: *const i32, words_len: usize, out: *mut i32, out_len: usize) -> usize;
+
     /// Links the segments of a job as often as is said, and tells how often the answer was 0.
-    fn bench_link_segments_cjk(words: *const i32, words_len: usize, rounds: usize) -> usize;
+    fn jobs_c_link_segments_cjk(words: *const i32, words_len: usize, rounds: usize) -> usize;
 }
 
 /// The port's answer; the currents are lent.
@@ -39,8 +42,20 @@ pub fn align_weak_points(
     }
 }
 
+/// The words of the longest answer.
+const LONGEST: usize = 9_091;
+
+/// The answer to a word list.
+pub fn answer(words: &[i32]) -> Vec<i32> {
+    let mut out = vec![0; LONGEST];
+    // SAFETY: each pointer and length is of one live slice, and `out` is lent to this call alone.
+    let count = unsafe { jobs_c_answer(words.as_ptr(), words.len(), out.as_mut_ptr(), out.len()) };
+    out.truncate(count);
+    out
+}
+
 /// How many of so many runs of linking on a job's segments were done.
 pub fn link_segments_cjk(words: &[i32], rounds: usize) -> usize {
     // SAFETY: the pointer and the length are of one live slice.
-    unsafe { bench_link_segments_cjk(words.as_ptr(), words.len(), rounds) }
+    unsafe { jobs_c_link_segments_cjk(words.as_ptr(), words.len(), rounds) }
 }

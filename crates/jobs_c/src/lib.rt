@@ -1,14 +1,24 @@
-// The calls over tables under C names, run over and over on what the words of a job hold, so that ./bench can time them apart from the reading. No part
-// of the product.
+// Jobs under C names, for tools: ./compare answers them at scale, and ./bench times calls over tables apart from the reading of their words. No part of the
+// product.
+use jobs::answer::answer;
 use linking::link::link_segments_cjk;
 use words::field::direction_at;
 use words::segment::behind_segments;
 use words::segment::segments_from;
 use words::word::word_at;
+ghost use Rattle.jobs.specs.Answer.{Answered};
+
+// Writes the answer to a word list into a buffer, and tells how many words it has.
+#[no_mangle]
+pub extern "C" fn jobs_c_answer(words: &[i32], out: &mut [i32]) -> usize
+    ensures { λ r. ⌜ Answered (now (words .entry)) (now (out .entry)) (now (out .exit)) r ⌝ }
+{
+    answer(words, out)
+}
 
 // Links the segments of a job of call 4 as often as is said, and tells how many answers were 0.
 #[no_mangle]
-pub extern "C" fn bench_link_segments_cjk(words: &[i32], rounds: usize) -> usize {
+pub extern "C" fn jobs_c_link_segments_cjk(words: &[i32], rounds: usize) -> usize {
     let segments = segments_from(words, 1);
     let at = behind_segments(words, 1);
     let major = direction_at(words, at);

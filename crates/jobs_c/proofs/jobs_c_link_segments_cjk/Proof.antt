@@ -1,9 +1,9 @@
--- `bench_c::bench_link_segments_cjk` is safe. Assumes nothing.
+-- `jobs_c::jobs_c_link_segments_cjk` is safe. Assumes nothing.
 use borrow.Author.Needs.{needs}
 use native.Mathlib.Omega.{arith}
 use Prim.Native.Nat.{_≤_, _-_}
-use Rattle.bench_c.proofs.bench_link_segments_cjk.Statement.{statement}
-use Rattle.bench_c.proofs.bench_link_segments_cjk.Tie as tie
+use Rattle.jobs_c.proofs.jobs_c_link_segments_cjk.Statement.{statement}
+use Rattle.jobs_c.proofs.jobs_c_link_segments_cjk.Tie as tie
 
 abbrev Inv-loop : tie.InvT-loop
 Inv-loop words rounds segments at major units-per-em scale done₀ i₀ done i = (i ≤ rounds) × (done ≤ i)
@@ -59,8 +59,8 @@ loop-again-2 c = (omega arith, omega arith)
 returns : tie.Need-returns Inv-loop μ-loop
 returns c = search needs
 
-pub bench-link-segments-cjk-spec : {M : Type 1} → statement M
-bench-link-segments-cjk-spec =
+pub jobs-c-link-segments-cjk-spec : {M : Type 1} → statement M
+jobs-c-link-segments-cjk-spec =
     tie.close
     (tie.spec
     Inv-loop
