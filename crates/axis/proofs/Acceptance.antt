@@ -38,6 +38,12 @@ link-below n l h = record { at = λ (k : ℕ) (e : l ≡ Links.To k). at k (rw e
     at : (k : ℕ) → linkHolds n (Links.To k) ≡ true → k < n
     at k h = ltb-true k n h
 
+pub below-none : (n : ℕ) → Below n Links.None
+below-none n = record { at = λ k e. absurd (let z : _≡_ {A = ℕ} 0 1 = cc in omega arith) }
+
+pub below-to : (n k : ℕ) → k < n → Below n (Links.To k)
+below-to n k h = record { at = λ j e. let q : k ≡ j = cc in omega arith }
+
 blue-in-zone : (b : Blue) → blueHolds b ≡ true → InZone b
 unfolding blueHolds
 blue-in-zone b h = record { at = λ (z : ℤ) (e : b ≡ Blues.Fitted z). at z (rw e at h) }

@@ -1,3 +1,4 @@
--- The laws by subject, each over plain variables: `Tests`, tests of numbers, of every place and in their order; `Acceptance`, from tests that hold to facts.
+-- The laws by subject, each over plain variables: `Tests`, tests of numbers, of every place and in their order; `Acceptance`, from tests that hold to facts; `Rings`, walks along rings.
 pub mod Tests
 pub mod Acceptance
+pub mod Rings

@@ -7,3 +7,4 @@ pub mod Edge
 pub mod Segment
 pub mod Refusals
 pub mod Accepted
+pub mod Ring

@@ -17,7 +17,7 @@ mostUnits = 16383
 abbrev pub mostPos : ℕ
 mostPos = 16777216
 
--- a segment's score and len: 0 to 65,535
+-- a segment's score and len, and the three build thresholds: 0 to 65,535
 abbrev pub mostScore : ℕ
 mostScore = 65535
 

@@ -1,4 +1,4 @@
--- Indices compared.
+-- Indices compared and read.
 use mathlib.Core.Bool.{Bool, false}
 use Prim.Native.Nat.{ℕ}
 use lib.Dec.{eqb}
@@ -9,3 +9,8 @@ use Rattle.axis.specs.declared.kinds.Link.the-variants as Links
 unfoldable pub linksTo : Link → ℕ → Bool
 linksTo Links.None ix = false
 linksTo (Links.To k) ix = eqb k ix
+
+-- the index that a link holds, or another where it holds none
+abbrev pub indexOr : ℕ → Link → ℕ
+indexOr other Links.None = other
+indexOr other (Links.To k) = k

@@ -102,7 +102,7 @@ fn segment_numbers(segment: Segment) -> bool
 }
 
 // The smaller of two counts.
-fn least(a: usize, b: usize) -> usize
+pub fn least(a: usize, b: usize) -> usize
     ensures { λ r. ⌜ r ≡ min a b ⌝ }
 {
     if a <= b {

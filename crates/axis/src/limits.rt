@@ -16,7 +16,7 @@ pub const LEAST_POS: i32 = -16777216;
 
 pub const MOST_POS: i32 = 16777216;
 
-// A segment's score and len.
+// A segment's score and len, and the three build thresholds.
 pub const MOST_SCORE: i32 = 65535;
 
 // Units per em.

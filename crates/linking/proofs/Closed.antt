@@ -9,6 +9,7 @@ use Rattle.axis.specs.declared.segment.Segment.{Segment}
 use Rattle.axis.specs.declared.segment.Segments.{Segments}
 use Rattle.axis.specs.Accepted.{Below}
 use Rattle.axis.specs.Segment.{segmentAt}
+use Rattle.axis.proofs.Acceptance.{below-none, below-to}
 use Rattle.linking.specs.declared.gap.Gap.{Gap}
 use Rattle.linking.specs.declared.thresholds.Thresholds.{Thresholds}
 use Rattle.linking.specs.Loops.{turns}
@@ -24,11 +25,11 @@ module _ (n : ℕ) where
 
   -- losing the link
   pub loosed : (i : ℕ) (s : Segment) (l : Link) → i < n → Below n l → Inside n i s → Inside n i (serifOf s l)
-  loosed i s l x b p = record { link = Kept.below-none n; serif = b }
+  loosed i s l x b p = record { link = below-none n; serif = b }
 
   -- a better stem
   pub joined : (i k : ℕ) (s : Segment) (g : Gap) → k < n → Inside n i s → Inside n i (joinedTo s g k)
-  joined i k s g y p = record { link = Kept.below-to n k y; serif = p .serif }
+  joined i k s g y p = record { link = below-to n k y; serif = p .serif }
 
   module _ (by : Thresholds) where
     pair : (before seg1 seg2 : Segment) (i j : ℕ) → i < n → j < n → Inside n i before → Inside n i seg1 → Inside n j seg2 → facing by seg1 seg2 i j (gapOf before seg1 seg2) ≡ true → Inside n i (joinedTo seg1 (gapOf before seg1 seg2) j) × Inside n j (joinedTo seg2 (gapOf before seg1 seg2) i)

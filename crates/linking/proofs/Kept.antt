@@ -18,19 +18,13 @@ use Rattle.axis.specs.Accepted.{Below}
 use Rattle.axis.specs.Direction.{same}
 use Rattle.axis.specs.Link.{linksTo}
 use Rattle.axis.specs.Segment.{emptySegment, segmentAt, putSegment}
+use Rattle.axis.proofs.Acceptance.{below-to}
 use Rattle.linking.specs.declared.thresholds.Thresholds.{Thresholds}
 use Rattle.linking.specs.Loops.{turns}
 use Rattle.linking.specs.Pairs.{gapOf, facing, checkSeg, joinedTo, improvedBy, serifOf, unlinked, nearStem, encloses, muchLonger, rewritten, staysSerif, settled}
 use Rattle.linking.specs.Linking.{improvePair, pairTurn, majorTurn, pairRound, rewriteTurn, rewriteAll, unlink, heldTo, holdTurn, givenUp, hold, serifTo, serifTurn, serifRound, lastTo, lastTurn, lastRound, linked}
 use Rattle.linking.specs.Steps.{Every, Inside}
 use Rattle.linking.proofs.Loops.{cond-when, cond-both, keeps, till-keeps}
-
--- ---- links
-pub below-none : (n : ℕ) → Below n Links.None
-below-none n = record { at = λ k e. absurd (let z : _≡_ {A = ℕ} 0 1 = cc in omega arith) }
-
-pub below-to : (n k : ℕ) → k < n → Below n (Links.To k)
-below-to n k h = record { at = λ j e. let q : k ≡ j = cc in omega arith }
 
 -- ---- a place that is written
 same-place : (t : Segments) (i : ℕ) (s : Segment) → (segmentAt (putSegment t i s) i ≡ s) ⊎ (segmentAt (putSegment t i s) i ≡ segmentAt t i)

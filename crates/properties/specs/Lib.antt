@@ -1,0 +1,4 @@
+-- What the contracts of `properties` cite.
+pub mod Properties
+pub mod Outcomes
+pub mod Steps
