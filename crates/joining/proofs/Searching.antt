@@ -1,0 +1,34 @@
+-- The search for an edge: one law for each way on.
+use mathlib.Core.Path.{_≡_, refl, sym, _∙_}
+use mathlib.Core.Bool.{Bool, true, false, cond}
+use Prim.Native.Nat.{ℕ, zero, suc, _+_, _-_, _≤_, _<_}
+use native.Mathlib.Omega.{arith}
+use Rattle.joining.specs.Joining.{seek}
+
+module _ (better : ℕ → ℕ → Bool) (behind : ℕ → ℕ) where
+  seek-step : (m n k best limit : ℕ) → m ≡ suc n → seek better behind m k best limit ≡ cond (better k limit) (seek better behind n (k + 1) k (behind k)) (seek better behind n (k + 1) best limit)
+  unfolding seek
+  seek-step m n k best limit e = rw e
+
+  module _ (n k best limit x : ℕ) (p : seek better behind (n - k) k best limit ≡ x) where
+    -- what is left of the search gives x: one that is not better
+    pub seek-no : k < n → better k limit ≡ false → seek better behind (n - (k + 1)) (k + 1) best limit ≡ x
+    seek-no h e = let q = seek-step (n - k) (n - (k + 1)) k best limit (omega arith) in sym (rw e at q) ∙ p
+
+    -- one that is
+    pub seek-yes : k < n → better k limit ≡ true → (l : ℕ) → l ≡ behind k → seek better behind (n - (k + 1)) (k + 1) k l ≡ x
+    seek-yes h e l g = let q = seek-step (n - k) (n - (k + 1)) k best limit (omega arith) in rw g (sym (rw e at q) ∙ p)
+
+    -- the end
+    pub seek-end : n ≤ k → x ≡ best
+    unfolding seek
+    seek-end h = let e : n - k ≡ 0 = omega arith in sym (rw e at p)
+
+  -- nothing is better than the limit 0
+  seek-none : ((k : ℕ) → better k 0 ≡ false) → (n k best : ℕ) → seek better behind n k best 0 ≡ best
+  unfolding seek
+  seek-none h zero k best = refl
+  seek-none h (suc n) k best = rw (h k) (seek-none h n (k + 1) best)
+
+  pub seek-stop : ((k : ℕ) → better k 0 ≡ false) → (n k best limit x : ℕ) → limit ≡ 0 → seek better behind n k best limit ≡ x → x ≡ best
+  seek-stop h n k best limit x e p = sym (rw e at p) ∙ seek-none h n k best
