@@ -1,0 +1,10 @@
+-- The laws by subject, each over plain variables.
+pub mod Scales
+pub mod Marking
+pub mod Joins
+pub mod Sound
+pub mod Handing
+pub mod Calls
+pub mod Outcomes
+pub mod Rings
+pub mod Worked

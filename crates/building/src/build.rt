@@ -1,0 +1,144 @@
+// The public call (the Rust's `compute_edges`).
+use super::mark::link_segments_to_edges;
+use super::numbers::Thresholds;
+use super::numbers::near_of;
+use super::numbers::numbers_hold;
+use super::numbers::products_hold;
+use axis::accept::segments_refusal;
+use axis::edge::Axis;
+use axis::kinds::Dimension;
+use axis::kinds::Direction;
+use axis::kinds::Group;
+use axis::limits::MOST_EDGES;
+use axis::segment::Segments;
+use joining::join::Joined;
+use joining::join::join_segments;
+use joining::join::join_undirected;
+use joining::ring::stems_of;
+use joining::rules::Rules;
+use properties::properties::compute_edge_properties;
+ghost use mathlib.Core.Path.{_≡_};
+ghost use mathlib.Core.Bool.{true};
+ghost use Rattle.axis.specs.Accepted.{SegmentsWithin};
+ghost use Rattle.joining.specs.Joining.{shown};
+ghost use Rattle.joining.specs.Walks.{Joinable};
+ghost use Rattle.building.specs.Building.{isCjk, goesDown, numbersHold, rulesOf, lastState, computeEdges};
+
+// The answer, 0 or document 01's number of the refusal, the segments and the edges.
+pub struct Built {
+    pub answer: u8,
+    pub segments: Segments,
+    pub axis: Axis,
+}
+
+// Whether CJK's rules apply.
+fn is_cjk(group: Group) -> bool
+    ensures { λ r. ⌜ r ≡ isCjk group ⌝ }
+{
+    match group {
+        Group::Default => false,
+        Group::Cjk => true,
+    }
+}
+
+// Whether edges go from top to bottom: never on the horizontal axis nor in CJK.
+fn goes_down(dim: Dimension, cjk: bool, top_to_bottom: bool) -> bool
+    ensures { λ r. ⌜ r ≡ goesDown dim cjk «top_to_bottom» ⌝ }
+{
+    if cjk {
+        return false;
+    }
+    match dim {
+        Dimension::Horizontal => false,
+        Dimension::Vertical => top_to_bottom,
+    }
+}
+
+// What joining is told.
+fn rules_of(
+    dim: Dimension,
+    major_dir: Direction,
+    cjk: bool,
+    top_to_bottom: bool,
+    scale: i32,
+    thresholds: Thresholds,
+) -> Rules
+    requires { ⌜ numbersHold scale thresholds ≡ true ⌝ }
+    ensures { λ r. ⌜ r ≡ rulesOf dim «major_dir» cjk «top_to_bottom» scale thresholds ⌝ }
+{
+    let down = goes_down(dim, cjk, top_to_bottom);
+    let near = near_of(thresholds.distance, scale, cjk);
+    let length = thresholds.length;
+    let width = thresholds.width;
+    Rules {
+        dim,
+        major_dir,
+        cjk,
+        top_to_bottom: down,
+        scale,
+        near,
+        length,
+        width,
+    }
+}
+
+// Both loops, or CJK's one.
+fn join_all(segments: Segments, rules: Rules) -> Joined
+    requires { ⌜ SegmentsWithin segments × Joinable segments rules ⌝ }
+    ensures { λ r. ⌜ r ≡ shown segments rules (lastState segments rules) ⌝ }
+{
+    let stems = stems_of(segments, rules.cjk);
+    let joined = join_segments(segments, &stems, rules);
+    if rules.cjk {
+        return joined;
+    }
+    if joined.full {
+        return joined;
+    }
+    join_undirected(segments, rules, joined)
+}
+
+// Builds the edges of an axis from its segments. A refusal, 1 to 5, hands segments and edges back as they were.
+pub fn compute_edges(
+    segments: Segments,
+    old: Axis,
+    group: Group,
+    top_to_bottom: bool,
+    scale: i32,
+    thresholds: Thresholds,
+) -> Built
+    ensures { λ r. ⌜ r ≡ computeEdges segments old group «top_to_bottom» scale thresholds ⌝ }
+{
+    let short = old.len <= MOST_EDGES;
+    let right = numbers_hold(scale, thresholds);
+    let near = products_hold(segments, scale);
+    let answer = segments_refusal(segments, short, right, true, near);
+    if 0 < answer {
+        return Built {
+            answer,
+            segments,
+            axis: old,
+        };
+    }
+    let dim = old.dim;
+    let major_dir = old.major_dir;
+    let cjk = is_cjk(group);
+    let rules = rules_of(dim, major_dir, cjk, top_to_bottom, scale, thresholds);
+    let joined = join_all(segments, rules);
+    if joined.full {
+        return Built {
+            answer: 5,
+            segments,
+            axis: old,
+        };
+    }
+    let edges = joined.axis;
+    let next = joined.next;
+    let linked = link_segments_to_edges(segments, edges, next);
+    let axis = compute_edge_properties(edges, linked);
+    Built {
+        answer: 0,
+        segments: linked,
+        axis,
+    }
+}
