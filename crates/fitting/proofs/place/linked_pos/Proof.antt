@@ -1,0 +1,43 @@
+-- `fitting::place::linked_pos` meets its contract. Assumes nothing.
+use mathlib.Core.Path.{_≡_}
+use native.Mathlib.Omega.{arith}
+use lib.IntN.{_-ℤ_}
+use mir.Syntax.{w32}
+use Rattle.signed.proofs.Signed.{fits, is, got, signed}
+use Rattle.fixed.specs.Width.{fittedWidth}
+use Rattle.fitting.specs.Fitting.{linkedPos}
+use Rattle.fitting.proofs.Reach.{width-range}
+use borrow.Author.Needs.{needs}
+use Rattle.fitting.proofs.place.linked_pos.Statement.{statement}
+use Rattle.fitting.proofs.place.linked_pos.Tie as tie
+
+sub-stem-width : tie.Need-sub-stem-width
+sub-stem-width c = fits (omega (arith, signed))
+
+stem-width-requires : tie.Need-stem-width-requires
+stem-width-requires c κs = search needs
+
+-- the fitted width, in terms of the original positions
+width-is : (c : tie.After-stem-width) → c .stem-width .result ≡ fittedWidth (c .before .args .rule) (c .before .args .standards .now) (c .before .args .stem-opos -ℤ c .before .args .base-opos)
+width-is c = let s = c .before in rw (is (sub-stem-width s), is (s .fits .stem-opos), is (s .fits .base-opos)) at (c .stem-width .ensures)
+
+add-result : tie.Need-add-result
+add-result c =
+    let s = c .before in
+    let e = width-is c in
+    let h = width-range (s .args .rule) (s .args .standards .now) _ _ (s .pre .1 .1) (s .pre .1 .2) in
+    let k = got w32 (c .stem-width .result) (c .stem-width .ok) in
+    fits (omega (arith, signed))
+
+returns : tie.Need-returns
+unfolding linkedPos
+returns c = let s = c .before in rw (is (add-result c), is (got w32 (c .stem-width .result) (c .stem-width .ok)), is (s .fits .base-pos), width-is c)
+
+pub linked-pos-spec : {M : Type 1} → statement M
+linked-pos-spec =
+    tie.close
+    (tie.spec
+    sub-stem-width
+    stem-width-requires
+    add-result
+    returns)

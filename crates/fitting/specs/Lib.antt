@@ -1,0 +1,3 @@
+-- What the contracts of `fitting` cite.
+pub mod Fitting
+pub mod Steps

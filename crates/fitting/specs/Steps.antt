@@ -1,0 +1,14 @@
+-- What the steps of fitting promise each other.
+use Prim.Native.Nat.{ℕ}
+use Rattle.signed.specs.Range.{Between}
+use Rattle.axis.specs.declared.edge.Edge.{Edge}
+use Rattle.axis.specs.Limits.{mostUnits}
+
+-- what an edge's position can come to while a pass places edges, twice document 01's limit: each of at most 128 visits adds less than 65,766
+abbrev pub mostReach : ℕ
+mostReach = 33554432
+
+-- an edge at an accepted original position, and within that reach
+pub record InReach (e : Edge) : Type 0 where
+  pub opos : Between mostUnits mostUnits (e .opos)
+  pub pos : Between mostReach mostReach (e .pos)
