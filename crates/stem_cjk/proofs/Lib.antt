@@ -1,0 +1,3 @@
+-- The laws by subject, each over plain variables; then `Determined`, that the promise determines the outcome.
+pub mod Moves
+pub mod Determined

@@ -1,0 +1,2 @@
+-- What the contracts of `stem_cjk` cite.
+pub mod Cjk

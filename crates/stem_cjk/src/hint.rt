@@ -1,0 +1,91 @@
+// The call.
+use super::stem::Stem;
+use super::stem::stem_of;
+use axis::accept::edges_refusal;
+use axis::accept::is_inside;
+use axis::edge::Axis;
+use axis::edge::with_pos;
+use axis::limits::LEAST_UNITS;
+use axis::limits::MOST_UNITS;
+use fitting::named::both_below;
+use fixed::width::WidthRule;
+use fixed::width::rule_holds;
+ghost use mathlib.Core.Path.{_≡_};
+ghost use Prim.Native.Nat.{_<_};
+ghost use Rattle.signed.specs.Range.{Between};
+ghost use Rattle.axis.specs.Limits.{mostPos};
+ghost use Rattle.axis.specs.Accepted.{AxisWithin};
+ghost use Rattle.stem_cjk.specs.Cjk.{placedStem, hintedStem, hintNormalStemCjk, mostWidth, mostStart};
+
+// An answer, 0 or the refusal, what the stem was moved by, and the axis.
+pub struct StemCjk {
+    pub answer: u8,
+    pub delta: i32,
+    pub axis: Axis,
+}
+
+// Places the lower edge of a stem, then the upper one.
+fn place_stem(axis: Axis, lower: usize, upper: usize, pos: i32, width: i32) -> Axis
+    requires { ⌜ (lower < 128) × (upper < 128) ⌝ }
+    requires { ⌜ Between mostStart mostStart pos × Between mostWidth mostWidth width ⌝ }
+    ensures { λ r. ⌜ r ≡ placedStem axis lower upper pos width ⌝ }
+{
+    let mut placed = axis;
+    placed.edges[lower] = with_pos(placed.edges[lower], pos);
+    placed.edges[upper] = with_pos(placed.edges[upper], pos + width);
+    placed
+}
+
+// The axis with a stem placed, its edge of the smaller original position below.
+fn hint_stem(axis: Axis, edge: usize, edge2: usize, stem: Stem) -> Axis
+    requires { ⌜ AxisWithin mostPos axis × (edge < axis .len) × (edge2 < axis .len) ⌝ }
+    requires { ⌜ Between mostStart mostStart (stem .pos) × Between mostWidth mostWidth (stem .width) ⌝ }
+    ensures { λ r. ⌜ r ≡ hintedStem axis edge edge2 stem ⌝ }
+{
+    let edge1 = axis.edges[edge];
+    let other = axis.edges[edge2];
+    if edge1.opos < other.opos {
+        return place_stem(axis, edge, edge2, stem.pos, stem.width);
+    }
+    place_stem(axis, edge2, edge, stem.pos, stem.width)
+}
+
+// Adjusts both edges of a stem and hands back what it was moved by.
+pub fn hint_normal_stem_cjk(
+    axis: Axis,
+    stem_adjust: bool,
+    rule: WidthRule,
+    standards: &[i32],
+    edge: usize,
+    edge2: usize,
+    delta: i32,
+) -> StemCjk
+    ensures { λ r. ⌜ r ≡ hintNormalStemCjk axis «stem_adjust» rule (now (standards .entry)) edge edge2 delta ⌝ }
+{
+    let right = rule_holds(rule, standards);
+    let named = both_below(edge, edge2, axis.len);
+    let passed = is_inside(delta, LEAST_UNITS, MOST_UNITS);
+    let answer = edges_refusal(axis, right, named, passed);
+    if 0 < answer {
+        return StemCjk {
+            answer,
+            delta: 0,
+            axis,
+        };
+    }
+    let dim = axis.dim;
+    let stem = stem_of(
+        dim,
+        stem_adjust,
+        rule,
+        standards,
+        axis.edges[edge],
+        axis.edges[edge2],
+        delta,
+    );
+    StemCjk {
+        answer: 0,
+        delta: stem.delta,
+        axis: hint_stem(axis, edge, edge2, stem),
+    }
+}
