@@ -1,17 +1,22 @@
 -- The starred rows of document 01, "Rows that show both sides", and that the definitions give them.
 use mathlib.Core.Path.{refl}
+use mathlib.Core.Bool.{true, false}
 use mathlib.Core.List.{List, [], _∷_}
 use Prim.Native.Nat.{ℕ}
 use lib.IntN.{ℤ, pos, negℤ}
+use Rattle.fixed.specs.declared.width.WidthRule.the-variants.{Keep}
+use Rattle.fixed.specs.Pixel.{pixFloor}
+use Rattle.fixed.specs.Width.{ruleHolds, fittedWidth}
 use Rattle.fixed.specs.Point.{near, nearZ, mulFix, divFix, derived}
 use Rattle.outline.specs.Weak.{endsHold, coordinateHolds, coordinatesHold, refusal, contourOf, firstTouched, lastTouched, touchedBefore, touchedBehind, references, firstOf, secondOf, interpolated, betweenAt, shiftedAt, followed, weakAt, onContour, alignedAt, listOf, result}
+use Rattle.axis.specs.declared.kinds.Dimension.the-variants.{Vertical}
 use Rattle.axis.specs.declared.kinds.Direction.{Direction}
 use Rattle.axis.specs.declared.kinds.Direction.the-variants as Directions
 use Rattle.axis.specs.declared.kinds.Direction.the-variants.{Up, Down}
 use Rattle.axis.specs.declared.kinds.Blue.the-variants as Blues
 use Rattle.axis.specs.declared.kinds.Link.{Link}
 use Rattle.axis.specs.declared.kinds.Link.the-variants as Links
-use Rattle.axis.specs.declared.kinds.Group.the-variants.{Default}
+use Rattle.axis.specs.declared.kinds.Group.the-variants.{Default, Cjk}
 use Rattle.axis.specs.declared.edge.Edge.{Edge}
 use Rattle.axis.specs.declared.segment.Segment.{Segment}
 use Rattle.axis.specs.Direction as D
@@ -19,11 +24,13 @@ use Rattle.axis.specs.Flags.{normal}
 use Rattle.axis.specs.Link.{linksTo}
 use Rattle.axis.specs.Edge.{emptyEdge, finished}
 use Rattle.axis.specs.Refusals.{linkHolds, blueHolds, every, edgeIndices, edgeNumbers, edgesIndices, edgesNumbers, edgesRefusal, segmentIndices, segmentNext, segmentNumbers, segmentsIndices, segmentsNexts, segmentsNumbers, segmentsRefusal}
+use Rattle.building.specs.Building.{distanceThreshold}
 use Rattle.linking.specs.Loops.{turns, till}
 use Rattle.linking.specs.Pairs as P
 use Rattle.linking.specs.Linking as L
 use Rattle.lowercase_m.specs.M.{linkedOn, groupHolds, applies, moveDone, moveOnly, moveLink, moveSerifs, moveStem, aligned, hintLowercaseM}
-use Rattle.rows.specs.Row.{Row, weak, link, m, All}
+use Rattle.stem_cjk.specs.Cjk.{maxGap, gapOf, pixelOffset, narrowDelta, isBlocked, shortestMove, wideDelta, offsetsDelta, startOf, clamped, deltaOf, stemAt, stemOf, placedStem, hintedStem, hintNormalStemCjk}
+use Rattle.rows.specs.Row.{Row, weak, stemCjk, build, m, link, All}
 
 -- -n
 abbrev minus : ℕ → ℤ
@@ -54,6 +61,13 @@ table =
     ∷ weak (pos 0 ∷ pos 10 ∷ pos 20 ∷ []) (pos 0 ∷ pos 99 ∷ pos 20 ∷ []) (1 ∷ 0 ∷ 0 ∷ []) (2 ∷ []) 0 (pos 0 ∷ pos 99 ∷ pos 20 ∷ [])
     -- the same, currents 5, 99, 20: 5, 15, 25
     ∷ weak (pos 0 ∷ pos 10 ∷ pos 20 ∷ []) (pos 5 ∷ pos 99 ∷ pos 20 ∷ []) (1 ∷ 0 ∷ 0 ∷ []) (2 ∷ []) 0 (pos 5 ∷ pos 15 ∷ pos 25 ∷ [])
+    -- CJK, Keep, vertical, not round, no STEM_ADJUST, passed delta 0, 40 and 80: 26 and 66
+    ∷ stemCjk Vertical false Keep (edge 40 40 ∷ edge 80 80 ∷ []) (pos 0) 0 (minus 14) (edge 40 26 ∷ edge 80 66 ∷ [])
+    -- the same with STEM_ADJUST: 24 and 64
+    ∷ stemCjk Vertical true Keep (edge 40 40 ∷ edge 80 80 ∷ []) (pos 0) 0 (minus 16) (edge 40 24 ∷ edge 80 64 ∷ [])
+    -- scale 32,768, first threshold 21: distance threshold Latin 22, CJK 21
+    ∷ build Default (pos 21) (pos 32768) (pos 22)
+    ∷ build Cjk (pos 21) (pos 32768) (pos 21)
     -- 6 Latin edges; 0, 2, 4 have opos 0, 100, 207, pos 0, 128, 270; 4 has no link: edge 4 at 256
     ∷ m Default (edge 0 0 ∷ emptyEdge ∷ edge 100 128 ∷ emptyEdge ∷ edge 207 270 ∷ emptyEdge ∷ []) 0 (edge 0 0 ∷ emptyEdge ∷ edge 100 128 ∷ emptyEdge ∷ finished (edge 207 256) ∷ emptyEdge ∷ [])
     -- positions 0 (major) and 100 (opposite), both 0 to 200 wide, score 32,000, len 0, 1000 per em, scale 65,536: linked to each other, score 100, len 200
@@ -62,5 +76,5 @@ table =
 
 -- every row holds
 pub rows-hold : All table
-unfolding near nearZ mulFix divFix endsHold coordinateHolds coordinatesHold refusal contourOf firstTouched lastTouched touchedBefore touchedBehind references firstOf secondOf interpolated betweenAt shiftedAt followed weakAt onContour alignedAt listOf result linkHolds blueHolds every edgeIndices edgeNumbers edgesIndices edgesNumbers edgesRefusal linkedOn groupHolds applies moveDone moveOnly moveLink moveSerifs moveStem aligned hintLowercaseM D.same D.opposite linksTo segmentIndices segmentNext segmentNumbers segmentsIndices segmentsNexts segmentsNumbers segmentsRefusal derived turns till P.maxZ P.minZ P.gapOf P.facing P.checkSeg P.improvedBy P.nearStem P.encloses P.muchLonger P.rewritten P.staysSerif P.settled L.improvePair L.pairTurn L.majorTurn L.pairRound L.rewriteTurn L.rewriteAll L.unlink L.heldTo L.givenUpTo L.holdTurn L.givenUp L.hold L.serifTo L.serifTurn L.serifRound L.lastTo L.lastTurn L.lastRound L.linked L.thresholdsOf L.numbersHold L.linkingRefusal L.linkSegmentsCjk
-rows-hold = ((refl, refl), ((refl, refl), ((refl, refl), ((refl, refl), ((refl, refl), ((refl, refl), ((refl, refl), (refl, (refl, tt)))))))))
+unfolding near nearZ mulFix divFix distanceThreshold endsHold coordinateHolds coordinatesHold refusal contourOf firstTouched lastTouched touchedBefore touchedBehind references firstOf secondOf interpolated betweenAt shiftedAt followed weakAt onContour alignedAt listOf result linkHolds blueHolds every edgeIndices edgeNumbers edgesIndices edgesNumbers edgesRefusal linkedOn groupHolds applies moveDone moveOnly moveLink moveSerifs moveStem aligned hintLowercaseM D.same D.opposite linksTo segmentIndices segmentNext segmentNumbers segmentsIndices segmentsNexts segmentsNumbers segmentsRefusal derived turns till P.maxZ P.minZ P.gapOf P.facing P.checkSeg P.improvedBy P.nearStem P.encloses P.muchLonger P.rewritten P.staysSerif P.settled L.improvePair L.pairTurn L.majorTurn L.pairRound L.rewriteTurn L.rewriteAll L.unlink L.heldTo L.givenUpTo L.holdTurn L.givenUp L.hold L.serifTo L.serifTurn L.serifRound L.lastTo L.lastTurn L.lastRound L.linked L.thresholdsOf L.numbersHold L.linkingRefusal L.linkSegmentsCjk pixFloor ruleHolds fittedWidth maxGap gapOf pixelOffset narrowDelta isBlocked shortestMove wideDelta offsetsDelta startOf clamped deltaOf stemAt stemOf placedStem hintedStem hintNormalStemCjk
+rows-hold = ((refl, refl), ((refl, refl), ((refl, refl), ((refl, refl), ((refl, refl), ((refl, refl), ((refl, refl), (refl, (refl, (refl, (refl, (refl, (refl, tt)))))))))))))
