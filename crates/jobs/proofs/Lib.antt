@@ -3,4 +3,5 @@ pub mod Shapes
 pub mod Copies
 pub mod Answers
 pub mod Weaks
+pub mod Fits
 pub mod Determined

@@ -12,7 +12,11 @@ use Rattle.jobs.specs.declared.call.Call.the-variants.{NotACall, Compute
 use Rattle.jobs.specs.Shape.{jobOf}
 use Rattle.jobs.specs.Weak.{weakAnswer}
 use Rattle.jobs.specs.Link.{linkingAnswer}
+use Rattle.jobs.specs.Build.{buildingAnswer}
 use Rattle.jobs.specs.M.{mAnswer}
+use Rattle.jobs.specs.Fit.{linkedAnswer, serifAnswer, adjustAnswer, boundsAnswer}
+use Rattle.jobs.specs.Stem.{stemAnswer}
+use Rattle.jobs.specs.Zones.{zonesAnswer}
 
 -- what is not a job is answered by -1
 abbrev pub notAJob : List ℤ
@@ -29,13 +33,13 @@ answerOf ComputeMidPos ws = pos 0 ∷ midPos (getD ws 1 (pos 0)) (getD ws 2 (pos
 answerOf ComputeMidDelta ws = pos 0 ∷ midDelta (getD ws 1 (pos 0)) (getD ws 2 (pos 0)) ∷ []
 answerOf AlignWeakPoints ws = weakAnswer ws
 answerOf LinkSegmentsCjk ws = linkingAnswer ws
-answerOf ComputeEdges ws = notYet
-answerOf AlignEdgesToBlues ws = notYet
-answerOf AlignLinkedEdge ws = notYet
-answerOf AlignSerifEdge ws = notYet
-answerOf AdjustLink ws = notYet
-answerOf LatinRemainingBounds ws = notYet
-answerOf HintNormalStemCjk ws = notYet
+answerOf ComputeEdges ws = buildingAnswer ws
+answerOf AlignEdgesToBlues ws = zonesAnswer ws
+answerOf AlignLinkedEdge ws = linkedAnswer ws
+answerOf AlignSerifEdge ws = serifAnswer ws
+answerOf AdjustLink ws = adjustAnswer ws
+answerOf LatinRemainingBounds ws = boundsAnswer ws
+answerOf HintNormalStemCjk ws = stemAnswer ws
 answerOf AlignStemEdges ws = notYet
 answerOf HintLowercaseM ws = mAnswer ws
 answerOf HintLowercaseMLent ws = notYet

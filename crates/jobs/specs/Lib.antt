@@ -3,5 +3,10 @@ pub mod Shape
 pub mod Weak
 pub mod Tables
 pub mod Link
+pub mod Build
 pub mod M
+pub mod Rule
+pub mod Fit
+pub mod Stem
+pub mod Zones
 pub mod Answer

@@ -1,9 +1,16 @@
 // The answer to a job, from the call that it names.
+use super::build::answer_building;
 use super::call::Call;
 use super::call::job_of;
+use super::fit::answer_adjust;
+use super::fit::answer_bounds;
+use super::fit::answer_linked_edge;
+use super::fit::answer_serif_edge;
 use super::link::answer_linking;
 use super::m::answer_m;
+use super::stem::answer_stem;
 use super::weak::answer_weak;
+use super::zones::answer_zones;
 use axis::edge::Axis;
 use axis::segment::Segments;
 use fixed::middle::compute_mid_delta;
@@ -17,7 +24,7 @@ ghost use mathlib.Core.List.{_∷_, _++_};
 ghost use lib.IntN.{pos};
 ghost use Prim.Native.Nat.{_≤_, _+_};
 ghost use lib.ListN.{length, drop};
-ghost use Rattle.jobs.specs.Tables.{edgesAnswer, segmentsAnswer};
+ghost use Rattle.jobs.specs.Tables.{edgesAnswer, wordEdgesAnswer, segmentsAnswer};
 ghost use Rattle.jobs.specs.Answer.{Answered};
 
 // Writes an answer of one word.
@@ -37,6 +44,17 @@ fn two_words(out: &mut [i32], first: i32, second: i32) -> usize
     out[0] = first;
     out[1] = second;
     2
+}
+
+// Writes an answer of three words.
+pub fn three_words(out: &mut [i32], first: i32, second: i32, third: i32) -> usize
+    requires { ⌜ 3 ≤ length (now out) ⌝ }
+    ensures { λ r. ⌜ (r ≡ 3) × (now (out .exit) ≡ first ∷ second ∷ third ∷ drop 3 (now (out .entry))) ⌝ }
+{
+    out[0] = first;
+    out[1] = second;
+    out[2] = third;
+    3
 }
 
 // Writes an answer of a word and a list.
@@ -66,6 +84,16 @@ pub fn edges_answer(out: &mut [i32], answer: u8, axis: Axis) -> usize
     1 + write_edges(out, 1, axis)
 }
 
+// Writes an answer of a number, a word and the edges of an axis.
+pub fn word_edges_answer(out: &mut [i32], answer: u8, word: i32, axis: Axis) -> usize
+    requires { ⌜ 1411 ≤ length (now out) ⌝ }
+    ensures { λ r. ⌜ (r ≡ length (wordEdgesAnswer answer word axis)) × (now (out .exit) ≡ wordEdgesAnswer answer word axis ++ drop (length (wordEdgesAnswer answer word axis)) (now (out .entry))) ⌝ }
+{
+    out[0] = number_of(answer);
+    out[1] = word;
+    2 + write_edges(out, 2, axis)
+}
+
 // Writes an answer of a number and the segments of a table.
 pub fn segments_answer(out: &mut [i32], answer: u8, table: Segments) -> usize
     requires { ⌜ 7682 ≤ length (now out) ⌝ }
@@ -91,13 +119,13 @@ pub fn answer(words: &[i32], out: &mut [i32]) -> usize
         Call::ComputeMidDelta => two_words(out, 0, wide(compute_mid_delta(a, b))),
         Call::AlignWeakPoints => answer_weak(words, out),
         Call::LinkSegmentsCjk => answer_linking(words, out),
-        Call::ComputeEdges => one_word(out, -2),
-        Call::AlignEdgesToBlues => one_word(out, -2),
-        Call::AlignLinkedEdge => one_word(out, -2),
-        Call::AlignSerifEdge => one_word(out, -2),
-        Call::AdjustLink => one_word(out, -2),
-        Call::LatinRemainingBounds => one_word(out, -2),
-        Call::HintNormalStemCjk => one_word(out, -2),
+        Call::ComputeEdges => answer_building(words, out),
+        Call::AlignEdgesToBlues => answer_zones(words, out),
+        Call::AlignLinkedEdge => answer_linked_edge(words, out),
+        Call::AlignSerifEdge => answer_serif_edge(words, out),
+        Call::AdjustLink => answer_adjust(words, out),
+        Call::LatinRemainingBounds => answer_bounds(words, out),
+        Call::HintNormalStemCjk => answer_stem(words, out),
         Call::AlignStemEdges => one_word(out, -2),
         Call::HintLowercaseM => answer_m(words, out),
         Call::HintLowercaseMLent => one_word(out, -2),

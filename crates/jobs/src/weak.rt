@@ -83,14 +83,14 @@ fn align_lists(
 }
 
 // The part of a word list that a list's numbers take up, from one place to before another, and the place behind the list.
-struct Part {
-    from: usize,
-    to: usize,
-    next: usize,
+pub struct Part {
+    pub from: usize,
+    pub to: usize,
+    pub next: usize,
 }
 
 // The numbers whose count stands at a place.
-fn part_at(words: &[i32], at: usize) -> Part
+pub fn part_at(words: &[i32], at: usize) -> Part
     requires { ⌜ at ≤ 65536 ⌝ }
     ensures { λ r. ⌜ PartOf (now (words .entry)) at (r .from) (r .to) (r .next) ⌝ }
 {

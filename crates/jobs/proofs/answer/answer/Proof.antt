@@ -12,7 +12,11 @@ use Rattle.jobs.specs.declared.call.Call.the-variants.{NotACall, Compute
 use Rattle.jobs.specs.Shape.{jobOf}
 use Rattle.jobs.specs.Weak.{weakAnswer}
 use Rattle.jobs.specs.Link.{linkingAnswer}
+use Rattle.jobs.specs.Build.{buildingAnswer}
 use Rattle.jobs.specs.M.{mAnswer}
+use Rattle.jobs.specs.Fit.{linkedAnswer, serifAnswer, adjustAnswer, boundsAnswer}
+use Rattle.jobs.specs.Stem.{stemAnswer}
+use Rattle.jobs.specs.Zones.{zonesAnswer}
 use Rattle.jobs.specs.Answer.{answerOf, longest}
 use Rattle.jobs.proofs.Answers.{answered-none, answered-all, answered-one, answered-two}
 use Rattle.jobs.proofs.answer.answer.Statement.{statement}
@@ -98,50 +102,50 @@ answer-linking-requires c κs = search needs
 enum-told-6 : tie.Need-enum-told-6
 enum-told-6 c = search needs
 
-one-word-requires-2 : tie.Need-one-word-requires-2
-one-word-requires-2 c κs = search needs
+answer-building-requires : tie.Need-answer-building-requires
+answer-building-requires c κs = search needs
 
 enum-told-7 : tie.Need-enum-told-7
 enum-told-7 c = search needs
 
-one-word-requires-3 : tie.Need-one-word-requires-3
-one-word-requires-3 c κs = search needs
+answer-zones-requires : tie.Need-answer-zones-requires
+answer-zones-requires c κs = search needs
 
 enum-told-8 : tie.Need-enum-told-8
 enum-told-8 c = search needs
 
-one-word-requires-4 : tie.Need-one-word-requires-4
-one-word-requires-4 c κs = search needs
+answer-linked-edge-requires : tie.Need-answer-linked-edge-requires
+answer-linked-edge-requires c κs = search needs
 
 enum-told-9 : tie.Need-enum-told-9
 enum-told-9 c = search needs
 
-one-word-requires-5 : tie.Need-one-word-requires-5
-one-word-requires-5 c κs = search needs
+answer-serif-edge-requires : tie.Need-answer-serif-edge-requires
+answer-serif-edge-requires c κs = search needs
 
 enum-told-10 : tie.Need-enum-told-10
 enum-told-10 c = search needs
 
-one-word-requires-6 : tie.Need-one-word-requires-6
-one-word-requires-6 c κs = search needs
+answer-adjust-requires : tie.Need-answer-adjust-requires
+answer-adjust-requires c κs = search needs
 
 enum-told-11 : tie.Need-enum-told-11
 enum-told-11 c = search needs
 
-one-word-requires-7 : tie.Need-one-word-requires-7
-one-word-requires-7 c κs = search needs
+answer-bounds-requires : tie.Need-answer-bounds-requires
+answer-bounds-requires c κs = search needs
 
 enum-told-12 : tie.Need-enum-told-12
 enum-told-12 c = search needs
 
-one-word-requires-8 : tie.Need-one-word-requires-8
-one-word-requires-8 c κs = search needs
+answer-stem-requires : tie.Need-answer-stem-requires
+answer-stem-requires c κs = search needs
 
 enum-told-13 : tie.Need-enum-told-13
 enum-told-13 c = search needs
 
-one-word-requires-9 : tie.Need-one-word-requires-9
-one-word-requires-9 c κs = search needs
+one-word-requires-2 : tie.Need-one-word-requires-2
+one-word-requires-2 c κs = search needs
 
 enum-told-14 : tie.Need-enum-told-14
 enum-told-14 c = search needs
@@ -152,8 +156,8 @@ answer-m-requires c κs = search needs
 enum-told-15 : tie.Need-enum-told-15
 enum-told-15 c = search needs
 
-one-word-requires-10 : tie.Need-one-word-requires-10
-one-word-requires-10 c κs = search needs
+one-word-requires-3 : tie.Need-one-word-requires-3
+one-word-requires-3 c κs = search needs
 
 same-length : tie.Need-same-length
 same-length c = search needs
@@ -221,7 +225,7 @@ unfolding answerOf
 returns-7 c =
     let e = c .before .before .before in
     let a = e .before .before in
-    answered-one (list a) (out a) ComputeEdges (room a) (job a (e .enum-told6 .given .1)) (negsuc 1) refl (c .before .one-word2 .ensures)
+    answered-all (list a) (out a) ComputeEdges (room a) (job a (e .enum-told6 .given .1)) (buildingAnswer (list a)) refl (c .before .answer-building .ensures)
 
 same-length-7 : tie.Need-same-length-7
 same-length-7 c = search needs
@@ -231,7 +235,7 @@ unfolding answerOf
 returns-8 c =
     let e = c .before .before .before in
     let a = e .before .before in
-    answered-one (list a) (out a) AlignEdgesToBlues (room a) (job a (e .enum-told7 .given .1)) (negsuc 1) refl (c .before .one-word3 .ensures)
+    answered-all (list a) (out a) AlignEdgesToBlues (room a) (job a (e .enum-told7 .given .1)) (zonesAnswer (list a)) refl (c .before .answer-zones .ensures)
 
 same-length-8 : tie.Need-same-length-8
 same-length-8 c = search needs
@@ -241,7 +245,7 @@ unfolding answerOf
 returns-9 c =
     let e = c .before .before .before in
     let a = e .before .before in
-    answered-one (list a) (out a) AlignLinkedEdge (room a) (job a (e .enum-told8 .given .1)) (negsuc 1) refl (c .before .one-word4 .ensures)
+    answered-all (list a) (out a) AlignLinkedEdge (room a) (job a (e .enum-told8 .given .1)) (linkedAnswer (list a)) refl (c .before .answer-linked-edge .ensures)
 
 same-length-9 : tie.Need-same-length-9
 same-length-9 c = search needs
@@ -251,7 +255,7 @@ unfolding answerOf
 returns-10 c =
     let e = c .before .before .before in
     let a = e .before .before in
-    answered-one (list a) (out a) AlignSerifEdge (room a) (job a (e .enum-told9 .given .1)) (negsuc 1) refl (c .before .one-word5 .ensures)
+    answered-all (list a) (out a) AlignSerifEdge (room a) (job a (e .enum-told9 .given .1)) (serifAnswer (list a)) refl (c .before .answer-serif-edge .ensures)
 
 same-length-10 : tie.Need-same-length-10
 same-length-10 c = search needs
@@ -261,7 +265,7 @@ unfolding answerOf
 returns-11 c =
     let e = c .before .before .before in
     let a = e .before .before in
-    answered-one (list a) (out a) AdjustLink (room a) (job a (e .enum-told10 .given .1)) (negsuc 1) refl (c .before .one-word6 .ensures)
+    answered-all (list a) (out a) AdjustLink (room a) (job a (e .enum-told10 .given .1)) (adjustAnswer (list a)) refl (c .before .answer-adjust .ensures)
 
 same-length-11 : tie.Need-same-length-11
 same-length-11 c = search needs
@@ -271,7 +275,7 @@ unfolding answerOf
 returns-12 c =
     let e = c .before .before .before in
     let a = e .before .before in
-    answered-one (list a) (out a) LatinRemainingBounds (room a) (job a (e .enum-told11 .given .1)) (negsuc 1) refl (c .before .one-word7 .ensures)
+    answered-all (list a) (out a) LatinRemainingBounds (room a) (job a (e .enum-told11 .given .1)) (boundsAnswer (list a)) refl (c .before .answer-bounds .ensures)
 
 same-length-12 : tie.Need-same-length-12
 same-length-12 c = search needs
@@ -281,7 +285,7 @@ unfolding answerOf
 returns-13 c =
     let e = c .before .before .before in
     let a = e .before .before in
-    answered-one (list a) (out a) HintNormalStemCjk (room a) (job a (e .enum-told12 .given .1)) (negsuc 1) refl (c .before .one-word8 .ensures)
+    answered-all (list a) (out a) HintNormalStemCjk (room a) (job a (e .enum-told12 .given .1)) (stemAnswer (list a)) refl (c .before .answer-stem .ensures)
 
 same-length-13 : tie.Need-same-length-13
 same-length-13 c = search needs
@@ -291,7 +295,7 @@ unfolding answerOf
 returns-14 c =
     let e = c .before .before .before in
     let a = e .before .before in
-    answered-one (list a) (out a) AlignStemEdges (room a) (job a (e .enum-told13 .given .1)) (negsuc 1) refl (c .before .one-word9 .ensures)
+    answered-one (list a) (out a) AlignStemEdges (room a) (job a (e .enum-told13 .given .1)) (negsuc 1) refl (c .before .one-word2 .ensures)
 
 same-length-14 : tie.Need-same-length-14
 same-length-14 c = search needs
@@ -311,7 +315,7 @@ unfolding answerOf
 returns-16 c =
     let e = c .before .before .before in
     let a = e .before .before in
-    answered-one (list a) (out a) HintLowercaseMLent (room a) (job a (e .enum-told15 .given .1)) (negsuc 1) refl (c .before .one-word10 .ensures)
+    answered-one (list a) (out a) HintLowercaseMLent (room a) (job a (e .enum-told15 .given .1)) (negsuc 1) refl (c .before .one-word3 .ensures)
 
 pub answer-spec : {M : Type 1} → statement M
 answer-spec =
@@ -336,25 +340,25 @@ answer-spec =
     enum-told-5
     answer-linking-requires
     enum-told-6
-    one-word-requires-2
+    answer-building-requires
     enum-told-7
-    one-word-requires-3
+    answer-zones-requires
     enum-told-8
-    one-word-requires-4
+    answer-linked-edge-requires
     enum-told-9
-    one-word-requires-5
+    answer-serif-edge-requires
     enum-told-10
-    one-word-requires-6
+    answer-adjust-requires
     enum-told-11
-    one-word-requires-7
+    answer-bounds-requires
     enum-told-12
-    one-word-requires-8
+    answer-stem-requires
     enum-told-13
-    one-word-requires-9
+    one-word-requires-2
     enum-told-14
     answer-m-requires
     enum-told-15
-    one-word-requires-10
+    one-word-requires-3
     same-length
     returns-2
     same-length-2
