@@ -123,27 +123,8 @@ pub fn compute_edges(
     given: &Building,
 ) -> Answer<()> {
     refusals::build(segments, edges, given)?;
-    let cleared = |segment: &Segment| Segment {
-        edge_ix: None,
-        edge_next_ix: None,
-        ..*segment
-    };
-    let mut axis = Axis {
-        dim: given.dim,
-        major_dir: given.major,
-        segments: segments.items.iter().map(cleared).collect(),
-        edges: Vec::new(),
-    };
-    let metrics = ScaledAxisMetrics {
-        scale: given.scale,
-        width_metrics: WidthMetrics {
-            edge_distance_threshold: given.distance,
-        },
-        segment_length_threshold: given.length,
-        segment_width_threshold: given.width,
-        ..metrics(&WidthRule::Keep(Vec::new()))
-    };
-    topo_edges::compute_edges(&mut axis, &metrics, given.top_to_bottom, 0, given.group);
+    let mut axis = cleared(&segments.items, given);
+    build(&mut axis, &building_metrics(given), given);
     // The given Rust's table has no end, and an edge never leaves it.
     if axis.edges.len() > EDGES {
         return Err(Refusal(5));
@@ -151,6 +132,39 @@ pub fn compute_edges(
     segments.items = axis.segments;
     *edges = Table::of(axis.edges);
     Ok(())
+}
+
+/// The axis of these segments without edges; the segments forget their ring and edge indices.
+pub(crate) fn cleared(segments: &[Segment], given: &Building) -> Axis {
+    let cleared = |segment: &Segment| Segment {
+        edge_ix: None,
+        edge_next_ix: None,
+        ..*segment
+    };
+    Axis {
+        dim: given.dim,
+        major_dir: given.major,
+        segments: segments.iter().map(cleared).collect(),
+        edges: Vec::new(),
+    }
+}
+
+/// The metrics that building reads.
+pub(crate) fn building_metrics(given: &Building) -> ScaledAxisMetrics {
+    ScaledAxisMetrics {
+        scale: given.scale,
+        width_metrics: WidthMetrics {
+            edge_distance_threshold: given.distance,
+        },
+        segment_length_threshold: given.length,
+        segment_width_threshold: given.width,
+        ..metrics(&WidthRule::Keep(Vec::new()))
+    }
+}
+
+/// The given Rust's building, on a table that has no end.
+pub(crate) fn build(axis: &mut Axis, metrics: &ScaledAxisMetrics, given: &Building) {
+    topo_edges::compute_edges(axis, metrics, given.top_to_bottom, 0, given.group);
 }
 
 /// Call 6: the edges are lent; hands back the anchor.

@@ -1,9 +1,11 @@
-//! The given Rust's calls on what is built once, for benchmarks: what is timed is `align` or `link` alone.
+//! The given Rust's calls on what is built once, for benchmarks: what is timed is `align`, `link` or `build` alone.
 
 use crate::{
     calls,
-    given::{hint_outline, outline::Outline, topo::Axis, topo_segments},
-    job::{Dimension, Direction, Points, Segment},
+    given::{
+        hint_outline, metrics::ScaledAxisMetrics, outline::Outline, topo::Axis, topo_segments,
+    },
+    job::{Building, Dimension, Direction, Points, Segment},
 };
 
 /// An outline of the given Rust, with its points on the vertical axis.
@@ -68,5 +70,37 @@ impl PreparedSegments {
     /// Runs the given Rust.
     pub fn link(&mut self) {
         topo_segments::link_segments_cjk(&self.outline, &mut self.axis, self.scale);
+    }
+}
+
+/// An axis of the given Rust with segments to build edges from.
+pub struct PreparedBuilding {
+    segments: Vec<Segment>,
+    given: Building,
+    metrics: ScaledAxisMetrics,
+    axis: Axis,
+}
+
+impl PreparedBuilding {
+    /// The axis of these segments, which must be accepted.
+    pub fn new(segments: &[Segment], given: Building) -> Self {
+        let axis = calls::cleared(segments, &given);
+        Self {
+            segments: axis.segments.clone(),
+            given,
+            metrics: calls::building_metrics(&given),
+            axis,
+        }
+    }
+
+    /// Sets the segments anew, and takes the edges away.
+    pub fn restore(&mut self) {
+        self.axis.segments.clone_from(&self.segments);
+        self.axis.edges.clear();
+    }
+
+    /// Runs the given Rust.
+    pub fn build(&mut self) {
+        calls::build(&mut self.axis, &self.metrics, &self.given);
     }
 }

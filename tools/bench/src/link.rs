@@ -49,7 +49,7 @@ fn measure(kind: Kind, size: usize) -> [f64; 2] {
         words: &words,
         runs: 0,
     };
-    let mut rust = Rust::new(&words, runs);
+    let mut rust = rust(&words, runs);
     let [port, reading, rust] = time::medians([&mut port, &mut reading, &mut rust]);
     [port - reading, rust].map(|time| time / runs as f64)
 }
@@ -69,28 +69,21 @@ impl Side for Port<'_> {
     }
 }
 
-/// The given Rust's side: an axis for each run.
-struct Rust(Vec<PreparedSegments>);
-
-impl Rust {
-    /// The given Rust on a job's segments.
-    fn new(words: &[i32], runs: usize) -> Self {
-        let Some(Job::Link(table, major, units_per_em, scale)) = decode::decode(words) else {
-            unreachable!("the words are a job of linking");
-        };
-        let prepared = |_| PreparedSegments::new(&table.items, major, units_per_em, scale);
-        Self((0..runs).map(prepared).collect())
-    }
+/// The given Rust on a job's segments, an axis for each run.
+fn rust(words: &[i32], runs: usize) -> Vec<PreparedSegments> {
+    let Some(Job::Link(table, major, units_per_em, scale)) = decode::decode(words) else {
+        unreachable!("the words are a job of linking");
+    };
+    let prepared = |_| PreparedSegments::new(&table.items, major, units_per_em, scale);
+    (0..runs).map(prepared).collect()
 }
 
-impl Side for Rust {
+impl Side for PreparedSegments {
     fn restore(&mut self) {
-        self.0.iter_mut().for_each(PreparedSegments::restore);
+        self.restore();
     }
 
     fn work(&mut self) {
-        for prepared in &mut self.0 {
-            black_box(prepared).link();
-        }
+        black_box(self).link();
     }
 }

@@ -1,7 +1,8 @@
-//! The port, compiled for this machine, as tools use it. `bench weak` and `bench link` time it and the given Rust side by side on the same inputs; `bench answer`
+//! The port, compiled for this machine, as tools use it. `bench weak`, `bench link` and `bench build` time it and the given Rust side by side on the same inputs; `bench answer`
 //! answers job lines.
 
 mod answer;
+mod edges;
 mod link;
 mod outlines;
 mod port;
@@ -17,6 +18,7 @@ fn main() -> ExitCode {
     match words.iter().map(String::as_str).collect::<Vec<_>>()[..] {
         ["weak"] => weak::run(),
         ["link"] => link::run(),
+        ["build"] => edges::run(),
         ["answer"] => {
             if let Err(error) = answer::run() {
                 eprintln!("bench: {error}");
@@ -24,7 +26,7 @@ fn main() -> ExitCode {
             }
         }
         _ => {
-            eprintln!("usage: bench weak | link | answer");
+            eprintln!("usage: bench weak | link | build | answer");
             return ExitCode::from(2);
         }
     }

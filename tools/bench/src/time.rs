@@ -13,6 +13,16 @@ pub trait Side {
     fn work(&mut self);
 }
 
+impl<S: Side> Side for Vec<S> {
+    fn restore(&mut self) {
+        self.iter_mut().for_each(S::restore);
+    }
+
+    fn work(&mut self) {
+        self.iter_mut().for_each(S::work);
+    }
+}
+
 /// The median times of some sides in nanoseconds, taken turn by turn.
 pub fn medians<const N: usize>(mut sides: [&mut dyn Side; N]) -> [f64; N] {
     let mut times = [const { Vec::new() }; N];
