@@ -1,0 +1,3 @@
+-- The laws by subject, each over plain variables, and the values worked out by hand.
+pub mod Moves
+pub mod Worked

@@ -1,0 +1,2 @@
+-- What the contracts of `stem_latin` cite.
+pub mod Latin
