@@ -26,12 +26,12 @@ use Rattle.blues.specs.Zones.{hasBlue}
 use Rattle.blues.specs.Steps.{thinned, linkOr, zoneOf, linkedOrZoned}
 
 -- what holds of both choices holds of the chosen one
-either-way : {A : Type 0} (P : A → Type 0) (t : Bool) (a b : A) → P a → P b → P (cond t a b)
+pub either-way : {A : Type 0} (P : A → Type 0) (t : Bool) (a b : A) → P a → P b → P (cond t a b)
 either-way P true a b h g = h
 either-way P false a b h g = g
 
 -- ---- edges
-at-set : {A : Type 0} (P : A → Type 0) (l : List A) (i k : ℕ) (v d : A) → P v → P (getD l k d) → P (getD (set l i v) k d)
+pub at-set : {A : Type 0} (P : A → Type 0) (l : List A) (i k : ℕ) (v d : A) → P v → P (getD l k d) → P (getD (set l i v) k d)
 at-set P [] i k v d g h = h
 at-set P (x ∷ l) zero zero v d g h = g
 at-set P (x ∷ l) zero (suc k) v d g h = h
@@ -44,14 +44,14 @@ edge-more m c n e w h = let p = h .pos in record { opos = h .opos; pos = omega a
 pub within-more : (m c : ℕ) (axis : Axis) → m ≤ c → AxisWithin m axis → AxisWithin c axis
 within-more m c axis w h = record { few = h .few; edge = λ (k : ℕ) (q : k < axis .len). edge-more m c (axis .len) (edgeAt axis k) w (h .edge k q) }
 
-put-within : (m i : ℕ) (axis : Axis) (e : Edge) → AxisWithin m axis → EdgeWithin m (axis .len) e → AxisWithin m (putEdge axis i e)
+pub put-within : (m i : ℕ) (axis : Axis) (e : Edge) → AxisWithin m axis → EdgeWithin m (axis .len) e → AxisWithin m (putEdge axis i e)
 put-within m i axis e h g = record {
   few = h .few;
   edge = λ (k : ℕ) (q : k < axis .len). at-set (EdgeWithin m (axis .len)) (axis .edges) i k e emptyEdge g (h .edge k q);
 }
 
 -- the edges of an axis of n
-edge-at : (m n j : ℕ) (axis : Axis) → AxisWithin m axis → axis .len ≡ n → j < n → EdgeWithin m n (edgeAt axis j)
+pub edge-at : (m n j : ℕ) (axis : Axis) → AxisWithin m axis → axis .len ≡ n → j < n → EdgeWithin m n (edgeAt axis j)
 edge-at m n j axis h e q = subst (λ (x : ℕ). EdgeWithin m x (edgeAt axis j)) e (h .edge j (omega arith))
 
 pub reach-at : (m n j : ℕ) (axis : Axis) → AxisWithin m axis → axis .len ≡ n → j < n → m ≤ mostReach → InReach (edgeAt axis j)

@@ -18,10 +18,10 @@ use Rattle.blues.specs.Zones.{hasBlue, unzoned, skipped, onZone, linkAli
 use Rattle.blues.specs.Steps.{thinned, isLinked, linkOr, bothZoned, losesLink, losesOwn, zoneOf, linkedOrZoned, thinBoth, linkAt, byZone, stepBy, step}
 
 -- ---- stores that change nothing
-put-same : (axis : Axis) (i : ℕ) → putEdge axis i (edgeAt axis i) ≡ axis
+pub put-same : (axis : Axis) (i : ℕ) → putEdge axis i (edgeAt axis i) ≡ axis
 put-same axis i = ap (λ (es : List Edge). record { dim = axis .dim; «major_dir» = axis .«major_dir»; edges = es; len = axis .len }) (set-getD (axis .edges) i emptyEdge)
 
-keeps : {A B : Type 0} (f : A → B) (l : List A) (i k : ℕ) (e d : A) → f e ≡ f (getD l i d) → f (getD (set l i e) k d) ≡ f (getD l k d)
+pub keeps : {A B : Type 0} (f : A → B) (l : List A) (i k : ℕ) (e d : A) → f e ≡ f (getD l i d) → f (getD (set l i e) k d) ≡ f (getD l k d)
 keeps f [] i k e d h = refl
 keeps f (x ∷ l) zero zero e d h = h
 keeps f (x ∷ l) zero (suc k) e d h = refl
@@ -102,7 +102,7 @@ module _ (rule : WidthRule) (xs : List ℤ) where
     step-is = ap (cond (edgeAt axis i .flags .done) (record { axis = axis; anchor = a })) (by-link (edgeAt axis i .link) refl)
 
 -- ---- and so are the passes
-visits-same : {S : Type 0} (f g : S → ℕ → S) → ((s : S) (i : ℕ) → f s i ≡ g s i) → (n i : ℕ) (s : S) → visits f n i s ≡ visits g n i s
+pub visits-same : {S : Type 0} (f g : S → ℕ → S) → ((s : S) (i : ℕ) → f s i ≡ g s i) → (n i : ℕ) (s : S) → visits f n i s ≡ visits g n i s
 unfolding visits
 visits-same f g h zero i s = refl
 visits-same f g h (suc n) i s = ap (visits f n (i + 1)) (h s i) ∙ visits-same f g h n (i + 1) (g s i)

@@ -1,0 +1,14 @@
+-- The promise of `align_stem_edges` determines the answer, the count, the anchor and the axis: two outcomes that it allows coincide.
+use mathlib.Core.Path.{_≡_, sym, _∙_}
+use mathlib.Core.Bool.{Bool}
+use mathlib.Core.List.{List}
+use lib.IntN.{ℤ}
+use Rattle.fixed.specs.declared.width.WidthRule.{WidthRule}
+use Rattle.axis.specs.declared.kinds.Group.{Group}
+use Rattle.axis.specs.declared.kinds.Link.{Link}
+use Rattle.axis.specs.declared.edge.Axis.{Axis}
+use Rattle.stems.specs.declared.pass.Stems.{Stems}
+use Rattle.stems.specs.Stems.{alignStemEdges}
+
+pub determined : (axis : Axis) (group : Group) (adjust ttb : Bool) (anchor : Link) (rule : WidthRule) (xs : List ℤ) {r s : Stems} → r ≡ alignStemEdges axis group adjust ttb anchor rule xs → s ≡ alignStemEdges axis group adjust ttb anchor rule xs → r ≡ s
+determined axis group adjust ttb anchor rule xs p q = p ∙ sym q

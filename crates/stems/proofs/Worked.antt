@@ -1,0 +1,60 @@
+-- Passes worked out by hand from document 01 and the Rust: what is counted, what becomes the anchor, and what the neighbour bound does.
+use mathlib.Core.Path.{_≡_, refl}
+use mathlib.Core.Bool.{Bool, true, false}
+use mathlib.Core.List.{List, [], _∷_}
+use Prim.Native.Nat.{ℕ}
+use lib.ListN.{length}
+use lib.IntN.{pos}
+use Rattle.fixed.specs.declared.width.WidthRule.the-variants.{Keep}
+use Rattle.fixed.specs.Pixel.{pixFloor, pixRound}
+use Rattle.fixed.specs.Width.{fittedWidth}
+use Rattle.axis.specs.declared.kinds.Link.{Link}
+use Rattle.axis.specs.declared.kinds.Link.the-variants as Links
+use Rattle.axis.specs.declared.kinds.Blue.the-variants as Blues
+use Rattle.axis.specs.declared.kinds.Direction.the-variants as Directions
+use Rattle.axis.specs.declared.kinds.Dimension.the-variants.{Vertical}
+use Rattle.axis.specs.declared.kinds.Group.{Group}
+use Rattle.axis.specs.declared.kinds.Group.the-variants.{Default, Cjk}
+use Rattle.axis.specs.declared.edge.Edge.{Edge}
+use Rattle.axis.specs.declared.edge.Axis.{Axis}
+use Rattle.axis.specs.Flags.{normal}
+use Rattle.axis.specs.Edge.{finished}
+use Rattle.fitting.specs.Fitting.{linkedPos, lowerBound, hasPassed, neighbour, heldTo, boundBy, adjusted}
+use Rattle.stem_latin.specs.Latin.{centreOf, lowerOffset, upperOffset, nearerCentre, thinCentre, thinFirst, thinSecond, anchoredFirst, anchoredSecond, freeFirst}
+use Rattle.stem_cjk.specs.Cjk.{maxGap, gapOf, pixelOffset, narrowDelta, offsetsDelta, startOf, clamped, deltaOf, stemAt, stemOf, placedStem, hintedStem}
+use Rattle.blues.specs.Zones.{visits}
+use Rattle.stems_plan.specs.Visit.{isClose, tooClose, deltaAfter}
+use Rattle.stems.specs.declared.pass.Stems.{Stems}
+use Rattle.stems.specs.Stems.{besideAnchor, latinStem, cjkStem, groupStem, zoneStem, visitLink, visit, stems, stemsOf, modeOf}
+
+-- an edge by opos, pos and link
+abbrev edge : ℕ → ℕ → Link → Edge
+edge o p l = record { fpos = pos 0; opos = pos o; pos = pos p; flags = normal; dir = Directions.None; blue = Blues.None; link = l; serif = Links.None; first = 0; last = 0 }
+
+-- a vertical axis of these edges
+abbrev axisOf : List Edge → Axis
+axisOf es = record { dim = Vertical; «major_dir» = Directions.None; edges = es; len = length es }
+
+-- the pass with Keep and without STEM_ADJUST, by the group, top to bottom or not, the anchor and the edges
+abbrev passOf : Group → Bool → Link → List Edge → Stems
+passOf group ttb anchor es = stemsOf (modeOf (axisOf es) group false ttb Keep) [] anchor (axisOf es)
+
+pub record Worked : Type 0 where
+  -- an edge with no link is counted, one that is done is not; the first stem, from 10 to 74, goes to 0 and 64 and is the anchor
+  pub first-stem : passOf Default false Links.None (edge 5 5 Links.None ∷ finished (edge 8 8 Links.None) ∷ edge 10 10 (Links.To 3) ∷ edge 74 74 (Links.To 2) ∷ [])
+      ≡ stems 1 (Links.To 2) (axisOf (edge 5 5 Links.None ∷ finished (edge 8 8 Links.None) ∷ finished (edge 10 0 (Links.To 3)) ∷ finished (edge 74 64 (Links.To 2)) ∷ [])) 0
+  -- its second edge, linked to no edge, is placed and not done, and counted when it is visited
+  pub second-edge : passOf Default false Links.None (edge 10 10 (Links.To 1) ∷ edge 74 74 Links.None ∷ [])
+      ≡ stems 1 (Links.To 0) (axisOf (finished (edge 10 0 (Links.To 1)) ∷ edge 74 64 Links.None ∷ [])) 0
+  -- a stem from 130 to 190 whose first edge has passed the edge before it, at 300, more than 16 from the second, is held to that; from top to bottom it is not
+  pub bounded : passOf Default false (Links.To 0) (finished (edge 0 0 Links.None) ∷ finished (edge 50 300 Links.None) ∷ edge 100 100 (Links.To 3) ∷ edge 160 160 (Links.To 2) ∷ [])
+      ≡ stems 0 (Links.To 0) (axisOf (finished (edge 0 0 Links.None) ∷ finished (edge 50 300 Links.None) ∷ finished (edge 100 300 (Links.To 3)) ∷ finished (edge 160 190 (Links.To 2)) ∷ [])) 0
+  pub not-bounded : passOf Default true (Links.To 0) (finished (edge 0 0 Links.None) ∷ finished (edge 50 300 Links.None) ∷ edge 100 100 (Links.To 3) ∷ edge 160 160 (Links.To 2) ∷ [])
+      ≡ stems 0 (Links.To 0) (axisOf (finished (edge 0 0 Links.None) ∷ finished (edge 50 300 Links.None) ∷ finished (edge 100 130 (Links.To 3)) ∷ finished (edge 160 190 (Links.To 2)) ∷ [])) 0
+  -- a CJK stem goes to 26 and 66; the next, whose first edge at 129 is less than 64 behind, is passed over, and both its edges are counted
+  pub too-close : passOf Cjk false Links.None (edge 40 40 (Links.To 1) ∷ edge 80 80 (Links.To 0) ∷ edge 129 129 (Links.To 3) ∷ edge 170 170 (Links.To 2) ∷ [])
+      ≡ stems 2 (Links.To 0) (axisOf (finished (edge 40 26 (Links.To 1)) ∷ finished (edge 80 66 (Links.To 0)) ∷ edge 129 129 (Links.To 3) ∷ edge 170 170 (Links.To 2) ∷ [])) 0
+
+pub worked : Worked
+unfolding stemsOf visits visit visitLink tooClose isClose zoneStem groupStem latinStem besideAnchor cjkStem deltaAfter linkedPos lowerBound hasPassed neighbour heldTo boundBy adjusted fittedWidth pixFloor pixRound centreOf lowerOffset upperOffset nearerCentre thinCentre thinFirst thinSecond anchoredFirst anchoredSecond freeFirst maxGap gapOf pixelOffset narrowDelta offsetsDelta startOf clamped deltaOf stemAt stemOf placedStem hintedStem
+worked = record { first-stem = refl; second-edge = refl; bounded = refl; not-bounded = refl; too-close = refl }

@@ -1,0 +1,3 @@
+-- What the contracts of `stems` cite: `Stems`, what the call does; `Steps`, the visit along one path, by its plan.
+pub mod Stems
+pub mod Steps

@@ -1,0 +1,83 @@
+// The pass over the edges.
+use axis::edge::Axis;
+use axis::kinds::Link;
+use axis::link::index_or;
+use stems_plan::close::too_close;
+use stems_plan::kinds::LastStem;
+use stems_plan::kinds::Mode;
+use stems_plan::kinds::Trail;
+use stems_plan::plan::plan_of;
+use stems_plan::store::anchor_after;
+use stems_plan::store::before;
+use stems_plan::store::first_edge;
+use stems_plan::store::hold;
+use stems_plan::store::second_edge;
+ghost use mathlib.Core.Path.{_≡_};
+ghost use mathlib.Core.Bool.{true};
+ghost use Rattle.axis.specs.Limits.{mostPos};
+ghost use Rattle.axis.specs.Accepted.{Below, AxisWithin};
+ghost use Rattle.fixed.specs.Width.{ruleHolds};
+ghost use Rattle.stems.specs.Stems.{stemsOf};
+
+// An answer, 0 or the refusal, the count of edges passed over, the anchor or its absence, and the axis.
+pub struct Stems {
+    pub answer: u8,
+    pub count: usize,
+    pub anchor: Link,
+    pub axis: Axis,
+}
+
+// Aligns all stems that are not done. An edge with no link, and a CJK stem too close to the last one, is counted and passed over.
+pub fn align_stems(axis: Axis, mode: Mode, standards: &[i32], start: Link) -> Stems
+    requires { ⌜ ruleHolds (mode .rule) (now standards) ≡ true ⌝ }
+    requires { ⌜ AxisWithin mostPos axis × Below (axis .len) start ⌝ }
+    ensures { λ r. ⌜ r ≡ stemsOf mode (now (standards .entry)) start axis ⌝ }
+{
+    let n = axis.len;
+    let mut aligned = axis;
+    let mut serif_count: usize = 0;
+    let mut anchor = start;
+    let mut trail = Trail {
+        last: LastStem::None,
+        delta: 0,
+    };
+    for i in 0..n {
+        let edge = aligned.edges[i];
+        if edge.flags.done {
+            continue;
+        }
+        let link = edge.link;
+        let Link::To(k) = link else {
+            serif_count += 1;
+            continue;
+        };
+        let edge2_ix = k as usize;
+        let edge2 = aligned.edges[edge2_ix];
+        if too_close(mode, trail, edge, edge2) {
+            serif_count += 1; // dealt with behind the pass, with the serifs
+            continue;
+        }
+        let base = aligned.edges[index_or(anchor, i)];
+        let is_before = edge2_ix < i;
+        let plan = plan_of(mode, standards, edge, edge2, base, anchor, is_before, trail);
+        aligned.edges[i] = first_edge(edge, plan);
+        aligned.edges[edge2_ix] = second_edge(aligned.edges[edge2_ix], plan);
+        let prev = aligned.edges[before(i)];
+        aligned.edges[i] = hold(
+            mode,
+            plan,
+            i,
+            aligned.edges[i],
+            prev,
+            aligned.edges[edge2_ix],
+        );
+        anchor = anchor_after(plan, anchor, i);
+        trail = plan.trail;
+    }
+    Stems {
+        answer: 0,
+        count: serif_count,
+        anchor,
+        axis: aligned,
+    }
+}

@@ -1,0 +1,2 @@
+-- The laws by subject, each over plain variables.
+pub mod Ranges

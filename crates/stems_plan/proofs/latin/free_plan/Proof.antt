@@ -1,0 +1,68 @@
+-- `stems_plan::latin::free_plan` meets its contract. Assumes nothing.
+use mathlib.Core.Path.{_≡_}
+use native.Mathlib.Omega.{arith}
+use lib.IntN.{_+ℤ_, _-ℤ_}
+use mir.Syntax.{w32}
+use mir.Val.{toZ, ofZ}
+use Rattle.signed.specs.Range.{Between}
+use Rattle.signed.proofs.Signed.{fits-in, is, got, add-law, sub-law}
+use Rattle.stem_latin.specs.Latin.{freeFirst}
+use Rattle.stem_latin.proofs.Moves.{free-ends, free-second-range}
+use Rattle.fitting.specs.Fitting.{linkedPos}
+use Rattle.fitting.proofs.Reach.{units-read, width-range}
+use Rattle.stems_plan.specs.Visit.{originalLen, widthOf}
+use Rattle.stems_plan.specs.Plan.{freePlan}
+use borrow.Author.Needs.{needs}
+use Rattle.stems_plan.proofs.latin.free_plan.Statement.{statement}
+use Rattle.stems_plan.proofs.latin.free_plan.Tie as tie
+
+width-of-requires : tie.Need-width-of-requires
+width-of-requires c κs = search needs
+
+original-len-requires : tie.Need-original-len-requires
+original-len-requires c κs = search needs
+
+-- the fitted width, read back
+width-is : (c : tie.After-width-of) → toZ w32 (ofZ w32 (c .width-of .result)) ≡ widthOf (c .before .args .mode .rule) (c .before .args .standards .now) (c .before .args .edge) (c .before .args .edge2)
+width-is c = rw (is (got w32 (c .width-of .result) (c .width-of .ok))) (c .width-of .ensures)
+
+-- the original length, read back
+length-is : (c : tie.After-original-len) → toZ w32 (ofZ w32 (c .original-len .result)) ≡ c .before .before .args .edge2 .opos -ℤ c .before .before .args .edge .opos
+length-is c = rw (is (got w32 (c .original-len .result) (c .original-len .ok))) (c .original-len .ensures)
+
+free-first-requires : tie.Need-free-first-requires
+free-first-requires c κs =
+    let l = c .before in
+    let w = l .before in
+    let s = w .before in
+    let e = s .pre .1 .0 .opos in
+    let f = s .pre .1 .1 .opos in
+    rw (units-read _ e, length-is l, width-is w) (e, omega (arith, e, f, sub-law (s .args .edge2 .opos) (s .args .edge .opos)), width-range _ _ _ _ e f, omega (arith, e, f, add-law (s .args .edge .opos) (s .args .edge2 .opos -ℤ s .args .edge .opos), sub-law (s .args .edge2 .opos) (s .args .edge .opos)))
+
+-- the first edge's place, read back
+free-is : (c : tie.After-free-first) → toZ w32 (ofZ w32 (c .free-first .result)) ≡ freeFirst (c .before .before .before .before .args .edge .opos) (originalLen (c .before .before .before .before .args .edge) (c .before .before .before .before .args .edge2)) (widthOf (c .before .before .before .before .args .mode .rule) (c .before .before .before .before .args .standards .now) (c .before .before .before .before .args .edge) (c .before .before .before .before .args .edge2))
+free-is c =
+    let l = c .before .before in
+    let w = l .before in
+    rw (is (got w32 (c .free-first .result) (c .free-first .ok))) (rw (units-read _ (w .before .pre .1 .0 .opos), length-is l, width-is w) at (c .free-first .ensures))
+
+-- where the second edge goes
+second-within : (c : tie.Start) → Between 49197 49197 (freeFirst (c .args .edge .opos) (originalLen (c .args .edge) (c .args .edge2)) (widthOf (c .args .mode .rule) (c .args .standards .now) (c .args .edge) (c .args .edge2)) +ℤ widthOf (c .args .mode .rule) (c .args .standards .now) (c .args .edge) (c .args .edge2))
+second-within c =
+    let e = c .pre .1 .0 .opos in
+    let f = c .pre .1 .1 .opos in
+    free-second-range _ _ _ _ (free-ends _ _ _ e f (width-range _ _ _ _ e f))
+
+add-t10 : tie.Need-add-t10
+add-t10 c = rw (free-is c, width-is (c .before .before .before)) (fits-in w32 (second-within (c .before .before .before .before)) tt tt)
+
+returns : tie.Need-returns
+unfolding freePlan linkedPos
+returns c =
+    let w = c .before .before .before in
+    rw (free-is c, width-is w, is (fits-in w32 (second-within (w .before)) tt tt))
+
+pub free-plan-spec : {M : Type 1} → statement M
+free-plan-spec =
+    tie.close
+    (tie.spec width-of-requires original-len-requires free-first-requires add-t10 returns)

@@ -1,0 +1,100 @@
+// What the stores of a visit put into the table.
+use super::kinds::Mode;
+use super::kinds::Plan;
+use super::kinds::Second;
+use axis::edge::Edge;
+use axis::edge::with_done_flag;
+use axis::edge::with_pos;
+use axis::kinds::Link;
+use fitting::adjust::LinkDir;
+use fitting::adjust::has_passed;
+use fitting::adjust::is_far;
+ghost use mathlib.Core.Path.{_≡_};
+ghost use Prim.Native.Nat.{_-_, _<_};
+ghost use Rattle.signed.specs.Range.{Between};
+ghost use Rattle.fitting.specs.Steps.{InReach};
+ghost use Rattle.stems_plan.specs.Visit.{fixedAt};
+ghost use Rattle.stems_plan.specs.Plan.{secondEdge, isOver, isBounded, heldEdge, anchorAfter};
+ghost use Rattle.stems_plan.specs.Steps.{mostPlace};
+
+// The edge at a position, done.
+fn fix_at(edge: Edge, pos: i32) -> Edge
+    ensures { λ r. ⌜ r ≡ fixedAt edge pos ⌝ }
+{
+    with_done_flag(with_pos(edge, pos))
+}
+
+// The first edge of a stem.
+pub fn first_edge(edge: Edge, plan: Plan) -> Edge
+    requires { ⌜ Between mostPlace mostPlace (plan .first) ⌝ }
+    ensures { λ r. ⌜ r ≡ fixedAt edge (plan .first) ⌝ }
+{
+    fix_at(edge, plan.first)
+}
+
+// The second edge of a stem.
+pub fn second_edge(edge: Edge, plan: Plan) -> Edge
+    ensures { λ r. ⌜ r ≡ secondEdge edge (plan .second) ⌝ }
+{
+    let second = plan.second;
+    match second {
+        Second::Stays => edge,
+        Second::Placed(pos) => with_pos(edge, pos),
+        Second::Fixed(pos) => fix_at(edge, pos),
+    }
+}
+
+// The place before another one, or the first place.
+pub fn before(i: usize) -> usize
+    ensures { λ r. ⌜ r ≡ i - 1 ⌝ }
+{
+    if i == 0 {
+        return 0;
+    }
+    i - 1
+}
+
+// Whether an edge has passed the previous one, and its link is far from that.
+fn is_over(top_to_bottom: bool, edge: Edge, prev: Edge, link: Edge) -> bool
+    requires { ⌜ InReach edge × InReach prev × InReach link ⌝ }
+    ensures { λ r. ⌜ r ≡ isOver «top_to_bottom» edge prev link ⌝ }
+{
+    if has_passed(LinkDir::Prev, top_to_bottom, edge.pos, prev.pos) {
+        return is_far(link.pos, prev.pos);
+    }
+    false
+}
+
+// Whether the previous edge bounds edge i: the first edge has none.
+fn is_bounded(plan: Plan, i: usize) -> bool
+    ensures { λ r. ⌜ r ≡ isBounded plan i ⌝ }
+{
+    if plan.bounded {
+        return 0 < i;
+    }
+    false
+}
+
+// Edge i, put back to the previous edge where that bounds it.
+pub fn hold(mode: Mode, plan: Plan, i: usize, edge: Edge, prev: Edge, link: Edge) -> Edge
+    requires { ⌜ InReach edge × InReach prev × InReach link ⌝ }
+    ensures { λ r. ⌜ r ≡ heldEdge (mode .«top_to_bottom») plan i edge prev link ⌝ }
+{
+    if is_bounded(plan, i) {
+        if is_over(mode.top_to_bottom, edge, prev, link) {
+            return with_pos(edge, prev.pos);
+        }
+    }
+    edge
+}
+
+// The anchor, which the first edge of a stem may become.
+pub fn anchor_after(plan: Plan, anchor: Link, i: usize) -> Link
+    requires { ⌜ i < 128 ⌝ }
+    ensures { λ r. ⌜ r ≡ anchorAfter plan anchor i ⌝ }
+{
+    if plan.anchors {
+        return Link::To(i as u16);
+    }
+    anchor
+}
