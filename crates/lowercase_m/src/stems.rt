@@ -1,6 +1,5 @@
 // The three stems of an m: which edges they are, and whether the rule applies to them.
 use axis::edge::Edge;
-use axis::kinds::Group;
 use axis::link::links_to;
 use fixed::point::magnitude;
 ghost use mathlib.Core.Path.{_≡_};

@@ -1,0 +1,66 @@
+-- Document 01's m rows on a lent list, lists of other lengths, and each refusal: one table, one statement.
+use mathlib.Core.Path.{_≡_, refl}
+use mathlib.Core.List.{List, [], _∷_}
+use Prim.Native.Nat.{ℕ}
+use lib.IntN.{pos}
+use lib.ListN.{replicate}
+use Rattle.axis.specs.declared.kinds.Link.{Link}
+use Rattle.axis.specs.declared.kinds.Link.the-variants.{None, To}
+use Rattle.axis.specs.declared.kinds.Direction.the-variants as Directions
+use Rattle.axis.specs.declared.kinds.Blue.the-variants as Blues
+use Rattle.axis.specs.declared.kinds.Group.{Group}
+use Rattle.axis.specs.declared.kinds.Group.the-variants.{Default, Cjk}
+use Rattle.axis.specs.declared.edge.Edge.{Edge}
+use Rattle.axis.specs.Edge.{emptyEdge, finished}
+use Rattle.axis.specs.Flags.{normal}
+use Rattle.axis.specs.Link.{linksTo}
+use Rattle.axis.specs.Refusals as R
+use Rattle.lowercase_m.specs.M as M
+use Rattle.lowercase_m_list.specs.M.{axisOf, Hinted, hinted, hintLowercaseMList}
+
+-- a group and a list, and what the call should hand back
+pub record Row : Type 0 where
+  pub group : Group
+  pub list : List Edge
+  pub value : Hinted
+
+-- an edge by opos, pos and link
+abbrev edge : ℕ → ℕ → Link → Edge
+edge o p link = record { fpos = pos 0; opos = pos o; pos = pos p; flags = normal; dir = Directions.None; blue = Blues.None; link = link; serif = None; first = 0; last = 0 }
+
+-- six edges by the first one's link and the third stem
+abbrev six : Link → Edge → List Edge
+six link stem = edge 0 0 link ∷ emptyEdge ∷ edge 100 128 None ∷ emptyEdge ∷ stem ∷ emptyEdge ∷ []
+
+-- a third stem at 270, by its opos
+abbrev far : ℕ → Edge
+far o = edge o 270 None
+
+-- what is handed back beside an answer, or the list as it came
+abbrev row : Group → List Edge → ℕ → List Edge → Row
+row group list answer after = record { group = group; list = list; value = hinted after answer }
+
+abbrev same : Group → List Edge → ℕ → Row
+same group list answer = row group list answer list
+
+abbrev pub worked : List Row
+worked =
+    row Default (six None (far 207)) 0 (six None (finished (edge 207 256 None)))
+    ∷ same Default (six None (far 208)) 0
+    ∷ same Cjk (six None (far 207)) 0
+    ∷ same Default [] 2
+    ∷ same Default (replicate 5 emptyEdge) 2
+    ∷ same Default (replicate 128 emptyEdge) 2
+    ∷ same Default (replicate 129 emptyEdge) 1
+    ∷ same Default (six (To 6) (far 207)) 3
+    ∷ same Default (six None (far 16384)) 4
+    ∷ []
+
+-- the definition gives the value of each row
+abbrev pub All : List Row → Type 0
+All [] = Unit {0}
+All (r ∷ rs) = (hintLowercaseMList (r .list) (r .group) ≡ r .value) × All rs
+
+pub all-worked : All worked
+unfolding hintLowercaseMList axisOf M.hintLowercaseM M.aligned M.applies M.groupHolds M.linkedOn M.moveStem M.moveSerifs M.moveLink M.moveDone M.moveOnly linksTo R.edgesRefusal R.edgesIndices R.edgesNumbers R.edgeIndices R.edgeNumbers R.linkHolds R.blueHolds R.every
+all-worked = (refl, (refl, (refl, (refl, (refl, (refl, (refl, (refl, (refl, tt)))))))))
