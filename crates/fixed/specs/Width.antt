@@ -55,7 +55,8 @@ standardThat p (x ∷ xs) = cond (p x) x (standardThat p xs)
 unfoldable pub nearest : ℕ → List ℤ → ℤ
 nearest m xs = standardThat (isNearest m xs) xs
 
--- what `nearest` gives, as facts: `nearest-is` shows that it does so for every list but the empty one, and `nearest-only` that nothing else has them
+-- what `nearest` gives, as facts: `nearest-is` shows that it does so for every list that keeps its rule but the empty one, and `nearest-only` that nothing else
+-- has them
 pub record Nearest (xs : List ℤ) (m : ℕ) (s : ℤ) : Type 0 where
   pub place : ℕ
   pub inside : place < length xs

@@ -76,6 +76,14 @@ worded out table answer word p q room h =
     let n : length table + 2 ≡ length (pos answer ∷ word ∷ table) = omega arith in
     (omega (arith, h .0), rw (h .1, p, q) (listed out table (pos answer) word (omega arith) ∙ ap (λ (k : ℕ). pos answer ∷ word ∷ (table ++ drop k out)) n))
 
+-- a number, two words and a table
+pub worded-twice : (out table : List ℤ) (answer : ℕ) (first second : ℤ) {a b c : ℤ} {out′ : List ℤ} {r : ℕ} → a ≡ pos answer → b ≡ first → c ≡ second → 3 + length table ≤ length out → (r ≡ length table) × (out′ ≡ written (set (set (set out 0 a) 1 b) 2 c) 3 table) → (3 + r ≡ length (pos answer ∷ first ∷ second ∷ table)) × (out′ ≡ pos answer ∷ first ∷ second ∷ table ++ drop (length (pos answer ∷ first ∷ second ∷ table)) out)
+worded-twice out table answer first second p q s room h =
+    let b1 = set out 0 (pos answer) in (
+      omega (arith, h .0),
+      rw (h .1, p, q, s) (written-next (set b1 1 first) table second 2 (simp length-set (omega arith)) ∙ written-next b1 (second ∷ table) first 1 (simp length-set (omega arith)) ∙ written-next out (first ∷ second ∷ table) (pos answer) 0 (omega arith) ∙ written-front out (pos answer ∷ first ∷ second ∷ table)),
+    )
+
 -- ---- words behind an answer
 -- the answer and the words, written one behind the other
 behind : (out a ws : List ℤ) → length a + length ws ≤ length out → written (a ++ drop (length a) out) (length a) ws ≡ written out 0 (a ++ ws)

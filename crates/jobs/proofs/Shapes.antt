@@ -1,123 +1,18 @@
--- Readings step by step: what the code's tests show of a definition.
-use mathlib.Core.Path.{_≡_, refl, sym, ap, subst, _∙_}
-use mathlib.Core.Bool.{Bool, true, false, cond, _&&_, and-false, or-true}
+-- Items and jobs step by step: what the code's tests show of a definition.
+use mathlib.Core.Path.{_≡_, refl, ap}
 use mathlib.Core.List.{List, [], _∷_}
-use Prim.Native.Nat.{ℕ, zero, suc, _+_, _-_, _≤_, _<_}
+use Prim.Native.Nat.{ℕ, zero, suc, _+_, _≤_, _<_}
 use native.Mathlib.Numerals.{add-one}
-use native.Mathlib.Omega.{arith}
-use borrow.Author.Tests.{lt-ltb, le-ltb, eq-eqb, ne-eqb}
-use lib.Dec.{ltb}
+use borrow.Author.Tests.{eq-eqb, ne-eqb}
 use lib.ListN.{length, getD, drop, drop-of-length-le}
 use lib.Seq.{drop-cons}
-use lib.IntN.{ℤ, pos}
-use lib.Signed.{leZ}
-use Rattle.signed.specs.Parts.{up, dn}
-use Rattle.signed.proofs.Signed.{to-le-true, to-le-false, eqZ-yes, eqZ-no}
-use Rattle.jobs.specs.declared.shape.Place.{Place}
-use Rattle.jobs.specs.declared.shape.Place.the-variants.{Nowhere, At}
-use Rattle.jobs.specs.declared.shape.Range.{Range}
-use Rattle.jobs.specs.declared.shape.Record.the-variants as Records
-use Rattle.jobs.specs.declared.shape.Element.{Element}
-use Rattle.jobs.specs.declared.shape.Item.{Item}
+use lib.IntN.{ℤ}
+use Rattle.shape.specs.declared.field.Place.the-variants.{Nowhere, At}
+use Rattle.shape.specs.Shape.{andThen}
+use Rattle.jobs.specs.declared.item.Item.{Item}
 use Rattle.jobs.specs.declared.call.Call.{Call}
 use Rattle.jobs.specs.declared.call.Call.the-variants.{NotACall}
-use Rattle.jobs.specs.Shape.{andThen, field, fields, rangesOf, blueHolds, edge, element, elements, item, items, itemsOf, padded, formatOf, callOf, jobOf}
-
--- ---- readings in a row
--- x is what the next reading gives from p
-pub record Goes (x p : Place) (next : ℕ → Place) : Type 0 where
-  pub on : x ≡ andThen p next
-
-pub then-nowhere : {x p : Place} {next : ℕ → Place} → Goes x p next → p ≡ Nowhere → Nowhere ≡ x
-unfolding andThen
-then-nowhere {x} {p} {next} g q = sym (g .on ∙ ap (λ (y : Place). andThen y next) q)
-
-pub then-at : {x p : Place} {next : ℕ → Place} {n : ℕ} → Goes x p next → p ≡ At n → x ≡ next n
-unfolding andThen
-then-at {x} {p} {next} g q = g .on ∙ ap (λ (y : Place). andThen y next) q
-
--- ---- a field
-pub field-end : (r : Range) (ws : List ℤ) (at : ℕ) → length ws ≤ at → field r ws at ≡ Nowhere
-unfolding field
-field-end r ws at h = rw (le-ltb at (length ws) h)
-
-module _ (r : Range) (ws : List ℤ) (at : ℕ) (inside : at < length ws) where
-  pub field-low : up (getD ws at (pos 0)) + dn (r .low) < up (r .low) + dn (getD ws at (pos 0)) → field r ws at ≡ Nowhere
-  unfolding field
-  field-low h = rw (lt-ltb at (length ws) inside, to-le-false (r .low) (getD ws at (pos 0)) h)
-
-  pub field-high : up (r .high) + dn (getD ws at (pos 0)) < up (getD ws at (pos 0)) + dn (r .high) → field r ws at ≡ Nowhere
-  unfolding field
-  field-high h = rw (lt-ltb at (length ws) inside, to-le-false (getD ws at (pos 0)) (r .high) h, and-false)
-
-  pub field-on : up (r .low) + dn (getD ws at (pos 0)) ≤ up (getD ws at (pos 0)) + dn (r .low) → up (getD ws at (pos 0)) + dn (r .high) ≤ up (r .high) + dn (getD ws at (pos 0)) → field r ws at ≡ At (at + 1)
-  unfolding field
-  field-on l h = rw (lt-ltb at (length ws) inside, to-le-true (r .low) (getD ws at (pos 0)) l, to-le-true (getD ws at (pos 0)) (r .high) h)
-
--- ---- fields in a row
-pub fields-step : (rs : List Range) (d : Range) (ws : List ℤ) (i at : ℕ) → i < length rs → fields (drop i rs) ws at ≡ andThen (field (getD rs i d) ws at) (fields (drop (i + 1) rs) ws)
-unfolding fields
-fields-step rs d ws i at h = rw (add-one, drop-cons rs i d h)
-
-pub fields-end : (rs : List Range) (ws : List ℤ) (i at : ℕ) → length rs ≤ i → fields (drop i rs) ws at ≡ At at
-unfolding fields
-fields-end rs ws i at h = rw (drop-of-length-le rs {i = i} h)
-
--- a record that is there is as long as its list of fields
-field-place : (r : Range) (ws : List ℤ) (at n : ℕ) → field r ws at ≡ At n → n ≡ at + 1
-unfolding field
-field-place r ws at n e = by (ltb at (length ws) && (leZ (r .low) (getD ws at (pos 0)) && leZ (getD ws at (pos 0)) (r .high))) e
-  where
-    by : (t : Bool) → cond t (At (at + 1)) Nowhere ≡ At n → n ≡ at + 1
-    by true e = cc
-    by false e = let z : _≡_ {A = ℕ} 0 1 = cc in absurd (omega arith)
-
-pub fields-place : (rs : List Range) (ws : List ℤ) (at n : ℕ) → fields rs ws at ≡ At n → n ≡ at + length rs
-unfolding fields andThen
-fields-place [] ws at n e = let q : at ≡ n = cc in omega arith
-fields-place (r ∷ rs) ws at n e = by (field r ws at) refl e (fields-place rs ws)
-  where
-    by : (p : Place) → field r ws at ≡ p → andThen p (fields rs ws) ≡ At n → ((m k : ℕ) → fields rs ws m ≡ At k → k ≡ m + length rs) → n ≡ at + length (r ∷ rs)
-    by Nowhere f e again = let z : _≡_ {A = ℕ} 0 1 = cc in absurd (omega arith)
-    by (At m) f e again = omega (arith, field-place r ws at m f, again m n e)
-
--- ---- lists
-pub elements-step : (n i : ℕ) (e : Element) (ws : List ℤ) (at : ℕ) → i < n → elements (n - i) e ws at ≡ andThen (element e ws at) (elements (n - (i + 1)) e ws)
-unfolding elements
-elements-step n i e ws at h = let q : n - i ≡ suc (n - (i + 1)) = omega arith in rw q
-
-pub elements-end : (n i : ℕ) (e : Element) (ws : List ℤ) (at : ℕ) → n ≤ i → elements (n - i) e ws at ≡ At at
-unfolding elements
-elements-end n i e ws at h = let q : n - i ≡ 0 = omega arith in rw q
-
--- ---- an edge
-pub edge-nowhere : (ws : List ℤ) (at : ℕ) → fields (rangesOf Records.Edge) ws at ≡ Nowhere → Nowhere ≡ edge ws at
-unfolding edge andThen
-edge-nowhere ws at e = rw e
-
-module _ (ws : List ℤ) (at n : ℕ) (there : fields (rangesOf Records.Edge) ws at ≡ At n) where
-  blue-at : n - 6 ≡ at + 5
-  blue-at = omega (arith, fields-place (rangesOf Records.Edge) ws at n there)
-
-  fitted-at : n - 5 ≡ at + 6
-  fitted-at = omega (arith, fields-place (rangesOf Records.Edge) ws at n there)
-
-  pub edge-blue : getD ws (n - 6) (pos 0) ≡ pos 1 → At n ≡ edge ws at
-  unfolding edge andThen blueHolds
-  edge-blue e = rw (there, eqZ-yes (getD ws (at + 5) (pos 0)) (pos 1) (subst (λ (k : ℕ). getD ws k (pos 0) ≡ pos 1) blue-at e))
-
-  pub edge-plain : getD ws (n - 5) (pos 0) ≡ pos 0 → At n ≡ edge ws at
-  unfolding edge andThen blueHolds
-  edge-plain e = rw (there, eqZ-yes (getD ws (at + 6) (pos 0)) (pos 0) (subst (λ (k : ℕ). getD ws k (pos 0) ≡ pos 0) fitted-at e), or-true)
-
-  pub edge-breaks : (getD ws (n - 6) (pos 0) ≡ pos 1 → ⊥) → (getD ws (n - 5) (pos 0) ≡ pos 0 → ⊥) → Nowhere ≡ edge ws at
-  unfolding edge andThen blueHolds
-  edge-breaks p q =
-      rw (
-        there,
-        eqZ-no (getD ws (at + 5) (pos 0)) (pos 1) (subst (λ (k : ℕ). getD ws k (pos 0) ≡ pos 1 → ⊥) blue-at p),
-        eqZ-no (getD ws (at + 6) (pos 0)) (pos 0) (subst (λ (k : ℕ). getD ws k (pos 0) ≡ pos 0 → ⊥) fitted-at q),
-      )
+use Rattle.jobs.specs.Shape.{item, items, itemsOf, padded, formatOf, callOf, jobOf}
 
 -- ---- items
 pub items-step : (ks : List Item) (d : Item) (ws : List ℤ) (i at : ℕ) → i < length ks → items (drop i ks) ws at ≡ andThen (item (getD ks i d) ws at) (items (drop (i + 1) ks) ws)

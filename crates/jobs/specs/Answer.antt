@@ -14,17 +14,15 @@ use Rattle.jobs.specs.Weak.{weakAnswer}
 use Rattle.jobs.specs.Link.{linkingAnswer}
 use Rattle.jobs.specs.Build.{buildingAnswer}
 use Rattle.jobs.specs.M.{mAnswer}
+use Rattle.jobs.specs.Lent.{lentAnswer}
 use Rattle.jobs.specs.Fit.{linkedAnswer, serifAnswer, adjustAnswer, boundsAnswer}
 use Rattle.jobs.specs.Stem.{stemAnswer}
+use Rattle.jobs.specs.Stems.{stemsAnswer}
 use Rattle.jobs.specs.Zones.{zonesAnswer}
 
 -- what is not a job is answered by -1
 abbrev pub notAJob : List ℤ
 notAJob = negsuc 0 ∷ []
-
--- a job of a call that the port does not have yet, by -2
-abbrev pub notYet : List ℤ
-notYet = negsuc 1 ∷ []
 
 -- the answer to a job of a call
 unfoldable pub answerOf : Call → List ℤ → List ℤ
@@ -40,9 +38,9 @@ answerOf AlignSerifEdge ws = serifAnswer ws
 answerOf AdjustLink ws = adjustAnswer ws
 answerOf LatinRemainingBounds ws = boundsAnswer ws
 answerOf HintNormalStemCjk ws = stemAnswer ws
-answerOf AlignStemEdges ws = notYet
+answerOf AlignStemEdges ws = stemsAnswer ws
 answerOf HintLowercaseM ws = mAnswer ws
-answerOf HintLowercaseMLent ws = notYet
+answerOf HintLowercaseMLent ws = lentAnswer ws
 
 -- the answer to a word list
 unfoldable pub answerTo : List ℤ → List ℤ

@@ -1,18 +1,15 @@
 -- The calls that place one edge, 7 to 10: their jobs, edges and what stands behind them, and their answers.
-use mathlib.Core.Bool.{cond}
 use mathlib.Core.List.{List, [], _∷_}
 use Prim.Native.Nat.{ℕ, _+_}
 use lib.IntN.{ℤ, pos}
 use Rattle.axis.specs.declared.edge.Axis.{Axis}
 use Rattle.axis.specs.declared.kinds.Dimension.the-variants as Dimensions
 use Rattle.axis.specs.declared.kinds.Direction.the-variants as Directions
-use Rattle.fitting.specs.declared.adjust.LinkDir.{LinkDir}
-use Rattle.fitting.specs.declared.adjust.LinkDir.the-variants.{Prev, Next}
 use Rattle.fitting.specs.declared.bounds.Bounds.{Bounds}
 use Rattle.fitting.specs.declared.place.Fitted.{Fitted}
 use Rattle.fitting.specs.Fitting.{alignLinkedEdge, alignSerifEdge, adjustLink, latinRemainingBounds}
 use Rattle.words.specs.Word.{wordAt}
-use Rattle.words.specs.Field.{choiceOf, linkWord}
+use Rattle.words.specs.Field.{choiceOf, linkDirOf, linkWord}
 use Rattle.words.specs.Edge.{behindEdges, axisFrom}
 use Rattle.jobs.specs.Tables.{namedAt, edgesAnswer}
 use Rattle.jobs.specs.Weak.{listAt, behind}
@@ -43,10 +40,6 @@ unfoldable pub serifAnswer : List ℤ → List ℤ
 serifAnswer ws = fittedAnswer (serifAt ws (behindEdges ws 1))
 
 -- ---- the adjustment
--- 0 the previous edge, 1 the next
-unfoldable pub linkDirOf : ℤ → LinkDir
-linkDirOf w = cond (choiceOf w) Next Prev
-
 -- what the call hands back for the edge, the neighbour and the order at a place
 abbrev pub adjustAt : List ℤ → ℕ → Fitted
 adjustAt ws at = adjustLink (jobAxis ws) (namedAt ws at) (linkDirOf (wordAt ws (at + 1))) (choiceOf (wordAt ws (at + 2)))

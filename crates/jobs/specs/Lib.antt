@@ -5,8 +5,10 @@ pub mod Tables
 pub mod Link
 pub mod Build
 pub mod M
+pub mod Lent
 pub mod Rule
 pub mod Fit
 pub mod Stem
+pub mod Stems
 pub mod Zones
 pub mod Answer

@@ -21,6 +21,10 @@ edgesAnswer answer axis = pos answer ∷ edgesWords axis
 abbrev pub wordEdgesAnswer : ℕ → ℤ → Axis → List ℤ
 wordEdgesAnswer answer word axis = pos answer ∷ word ∷ edgesWords axis
 
+-- a number, two words and the edges of an axis
+abbrev pub twoWordsEdgesAnswer : ℕ → ℤ → ℤ → Axis → List ℤ
+twoWordsEdgesAnswer answer first second axis = pos answer ∷ first ∷ second ∷ edgesWords axis
+
 -- a number and the segments of a table
 abbrev pub segmentsAnswer : ℕ → Segments → List ℤ
 segmentsAnswer answer table = pos answer ∷ segmentsWords table

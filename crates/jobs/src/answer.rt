@@ -6,9 +6,11 @@ use super::fit::answer_adjust;
 use super::fit::answer_bounds;
 use super::fit::answer_linked_edge;
 use super::fit::answer_serif_edge;
+use super::lent::answer_lent;
 use super::link::answer_linking;
 use super::m::answer_m;
 use super::stem::answer_stem;
+use super::stem_pass::answer_stems;
 use super::weak::answer_weak;
 use super::zones::answer_zones;
 use axis::edge::Axis;
@@ -24,7 +26,7 @@ ghost use mathlib.Core.List.{_∷_, _++_};
 ghost use lib.IntN.{pos};
 ghost use Prim.Native.Nat.{_≤_, _+_};
 ghost use lib.ListN.{length, drop};
-ghost use Rattle.jobs.specs.Tables.{edgesAnswer, wordEdgesAnswer, segmentsAnswer};
+ghost use Rattle.jobs.specs.Tables.{edgesAnswer, wordEdgesAnswer, twoWordsEdgesAnswer, segmentsAnswer};
 ghost use Rattle.jobs.specs.Answer.{Answered};
 
 // Writes an answer of one word.
@@ -94,6 +96,23 @@ pub fn word_edges_answer(out: &mut [i32], answer: u8, word: i32, axis: Axis) -> 
     2 + write_edges(out, 2, axis)
 }
 
+// Writes an answer of a number, two words and the edges of an axis.
+pub fn two_words_edges_answer(
+    out: &mut [i32],
+    answer: u8,
+    first: i32,
+    second: i32,
+    axis: Axis,
+) -> usize
+    requires { ⌜ 1412 ≤ length (now out) ⌝ }
+    ensures { λ r. ⌜ (r ≡ length (twoWordsEdgesAnswer answer first second axis)) × (now (out .exit) ≡ twoWordsEdgesAnswer answer first second axis ++ drop (length (twoWordsEdgesAnswer answer first second axis)) (now (out .entry))) ⌝ }
+{
+    out[0] = number_of(answer);
+    out[1] = first;
+    out[2] = second;
+    3 + write_edges(out, 3, axis)
+}
+
 // Writes an answer of a number and the segments of a table.
 pub fn segments_answer(out: &mut [i32], answer: u8, table: Segments) -> usize
     requires { ⌜ 7682 ≤ length (now out) ⌝ }
@@ -126,9 +145,9 @@ pub fn answer(words: &[i32], out: &mut [i32]) -> usize
         Call::AdjustLink => answer_adjust(words, out),
         Call::LatinRemainingBounds => answer_bounds(words, out),
         Call::HintNormalStemCjk => answer_stem(words, out),
-        Call::AlignStemEdges => one_word(out, -2),
+        Call::AlignStemEdges => answer_stems(words, out),
         Call::HintLowercaseM => answer_m(words, out),
-        Call::HintLowercaseMLent => one_word(out, -2),
+        Call::HintLowercaseMLent => answer_lent(words, out),
     }
 }
 

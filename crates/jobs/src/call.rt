@@ -1,14 +1,14 @@
 // Which call a word list is a job of.
-use super::shape::BYTE;
-use super::shape::CHOICE;
-use super::shape::DIRECTION;
-use super::shape::Element;
-use super::shape::INDEX;
-use super::shape::Item;
-use super::shape::LINK;
-use super::shape::Place;
-use super::shape::WORD;
-use super::shape::skip_item;
+use super::item::Item;
+use super::item::skip_item;
+use shape::element::Element;
+use shape::field::BYTE;
+use shape::field::CHOICE;
+use shape::field::DIRECTION;
+use shape::field::INDEX;
+use shape::field::LINK;
+use shape::field::Place;
+use shape::field::WORD;
 use words::word::count_at;
 ghost use mathlib.Core.Path.{_≡_};
 ghost use Rattle.jobs.specs.Shape.{items, formatOf, callOf, jobOf};

@@ -16,14 +16,17 @@ use fitting::place::align_serif_edge;
 use words::edge::axis_from;
 use words::edge::behind_edges;
 use words::field::choice_at;
+use words::field::link_dir_of;
 use words::field::link_word;
 use words::word::count_at;
+use words::word::word_at;
 ghost use mathlib.Core.Path.{_≡_};
 ghost use mathlib.Core.List.{_++_};
 ghost use Prim.Native.Nat.{_≤_};
 ghost use lib.ListN.{length, drop};
+ghost use Rattle.words.specs.Field.{linkDirOf};
 ghost use Rattle.words.specs.Word.{wordAt};
-ghost use Rattle.jobs.specs.Fit.{jobAxis, linkDirOf, fittedAnswer, linkedAnswer, serifAnswer, adjustAnswer, boundsAnswer};
+ghost use Rattle.jobs.specs.Fit.{jobAxis, fittedAnswer, linkedAnswer, serifAnswer, adjustAnswer, boundsAnswer};
 
 // The axis of a job whose call reads neither its dimension nor its major direction.
 fn axis_of(words: &[i32]) -> Axis
@@ -36,10 +39,7 @@ fn axis_of(words: &[i32]) -> Axis
 fn link_dir_at(words: &[i32], i: usize) -> LinkDir
     ensures { λ r. ⌜ r ≡ linkDirOf (wordAt (now (words .entry)) i) ⌝ }
 {
-    if choice_at(words, i) {
-        return LinkDir::Next;
-    }
-    LinkDir::Prev
+    link_dir_of(word_at(words, i))
 }
 
 // Writes what a call hands back that places an edge.

@@ -33,7 +33,7 @@ fn copy_marks(list: &[i32], to: &mut [u8])
 }
 
 // Writes a list's contour ends.
-fn copy_ends(list: &[i32], to: &mut [u16])
+pub fn copy_ends(list: &[i32], to: &mut [u16])
     requires { ⌜ length (now list) ≤ length (now to) ⌝ }
     ensures { λ _. ⌜ take (length (now (list .entry))) (now (to .exit)) ≡ map indexOf (now (list .entry)) ⌝ }
 {

@@ -1,6 +1,45 @@
-// The static library that gateways link: the public calls under C names. A slice is passed as its pointer and then its length.
+// The static library that gateways link: the public calls under C names. A slice is passed as its pointer and then its length. Edges are lists of 11 words each
+// and segments of 15; the answer is 0 or document 01's number of the refusal, and 255 where a word is none of its field. include/khsaemudol.h documents each.
+use building::numbers::Thresholds;
+use fixed::middle::compute_mid_delta;
+use fixed::middle::compute_mid_pos;
+use flat::fit::lend_adjust;
+use flat::fit::lend_bounds;
+use flat::fit::lend_linked_edge;
+use flat::fit::lend_serif_edge;
+use flat::m::lend_m;
+use flat_segments::build::lend_building;
+use flat_segments::link::lend_linking;
+use flat_stems::pass::lend_stems;
+use flat_stems::stem::lend_stem;
+use flat_stems::zones::lend_zones;
 use outline::weak::align_weak_points;
+ghost use mathlib.Core.Path.{_≡_};
+ghost use Rattle.fixed.specs.Middle.{midPos, midDelta};
 ghost use Rattle.outline.specs.Weak.{Outcome};
+ghost use Rattle.flat_segments.specs.Build.{thresholdsOf, BuiltLent};
+ghost use Rattle.flat.specs.Fit.{LinkedLent, SerifLent, AdjustLent, BoundsLent};
+ghost use Rattle.flat_segments.specs.Link.{LinkingLent};
+ghost use Rattle.flat.specs.M.{MLent};
+ghost use Rattle.flat_stems.specs.Stem.{StemLent};
+ghost use Rattle.flat_stems.specs.Stems.{StemsLent};
+ghost use Rattle.flat_stems.specs.Zones.{ZonesLent};
+
+// The middle of two coordinates.
+#[no_mangle]
+pub extern "C" fn khs_compute_mid_pos(min: i32, max: i32) -> i16
+    ensures { λ r. ⌜ r ≡ midPos min max ⌝ }
+{
+    compute_mid_pos(min, max)
+}
+
+// Half the difference of two coordinates.
+#[no_mangle]
+pub extern "C" fn khs_compute_mid_delta(min: i32, max: i32) -> i16
+    ensures { λ r. ⌜ r ≡ midDelta min max ⌝ }
+{
+    compute_mid_delta(min, max)
+}
 
 // Aligns the weak points of one axis. The answer is 0, or document 01's number of the refusal, 1, 3 or 4, which writes nothing.
 #[no_mangle]
@@ -13,4 +52,176 @@ pub extern "C" fn khs_align_weak_points(
     ensures { λ r. ⌜ Outcome (now (originals .entry)) (now (currents .entry)) (now (touched .entry)) (now (ends .entry)) r (now (currents .exit)) ⌝ }
 {
     align_weak_points(originals, currents, touched, ends)
+}
+
+// Links CJK segments into stems and serifs.
+#[no_mangle]
+pub extern "C" fn khs_link_segments_cjk(
+    segments: &mut [i32],
+    major_dir: i32,
+    units_per_em: i32,
+    scale: i32,
+) -> u8
+    ensures { λ r. ⌜ LinkingLent (now (segments .entry)) «major_dir» «units_per_em» scale r (now (segments .exit)) ⌝ }
+{
+    lend_linking(segments, major_dir, units_per_em, scale)
+}
+
+// Builds the edges of segments.
+#[no_mangle]
+pub extern "C" fn khs_compute_edges(
+    segments: &mut [i32],
+    edges: &mut [i32],
+    dim: i32,
+    major_dir: i32,
+    group: i32,
+    top_to_bottom: i32,
+    scale: i32,
+    distance: i32,
+    length: i32,
+    width: i32,
+    count: &mut i32,
+) -> u8
+    ensures { λ r. ⌜ BuiltLent (now (segments .entry)) (now (edges .entry)) dim «major_dir» group «top_to_bottom» scale (thresholdsOf distance length width) (now (count .entry)) r (now (segments .exit), (now (edges .exit), now (count .exit))) ⌝ }
+{
+    let thresholds = Thresholds {
+        distance,
+        length,
+        width,
+    };
+    lend_building(
+        segments,
+        edges,
+        dim,
+        major_dir,
+        group,
+        top_to_bottom,
+        scale,
+        thresholds,
+        count,
+    )
+}
+
+// Puts edges on their blue zones.
+#[no_mangle]
+pub extern "C" fn khs_align_edges_to_blues(
+    edges: &mut [i32],
+    dim: i32,
+    group: i32,
+    rule: i32,
+    standards: &[i32],
+    anchor: &mut i32,
+) -> u8
+    ensures { λ r. ⌜ ZonesLent (now (edges .entry)) dim group rule (now (standards .entry)) (now (anchor .entry)) r (now (edges .exit), now (anchor .exit)) ⌝ }
+{
+    lend_zones(edges, dim, group, rule, standards, anchor)
+}
+
+// Places a stem edge by its base edge.
+#[no_mangle]
+pub extern "C" fn khs_align_linked_edge(
+    edges: &mut [i32],
+    rule: i32,
+    standards: &[i32],
+    base: i32,
+    stem: i32,
+) -> u8
+    ensures { λ r. ⌜ LinkedLent (now (edges .entry)) rule (now (standards .entry)) base stem r (now (edges .exit)) ⌝ }
+{
+    lend_linked_edge(edges, rule, standards, base, stem)
+}
+
+// Places a serif edge by its base edge.
+#[no_mangle]
+pub extern "C" fn khs_align_serif_edge(edges: &mut [i32], base: i32, serif: i32) -> u8
+    ensures { λ r. ⌜ SerifLent (now (edges .entry)) base serif r (now (edges .exit)) ⌝ }
+{
+    lend_serif_edge(edges, base, serif)
+}
+
+// Holds an edge to its neighbour where it has passed it.
+#[no_mangle]
+pub extern "C" fn khs_adjust_link(edges: &mut [i32], edge: i32, dir: i32, top_to_bottom: i32) -> u8
+    ensures { λ r. ⌜ AdjustLent (now (edges .entry)) edge dir «top_to_bottom» r (now (edges .exit)) ⌝ }
+{
+    lend_adjust(edges, edge, dir, top_to_bottom)
+}
+
+// Finds the two edges that a remaining edge stands between.
+#[no_mangle]
+pub extern "C" fn khs_latin_remaining_bounds(
+    edges: &[i32],
+    edge: i32,
+    lower: &mut i32,
+    upper: &mut i32,
+) -> u8
+    ensures { λ r. ⌜ BoundsLent (now (edges .entry)) edge (now (lower .entry), now (upper .entry)) r (now (lower .exit), now (upper .exit)) ⌝ }
+{
+    lend_bounds(edges, edge, lower, upper)
+}
+
+// Places both edges of a CJK stem.
+#[no_mangle]
+pub extern "C" fn khs_hint_normal_stem_cjk(
+    edges: &mut [i32],
+    dim: i32,
+    stem_adjust: i32,
+    rule: i32,
+    standards: &[i32],
+    edge: i32,
+    edge2: i32,
+    delta: i32,
+    own_delta: &mut i32,
+) -> u8
+    ensures { λ r. ⌜ StemLent (now (edges .entry)) dim «stem_adjust» rule (now (standards .entry)) edge edge2 delta (now («own_delta» .entry)) r (now (edges .exit), now («own_delta» .exit)) ⌝ }
+{
+    lend_stem(
+        edges,
+        dim,
+        stem_adjust,
+        rule,
+        standards,
+        edge,
+        edge2,
+        delta,
+        own_delta,
+    )
+}
+
+// Aligns all stems.
+#[no_mangle]
+pub extern "C" fn khs_align_stem_edges(
+    edges: &mut [i32],
+    dim: i32,
+    group: i32,
+    stem_adjust: i32,
+    top_to_bottom: i32,
+    anchor: i32,
+    rule: i32,
+    standards: &[i32],
+    count: &mut i32,
+    found: &mut i32,
+) -> u8
+    ensures { λ r. ⌜ StemsLent (now (edges .entry)) dim group «stem_adjust» «top_to_bottom» anchor rule (now (standards .entry)) (now (count .entry)) (now (found .entry)) r (now (edges .exit), (now (count .exit), now (found .exit))) ⌝ }
+{
+    lend_stems(
+        edges,
+        dim,
+        group,
+        stem_adjust,
+        top_to_bottom,
+        anchor,
+        rule,
+        standards,
+        count,
+        found,
+    )
+}
+
+// Moves the third stem of a lowercase m.
+#[no_mangle]
+pub extern "C" fn khs_hint_lowercase_m(edges: &mut [i32], group: i32) -> u8
+    ensures { λ r. ⌜ MLent (now (edges .entry)) group r (now (edges .exit)) ⌝ }
+{
+    lend_m(edges, group)
 }

@@ -1,13 +1,12 @@
 // Answers job lines: reads them from standard input, and writes an answer line for each to standard output.
-mod line;
 mod spell;
 
 use jobs::answer::answer;
 use libc::STDIN_FILENO;
 use libc::STDOUT_FILENO;
-use line::Line;
-use line::feed;
-use line::words_of;
+use lines::line::Line;
+use lines::line::feed;
+use lines::line::words_of;
 use spell::spell;
 ghost use Prim.Native.Nat.{_≤_};
 ghost use lib.ListN.{length};

@@ -9,6 +9,7 @@ use Rattle.outline.specs.Weak.{refusal, result}
 use Rattle.fixed.specs.declared.width.WidthRule.{WidthRule}
 use Rattle.axis.specs.declared.kinds.Dimension.{Dimension}
 use Rattle.axis.specs.declared.kinds.Dimension.the-variants.{Horizontal}
+use Rattle.axis.specs.declared.kinds.Link.{Link}
 use Rattle.axis.specs.declared.kinds.Direction.{Direction}
 use Rattle.axis.specs.declared.kinds.Direction.the-variants as Directions
 use Rattle.axis.specs.declared.kinds.Group.{Group}
@@ -22,6 +23,7 @@ use Rattle.linking.specs.Linking.{beside, linkSegmentsCjk}
 use Rattle.building.specs.Building.{isCjk, distanceThreshold}
 use Rattle.lowercase_m.specs.M.{hinted, hintLowercaseM}
 use Rattle.stem_cjk.specs.Cjk.{hinted as hintedCjk, hintNormalStemCjk}
+use Rattle.stems.specs.Stems.{stems as aligned, alignStemEdges}
 
 -- an axis of these edges, its other places empty
 abbrev axisOf : Dimension → List Edge → Axis
@@ -38,6 +40,9 @@ pub data Row : Type 0 where
   -- a dimension, STEM_ADJUST or not, a width rule without standards, the two edges of a CJK stem and a passed delta; the answer, the delta handed back, and
   -- the edges at the end
   stemCjk : Dimension → Bool → WidthRule → List Edge → ℤ → ℕ → ℤ → List Edge → Row
+  -- a dimension, a group, STEM_ADJUST or not, top to bottom or not, the anchor or none, a width rule without standards and the edges of a stem pass; the
+  -- answer, the count, the anchor handed back, and the edges at the end
+  stems : Dimension → Group → Bool → Bool → Link → WidthRule → List Edge → ℕ → ℕ → Link → List Edge → Row
   -- a group, the first threshold and the scale; the distance threshold
   build : Group → ℤ → ℤ → ℤ → Row
   -- a group and the edges of an m; the answer, and the edges at the end
@@ -49,6 +54,7 @@ pub data Row : Type 0 where
 abbrev pub Holds : Row → Type 0
 Holds (weak originals currents touched ends answer after) = (refusal originals currents touched ends ≡ answer) × (result originals currents touched ends ≡ after)
 Holds (stemCjk dim adjust rule edges d answer delta after) = hintNormalStemCjk (axisOf dim edges) adjust rule [] 0 1 d ≡ hintedCjk (axisOf dim after) delta answer
+Holds (stems dim group adjust ttb anchor rule edges answer count anchor′ after) = alignStemEdges (axisOf dim edges) group adjust ttb anchor rule [] ≡ aligned count anchor′ (axisOf dim after) answer
 Holds (build group first scale threshold) = distanceThreshold (isCjk group) first scale ≡ threshold
 Holds (m group edges answer after) = hintLowercaseM (axisOf Horizontal edges) group ≡ hinted (axisOf Horizontal after) answer
 Holds (link segments major upem scale answer after) = linkSegmentsCjk (segmentsOf segments) major upem scale ≡ beside (segmentsOf after) answer

@@ -5,7 +5,7 @@ use mathlib.Core.List.{List, [], _∷_}
 use Prim.Native.Nat.{ℕ}
 use lib.IntN.{ℤ, pos, negℤ}
 use Rattle.fixed.specs.declared.width.WidthRule.the-variants.{Keep}
-use Rattle.fixed.specs.Pixel.{pixFloor}
+use Rattle.fixed.specs.Pixel.{pixFloor, pixRound}
 use Rattle.fixed.specs.Width.{ruleHolds, fittedWidth}
 use Rattle.fixed.specs.Point.{near, nearZ, mulFix, divFix, derived}
 use Rattle.outline.specs.Weak.{endsHold, coordinateHolds, coordinatesHold, refusal, contourOf, firstTouched, lastTouched, touchedBefore, touchedBehind, references, firstOf, secondOf, interpolated, betweenAt, shiftedAt, followed, weakAt, onContour, alignedAt, listOf, result}
@@ -30,7 +30,12 @@ use Rattle.linking.specs.Pairs as P
 use Rattle.linking.specs.Linking as L
 use Rattle.lowercase_m.specs.M.{linkedOn, groupHolds, applies, moveDone, moveOnly, moveLink, moveSerifs, moveStem, aligned, hintLowercaseM}
 use Rattle.stem_cjk.specs.Cjk.{maxGap, gapOf, pixelOffset, narrowDelta, isBlocked, shortestMove, wideDelta, offsetsDelta, startOf, clamped, deltaOf, stemAt, stemOf, placedStem, hintedStem, hintNormalStemCjk}
-use Rattle.rows.specs.Row.{Row, weak, stemCjk, build, m, link, All}
+use Rattle.fitting.specs.Fitting.{lowerBound, hasPassed, neighbour, boundBy, adjusted}
+use Rattle.stem_latin.specs.Latin.{centreOf, lowerOffset, upperOffset, nearerCentre, thinCentre, thinFirst, thinSecond, anchoredFirst, anchoredSecond}
+use Rattle.blues.specs.Zones.{visits}
+use Rattle.stems_plan.specs.Visit.{tooClose}
+use Rattle.stems.specs.Stems.{besideAnchor, latinStem, groupStem, zoneStem, visitLink, visit, stemsOf, alignStemEdges}
+use Rattle.rows.specs.Row.{Row, weak, stems, stemCjk, build, m, link, All}
 
 -- -n
 abbrev minus : ℕ → ℤ
@@ -39,6 +44,10 @@ minus n = negℤ (pos n)
 -- an unlinked edge, by opos and pos
 abbrev edge : ℕ → ℕ → Edge
 edge o p = record { fpos = pos 0; opos = pos o; pos = pos p; flags = normal; dir = Directions.None; blue = Blues.None; link = Links.None; serif = Links.None; first = 0; last = 0 }
+
+-- the same, linked to an edge
+abbrev linked : ℕ → ℕ → ℕ → Edge
+linked o p k = record { fpos = pos 0; opos = pos o; pos = pos p; flags = normal; dir = Directions.None; blue = Blues.None; link = Links.To k; serif = Links.None; first = 0; last = 0 }
 
 -- a segment from 0 to 200, by direction, position, score, len and link
 abbrev segment : Direction → ℕ → ℕ → ℕ → Link → Segment
@@ -61,6 +70,10 @@ table =
     ∷ weak (pos 0 ∷ pos 10 ∷ pos 20 ∷ []) (pos 0 ∷ pos 99 ∷ pos 20 ∷ []) (1 ∷ 0 ∷ 0 ∷ []) (2 ∷ []) 0 (pos 0 ∷ pos 99 ∷ pos 20 ∷ [])
     -- the same, currents 5, 99, 20: 5, 15, 25
     ∷ weak (pos 0 ∷ pos 10 ∷ pos 20 ∷ []) (pos 5 ∷ pos 99 ∷ pos 20 ∷ []) (1 ∷ 0 ∷ 0 ∷ []) (2 ∷ []) 0 (pos 5 ∷ pos 15 ∷ pos 25 ∷ [])
+    -- Latin, Keep, bottom to top; edge 0 is the anchor, done, unlinked, at 0 and unmoved; edges 1 and 2 have opos 100 and 160, linked to each other: 130 and 190
+    ∷ stems Vertical Default false false (Links.To 0) Keep (finished (edge 0 0) ∷ linked 100 100 2 ∷ linked 160 160 1 ∷ []) 0 0 (Links.To 0) (finished (edge 0 0) ∷ finished (linked 100 130 2) ∷ finished (linked 160 190 1) ∷ [])
+    -- the same, 87 and 157 (tie between offsets 38 and 26): 119 and 189
+    ∷ stems Vertical Default false false (Links.To 0) Keep (finished (edge 0 0) ∷ linked 87 87 2 ∷ linked 157 157 1 ∷ []) 0 0 (Links.To 0) (finished (edge 0 0) ∷ finished (linked 87 119 2) ∷ finished (linked 157 189 1) ∷ [])
     -- CJK, Keep, vertical, not round, no STEM_ADJUST, passed delta 0, 40 and 80: 26 and 66
     ∷ stemCjk Vertical false Keep (edge 40 40 ∷ edge 80 80 ∷ []) (pos 0) 0 (minus 14) (edge 40 26 ∷ edge 80 66 ∷ [])
     -- the same with STEM_ADJUST: 24 and 64
@@ -76,5 +89,5 @@ table =
 
 -- every row holds
 pub rows-hold : All table
-unfolding near nearZ mulFix divFix distanceThreshold endsHold coordinateHolds coordinatesHold refusal contourOf firstTouched lastTouched touchedBefore touchedBehind references firstOf secondOf interpolated betweenAt shiftedAt followed weakAt onContour alignedAt listOf result linkHolds blueHolds every edgeIndices edgeNumbers edgesIndices edgesNumbers edgesRefusal linkedOn groupHolds applies moveDone moveOnly moveLink moveSerifs moveStem aligned hintLowercaseM D.same D.opposite linksTo segmentIndices segmentNext segmentNumbers segmentsIndices segmentsNexts segmentsNumbers segmentsRefusal derived turns till P.maxZ P.minZ P.gapOf P.facing P.checkSeg P.improvedBy P.nearStem P.encloses P.muchLonger P.rewritten P.staysSerif P.settled L.improvePair L.pairTurn L.majorTurn L.pairRound L.rewriteTurn L.rewriteAll L.unlink L.heldTo L.givenUpTo L.holdTurn L.givenUp L.hold L.serifTo L.serifTurn L.serifRound L.lastTo L.lastTurn L.lastRound L.linked L.thresholdsOf L.numbersHold L.linkingRefusal L.linkSegmentsCjk pixFloor ruleHolds fittedWidth maxGap gapOf pixelOffset narrowDelta isBlocked shortestMove wideDelta offsetsDelta startOf clamped deltaOf stemAt stemOf placedStem hintedStem hintNormalStemCjk
-rows-hold = ((refl, refl), ((refl, refl), ((refl, refl), ((refl, refl), ((refl, refl), ((refl, refl), ((refl, refl), (refl, (refl, (refl, (refl, (refl, (refl, tt)))))))))))))
+unfolding near nearZ mulFix divFix distanceThreshold endsHold coordinateHolds coordinatesHold refusal contourOf firstTouched lastTouched touchedBefore touchedBehind references firstOf secondOf interpolated betweenAt shiftedAt followed weakAt onContour alignedAt listOf result linkHolds blueHolds every edgeIndices edgeNumbers edgesIndices edgesNumbers edgesRefusal linkedOn groupHolds applies moveDone moveOnly moveLink moveSerifs moveStem aligned hintLowercaseM D.same D.opposite linksTo segmentIndices segmentNext segmentNumbers segmentsIndices segmentsNexts segmentsNumbers segmentsRefusal derived turns till P.maxZ P.minZ P.gapOf P.facing P.checkSeg P.improvedBy P.nearStem P.encloses P.muchLonger P.rewritten P.staysSerif P.settled L.improvePair L.pairTurn L.majorTurn L.pairRound L.rewriteTurn L.rewriteAll L.unlink L.heldTo L.givenUpTo L.holdTurn L.givenUp L.hold L.serifTo L.serifTurn L.serifRound L.lastTo L.lastTurn L.lastRound L.linked L.thresholdsOf L.numbersHold L.linkingRefusal L.linkSegmentsCjk pixFloor pixRound ruleHolds fittedWidth maxGap gapOf pixelOffset narrowDelta isBlocked shortestMove wideDelta offsetsDelta startOf clamped deltaOf stemAt stemOf placedStem hintedStem hintNormalStemCjk lowerBound hasPassed neighbour boundBy adjusted centreOf lowerOffset upperOffset nearerCentre thinCentre thinFirst thinSecond anchoredFirst anchoredSecond visits tooClose besideAnchor latinStem groupStem zoneStem visitLink visit stemsOf alignStemEdges
+rows-hold = ((refl, refl), ((refl, refl), ((refl, refl), ((refl, refl), ((refl, refl), ((refl, refl), ((refl, refl), (refl, (refl, (refl, (refl, (refl, (refl, (refl, (refl, tt)))))))))))))))

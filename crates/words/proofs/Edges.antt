@@ -5,31 +5,29 @@ use Prim.Native.Nat.{ℕ, _+_, _*_, _<_, min}
 use native.Mathlib.Omega.{arith}
 use lib.ListN.{length}
 use lib.IntN.{ℤ}
-use Rattle.signed.specs.Parts.{up}
 use Rattle.axis.specs.declared.edge.Edge.{Edge}
 use Rattle.axis.specs.declared.edge.Axis.{Axis}
 use Rattle.axis.specs.declared.kinds.Dimension.{Dimension}
 use Rattle.axis.specs.declared.kinds.Direction.{Direction}
 use Rattle.axis.specs.Edge.{emptyEdge, emptyAxis, putEdge}
 use Rattle.axis.specs.Limits.{mostEdges}
-use Rattle.words.specs.Word.{wordAt}
-use Rattle.words.specs.Edge.{edgeOf, carriedEdges, axisTo, axisFrom, edgeWords, edgeWordsAt, edgesWords}
+use Rattle.words.specs.Edge.{edgeOf, axisTo, axisRun, edgeWords, edgeWordsAt, edgesWords}
 use Rattle.words.proofs.Tables.{table-none, table-more, joined-length}
 
 -- ---- reading
-module _ (ws : List ℤ) (at : ℕ) where
+module _ (ws : List ℤ) (first : ℕ) where
   -- no edge yet
-  pub axis-none : (dim : Dimension) (major : Direction) (len : ℕ) (axis : Axis) → axis ≡ emptyAxis dim major → record { dim = axis .dim; «major_dir» = axis .«major_dir»; edges = axis .edges; len = len } ≡ axisTo ws at (axis .dim) (axis .«major_dir») len 0
-  axis-none dim major len axis e = rw (e, table-none mostEdges emptyEdge (edgeOf ws at))
+  pub axis-none : (dim : Dimension) (major : Direction) (len : ℕ) (axis : Axis) → axis ≡ emptyAxis dim major → record { dim = axis .dim; «major_dir» = axis .«major_dir»; edges = axis .edges; len = len } ≡ axisTo ws first (axis .dim) (axis .«major_dir») len 0
+  axis-none dim major len axis e = rw (e, table-none mostEdges emptyEdge (edgeOf ws first))
 
   -- one edge more
-  pub axis-more : {dim : Dimension} {major : Direction} {len : ℕ} (axis : Axis) (i : ℕ) (edge : Edge) → axis ≡ axisTo ws at dim major len i → i < mostEdges → edge ≡ edgeOf ws at i → putEdge axis i edge ≡ axisTo ws at dim major len (i + 1)
-  axis-more axis i edge p h q = rw (p, table-more mostEdges emptyEdge (edgeOf ws at) i edge h q)
+  pub axis-more : {dim : Dimension} {major : Direction} {len : ℕ} (axis : Axis) (i : ℕ) (edge : Edge) → axis ≡ axisTo ws first dim major len i → i < mostEdges → edge ≡ edgeOf ws first i → putEdge axis i edge ≡ axisTo ws first dim major len (i + 1)
+  axis-more axis i edge p h q = rw (p, table-more mostEdges emptyEdge (edgeOf ws first) i edge h q)
 
   -- at the end
-  pub axis-all : (dim : Dimension) (major : Direction) {axis axis₀ : Axis} {len n : ℕ} → axis ≡ axisTo ws at (axis₀ .dim) (axis₀ .«major_dir») len n → axis₀ ≡ emptyAxis dim major → len ≡ up (wordAt ws at) → n ≡ carriedEdges ws at → axis ≡ axisFrom ws at dim major
-  unfolding axisFrom
-  axis-all dim major p q l m = rw (p, q, l, m)
+  pub axis-all : (dim : Dimension) (major : Direction) {axis axis₀ : Axis} {len n : ℕ} → axis ≡ axisTo ws first (axis₀ .dim) (axis₀ .«major_dir») len n → axis₀ ≡ emptyAxis dim major → n ≡ min len mostEdges → axis ≡ axisRun ws first dim major len
+  unfolding axisRun
+  axis-all dim major p q m = rw (p, q, m)
 
 -- ---- writing
 -- an edge is 11 words

@@ -4,4 +4,5 @@ pub mod Writing
 pub mod Tables
 pub mod Edges
 pub mod Segments
+pub mod Lents
 pub mod RoundTrip

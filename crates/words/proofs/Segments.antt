@@ -5,29 +5,27 @@ use Prim.Native.Nat.{ℕ, _+_, _*_, _<_, min}
 use native.Mathlib.Omega.{arith}
 use lib.ListN.{length}
 use lib.IntN.{ℤ}
-use Rattle.signed.specs.Parts.{up}
 use Rattle.axis.specs.declared.segment.Segment.{Segment}
 use Rattle.axis.specs.declared.segment.Segments.{Segments}
 use Rattle.axis.specs.Segment.{emptySegment, emptySegments, putSegment}
 use Rattle.axis.specs.Limits.{mostSegments}
-use Rattle.words.specs.Word.{wordAt}
-use Rattle.words.specs.Segment.{segmentOf, carriedSegments, segmentsTo, segmentsFrom, segmentWords, segmentWordsAt, segmentsWords}
+use Rattle.words.specs.Segment.{segmentOf, segmentsTo, segmentsRun, segmentWords, segmentWordsAt, segmentsWords}
 use Rattle.words.proofs.Tables.{table-none, table-more, joined-length}
 
 -- ---- reading
-module _ (ws : List ℤ) (at : ℕ) where
+module _ (ws : List ℤ) (first : ℕ) where
   -- no segment yet
-  pub segments-none : (len : ℕ) (t : Segments) → t ≡ emptySegments → record { segments = t .segments; len = len } ≡ segmentsTo ws at len 0
-  segments-none len t e = rw (e, table-none mostSegments emptySegment (segmentOf ws at))
+  pub segments-none : (len : ℕ) (t : Segments) → t ≡ emptySegments → record { segments = t .segments; len = len } ≡ segmentsTo ws first len 0
+  segments-none len t e = rw (e, table-none mostSegments emptySegment (segmentOf ws first))
 
   -- one segment more
-  pub segments-more : {len : ℕ} (t : Segments) (i : ℕ) (segment : Segment) → t ≡ segmentsTo ws at len i → i < mostSegments → segment ≡ segmentOf ws at i → putSegment t i segment ≡ segmentsTo ws at len (i + 1)
-  segments-more t i segment p h q = rw (p, table-more mostSegments emptySegment (segmentOf ws at) i segment h q)
+  pub segments-more : {len : ℕ} (t : Segments) (i : ℕ) (segment : Segment) → t ≡ segmentsTo ws first len i → i < mostSegments → segment ≡ segmentOf ws first i → putSegment t i segment ≡ segmentsTo ws first len (i + 1)
+  segments-more t i segment p h q = rw (p, table-more mostSegments emptySegment (segmentOf ws first) i segment h q)
 
   -- at the end
-  pub segments-all : {t : Segments} {len n : ℕ} → t ≡ segmentsTo ws at len n → len ≡ up (wordAt ws at) → n ≡ carriedSegments ws at → t ≡ segmentsFrom ws at
-  unfolding segmentsFrom
-  segments-all p l m = rw (p, l, m)
+  pub segments-all : {t : Segments} {len n : ℕ} → t ≡ segmentsTo ws first len n → n ≡ min len mostSegments → t ≡ segmentsRun ws first len
+  unfolding segmentsRun
+  segments-all p m = rw (p, m)
 
 -- ---- writing
 -- a segment is 15 words

@@ -9,10 +9,10 @@ use lib.ListN.{length, set, replicate, length-append}
 use lib.Seq.{append-snoc, set-at}
 use lib.IntN.{ℤ}
 use Rattle.words.specs.Word.{written, firsts, joined, table}
-use Rattle.words.proofs.Writing.{written-length, written-none, written-more, written-next}
+use Rattle.words.proofs.Writing.{written-length, written-none, written-more}
 
 -- ---- filling
-firsts-length : {A : Type 0} (f : ℕ → A) (n : ℕ) → length (firsts f n) ≡ n
+pub firsts-length : {A : Type 0} (f : ℕ → A) (n : ℕ) → length (firsts f n) ≡ n
 unfolding firsts
 firsts-length f zero = refl
 firsts-length f (suc n) = length-append (firsts f n) (f n ∷ []) ∙ omega (arith, firsts-length f n)
@@ -61,8 +61,6 @@ module _ (f : ℕ → List ℤ) (k : ℕ) (sized : (i : ℕ) → length (f i) �
     so-far = rw (e, p, j .so-far, ← joined-length i, add-one) (written-more out₀ (joined f i) (f i) at (omega (arith, joined-length i, sized i, mul-le-mul-left k h)));
   }
 
-  -- at the end, where a word was written in front
-  pub joined-all : (entry : List ℤ) (at : ℕ) (w : ℤ) {out : List ℤ} {n i : ℕ} → Joined f (set entry at w) out (at + 1) n i → n ≤ i → at + 1 + k * n ≤ length entry → out ≡ written entry at (w ∷ joined f n)
-  joined-all entry at w {out} {n} {i} j h room =
-      let e : i ≡ n = omega (arith, j .within) in
-      rw (j .so-far, e) (written-next entry (joined f n) w at (omega (arith, joined-length n)))
+-- at the end
+pub joined-all : {f : ℕ → List ℤ} {out₀ out : List ℤ} {at n i : ℕ} → Joined f out₀ out at n i → n ≤ i → out ≡ written out₀ at (joined f n)
+joined-all {f} {out₀} {out} {at} {n} {i} j h = let e : i ≡ n = omega (arith, j .within) in rw (j .so-far, e)

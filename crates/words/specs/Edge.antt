@@ -1,6 +1,7 @@
 -- Edges as words: the count, and 11 words for each edge that the table holds.
 use mathlib.Core.List.{List, [], _∷_}
-use Prim.Native.Nat.{ℕ, _+_, _*_, _%_, min}
+use Prim.Native.Nat.{ℕ, _+_, _*_, _/_, _%_, min}
+use lib.ListN.{length}
 use lib.IntN.{ℤ, pos}
 use Rattle.signed.specs.Parts.{up}
 use Rattle.axis.specs.declared.edge.Edge.{Edge}
@@ -9,7 +10,7 @@ use Rattle.axis.specs.declared.kinds.Dimension.{Dimension}
 use Rattle.axis.specs.declared.kinds.Direction.{Direction}
 use Rattle.axis.specs.Edge.{emptyEdge, edgeAt}
 use Rattle.axis.specs.Limits.{mostEdges}
-use Rattle.words.specs.Word.{wordAt, joined, table}
+use Rattle.words.specs.Word.{wordAt, written, joined, table}
 use Rattle.words.specs.Field.{shortOf, indexOf, linkOf, directionOf, blueOf, flagsOf, linkWord, directionWord, presentWord, fittedWord, flagsWord}
 
 -- ---- words as edges
@@ -28,11 +29,11 @@ edgeFrom ws at = record {
   last = indexOf (wordAt ws (at + 10));
 }
 
--- an edge of the list whose count stands at a place
+-- an edge of those whose words stand from a place on
 abbrev pub edgeOf : List ℤ → ℕ → ℕ → Edge
-edgeOf ws at i = edgeFrom ws (at + 1 + 11 * i)
+edgeOf ws first i = edgeFrom ws (first + 11 * i)
 
--- how many edges the list carries
+-- how many edges the list carries whose count stands at a place
 abbrev pub carriedEdges : List ℤ → ℕ → ℕ
 carriedEdges ws at = min (up (wordAt ws at)) mostEdges
 
@@ -40,13 +41,25 @@ carriedEdges ws at = min (up (wordAt ws at)) mostEdges
 abbrev pub behindEdges : List ℤ → ℕ → ℕ
 behindEdges ws at = at + 1 + 11 * carriedEdges ws at
 
--- an axis whose table holds the first n edges of the list; its other places are empty
+-- an axis whose table holds the first n edges from a place on; its other places are empty
 abbrev pub axisTo : List ℤ → ℕ → Dimension → Direction → ℕ → ℕ → Axis
-axisTo ws at dim major len n = record { dim = dim; «major_dir» = major; edges = table mostEdges emptyEdge (edgeOf ws at) n; len = len }
+axisTo ws first dim major len n = record { dim = dim; «major_dir» = major; edges = table mostEdges emptyEdge (edgeOf ws first) n; len = len }
 
--- the axis whose edges are the list
+-- the axis of len edges from a place on, of which the table holds as many as it has places
+unfoldable pub axisRun : List ℤ → ℕ → Dimension → Direction → ℕ → Axis
+axisRun ws first dim major len = axisTo ws first dim major len (min len mostEdges)
+
+-- the axis whose edges are the list whose count stands at a place
 unfoldable pub axisFrom : List ℤ → ℕ → Dimension → Direction → Axis
-axisFrom ws at dim major = axisTo ws at dim major (up (wordAt ws at)) (carriedEdges ws at)
+axisFrom ws at dim major = axisRun ws (at + 1) dim major (up (wordAt ws at))
+
+-- how many edges a list without a count has
+abbrev pub edgesIn : List ℤ → ℕ
+edgesIn ws = length ws / 11
+
+-- the axis whose edges are a list without a count
+unfoldable pub flatAxis : List ℤ → Dimension → Direction → Axis
+flatAxis ws dim major = axisRun ws 0 dim major (edgesIn ws)
 
 -- ---- edges as words
 unfoldable pub edgeWords : Edge → List ℤ
@@ -59,3 +72,7 @@ edgeWordsAt axis i = edgeWords (edgeAt axis i)
 -- the edges of an axis; in an answer the count is below 65,536, and the remainder is the count
 unfoldable pub edgesWords : Axis → List ℤ
 edgesWords axis = pos (axis .len % 65536) ∷ joined (edgeWordsAt axis) (min (axis .len) mostEdges)
+
+-- a list without a count with the edges of an axis written over it, as many as it has room for
+unfoldable pub edgesOver : List ℤ → Axis → List ℤ
+edgesOver ws axis = written ws 0 (joined (edgeWordsAt axis) (min (edgesIn ws) mostEdges))

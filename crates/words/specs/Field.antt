@@ -19,6 +19,10 @@ use Rattle.axis.specs.declared.kinds.Group.{Group}
 use Rattle.axis.specs.declared.kinds.Group.the-variants as Groups
 use Rattle.axis.specs.declared.kinds.Link.{Link}
 use Rattle.axis.specs.declared.kinds.Link.the-variants as Links
+use Rattle.fixed.specs.declared.width.WidthRule.{WidthRule}
+use Rattle.fixed.specs.declared.width.WidthRule.the-variants.{Keep, Snap}
+use Rattle.fitting.specs.declared.adjust.LinkDir.{LinkDir}
+use Rattle.fitting.specs.declared.adjust.LinkDir.the-variants.{Prev, Next}
 
 -- ---- a word as a field
 -- a 16-bit number; a word that is none reads as 0
@@ -52,6 +56,14 @@ groupOf w = cond (choiceOf w) Groups.Cjk Groups.Default
 -- a dimension
 unfoldable pub dimensionOf : ℤ → Dimension
 dimensionOf w = cond (choiceOf w) Dimensions.Vertical Dimensions.Horizontal
+
+-- a width rule: keep or snap
+unfoldable pub ruleOf : ℤ → WidthRule
+ruleOf w = cond (choiceOf w) Snap Keep
+
+-- a neighbour: the previous edge or the next
+unfoldable pub linkDirOf : ℤ → LinkDir
+linkDirOf w = cond (choiceOf w) Next Prev
 
 -- a blue by two words, whether it is there and its fitted position
 unfoldable pub blueOf : ℤ → ℤ → Blue

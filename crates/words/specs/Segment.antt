@@ -1,13 +1,14 @@
 -- Segments as words: the count, and 15 words for each segment that the table holds.
 use mathlib.Core.List.{List, [], _∷_}
-use Prim.Native.Nat.{ℕ, _+_, _*_, _%_, min}
+use Prim.Native.Nat.{ℕ, _+_, _*_, _/_, _%_, min}
+use lib.ListN.{length}
 use lib.IntN.{ℤ, pos}
 use Rattle.signed.specs.Parts.{up}
 use Rattle.axis.specs.declared.segment.Segment.{Segment}
 use Rattle.axis.specs.declared.segment.Segments.{Segments}
 use Rattle.axis.specs.Segment.{emptySegment, segmentAt}
 use Rattle.axis.specs.Limits.{mostSegments}
-use Rattle.words.specs.Word.{wordAt, joined, table}
+use Rattle.words.specs.Word.{wordAt, written, joined, table}
 use Rattle.words.specs.Field.{shortOf, indexOf, linkOf, directionOf, flagsOf, linkWord, directionWord, flagsWord}
 
 -- ---- words as segments
@@ -31,11 +32,11 @@ segmentFrom ws at = record {
   next = linkOf (wordAt ws (at + 14));
 }
 
--- a segment of the list whose count stands at a place
+-- a segment of those whose words stand from a place on
 abbrev pub segmentOf : List ℤ → ℕ → ℕ → Segment
-segmentOf ws at i = segmentFrom ws (at + 1 + 15 * i)
+segmentOf ws first i = segmentFrom ws (first + 15 * i)
 
--- how many segments the list carries
+-- how many segments the list carries whose count stands at a place
 abbrev pub carriedSegments : List ℤ → ℕ → ℕ
 carriedSegments ws at = min (up (wordAt ws at)) mostSegments
 
@@ -43,13 +44,25 @@ carriedSegments ws at = min (up (wordAt ws at)) mostSegments
 abbrev pub behindSegments : List ℤ → ℕ → ℕ
 behindSegments ws at = at + 1 + 15 * carriedSegments ws at
 
--- a table that holds the first n segments of the list; its other places are empty
+-- a table that holds the first n segments from a place on; its other places are empty
 abbrev pub segmentsTo : List ℤ → ℕ → ℕ → ℕ → Segments
-segmentsTo ws at len n = record { segments = table mostSegments emptySegment (segmentOf ws at) n; len = len }
+segmentsTo ws first len n = record { segments = table mostSegments emptySegment (segmentOf ws first) n; len = len }
 
--- the segments of the list
+-- the table of len segments from a place on, of which it holds as many as it has places
+unfoldable pub segmentsRun : List ℤ → ℕ → ℕ → Segments
+segmentsRun ws first len = segmentsTo ws first len (min len mostSegments)
+
+-- the segments of the list whose count stands at a place
 unfoldable pub segmentsFrom : List ℤ → ℕ → Segments
-segmentsFrom ws at = segmentsTo ws at (up (wordAt ws at)) (carriedSegments ws at)
+segmentsFrom ws at = segmentsRun ws (at + 1) (up (wordAt ws at))
+
+-- how many segments a list without a count has
+abbrev pub segmentsIn : List ℤ → ℕ
+segmentsIn ws = length ws / 15
+
+-- the segments that are a list without a count
+unfoldable pub flatSegments : List ℤ → Segments
+flatSegments ws = segmentsRun ws 0 (segmentsIn ws)
 
 -- ---- segments as words
 unfoldable pub segmentWords : Segment → List ℤ
@@ -62,3 +75,7 @@ segmentWordsAt t i = segmentWords (segmentAt t i)
 -- the segments of a table; in an answer the count is below 65,536, and the remainder is the count
 unfoldable pub segmentsWords : Segments → List ℤ
 segmentsWords t = pos (t .len % 65536) ∷ joined (segmentWordsAt t) (min (t .len) mostSegments)
+
+-- a list without a count with the segments of a table written over it, as many as it has room for
+unfoldable pub segmentsOver : List ℤ → Segments → List ℤ
+segmentsOver ws t = written ws 0 (joined (segmentWordsAt t) (min (segmentsIn ws) mostSegments))

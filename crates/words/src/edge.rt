@@ -23,13 +23,13 @@ use axis::edge::empty_axis;
 use axis::kinds::Dimension;
 use axis::kinds::Direction;
 ghost use mathlib.Core.Path.{_≡_};
-ghost use Prim.Native.Nat.{_+_, _≤_};
+ghost use Prim.Native.Nat.{_+_, _*_, _≤_};
 ghost use lib.ListN.{length};
-ghost use Rattle.words.specs.Word.{written};
-ghost use Rattle.words.specs.Edge.{edgeFrom, axisFrom, behindEdges, edgeWords, edgesWords};
+ghost use Rattle.words.specs.Word.{written, joined};
+ghost use Rattle.words.specs.Edge.{edgeFrom, axisRun, axisFrom, flatAxis, behindEdges, edgeWords, edgeWordsAt, edgesWords, edgesOver};
 
 // The edge whose words stand at a place.
-fn edge_from(words: &[i32], at: usize) -> Edge
+pub fn edge_from(words: &[i32], at: usize) -> Edge
     requires { ⌜ at ≤ 131072 ⌝ }
     ensures { λ r. ⌜ r ≡ edgeFrom (now (words .entry)) at ⌝ }
 {
@@ -47,22 +47,37 @@ fn edge_from(words: &[i32], at: usize) -> Edge
     }
 }
 
+// The axis of len edges, whose words stand from a place on.
+fn axis_run(words: &[i32], first: usize, dim: Dimension, major_dir: Direction, len: usize) -> Axis
+    requires { ⌜ first ≤ 65537 ⌝ }
+    ensures { λ r. ⌜ r ≡ axisRun (now (words .entry)) first dim «major_dir» len ⌝ }
+{
+    let n = least(len, 128);
+    let mut axis = empty_axis(dim, major_dir);
+    axis.len = len;
+    let mut i = 0;
+    while i < n {
+        let edge = edge_from(words, first + 11 * i);
+        axis.edges[i] = edge;
+        i += 1;
+    }
+    axis
+}
+
 // The axis whose edges are the list at a place.
 pub fn axis_from(words: &[i32], at: usize, dim: Dimension, major_dir: Direction) -> Axis
     requires { ⌜ at ≤ 65536 ⌝ }
     ensures { λ r. ⌜ r ≡ axisFrom (now (words .entry)) at dim «major_dir» ⌝ }
 {
     let count = count_at(words, at);
-    let n = least(count, 128);
-    let mut axis = empty_axis(dim, major_dir);
-    axis.len = count;
-    let mut i = 0;
-    while i < n {
-        let edge = edge_from(words, at + 1 + 11 * i);
-        axis.edges[i] = edge;
-        i += 1;
-    }
-    axis
+    axis_run(words, at + 1, dim, major_dir, count)
+}
+
+// The axis whose edges are the whole list.
+pub fn flat_axis(words: &[i32], dim: Dimension, major_dir: Direction) -> Axis
+    ensures { λ r. ⌜ r ≡ flatAxis (now (words .entry)) dim «major_dir» ⌝ }
+{
+    axis_run(words, 0, dim, major_dir, words.len() / 11)
 }
 
 // The place behind the list of edges at a place.
@@ -75,7 +90,7 @@ pub fn behind_edges(words: &[i32], at: usize) -> usize
 }
 
 // The 11 words of an edge.
-fn edge_words(edge: Edge) -> [i32; 11]
+pub fn edge_words(edge: Edge) -> [i32; 11]
     ensures { λ r. ⌜ r ≡ edgeWords edge ⌝ }
 {
     let flags = edge.flags;
@@ -98,6 +113,20 @@ fn edge_words(edge: Edge) -> [i32; 11]
     ]
 }
 
+// Writes the first n edges of an axis from a place on.
+fn write_run(out: &mut [i32], first: usize, axis: Axis, n: usize)
+    requires { ⌜ (n ≤ 128) × (first + 11 * n ≤ length (now out)) ⌝ }
+    ensures { λ _. ⌜ now (out .exit) ≡ written (now (out .entry)) first (joined (edgeWordsAt axis) n) ⌝ }
+{
+    let mut i = 0;
+    while i < n {
+        let edge = axis.edges[i];
+        let words = edge_words(edge);
+        write_words(out, first + 11 * i, &words);
+        i += 1;
+    }
+}
+
 // Writes the edges of an axis from a place on, and tells how many words they are.
 pub fn write_edges(out: &mut [i32], at: usize, axis: Axis) -> usize
     requires { ⌜ at + 1409 ≤ length (now out) ⌝ }
@@ -105,12 +134,14 @@ pub fn write_edges(out: &mut [i32], at: usize, axis: Axis) -> usize
 {
     let n = least(axis.len, 128);
     out[at] = count_word(axis.len);
-    let mut i = 0;
-    while i < n {
-        let edge = axis.edges[i];
-        let words = edge_words(edge);
-        write_words(out, at + 1 + 11 * i, &words);
-        i += 1;
-    }
+    write_run(out, at + 1, axis, n);
     1 + 11 * n
+}
+
+// Writes the edges of an axis over the whole list.
+pub fn write_flat_edges(out: &mut [i32], axis: Axis)
+    ensures { λ _. ⌜ now (out .exit) ≡ edgesOver (now (out .entry)) axis ⌝ }
+{
+    let n = least(out.len() / 11, 128);
+    write_run(out, 0, axis, n);
 }

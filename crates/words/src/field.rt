@@ -7,11 +7,13 @@ use axis::kinds::Dimension;
 use axis::kinds::Direction;
 use axis::kinds::Group;
 use axis::kinds::Link;
+use fitting::adjust::LinkDir;
+use fixed::width::WidthRule;
 ghost use mathlib.Core.Path.{_≡_};
 ghost use Prim.Native.Nat.{_+_, _≤_};
 ghost use lib.IntN.{pos};
 ghost use Rattle.words.specs.Word.{wordAt};
-ghost use Rattle.words.specs.Field.{shortOf, indexOf, linkOf, choiceOf, directionOf, groupOf, dimensionOf, blueOf, flagsOf, oddOf, weightOf, linkWord, directionWord, presentWord, fittedWord, flagsWord};
+ghost use Rattle.words.specs.Field.{shortOf, indexOf, linkOf, choiceOf, directionOf, groupOf, dimensionOf, ruleOf, linkDirOf, blueOf, flagsOf, oddOf, weightOf, linkWord, directionWord, presentWord, fittedWord, flagsWord};
 
 // The directions, by their words.
 const DIRECTIONS: [Direction; 5] = [
@@ -51,52 +53,106 @@ pub fn index_at(words: &[i32], i: usize) -> u16
 }
 
 // An index or none.
-pub fn link_at(words: &[i32], i: usize) -> Link
-    ensures { λ r. ⌜ r ≡ linkOf (wordAt (now (words .entry)) i) ⌝ }
+pub fn link_of(word: i32) -> Link
+    ensures { λ r. ⌜ r ≡ linkOf word ⌝ }
 {
-    let word = word_at(words, i);
     if word < 0 {
         return Link::None;
     }
     Link::To(index_of(word))
 }
 
+// The index or none at a place.
+pub fn link_at(words: &[i32], i: usize) -> Link
+    ensures { λ r. ⌜ r ≡ linkOf (wordAt (now (words .entry)) i) ⌝ }
+{
+    link_of(word_at(words, i))
+}
+
 // A choice.
+pub fn choice_of(word: i32) -> bool
+    ensures { λ r. ⌜ r ≡ choiceOf word ⌝ }
+{
+    word == 1
+}
+
+// The choice at a place.
 pub fn choice_at(words: &[i32], i: usize) -> bool
     ensures { λ r. ⌜ r ≡ choiceOf (wordAt (now (words .entry)) i) ⌝ }
 {
-    word_at(words, i) == 1
+    choice_of(word_at(words, i))
 }
 
 // A direction.
-pub fn direction_at(words: &[i32], i: usize) -> Direction
-    ensures { λ r. ⌜ r ≡ directionOf (wordAt (now (words .entry)) i) ⌝ }
+pub fn direction_of(word: i32) -> Direction
+    ensures { λ r. ⌜ r ≡ directionOf word ⌝ }
 {
-    let number = size_of(word_at(words, i));
+    let number = size_of(word);
     if number < 5 {
         return DIRECTIONS[number];
     }
     Direction::None
 }
 
-// A group.
-pub fn group_at(words: &[i32], i: usize) -> Group
-    ensures { λ r. ⌜ r ≡ groupOf (wordAt (now (words .entry)) i) ⌝ }
+// The direction at a place.
+pub fn direction_at(words: &[i32], i: usize) -> Direction
+    ensures { λ r. ⌜ r ≡ directionOf (wordAt (now (words .entry)) i) ⌝ }
 {
-    if choice_at(words, i) {
+    direction_of(word_at(words, i))
+}
+
+// A group.
+pub fn group_of(word: i32) -> Group
+    ensures { λ r. ⌜ r ≡ groupOf word ⌝ }
+{
+    if choice_of(word) {
         return Group::Cjk;
     }
     Group::Default
 }
 
-// A dimension.
-pub fn dimension_at(words: &[i32], i: usize) -> Dimension
-    ensures { λ r. ⌜ r ≡ dimensionOf (wordAt (now (words .entry)) i) ⌝ }
+// The group at a place.
+pub fn group_at(words: &[i32], i: usize) -> Group
+    ensures { λ r. ⌜ r ≡ groupOf (wordAt (now (words .entry)) i) ⌝ }
 {
-    if choice_at(words, i) {
+    group_of(word_at(words, i))
+}
+
+// A dimension.
+pub fn dimension_of(word: i32) -> Dimension
+    ensures { λ r. ⌜ r ≡ dimensionOf word ⌝ }
+{
+    if choice_of(word) {
         return Dimension::Vertical;
     }
     Dimension::Horizontal
+}
+
+// The dimension at a place.
+pub fn dimension_at(words: &[i32], i: usize) -> Dimension
+    ensures { λ r. ⌜ r ≡ dimensionOf (wordAt (now (words .entry)) i) ⌝ }
+{
+    dimension_of(word_at(words, i))
+}
+
+// A width rule; its standards stand beside it.
+pub fn rule_of(word: i32) -> WidthRule
+    ensures { λ r. ⌜ r ≡ ruleOf word ⌝ }
+{
+    if choice_of(word) {
+        return WidthRule::Snap;
+    }
+    WidthRule::Keep
+}
+
+// The neighbour that a choice names.
+pub fn link_dir_of(word: i32) -> LinkDir
+    ensures { λ r. ⌜ r ≡ linkDirOf word ⌝ }
+{
+    if choice_of(word) {
+        return LinkDir::Next;
+    }
+    LinkDir::Prev
 }
 
 // A blue by two words, whether it is there and its fitted position.

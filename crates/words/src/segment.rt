@@ -18,10 +18,10 @@ use axis::segment::Segment;
 use axis::segment::Segments;
 use axis::segment::empty_segments;
 ghost use mathlib.Core.Path.{_≡_};
-ghost use Prim.Native.Nat.{_+_, _≤_};
+ghost use Prim.Native.Nat.{_+_, _*_, _≤_};
 ghost use lib.ListN.{length};
-ghost use Rattle.words.specs.Word.{written};
-ghost use Rattle.words.specs.Segment.{segmentFrom, segmentsFrom, behindSegments, segmentWords, segmentsWords};
+ghost use Rattle.words.specs.Word.{written, joined};
+ghost use Rattle.words.specs.Segment.{segmentFrom, segmentsRun, segmentsFrom, flatSegments, behindSegments, segmentWords, segmentWordsAt, segmentsWords, segmentsOver};
 
 // The segment whose words stand at a place.
 fn segment_from(words: &[i32], at: usize) -> Segment
@@ -47,22 +47,37 @@ fn segment_from(words: &[i32], at: usize) -> Segment
     }
 }
 
+// The table of len segments, whose words stand from a place on.
+fn segments_run(words: &[i32], first: usize, len: usize) -> Segments
+    requires { ⌜ first ≤ 65537 ⌝ }
+    ensures { λ r. ⌜ r ≡ segmentsRun (now (words .entry)) first len ⌝ }
+{
+    let n = least(len, 512);
+    let mut table = empty_segments();
+    table.len = len;
+    let mut i = 0;
+    while i < n {
+        let segment = segment_from(words, first + 15 * i);
+        table.segments[i] = segment;
+        i += 1;
+    }
+    table
+}
+
 // The segments of the list at a place.
 pub fn segments_from(words: &[i32], at: usize) -> Segments
     requires { ⌜ at ≤ 65536 ⌝ }
     ensures { λ r. ⌜ r ≡ segmentsFrom (now (words .entry)) at ⌝ }
 {
     let count = count_at(words, at);
-    let n = least(count, 512);
-    let mut table = empty_segments();
-    table.len = count;
-    let mut i = 0;
-    while i < n {
-        let segment = segment_from(words, at + 1 + 15 * i);
-        table.segments[i] = segment;
-        i += 1;
-    }
-    table
+    segments_run(words, at + 1, count)
+}
+
+// The segments that are the whole list.
+pub fn flat_segments(words: &[i32]) -> Segments
+    ensures { λ r. ⌜ r ≡ flatSegments (now (words .entry)) ⌝ }
+{
+    segments_run(words, 0, words.len() / 15)
 }
 
 // The place behind the list of segments at a place.
@@ -103,6 +118,20 @@ fn segment_words(segment: Segment) -> [i32; 15]
     ]
 }
 
+// Writes the first n segments of a table from a place on.
+fn write_run(out: &mut [i32], first: usize, table: Segments, n: usize)
+    requires { ⌜ (n ≤ 512) × (first + 15 * n ≤ length (now out)) ⌝ }
+    ensures { λ _. ⌜ now (out .exit) ≡ written (now (out .entry)) first (joined (segmentWordsAt table) n) ⌝ }
+{
+    let mut i = 0;
+    while i < n {
+        let segment = table.segments[i];
+        let words = segment_words(segment);
+        write_words(out, first + 15 * i, &words);
+        i += 1;
+    }
+}
+
 // Writes the segments of a table from a place on, and tells how many words they are.
 pub fn write_segments(out: &mut [i32], at: usize, table: Segments) -> usize
     requires { ⌜ at + 7681 ≤ length (now out) ⌝ }
@@ -110,12 +139,14 @@ pub fn write_segments(out: &mut [i32], at: usize, table: Segments) -> usize
 {
     let n = least(table.len, 512);
     out[at] = count_word(table.len);
-    let mut i = 0;
-    while i < n {
-        let segment = table.segments[i];
-        let words = segment_words(segment);
-        write_words(out, at + 1 + 15 * i, &words);
-        i += 1;
-    }
+    write_run(out, at + 1, table, n);
     1 + 15 * n
+}
+
+// Writes the segments of a table over the whole list.
+pub fn write_flat_segments(out: &mut [i32], table: Segments)
+    ensures { λ _. ⌜ now (out .exit) ≡ segmentsOver (now (out .entry)) table ⌝ }
+{
+    let n = least(out.len() / 15, 512);
+    write_run(out, 0, table, n);
 }

@@ -14,8 +14,10 @@ use Rattle.jobs.specs.Weak.{weakAnswer}
 use Rattle.jobs.specs.Link.{linkingAnswer}
 use Rattle.jobs.specs.Build.{buildingAnswer}
 use Rattle.jobs.specs.M.{mAnswer}
+use Rattle.jobs.specs.Lent.{lentAnswer}
 use Rattle.jobs.specs.Fit.{linkedAnswer, serifAnswer, adjustAnswer, boundsAnswer}
 use Rattle.jobs.specs.Stem.{stemAnswer}
+use Rattle.jobs.specs.Stems.{stemsAnswer}
 use Rattle.jobs.specs.Zones.{zonesAnswer}
 use Rattle.jobs.specs.Answer.{answerOf, longest}
 use Rattle.jobs.proofs.Answers.{answered-none, answered-all, answered-one, answered-two}
@@ -144,8 +146,8 @@ answer-stem-requires c κs = search needs
 enum-told-13 : tie.Need-enum-told-13
 enum-told-13 c = search needs
 
-one-word-requires-2 : tie.Need-one-word-requires-2
-one-word-requires-2 c κs = search needs
+answer-stems-requires : tie.Need-answer-stems-requires
+answer-stems-requires c κs = search needs
 
 enum-told-14 : tie.Need-enum-told-14
 enum-told-14 c = search needs
@@ -156,8 +158,8 @@ answer-m-requires c κs = search needs
 enum-told-15 : tie.Need-enum-told-15
 enum-told-15 c = search needs
 
-one-word-requires-3 : tie.Need-one-word-requires-3
-one-word-requires-3 c κs = search needs
+answer-lent-requires : tie.Need-answer-lent-requires
+answer-lent-requires c κs = search needs
 
 same-length : tie.Need-same-length
 same-length c = search needs
@@ -295,7 +297,7 @@ unfolding answerOf
 returns-14 c =
     let e = c .before .before .before in
     let a = e .before .before in
-    answered-one (list a) (out a) AlignStemEdges (room a) (job a (e .enum-told13 .given .1)) (negsuc 1) refl (c .before .one-word2 .ensures)
+    answered-all (list a) (out a) AlignStemEdges (room a) (job a (e .enum-told13 .given .1)) (stemsAnswer (list a)) refl (c .before .answer-stems .ensures)
 
 same-length-14 : tie.Need-same-length-14
 same-length-14 c = search needs
@@ -315,7 +317,7 @@ unfolding answerOf
 returns-16 c =
     let e = c .before .before .before in
     let a = e .before .before in
-    answered-one (list a) (out a) HintLowercaseMLent (room a) (job a (e .enum-told15 .given .1)) (negsuc 1) refl (c .before .one-word3 .ensures)
+    answered-all (list a) (out a) HintLowercaseMLent (room a) (job a (e .enum-told15 .given .1)) (lentAnswer (list a)) refl (c .before .answer-lent .ensures)
 
 pub answer-spec : {M : Type 1} → statement M
 answer-spec =
@@ -354,11 +356,11 @@ answer-spec =
     enum-told-12
     answer-stem-requires
     enum-told-13
-    one-word-requires-2
+    answer-stems-requires
     enum-told-14
     answer-m-requires
     enum-told-15
-    one-word-requires-3
+    answer-lent-requires
     same-length
     returns-2
     same-length-2

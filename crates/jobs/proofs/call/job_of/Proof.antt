@@ -2,7 +2,7 @@
 use borrow.Author.Needs.{needs}
 use mathlib.Core.Path.{_≡_, _∙_}
 use Prim.Native.Nat.{ℕ}
-use Rattle.jobs.specs.declared.shape.Place.the-variants.{At}
+use Rattle.shape.specs.declared.field.Place.the-variants.{At}
 use Rattle.jobs.specs.Shape.{items, formatOf, callOf}
 use Rattle.jobs.proofs.Shapes.{job-none, job-whole, job-more}
 use Rattle.jobs.proofs.call.job_of.Statement.{statement}

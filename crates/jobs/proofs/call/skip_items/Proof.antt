@@ -5,10 +5,11 @@ use mathlib.Core.Path.{_≡_, refl, ap, _∙_}
 use mathlib.Core.List.{List}
 use Prim.Native.Nat.{_+_, _-_, _≤_}
 use lib.ListN.{length, drop}
-use Rattle.jobs.specs.declared.shape.Item.{Item}
-use Rattle.jobs.specs.declared.shape.Item.the-variants.{End}
+use Rattle.shape.proofs.Shapes.{Goes, then-nowhere, then-at}
+use Rattle.jobs.specs.declared.item.Item.{Item}
+use Rattle.jobs.specs.declared.item.Item.the-variants.{End}
 use Rattle.jobs.specs.Shape.{items, formatOf}
-use Rattle.jobs.proofs.Shapes.{Goes, then-nowhere, then-at, items-step, items-end, format-length}
+use Rattle.jobs.proofs.Shapes.{items-step, items-end, format-length}
 use Rattle.jobs.proofs.call.skip_items.Statement.{statement}
 use Rattle.jobs.proofs.call.skip_items.Tie as tie
 

@@ -1,20 +1,18 @@
 -- `jobs::rule::rule_at` meets its contract. Assumes nothing.
 use borrow.Author.Needs.{needs}
-use mathlib.Core.Path.{sym, _∙_}
-use Rattle.jobs.specs.Rule.{ruleOf}
+use mir.Syntax.{w32}
+use Rattle.signed.proofs.Signed.{is, got}
 use Rattle.jobs.proofs.rule.rule_at.Statement.{statement}
 use Rattle.jobs.proofs.rule.rule_at.Tie as tie
 
-choice-at-requires : tie.Need-choice-at-requires
-choice-at-requires c κs = search needs
+word-at-requires : tie.Need-word-at-requires
+word-at-requires c κs = search needs
+
+rule-of-requires : tie.Need-rule-of-requires
+rule-of-requires c κs = search needs
 
 returns : tie.Need-returns
-unfolding ruleOf
-returns c = rw (sym (c .before .choice-at .ensures) ∙ c .if1 .taken)
-
-returns-2 : tie.Need-returns-2
-unfolding ruleOf
-returns-2 c = rw (sym (c .before .choice-at .ensures) ∙ c .if1 .left)
+returns c = cc (c .rule-of .ensures, c .before .word-at .ensures, is (got w32 (c .before .word-at .result) (c .before .word-at .ok)))
 
 pub rule-at-spec : {M : Type 1} → statement M
-rule-at-spec = tie.close (tie.spec choice-at-requires returns returns-2)
+rule-at-spec = tie.close (tie.spec word-at-requires rule-of-requires returns)

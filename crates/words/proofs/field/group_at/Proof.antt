@@ -1,20 +1,18 @@
 -- `words::field::group_at` meets its contract. Assumes nothing.
 use borrow.Author.Needs.{needs}
-use Rattle.words.specs.Field.{groupOf}
-use mathlib.Core.Path.{sym, _∙_}
+use mir.Syntax.{w32}
+use Rattle.signed.proofs.Signed.{is, got}
 use Rattle.words.proofs.field.group_at.Statement.{statement}
 use Rattle.words.proofs.field.group_at.Tie as tie
 
-choice-at-requires : tie.Need-choice-at-requires
-choice-at-requires c κs = search needs
+word-at-requires : tie.Need-word-at-requires
+word-at-requires c κs = search needs
+
+group-of-requires : tie.Need-group-of-requires
+group-of-requires c κs = search needs
 
 returns : tie.Need-returns
-unfolding groupOf
-returns c = rw (sym (c .before .choice-at .ensures) ∙ c .if1 .taken)
-
-returns-2 : tie.Need-returns-2
-unfolding groupOf
-returns-2 c = rw (sym (c .before .choice-at .ensures) ∙ c .if1 .left)
+returns c = cc (c .group-of .ensures, c .before .word-at .ensures, is (got w32 (c .before .word-at .result) (c .before .word-at .ok)))
 
 pub group-at-spec : {M : Type 1} → statement M
-group-at-spec = tie.close (tie.spec choice-at-requires returns returns-2)
+group-at-spec = tie.close (tie.spec word-at-requires group-of-requires returns)

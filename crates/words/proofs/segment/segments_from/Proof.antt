@@ -1,83 +1,22 @@
--- `words::segment::segments_from` meets its contract. The invariant: the table holds the first segments. Assumes nothing.
+-- `words::segment::segments_from` meets its contract. Assumes nothing.
 use borrow.Author.Needs.{needs}
 use native.Mathlib.Omega.{arith}
-use mathlib.Core.Path.{_≡_}
-use Prim.Native.Nat.{_-_, _≤_}
-use Rattle.words.specs.Segment.{segmentsTo}
-use Rattle.words.proofs.Segments.{segments-none, segments-more, segments-all}
+use Rattle.words.specs.Segment.{segmentsFrom}
 use Rattle.words.proofs.segment.segments_from.Statement.{statement}
 use Rattle.words.proofs.segment.segments_from.Tie as tie
 
-abbrev Inv-loop : tie.InvT-loop
-Inv-loop words at count n table₀ i₀ table i = (i ≤ n) × (table ≡ segmentsTo words at count i)
-
-abbrev μ-loop : tie.MeasureT-loop
-μ-loop words at count n table₀ i₀ table i = n - i
-
-count-at-requires : tie.Need-count-at-requires Inv-loop μ-loop
+count-at-requires : tie.Need-count-at-requires
 count-at-requires c κs = search needs
 
-least-requires : tie.Need-least-requires Inv-loop μ-loop
-least-requires c κs = search needs
+add-segments-run : tie.Need-add-segments-run
+add-segments-run c = search needs
 
-empty-segments-requires : tie.Need-empty-segments-requires Inv-loop μ-loop
-empty-segments-requires c κs = search needs
+segments-run-requires : tie.Need-segments-run-requires
+segments-run-requires c κs = omega arith
 
-loop-holds : tie.Need-loop-holds Inv-loop μ-loop
-loop-holds c = let s = c .before .before .before .args in (omega arith, segments-none (s .words .now) (s .at) (c .before .before .count-at .result) (c .empty-segments .result) (c .empty-segments .ensures))
-
-add-segment-from : tie.Need-add-segment-from Inv-loop μ-loop
-add-segment-from c = omega arith
-
-mul-segment-from : tie.Need-mul-segment-from Inv-loop μ-loop
-mul-segment-from c = omega (arith, c .before .before .before .least .ensures)
-
-add-segment-from-2 : tie.Need-add-segment-from-2 Inv-loop μ-loop
-add-segment-from-2 c = omega (arith, c .before .before .before .least .ensures)
-
-segment-from-requires : tie.Need-segment-from-requires Inv-loop μ-loop
-segment-from-requires c κs = omega (arith, c .before .before .before .least .ensures)
-
-mul-segment : tie.Need-mul-segment Inv-loop μ-loop
-mul-segment c = search needs
-
-element-set-from-segment : tie.Need-element-set-from-segment Inv-loop μ-loop
-element-set-from-segment c = omega (arith, c .before .before .before .before .least .ensures)
-
-add-i : tie.Need-add-i Inv-loop μ-loop
-add-i c = omega arith
-
-loop-less : tie.Need-loop-less Inv-loop μ-loop
-loop-less c = omega arith
-
-loop-again : tie.Need-loop-again Inv-loop μ-loop
-loop-again c = let l = c .before .before .loop in
-    let s = c .before .before .before .before .before .before .args in
-    (omega arith, segments-more (s .words .now) (s .at) (l .table) (l .i) (c .segment-from .result) (l .inv .1) (omega (arith, c .before .before .before .before .least .ensures)) (c .segment-from .ensures))
-
-returns : tie.Need-returns Inv-loop μ-loop
-returns c = let l = c .before .loop in
-    let e = c .before .before in
-    let s = e .before .before .before .args in
-    segments-all (s .words .now) (s .at) (l .inv .1) (e .before .before .count-at .ensures) (omega (arith, e .before .least .ensures, e .before .before .count-at .ensures))
+returns : tie.Need-returns
+unfolding segmentsFrom
+returns c = cc (c .segments-run .ensures, c .before .count-at .ensures)
 
 pub segments-from-spec : {M : Type 1} → statement M
-segments-from-spec =
-    tie.close
-    (tie.spec
-    Inv-loop
-    μ-loop
-    count-at-requires
-    least-requires
-    empty-segments-requires
-    loop-holds
-    add-segment-from
-    mul-segment-from
-    add-segment-from-2
-    segment-from-requires
-    mul-segment
-    element-set-from-segment
-    add-i
-    loop-less
-    loop-again
-    returns)
+segments-from-spec = tie.close (tie.spec count-at-requires add-segments-run segments-run-requires returns)

@@ -1,0 +1,23 @@
+-- The lowercase m rule over lent edges and a group.
+use mathlib.Core.Bool.{Bool, _&&_}
+use mathlib.Core.List.{List}
+use Prim.Native.Nat.{ℕ}
+use lib.IntN.{ℤ}
+use Rattle.lowercase_m.specs.declared.hint.Hinted.{Hinted}
+use Rattle.lowercase_m.specs.M.{hintLowercaseM}
+use Rattle.words.specs.Field.{groupOf}
+use Rattle.words.specs.Edge.{edgesOver}
+use Rattle.shape.specs.Shape.{within, choice, edgesShown}
+use Rattle.flat.specs.Lent.{Lent, edgesOf}
+
+-- every word is one of its field
+abbrev pub mShown : List ℤ → ℤ → Bool
+mShown ws group = edgesShown ws && within choice group
+
+-- what the call hands back
+abbrev pub mHinted : List ℤ → ℤ → Hinted
+mHinted ws group = hintLowercaseM (edgesOf ws) (groupOf group)
+
+-- what the call answers and leaves
+abbrev pub MLent : List ℤ → ℤ → ℕ → List ℤ → Type 0
+MLent ws group = Lent (mShown ws group) (mHinted ws group .answer) (edgesOver ws (mHinted ws group .axis)) ws

@@ -1,0 +1,2 @@
+-- Laws on what the words of a call read as.
+pub mod Readings

@@ -1,0 +1,137 @@
+-- `flat_segments::build::lend_building` meets its contract. Assumes nothing.
+use borrow.Author.Needs.{needs}
+use borrow.Author.Tests.{not-true, not-false}
+use mathlib.Core.Path.{_≡_, ap, _∙_}
+use Prim.Native.Nat.{_%_}
+use lib.IntN.{pos}
+use mir.Syntax.{w32}
+use mir.Val.{toZ, ofZ}
+use Rattle.words.specs.Field.{choiceOf, dimensionOf, directionOf, groupOf}
+use Rattle.flat_segments.proofs.Readings.{building-reads}
+use Rattle.signed.proofs.Signed.{is, got}
+use Rattle.building.specs.declared.build.Built.{Built}
+use Rattle.flat_segments.specs.Build.{buildShown, built, builtWords}
+use Rattle.flat.proofs.Lents.{not-shown, shown-by, lent-as, lent-pair}
+use Rattle.flat_segments.proofs.build.lend_building.Statement.{statement}
+use Rattle.flat_segments.proofs.build.lend_building.Tie as tie
+
+abbrev start : tie.After-both3 → tie.Start
+start c = c .before .before .before .before .before .before .before
+
+-- what the tests tell
+shown : (c : tie.After-both3) → buildShown (start c .args .segments .now) (start c .args .edges .now) (start c .args .dim) (start c .args .major-dir) (start c .args .group) (start c .args .top-to-bottom) ≡ c .both3 .result
+shown c = let s = start c in cc (c .both3 .ensures, c .before .both2 .ensures, c .before .before .is-segments .ensures, c .before .before .before .before .both .ensures, c .before .before .before .before .before .are-choices .ensures, c .before .before .before .before .before .before .is-in .ensures, is (s .fits .dim), is (s .fits .major-dir), is (s .fits .group), is (s .fits .top-to-bottom))
+
+abbrev tested : tie.After-compute-edges → tie.Else1
+tested c = c .before .before .before .before .before .before .before .before
+
+-- what the call hands back
+handed : (c : tie.After-compute-edges) → c .compute-edges .result ≡ built (start (tested c .before) .args .segments .now) (start (tested c .before) .args .dim) (start (tested c .before) .args .major-dir) (start (tested c .before) .args .group) (start (tested c .before) .args .top-to-bottom) (start (tested c .before) .args .scale) (start (tested c .before) .args .thresholds)
+handed c =
+    let s = start (tested c .before) in
+    let a = s .args in
+    let g = c .before .before in
+    let d = g .before .before in
+    c .compute-edges .ensures
+    ∙ building-reads (a .segments .now) (a .dim) (a .major-dir) (a .group) (a .top-to-bottom) (a .scale) (a .thresholds) (d .before .before .flat-segments .ensures) (g .before .empty-axis .ensures) (d .before .dimension-of .ensures ∙ ap dimensionOf (is (s .fits .dim)))
+    (d .direction-of .ensures ∙ ap directionOf (is (s .fits .major-dir))) (g .group-of .ensures ∙ ap groupOf (is (s .fits .group))) (c .before .choice-of .ensures ∙ ap choiceOf (is (s .fits .top-to-bottom))) (is (s .fits .scale))
+
+-- the count's word
+word : (c : tie.After-give-word) → toZ w32 (ofZ w32 (c .before .count-word .result)) ≡ pos (c .before .before .before .before .before .compute-edges .result .axis .len % 65536)
+word c = cc (c .before .count-word .ensures, is (got w32 (c .before .count-word .result) (c .before .count-word .ok)))
+
+is-in-requires : tie.Need-is-in-requires
+is-in-requires c κs = search needs
+
+are-choices-requires : tie.Need-are-choices-requires
+are-choices-requires c κs = search needs
+
+both-requires : tie.Need-both-requires
+both-requires c κs = search needs
+
+is-segments-requires : tie.Need-is-segments-requires
+is-segments-requires c κs = search needs
+
+both-requires-2 : tie.Need-both-requires-2
+both-requires-2 c κs = search needs
+
+both-requires-3 : tie.Need-both-requires-3
+both-requires-3 c κs = search needs
+
+same-length : tie.Need-same-length
+same-length c = search needs
+
+returns : tie.Need-returns
+returns c = not-shown (shown (c .before) ∙ not-true _ (c .if1 .taken))
+
+flat-segments-requires : tie.Need-flat-segments-requires
+flat-segments-requires c κs = search needs
+
+dimension-of-requires : tie.Need-dimension-of-requires
+dimension-of-requires c κs = search needs
+
+direction-of-requires : tie.Need-direction-of-requires
+direction-of-requires c κs = search needs
+
+empty-axis-requires : tie.Need-empty-axis-requires
+empty-axis-requires c κs = search needs
+
+group-of-requires : tie.Need-group-of-requires
+group-of-requires c κs = search needs
+
+choice-of-requires : tie.Need-choice-of-requires
+choice-of-requires c κs = search needs
+
+compute-edges-requires : tie.Need-compute-edges-requires
+compute-edges-requires c κs = search needs
+
+count-word-requires : tie.Need-count-word-requires
+count-word-requires c κs = search needs
+
+give-word-requires : tie.Need-give-word-requires
+give-word-requires c κs = search needs
+
+give-edges-requires : tie.Need-give-edges-requires
+give-edges-requires c κs = search needs
+
+give-segments-requires : tie.Need-give-segments-requires
+give-segments-requires c κs = search needs
+
+same-length-2 : tie.Need-same-length-2
+same-length-2 c = search needs
+
+same-length-3 : tie.Need-same-length-3
+same-length-3 c = search needs
+
+returns-2 : tie.Need-returns-2
+returns-2 c =
+    let h = c .before .before .before .before .before .before .before .before .before .before .before in
+    let e = tested h in
+    shown-by (λ (x : Built). x .answer) (λ (x : Built). builtWords (start (e .before) .args .segments .now) (start (e .before) .args .edges .now) x) (shown (e .before) ∙ not-false _ (e .if1 .left)) (handed h) (lent-pair (c .before .give-segments .ensures) (lent-pair (c .before .before .before .before .give-edges .ensures) (lent-as (word (c .before .before .before .before .before .before)) (c .before .before .before .before .before .before .give-word .ensures))))
+
+pub lend-building-spec : {M : Type 1} → statement M
+lend-building-spec =
+    tie.close
+    (tie.spec
+    is-in-requires
+    are-choices-requires
+    both-requires
+    is-segments-requires
+    both-requires-2
+    both-requires-3
+    same-length
+    returns
+    flat-segments-requires
+    dimension-of-requires
+    direction-of-requires
+    empty-axis-requires
+    group-of-requires
+    choice-of-requires
+    compute-edges-requires
+    count-word-requires
+    give-word-requires
+    give-edges-requires
+    give-segments-requires
+    same-length-2
+    same-length-3
+    returns-2)

@@ -1,0 +1,41 @@
+-- Edge building over lent segments, room for a table of edges, the dimension, the major direction, the group, top to bottom, the scale and the three
+-- thresholds; a place is lent for the count of edges.
+use mathlib.Core.Bool.{Bool, _&&_}
+use mathlib.Core.List.{List}
+use Prim.Native.Nat.{ℕ, _%_}
+use lib.Dec.{eqb}
+use lib.ListN.{length}
+use lib.IntN.{ℤ, pos}
+use Rattle.axis.specs.Edge.{emptyAxis}
+use Rattle.building.specs.declared.build.Built.{Built}
+use Rattle.building.specs.declared.numbers.Thresholds.{Thresholds}
+use Rattle.building.specs.Building.{computeEdges}
+use Rattle.words.specs.Field.{choiceOf, dimensionOf, directionOf, groupOf}
+use Rattle.words.specs.Edge.{edgesOver}
+use Rattle.words.specs.Segment.{flatSegments, segmentsOver}
+use Rattle.shape.specs.Shape.{within, direction, segmentsShown}
+use Rattle.flat.specs.Lent.{Lent, choices}
+
+-- the words of the working table's 128 places
+abbrev pub tableWords : ℕ
+tableWords = 1408
+
+-- the room for the edges has the table's length; what it holds is not read
+abbrev pub buildShown : List ℤ → List ℤ → ℤ → ℤ → ℤ → ℤ → Bool
+buildShown ws room dim major group ttb = segmentsShown ws && (eqb (length room) tableWords && (within direction major && choices dim group ttb))
+
+-- the three thresholds: edge distance, segment length, segment width
+abbrev pub thresholdsOf : ℤ → ℤ → ℤ → Thresholds
+thresholdsOf distance len width = record { distance = distance; length = len; width = width }
+
+-- what the call hands back, from a table without edges
+abbrev pub built : List ℤ → ℤ → ℤ → ℤ → ℤ → ℤ → Thresholds → Built
+built ws dim major group ttb scale t = computeEdges (flatSegments ws) (emptyAxis (dimensionOf dim) (directionOf major)) (groupOf group) (choiceOf ttb) scale t
+
+-- the segments, the whole table of edges, and how many there are: at most 128, so that the remainder is the count
+abbrev pub builtWords : List ℤ → List ℤ → Built → List ℤ × (List ℤ × ℤ)
+builtWords ws room b = (segmentsOver ws (b .segments), (edgesOver room (b .axis), pos (b .axis .len % 65536)))
+
+abbrev pub BuiltLent : List ℤ → List ℤ → ℤ → ℤ → ℤ → ℤ → ℤ → Thresholds → ℤ → ℕ → List ℤ × (List ℤ × ℤ) → Type 0
+BuiltLent ws room dim major group ttb scale t count =
+    Lent (buildShown ws room dim major group ttb) (built ws dim major group ttb scale t .answer) (builtWords ws room (built ws dim major group ttb scale t)) (ws, (room, count))

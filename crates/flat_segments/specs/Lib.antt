@@ -1,0 +1,3 @@
+-- What the contracts of `flat_segments` cite.
+pub mod Link
+pub mod Build

@@ -1,0 +1,22 @@
+-- CJK linking over lent segments, the major direction, units per em and the scale.
+use mathlib.Core.Bool.{Bool, _&&_}
+use mathlib.Core.List.{List}
+use Prim.Native.Nat.{ℕ}
+use lib.IntN.{ℤ}
+use Rattle.linking.specs.declared.link.Linked.{Linked}
+use Rattle.linking.specs.Linking.{linkSegmentsCjk}
+use Rattle.words.specs.Field.{directionOf}
+use Rattle.words.specs.Segment.{flatSegments, segmentsOver}
+use Rattle.shape.specs.Shape.{within, direction, segmentsShown}
+use Rattle.flat.specs.Lent.{Lent}
+
+abbrev pub linkingShown : List ℤ → ℤ → Bool
+linkingShown ws major = segmentsShown ws && within direction major
+
+-- what the call hands back
+abbrev pub linkingLinked : List ℤ → ℤ → ℤ → ℤ → Linked
+linkingLinked ws major upem scale = linkSegmentsCjk (flatSegments ws) (directionOf major) upem scale
+
+abbrev pub LinkingLent : List ℤ → ℤ → ℤ → ℤ → ℕ → List ℤ → Type 0
+LinkingLent ws major upem scale =
+    Lent (linkingShown ws major) (linkingLinked ws major upem scale .answer) (segmentsOver ws (linkingLinked ws major upem scale .segments)) ws

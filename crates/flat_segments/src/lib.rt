@@ -1,0 +1,3 @@
+// Segments lent as words without a count, for linking and building.
+pub mod build;
+pub mod link;

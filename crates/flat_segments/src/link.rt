@@ -1,0 +1,24 @@
+// CJK linking over lent segments.
+use flat::lent::NOT_WORDS;
+use flat::lent::both;
+use flat::lent::give_segments;
+use linking::link::link_segments_cjk;
+use shape::element::is_segments;
+use shape::field::DIRECTION;
+use shape::field::is_in;
+use words::field::direction_of;
+use words::segment::flat_segments;
+ghost use Rattle.flat_segments.specs.Link.{LinkingLent};
+
+// Links segments into stems and serifs.
+pub fn lend_linking(segments: &mut [i32], major_dir: i32, units_per_em: i32, scale: i32) -> u8
+    ensures { λ r. ⌜ LinkingLent (now (segments .entry)) «major_dir» «units_per_em» scale r (now (segments .exit)) ⌝ }
+{
+    if !both(is_segments(segments), is_in(major_dir, DIRECTION)) {
+        return NOT_WORDS;
+    }
+    let table = flat_segments(segments);
+    let linked = link_segments_cjk(table, direction_of(major_dir), units_per_em, scale);
+    let table = linked.segments;
+    give_segments(segments, linked.answer, table)
+}

@@ -1,0 +1,60 @@
+// The stem pass over lent edges.
+use axis::kinds::Direction;
+use flat::lent::NOT_WORDS;
+use flat::lent::are_choices;
+use flat::lent::both;
+use flat::lent::both_in;
+use flat::lent::give_edges;
+use flat::lent::give_word;
+use shape::element::is_edges;
+use shape::field::CHOICE;
+use shape::field::LINK;
+use shape::field::is_in;
+use stems::align::align_stem_edges;
+use words::edge::flat_axis;
+use words::field::choice_of;
+use words::field::dimension_of;
+use words::field::group_of;
+use words::field::link_of;
+use words::field::link_word;
+use words::field::rule_of;
+use words::word::count_word;
+ghost use Rattle.flat_stems.specs.Stems.{StemsLent};
+
+// Aligns all stems, and tells how many edges were passed over and the anchor.
+pub fn lend_stems(
+    edges: &mut [i32],
+    dim: i32,
+    group: i32,
+    stem_adjust: i32,
+    top_to_bottom: i32,
+    anchor: i32,
+    rule: i32,
+    standards: &[i32],
+    count: &mut i32,
+    found: &mut i32,
+) -> u8
+    ensures { λ r. ⌜ StemsLent (now (edges .entry)) dim group «stem_adjust» «top_to_bottom» anchor rule (now (standards .entry)) (now (count .entry)) (now (found .entry)) r (now (edges .exit), (now (count .exit), now (found .exit))) ⌝ }
+{
+    let order_and_rule = both_in(top_to_bottom, rule, CHOICE);
+    let words = both(order_and_rule, is_in(anchor, LINK));
+    let words = both(are_choices(dim, group, stem_adjust), words);
+    if !both(is_edges(edges), words) {
+        return NOT_WORDS;
+    }
+    let axis = flat_axis(edges, dimension_of(dim), Direction::None);
+    let aligned = align_stem_edges(
+        axis,
+        group_of(group),
+        choice_of(stem_adjust),
+        choice_of(top_to_bottom),
+        link_of(anchor),
+        rule_of(rule),
+        standards,
+    );
+    let axis = aligned.axis;
+    let last = aligned.anchor;
+    give_word(found, aligned.answer, link_word(last));
+    give_word(count, aligned.answer, count_word(aligned.count));
+    give_edges(edges, aligned.answer, axis)
+}

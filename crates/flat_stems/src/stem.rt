@@ -1,0 +1,55 @@
+// The CJK stem over lent edges.
+use axis::kinds::Direction;
+use flat::lent::NOT_WORDS;
+use flat::lent::are_choices;
+use flat::lent::both;
+use flat::lent::both_in;
+use flat::lent::give_edges;
+use flat::lent::give_word;
+use shape::element::is_edges;
+use shape::field::INDEX;
+use stem_cjk::hint::hint_normal_stem_cjk;
+use words::edge::flat_axis;
+use words::field::choice_of;
+use words::field::dimension_of;
+use words::field::rule_of;
+use words::word::size_of;
+ghost use Rattle.flat_stems.specs.Stem.{StemLent};
+
+// Places both edges of a CJK stem, and tells its own delta.
+pub fn lend_stem(
+    edges: &mut [i32],
+    dim: i32,
+    stem_adjust: i32,
+    rule: i32,
+    standards: &[i32],
+    edge: i32,
+    edge2: i32,
+    delta: i32,
+    own_delta: &mut i32,
+) -> u8
+    ensures { λ r. ⌜ StemLent (now (edges .entry)) dim «stem_adjust» rule (now (standards .entry)) edge edge2 delta (now («own_delta» .entry)) r (now (edges .exit), now («own_delta» .exit)) ⌝ }
+{
+    if !both(
+        is_edges(edges),
+        both(
+            are_choices(dim, stem_adjust, rule),
+            both_in(edge, edge2, INDEX),
+        ),
+    ) {
+        return NOT_WORDS;
+    }
+    let axis = flat_axis(edges, dimension_of(dim), Direction::None);
+    let hinted = hint_normal_stem_cjk(
+        axis,
+        choice_of(stem_adjust),
+        rule_of(rule),
+        standards,
+        size_of(edge),
+        size_of(edge2),
+        delta,
+    );
+    let axis = hinted.axis;
+    give_word(own_delta, hinted.answer, hinted.delta);
+    give_edges(edges, hinted.answer, axis)
+}

@@ -1,0 +1,37 @@
+// Blue zones over lent edges.
+use axis::kinds::Direction;
+use blues::align::align_edges_to_blues;
+use flat::lent::NOT_WORDS;
+use flat::lent::are_choices;
+use flat::lent::both;
+use flat::lent::give_edges;
+use flat::lent::give_word;
+use shape::element::is_edges;
+use words::edge::flat_axis;
+use words::field::dimension_of;
+use words::field::group_of;
+use words::field::link_word;
+use words::field::rule_of;
+ghost use Rattle.flat_stems.specs.Zones.{ZonesLent};
+
+// Puts edges on their blue zones, and tells the anchor.
+pub fn lend_zones(
+    edges: &mut [i32],
+    dim: i32,
+    group: i32,
+    rule: i32,
+    standards: &[i32],
+    anchor: &mut i32,
+) -> u8
+    ensures { λ r. ⌜ ZonesLent (now (edges .entry)) dim group rule (now (standards .entry)) (now (anchor .entry)) r (now (edges .exit), now (anchor .exit)) ⌝ }
+{
+    if !both(is_edges(edges), are_choices(dim, group, rule)) {
+        return NOT_WORDS;
+    }
+    let axis = flat_axis(edges, dimension_of(dim), Direction::None);
+    let anchored = align_edges_to_blues(axis, group_of(group), rule_of(rule), standards);
+    let found = anchored.anchor;
+    let axis = anchored.axis;
+    give_word(anchor, anchored.answer, link_word(found));
+    give_edges(edges, anchored.answer, axis)
+}

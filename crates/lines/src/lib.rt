@@ -1,0 +1,2 @@
+// Lines of text as words, for the programs that read jobs.
+pub mod line;

@@ -1,0 +1,51 @@
+// The rows of weak points: originals, currents, touch marks and contour ends, and the currents at the end.
+use super::run::row;
+
+// Runs them.
+pub fn weak_rows() {
+    row(
+        b"weak *  references 0 to 0 and 3 to 64; originals 1, 2: 21, 43",
+        &[3, 4, 0, 1, 2, 3, 4, 0, 0, 0, 64, 4, 1, 0, 0, 1, 1, 3],
+        &[0, 4, 0, 21, 43, 64],
+    );
+    row(
+        b"weak *  references 0 to 0 and 3 to -64; originals 1, 2: -21, -43",
+        &[3, 4, 0, 1, 2, 3, 4, 0, 0, 0, -64, 4, 1, 0, 0, 1, 1, 3],
+        &[0, 4, 0, -21, -43, -64],
+    );
+    row(
+        b"weak *  references 0 to 0 and 2 to 1; original 1: 1",
+        &[3, 3, 0, 1, 2, 3, 0, 0, 1, 3, 1, 0, 1, 1, 2],
+        &[0, 3, 0, 1, 1],
+    );
+    row(
+        b"weak *  then 2 to -1: -1",
+        &[3, 3, 0, 1, 2, 3, 0, 0, -1, 3, 1, 0, 1, 1, 2],
+        &[0, 3, 0, -1, -1],
+    );
+    row(
+        b"weak *  references 0 to 0 and 3 to 64; originals -5, 10: -5, 71",
+        &[3, 4, 0, -5, 10, 3, 4, 0, 0, 0, 64, 4, 1, 0, 0, 1, 1, 3],
+        &[0, 4, 0, -5, 71, 64],
+    );
+    row(
+        b"weak *  originals 0, 10, 20; currents 0, 99, 20; first touched: 0, 99, 20",
+        &[3, 3, 0, 10, 20, 3, 0, 99, 20, 3, 1, 0, 0, 1, 2],
+        &[0, 3, 0, 99, 20],
+    );
+    row(
+        b"weak *  the same, currents 5, 99, 20: 5, 15, 25",
+        &[3, 3, 0, 10, 20, 3, 5, 99, 20, 3, 1, 0, 0, 1, 2],
+        &[0, 3, 5, 15, 25],
+    );
+    row(
+        b"weak    coordinate 16,383: accepted",
+        &[3, 1, 16383, 1, 16383, 1, 1, 1, 0],
+        &[0, 1, 16383],
+    );
+    row(
+        b"weak    coordinate 16,384: refusal 4",
+        &[3, 1, 16384, 1, 16384, 1, 1, 1, 0],
+        &[4, 1, 16384],
+    );
+}

@@ -1,0 +1,2 @@
+-- Laws on readings.
+pub mod Shapes

@@ -1,0 +1,170 @@
+// Records of several fields, runs of them, and the place behind each.
+use super::field::CHOICE;
+use super::field::DIRECTION;
+use super::field::FLAGS;
+use super::field::INDEX;
+use super::field::LINK;
+use super::field::Place;
+use super::field::Range;
+use super::field::SHORT;
+use super::field::WORD;
+use super::field::skip_field;
+use words::word::word_at;
+ghost use mathlib.Core.Path.{_≡_};
+ghost use Prim.Native.Nat.{_<_};
+ghost use lib.ListN.{length, getD};
+ghost use Rattle.shape.specs.Shape.{noRange, fields, rangesOf, edge, element, elements, isRun, edgesShown, segmentsShown};
+
+// A record of several words.
+pub enum Record {
+    Segment,
+    Edge,
+}
+
+// What a list holds.
+pub enum Element {
+    Number(Range),
+    Segment,
+    Edge,
+    LentEdge,
+}
+
+// The 15 words of a segment: flags, direction, pos, delta, min_coord, max_coord, height, score, len, link, serif, first, last, edge, next.
+const SEGMENT: [Range; 15] = [
+    FLAGS,
+    DIRECTION,
+    SHORT,
+    SHORT,
+    SHORT,
+    SHORT,
+    SHORT,
+    WORD,
+    WORD,
+    LINK,
+    LINK,
+    INDEX,
+    INDEX,
+    LINK,
+    LINK,
+];
+
+// The 11 words of an edge: fpos, opos, pos, flags, direction, blue present, blue fitted, link, serif, first, last.
+const EDGE: [Range; 11] = [
+    SHORT,
+    WORD,
+    WORD,
+    FLAGS,
+    DIRECTION,
+    CHOICE,
+    WORD,
+    LINK,
+    LINK,
+    INDEX,
+    INDEX,
+];
+
+// How many words a record has.
+fn size(kind: Record) -> usize
+    ensures { λ r. ⌜ r ≡ length (rangesOf kind) ⌝ }
+{
+    match kind {
+        Record::Segment => 15,
+        Record::Edge => 11,
+    }
+}
+
+// The values of a record's word.
+fn range_of(kind: Record, i: usize) -> Range
+    requires { ⌜ i < length (rangesOf kind) ⌝ }
+    ensures { λ r. ⌜ r ≡ getD (rangesOf kind) i noRange ⌝ }
+{
+    match kind {
+        Record::Segment => SEGMENT[i],
+        Record::Edge => EDGE[i],
+    }
+}
+
+// The place behind the fields of a record.
+fn skip_record(words: &[i32], at: usize, kind: Record) -> Place
+    ensures { λ r. ⌜ r ≡ fields (rangesOf kind) (now (words .entry)) at ⌝ }
+{
+    let n = size(kind);
+    let mut here = at;
+    let mut i = 0;
+    while i < n {
+        let Place::At(next) = skip_field(words, here, range_of(kind, i)) else {
+            return Place::Nowhere;
+        };
+        here = next;
+        i += 1;
+    }
+    Place::At(here)
+}
+
+// The place behind an edge, whose fitted position is 0 where it has no blue.
+fn skip_edge(words: &[i32], at: usize) -> Place
+    ensures { λ r. ⌜ r ≡ edge (now (words .entry)) at ⌝ }
+{
+    let Place::At(next) = skip_record(words, at, Record::Edge) else {
+        return Place::Nowhere;
+    };
+    if word_at(words, next - 6) == 1 {
+        return Place::At(next);
+    }
+    if word_at(words, next - 5) == 0 {
+        return Place::At(next);
+    }
+    Place::Nowhere
+}
+
+// The place behind an element of a list.
+fn skip_element(words: &[i32], at: usize, kind: Element) -> Place
+    ensures { λ r. ⌜ r ≡ element kind (now (words .entry)) at ⌝ }
+{
+    match kind {
+        Element::Number(range) => skip_field(words, at, range),
+        Element::Segment => skip_record(words, at, Record::Segment),
+        Element::Edge => skip_edge(words, at),
+        Element::LentEdge => skip_edge(words, at),
+    }
+}
+
+// The place behind n elements of a list.
+pub fn skip_elements(words: &[i32], at: usize, kind: Element, n: usize) -> Place
+    ensures { λ r. ⌜ r ≡ elements n kind (now (words .entry)) at ⌝ }
+{
+    let mut here = at;
+    let mut i = 0;
+    while i < n {
+        let Place::At(next) = skip_element(words, here, kind) else {
+            return Place::Nowhere;
+        };
+        here = next;
+        i += 1;
+    }
+    Place::At(here)
+}
+
+// Whether a list is n elements and no more.
+fn is_run(words: &[i32], kind: Element, n: usize) -> bool
+    ensures { λ r. ⌜ r ≡ isRun n kind (now (words .entry)) ⌝ }
+{
+    let Place::At(end) = skip_elements(words, 0, kind, n) else {
+        return false;
+    };
+    end == words.len()
+}
+
+// Whether a list is edges and no more.
+pub fn is_edges(words: &[i32]) -> bool
+    ensures { λ r. ⌜ r ≡ edgesShown (now (words .entry)) ⌝ }
+{
+    is_run(words, Element::Edge, words.len() / 11)
+}
+
+// Whether a list is segments and no more.
+pub fn is_segments(words: &[i32]) -> bool
+    ensures { λ r. ⌜ r ≡ segmentsShown (now (words .entry)) ⌝ }
+{
+    is_run(words, Element::Segment, words.len() / 15)
+}

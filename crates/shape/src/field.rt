@@ -1,0 +1,70 @@
+// A field of one word, its values, and the place behind it.
+ghost use mathlib.Core.Path.{_≡_};
+ghost use Rattle.shape.specs.Shape.{within, field};
+
+// A place in a word list, or nowhere, where the words are not those that are read.
+pub enum Place {
+    Nowhere,
+    At(usize),
+}
+
+// The values of a field of one word.
+pub struct Range {
+    pub low: i32,
+    pub high: i32,
+}
+
+pub const WORD: Range = Range {
+    low: -2147483648,
+    high: 2147483647,
+};
+
+pub const SHORT: Range = Range {
+    low: -32768,
+    high: 32767,
+};
+
+pub const BYTE: Range = Range { low: 0, high: 255 };
+
+pub const INDEX: Range = Range {
+    low: 0,
+    high: 65535,
+};
+
+pub const LINK: Range = Range {
+    low: -1,
+    high: 65535,
+};
+
+pub const CHOICE: Range = Range { low: 0, high: 1 };
+
+pub const DIRECTION: Range = Range { low: 0, high: 4 };
+
+pub const FLAGS: Range = Range { low: 0, high: 15 };
+
+// Whether a word is within a field's values.
+pub fn is_in(word: i32, range: Range) -> bool
+    ensures { λ r. ⌜ r ≡ within range word ⌝ }
+{
+    if word < range.low {
+        return false;
+    }
+    if range.high < word {
+        return false;
+    }
+    true
+}
+
+// The place behind a field.
+pub fn skip_field(words: &[i32], at: usize, range: Range) -> Place
+    ensures { λ r. ⌜ r ≡ field range (now (words .entry)) at ⌝ }
+{
+    if words.len() <= at {
+        return Place::Nowhere;
+    }
+    let word = words[at];
+    if is_in(word, range) {
+        return Place::At(at + 1);
+    }
+    Place::Nowhere
+}
