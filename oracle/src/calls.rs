@@ -293,7 +293,7 @@ fn on_axis<T>(edges: &mut Table<Edge>, dim: Dimension, run: impl FnOnce(&mut Axi
 }
 
 /// Metrics that hold the width rule.
-fn metrics(rule: &WidthRule) -> ScaledAxisMetrics {
+pub(crate) fn metrics(rule: &WidthRule) -> ScaledAxisMetrics {
     ScaledAxisMetrics {
         scale: 0,
         width_metrics: WidthMetrics {
@@ -306,7 +306,7 @@ fn metrics(rule: &WidthRule) -> ScaledAxisMetrics {
 }
 
 /// A scale that holds the flag.
-fn scale(stem_adjust: bool) -> Scale {
+pub(crate) fn scale(stem_adjust: bool) -> Scale {
     Scale {
         flags: ScaleFlags::new(stem_adjust),
     }

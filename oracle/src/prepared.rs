@@ -1,106 +1,219 @@
-//! The given Rust's calls on what is built once, for benchmarks: what is timed is `align`, `link` or `build` alone.
+//! The given Rust's calls on what is built once, for benchmarks: what is timed is `run` alone.
 
 use crate::{
     calls,
     given::{
-        hint_outline, metrics::ScaledAxisMetrics, outline::Outline, topo::Axis, topo_segments,
+        hint_edges::{self, LinkDir},
+        hint_outline,
+        metrics::{Scale, ScaledAxisMetrics},
+        outline::Outline,
+        topo::Axis,
+        topo_segments,
     },
-    job::{Building, Dimension, Direction, Points, Segment},
+    job::{Building, Dimension, Edge, Job, Points, ScriptGroup, Segment, Table, WidthRule},
 };
+use std::hint::black_box;
 
-/// An outline of the given Rust, with its points on the vertical axis.
-pub struct Prepared(Outline);
+/// A job of the given Rust, with what its call changes and what is set back.
+pub enum Prepared {
+    Middle(fn(i32, i32) -> i16, i32, i32),
+    Weak(Outline, Vec<i32>),
+    Link(Outline, Axis, Vec<Segment>, i32),
+    Build(Axis, Vec<Segment>, ScaledAxisMetrics, Building),
+    Edges(Axis, Vec<Edge>, Fitting),
+}
+
+/// A call over edges, and what it is told beside them.
+pub struct Fitting {
+    call: Call,
+    metrics: ScaledAxisMetrics,
+    group: ScriptGroup,
+    scale: Scale,
+}
+
+/// The calls over edges, with the edges that they name.
+enum Call {
+    Blues,
+    Linked(usize, usize),
+    Serif(usize, usize),
+    Adjust(usize, bool, bool),
+    Bounds(usize),
+    CjkStem(usize, usize, i32),
+    Stems(bool, Option<usize>),
+    M,
+}
 
 impl Prepared {
-    /// The outline of these points, which must be accepted.
-    pub fn new(points: &Points) -> Self {
-        Self(calls::outline(points, Dimension::Vertical))
-    }
-
-    /// Sets the current coordinates anew.
-    pub fn restore(&mut self, currents: &[i32]) {
-        for (point, current) in self.0.points.iter_mut().zip(currents) {
-            point.y = *current;
+    /// A job, which must be accepted.
+    pub fn new(job: Job) -> Self {
+        match job {
+            Job::MidPos(min, max) => Self::Middle(topo_segments::compute_mid_pos, min, max),
+            Job::MidDelta(min, max) => Self::Middle(topo_segments::compute_mid_delta, min, max),
+            Job::Weak(points) => Self::weak(points),
+            Job::Link(segments, major, units_per_em, scale) => {
+                let outline = Outline {
+                    units_per_em,
+                    ..Outline::default()
+                };
+                let axis = Axis {
+                    major_dir: major,
+                    ..Axis::default()
+                };
+                Self::Link(outline, axis, segments.items, scale)
+            }
+            Job::Build(segments, _, given) => {
+                let axis = calls::cleared(&segments.items, &given);
+                let segments = axis.segments.clone();
+                Self::Build(axis, segments, calls::building_metrics(&given), given)
+            }
+            job => Self::edges(job),
         }
     }
 
-    /// Runs the given Rust; nothing where a contour leaves the points.
-    pub fn align(&mut self) -> Option<()> {
-        hint_outline::align_weak_points(&mut self.0, Dimension::Vertical)
+    /// Weak points on the vertical axis.
+    fn weak(points: Points) -> Self {
+        Self::Weak(
+            calls::outline(&points, Dimension::Vertical),
+            points.currents,
+        )
     }
 
-    /// The current coordinates.
-    pub fn currents(&self) -> Vec<i32> {
-        self.0.points.iter().map(|point| point.y).collect()
-    }
-}
-
-/// An axis of the given Rust with segments to link.
-pub struct PreparedSegments {
-    given: Vec<Segment>,
-    outline: Outline,
-    axis: Axis,
-    scale: i32,
-}
-
-impl PreparedSegments {
-    /// The axis of these segments, which must be accepted.
-    pub fn new(segments: &[Segment], major: Direction, units_per_em: i32, scale: i32) -> Self {
-        let outline = Outline {
-            units_per_em,
-            ..Outline::default()
+    /// A job over edges.
+    fn edges(job: Job) -> Self {
+        use Dimension::Horizontal;
+        use ScriptGroup::Default;
+        let keep = WidthRule::Keep(Vec::new());
+        let (edges, dim, group, rule, stem_adjust, call) = match job {
+            Job::Blues(edges, dim, group, rule) => (edges, dim, group, rule, false, Call::Blues),
+            Job::Linked(edges, rule, base, stem) => {
+                let call = Call::Linked(base.into(), stem.into());
+                (edges, Horizontal, Default, rule, false, call)
+            }
+            Job::Serif(edges, base, serif) => {
+                let call = Call::Serif(base.into(), serif.into());
+                (edges, Horizontal, Default, keep, false, call)
+            }
+            Job::Adjust(edges, edge, next, top_to_bottom) => {
+                let call = Call::Adjust(edge.into(), next, top_to_bottom);
+                (edges, Horizontal, Default, keep, false, call)
+            }
+            Job::Bounds(edges, edge) => {
+                let call = Call::Bounds(edge.into());
+                (edges, Horizontal, Default, keep, false, call)
+            }
+            Job::CjkStem(edges, given) => {
+                let call = Call::CjkStem(given.edge.into(), given.edge2.into(), given.delta);
+                let group = ScriptGroup::Cjk;
+                (edges, given.dim, group, given.rule, given.stem_adjust, call)
+            }
+            Job::Stems(edges, given) => {
+                let call = Call::Stems(given.top_to_bottom, given.anchor.map(usize::from));
+                let group = given.group;
+                (edges, given.dim, group, given.rule, given.stem_adjust, call)
+            }
+            Job::M(edges, group) => (edges, Horizontal, group, keep, false, Call::M),
+            Job::MLent(edges, group) => (Table::of(edges), Horizontal, group, keep, false, Call::M),
+            _ => unreachable!("the other jobs are not over edges"),
         };
         let axis = Axis {
-            major_dir: major,
+            dim,
             ..Axis::default()
         };
-        Self {
-            given: segments.to_vec(),
-            outline,
-            axis,
+        let fitting = Fitting {
+            call,
+            metrics: calls::metrics(&rule),
+            group,
+            scale: calls::scale(stem_adjust),
+        };
+        Self::Edges(axis, edges.items, fitting)
+    }
+
+    /// Sets anew what the call changes.
+    pub fn restore(&mut self) {
+        match self {
+            Self::Middle(..) => {}
+            Self::Weak(outline, currents) => {
+                for (point, current) in outline.points.iter_mut().zip(currents) {
+                    point.y = *current;
+                }
+            }
+            Self::Link(_, axis, segments, _) => axis.segments.clone_from(segments),
+            Self::Build(axis, segments, ..) => {
+                axis.segments.clone_from(segments);
+                axis.edges.clear();
+            }
+            Self::Edges(axis, edges, _) => axis.edges.clone_from(edges),
+        }
+    }
+
+    /// Runs the given Rust.
+    pub fn run(&mut self) {
+        match self {
+            Self::Middle(middle, min, max) => {
+                black_box(middle(black_box(*min), black_box(*max)));
+            }
+            Self::Weak(outline, _) => {
+                black_box(hint_outline::align_weak_points(
+                    outline,
+                    Dimension::Vertical,
+                ));
+            }
+            Self::Link(outline, axis, _, scale) => {
+                topo_segments::link_segments_cjk(outline, axis, *scale);
+            }
+            Self::Build(axis, _, metrics, given) => calls::build(axis, metrics, given),
+            Self::Edges(axis, _, fitting) => fitting.run(axis),
+        }
+    }
+}
+
+impl Fitting {
+    /// Runs the given Rust on an axis.
+    fn run(&self, axis: &mut Axis) {
+        let Self {
+            call,
+            metrics,
+            group,
             scale,
+        } = self;
+        let group = *group;
+        match *call {
+            Call::Blues => {
+                black_box(hint_edges::align_edges_to_blues(
+                    axis, metrics, group, scale, None,
+                ));
+            }
+            Call::Linked(base, stem) => {
+                hint_edges::align_linked_edge(axis, metrics, group, scale, base, stem, None);
+            }
+            Call::Serif(base, serif) => hint_edges::align_serif_edge(axis, base, serif),
+            Call::Adjust(edge, next, top_to_bottom) => {
+                let dir = if next { LinkDir::Next } else { LinkDir::Prev };
+                let edges = &mut axis.edges;
+                hint_edges::adjust_link(edges, axis.dim, edge, dir, top_to_bottom, None);
+            }
+            Call::Bounds(edge) => {
+                black_box(hint_edges::latin_remaining_bounds(&axis.edges, edge));
+            }
+            Call::CjkStem(edge, edge2, delta) => {
+                black_box(hint_edges::hint_normal_stem_cjk(
+                    axis, metrics, group, scale, edge, edge2, delta,
+                ));
+            }
+            Call::Stems(top_to_bottom, anchor) => {
+                black_box(hint_edges::align_stem_edges(
+                    axis,
+                    metrics,
+                    group,
+                    scale,
+                    top_to_bottom,
+                    anchor,
+                    None,
+                ));
+            }
+            Call::M => {
+                hint_edges::hint_lowercase_m(&mut axis.edges, group);
+            }
         }
-    }
-
-    /// Sets the segments anew.
-    pub fn restore(&mut self) {
-        self.axis.segments.clone_from(&self.given);
-    }
-
-    /// Runs the given Rust.
-    pub fn link(&mut self) {
-        topo_segments::link_segments_cjk(&self.outline, &mut self.axis, self.scale);
-    }
-}
-
-/// An axis of the given Rust with segments to build edges from.
-pub struct PreparedBuilding {
-    segments: Vec<Segment>,
-    given: Building,
-    metrics: ScaledAxisMetrics,
-    axis: Axis,
-}
-
-impl PreparedBuilding {
-    /// The axis of these segments, which must be accepted.
-    pub fn new(segments: &[Segment], given: Building) -> Self {
-        let axis = calls::cleared(segments, &given);
-        Self {
-            segments: axis.segments.clone(),
-            given,
-            metrics: calls::building_metrics(&given),
-            axis,
-        }
-    }
-
-    /// Sets the segments anew, and takes the edges away.
-    pub fn restore(&mut self) {
-        self.axis.segments.clone_from(&self.segments);
-        self.axis.edges.clear();
-    }
-
-    /// Runs the given Rust.
-    pub fn build(&mut self) {
-        calls::build(&mut self.axis, &self.metrics, &self.given);
     }
 }

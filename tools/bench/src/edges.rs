@@ -1,121 +1,58 @@
-//! Edge building, on segments that linking has linked.
-//!
-//! The port is timed on whole jobs, words to words. The same jobs refused for their scale are timed too, and taken off: with them go reading and writing the
-//! words and a part of the tests for refusals. The given Rust works on its vectors in place, set back outside the timing.
+//! The edges that are timed, as words of a job, 11 for each.
 
-use crate::{
-    port,
-    segments::{self, Kind},
-    time::{self, Side},
-};
-use oracle::{answer, decode, generate::Random, job::Job, prepared::PreparedBuilding};
-use std::hint::black_box;
+use oracle::generate::Random;
 
-/// The sizes of the tables, in segments.
-const SIZES: [usize; 4] = [10, 50, 150, 512];
+/// The words of an edge at its original position, with flags, a blue zone or none, and its link.
+fn edge(opos: i32, pos: i32, round: bool, zone: Option<i32>, link: usize) -> [i32; 11] {
+    let (present, fitted) = zone.map_or((0, 0), |fitted| (1, fitted));
+    let round = i32::from(round);
+    let link = link as i32;
+    [opos, opos, pos, round, 0, present, fitted, link, -1, 0, 0]
+}
 
-/// Segments that a round works on, at least.
-const ROUND: usize = 2_000;
+/// Rising stems, each two edges linked to each other.
+pub fn stems(count: usize, random: &mut Random) -> Vec<i32> {
+    paired(count, random, |_, _| None)
+}
 
-/// The groups, with what stands above their tables.
-const GROUPS: [(i32, &str); 2] = [(0, "default group"), (1, "CJK")];
+/// The same, one edge in four on a blue zone at the nearest pixel.
+pub fn on_zones(count: usize, random: &mut Random) -> Vec<i32> {
+    paired(count, random, |at, random| {
+        random.once_in(4).then_some((at + 32) & !63)
+    })
+}
 
-/// Prints a table for each group.
-pub fn run() {
-    println!(
-        "compute_edges, median times of a table; reading, setting back and writing is not timed"
-    );
-    println!("the port copies its tables of 512 segments and 128 edges, the Rust does not");
-    for (group, title) in GROUPS {
-        println!("\n{title}");
-        println!("segments    port ns    Rust ns  port/Rust");
-        for size in SIZES {
-            let [port, rust] = measure(group, size);
-            println!("{size:8} {port:10.1} {rust:10.1} {:10.2}", port / rust);
-        }
+/// Rising edges in pairs, each on the zone that is chosen for it.
+fn paired(
+    count: usize,
+    random: &mut Random,
+    zone: impl Fn(i32, &mut Random) -> Option<i32>,
+) -> Vec<i32> {
+    let mut words = Vec::new();
+    let mut at = random.between(-100, 100);
+    for ix in 0..count {
+        let round = random.coin();
+        let zone = zone(at, random);
+        words.extend(edge(at, at, round, zone, (ix ^ 1).min(count - 1)));
+        at += if ix % 2 == 0 {
+            random.between(40, 90)
+        } else {
+            random.between(60, 160)
+        };
     }
-}
-
-/// The times of the port and of the Rust for a table, after both were seen to answer alike.
-fn measure(group: i32, size: usize) -> [f64; 2] {
-    let linked = linked(size);
-    let [built, refused] = [65_536, 0].map(|scale| job(&linked, group, scale));
-    let Some(job) = decode::decode(&built) else {
-        unreachable!("the words are a job of building");
-    };
-    assert_eq!(
-        port::answer(&built),
-        answer::answer(job).values,
-        "the answers differ"
-    );
-    let runs = ROUND.div_ceil(size);
-    let mut port = Port {
-        words: &built,
-        runs,
-    };
-    let mut words = Port {
-        words: &refused,
-        runs,
-    };
-    let mut rust = rust(&built, runs);
-    let [port, words, rust] = time::medians([&mut port, &mut words, &mut rust]);
-    [port - words, rust].map(|time| time / runs as f64)
-}
-
-/// The words of so many linked segments, from their count on, at no more than 52 positions.
-fn linked(size: usize) -> Vec<i32> {
-    let mut words = vec![4];
-    words.extend(segments::segments(
-        Kind::Scattered,
-        size,
-        &mut Random::new(size as u64),
-    ));
-    for pos in words[2..].iter_mut().skip(2).step_by(15) {
-        *pos -= *pos % 20;
-    }
-    words.extend([3, 1_000, 65_536]);
-    port::answer(&words)[1..].to_vec()
-}
-
-/// The words of a job of building on the vertical axis, with an edge distance of 10 and no other threshold.
-fn job(segments: &[i32], group: i32, scale: i32) -> Vec<i32> {
-    let mut words = vec![5];
-    words.extend(segments);
-    words.extend([0, 1, 3, group, 0, scale, 10, 0, 65_535]);
     words
 }
 
-/// The port's side.
-struct Port<'a> {
-    words: &'a [i32],
-    runs: usize,
-}
-
-impl Side for Port<'_> {
-    fn restore(&mut self) {}
-
-    fn work(&mut self) {
-        for _ in 0..self.runs {
-            black_box(port::answer(black_box(self.words)));
-        }
+/// The edges of an m whose third stem is to be moved: even ones are the stems' first edges, or of twelve every fourth.
+pub fn m(count: usize, random: &mut Random) -> Vec<i32> {
+    let stem = random.between(30, 60);
+    let gap = random.between(80, 120);
+    let mut words = Vec::new();
+    for ix in 0..count {
+        let place = (ix * 6 / count) as i32;
+        let opos = place / 2 * gap + place % 2 * stem + (ix % 2) as i32;
+        let moved = opos + random.between(-8, 8);
+        words.extend(edge(opos, moved, false, None, (ix + 1) % count));
     }
-}
-
-/// The given Rust on a job's segments, an axis for each run.
-fn rust(words: &[i32], runs: usize) -> Vec<PreparedBuilding> {
-    let Some(Job::Build(table, _, given)) = decode::decode(words) else {
-        unreachable!("the words are a job of building");
-    };
-    let prepared = |_| PreparedBuilding::new(&table.items, given);
-    (0..runs).map(prepared).collect()
-}
-
-impl Side for PreparedBuilding {
-    fn restore(&mut self) {
-        self.restore();
-    }
-
-    fn work(&mut self) {
-        black_box(self).build();
-    }
+    words
 }

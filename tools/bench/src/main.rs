@@ -1,34 +1,52 @@
-//! The port, compiled for this machine, as tools use it. `bench weak`, `bench link` and `bench build` time it and the given Rust side by side on the same inputs; `bench answer`
-//! answers job lines.
+//! The port, compiled for this machine, as tools use it. `bench all` or `bench CALL..` times it and the given Rust side by side on the same inputs and counts
+//! instructions; `bench answer` and `bench library` answer job lines, by jobs and by the library's own calls.
 
 mod answer;
+mod cases;
+mod count;
 mod edges;
-mod link;
+mod library;
 mod outlines;
+mod plot;
 mod port;
+mod records;
 mod segments;
+mod table;
 mod time;
-mod weak;
 
-use std::process::ExitCode;
+use std::{io, process::ExitCode};
 
 /// Does what is named.
 fn main() -> ExitCode {
     let words: Vec<String> = std::env::args().skip(1).collect();
     match words.iter().map(String::as_str).collect::<Vec<_>>()[..] {
-        ["weak"] => weak::run(),
-        ["link"] => link::run(),
-        ["build"] => edges::run(),
-        ["answer"] => {
-            if let Err(error) = answer::run() {
-                eprintln!("bench: {error}");
-                return ExitCode::from(2);
-            }
+        ["answer"] => return told(answer::run(port::answer)),
+        ["library"] => return told(answer::run(library::answer)),
+        ["counted", name, ix, side, copies] if cases::NAMES.contains(&name) => {
+            count::run(name, ix, side, copies);
+        }
+        ["all"] => plot::write(&table::run(&cases::NAMES)),
+        ref names if !names.is_empty() && names.iter().all(|name| cases::NAMES.contains(name)) => {
+            table::run(names);
         }
         _ => {
-            eprintln!("usage: bench weak | link | build | answer");
+            eprintln!(
+                "usage: bench answer | library | all | {}",
+                cases::NAMES.join(" | ")
+            );
             return ExitCode::from(2);
         }
     }
     ExitCode::SUCCESS
+}
+
+/// The status of answering, whose error is printed.
+fn told(result: io::Result<()>) -> ExitCode {
+    match result {
+        Ok(()) => ExitCode::SUCCESS,
+        Err(error) => {
+            eprintln!("bench: {error}");
+            ExitCode::from(2)
+        }
+    }
 }

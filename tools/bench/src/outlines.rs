@@ -4,14 +4,14 @@ use oracle::{generate::Random, job::Points};
 
 /// How the points of an outline are made.
 #[derive(Copy, Clone)]
-pub enum Kind {
+pub enum Outlines {
     /// Scattered points, one in so many touched.
     Scattered(usize),
     /// Points that rise and fall around each contour, touched in pairs at its extrema.
     Glyph,
 }
 
-impl Kind {
+impl Outlines {
     /// All kinds, in the order of the tables.
     pub const ALL: [Self; 4] = [
         Self::Scattered(2),
@@ -30,7 +30,7 @@ impl Kind {
 }
 
 /// An accepted outline of so many points, the untouched ones where their originals are.
-pub fn outline(kind: Kind, count: usize, random: &mut Random) -> Points {
+pub fn outline(kind: Outlines, count: usize, random: &mut Random) -> Points {
     let mut points = Points {
         originals: Vec::new(),
         currents: Vec::new(),
@@ -56,15 +56,15 @@ fn contour_length(left: usize, random: &mut Random) -> usize {
 }
 
 /// Adds a contour of so many points.
-fn contour(kind: Kind, count: usize, random: &mut Random, points: &mut Points) {
+fn contour(kind: Outlines, count: usize, random: &mut Random, points: &mut Points) {
     match kind {
-        Kind::Scattered(times) => {
+        Outlines::Scattered(times) => {
             for _ in 0..count {
                 let original = random.between(-2_000, 2_000);
                 add(original, random.once_in(times), points);
             }
         }
-        Kind::Glyph => {
+        Outlines::Glyph => {
             let (low, high) = (random.between(-200, 0), random.between(300, 900));
             let wave = 4 + random.below(12);
             for ix in 0..count {
@@ -97,4 +97,18 @@ fn add(original: i32, touched: bool, points: &mut Points) {
     points.originals.push(original);
     points.currents.push(current);
     points.touches.push(u8::from(touched));
+}
+
+/// The words of a job of weak points.
+pub fn job(points: &Points) -> Vec<i32> {
+    fn list<T: Copy + Into<i32>>(words: &mut Vec<i32>, list: &[T]) {
+        words.push(list.len() as i32);
+        words.extend(list.iter().map(|number| (*number).into()));
+    }
+    let mut words = vec![3];
+    list(&mut words, &points.originals);
+    list(&mut words, &points.currents);
+    list(&mut words, &points.touches);
+    list(&mut words, &points.ends);
+    words
 }

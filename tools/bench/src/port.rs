@@ -1,45 +1,19 @@
-//! The port, as C calls it.
+//! The port as tools use it: jobs by `jobs_c`, and calls of the library as gateways make them.
+
+use crate::records::{self, EDGE, SEGMENT};
+use khsaemudol::{
+    Building, CjkStem, Dimension, Direction, Edge, Group, Refusal, Segment, StemPass, WidthRule,
+    MOST_EDGES,
+};
+use oracle::{
+    job::{self, Job, Points, ScriptGroup},
+    limits::{EDGES, LENT, SEGMENTS},
+};
+use std::hint::black_box;
 
 extern "C" {
-    /// Aligns the weak points of one axis: each list as its pointer and its length.
-    fn khs_align_weak_points(
-        originals: *const i32,
-        originals_len: usize,
-        currents: *mut i32,
-        currents_len: usize,
-        touched: *const u8,
-        touched_len: usize,
-        ends: *const u16,
-        ends_len: usize,
-    ) -> u8;
-
     /// Writes the answer to a word list, and tells how many words it has.
     fn jobs_c_answer(words: *const i32, words_len: usize, out: *mut i32, out_len: usize) -> usize;
-
-    /// Links the segments of a job as often as is said, and tells how often the answer was 0.
-    fn jobs_c_link_segments_cjk(words: *const i32, words_len: usize, rounds: usize) -> usize;
-}
-
-/// The port's answer; the currents are lent.
-pub fn align_weak_points(
-    originals: &[i32],
-    currents: &mut [i32],
-    touched: &[u8],
-    ends: &[u16],
-) -> u8 {
-    // SAFETY: each pointer and length is of one live slice, and `currents` is lent to this call alone.
-    unsafe {
-        khs_align_weak_points(
-            originals.as_ptr(),
-            originals.len(),
-            currents.as_mut_ptr(),
-            currents.len(),
-            touched.as_ptr(),
-            touched.len(),
-            ends.as_ptr(),
-            ends.len(),
-        )
-    }
 }
 
 /// The words of the longest answer.
@@ -54,8 +28,231 @@ pub fn answer(words: &[i32]) -> Vec<i32> {
     out
 }
 
-/// How many of so many runs of linking on a job's segments were done.
-pub fn link_segments_cjk(words: &[i32], rounds: usize) -> usize {
-    // SAFETY: the pointer and the length are of one live slice.
-    unsafe { jobs_c_link_segments_cjk(words.as_ptr(), words.len(), rounds) }
+/// A job of the library: what it is given, what its call changes, and the call.
+pub enum Prepared {
+    Middle(fn(i32, i32) -> i16, i32, i32),
+    Weak(Points, Vec<i32>),
+    Link(Vec<Segment>, Vec<Segment>, Direction, i32, i32),
+    Build(
+        Vec<Segment>,
+        Vec<Segment>,
+        Box<[Edge; MOST_EDGES]>,
+        Building,
+    ),
+    Edges(Vec<Edge>, Vec<Edge>, Call),
+}
+
+/// The calls over edges, with what they are told beside them.
+pub enum Call {
+    Blues(Dimension, Group, Rule),
+    Linked(Rule, u16, u16),
+    Serif(u16, u16),
+    Adjust(u16, bool, bool),
+    Bounds(u16),
+    CjkStem(job::CjkStem, Rule),
+    Stems(job::Stems, Rule),
+    M(Group),
+}
+
+/// A width rule with its standards, of which Keep has none.
+pub struct Rule(Option<Vec<i32>>);
+
+impl Rule {
+    /// The rule of a job.
+    fn of(rule: job::WidthRule) -> Self {
+        Self(match rule {
+            job::WidthRule::Keep(_) => None,
+            job::WidthRule::Snap(standards) => Some(standards),
+        })
+    }
+
+    /// The library's rule.
+    fn rule(&self) -> WidthRule<'_> {
+        self.0.as_deref().map_or(WidthRule::Keep, WidthRule::Snap)
+    }
+}
+
+/// The library's dimension.
+fn dimension(dim: job::Dimension) -> Dimension {
+    match dim {
+        job::Dimension::Horizontal => Dimension::Horizontal,
+        job::Dimension::Vertical => Dimension::Vertical,
+    }
+}
+
+/// The library's direction.
+fn direction(direction: job::Direction) -> Direction {
+    match direction {
+        job::Direction::None => Direction::None,
+        job::Direction::Right => Direction::Right,
+        job::Direction::Left => Direction::Left,
+        job::Direction::Up => Direction::Up,
+        job::Direction::Down => Direction::Down,
+    }
+}
+
+/// The library's group.
+fn group(group: ScriptGroup) -> Group {
+    match group {
+        ScriptGroup::Cjk => Group::Cjk,
+        _ => Group::Default,
+    }
+}
+
+/// What a call hands back beside its lists, at most two words.
+pub type Beside = [i32; 2];
+
+/// An index or its absence as a word.
+fn word(index: Option<u16>) -> i32 {
+    index.map_or(-1, i32::from)
+}
+
+impl Prepared {
+    /// A job, by its words too.
+    pub fn new(job: Job, words: &[i32]) -> Self {
+        let call = match job {
+            Job::MidPos(min, max) => return Self::Middle(khsaemudol::compute_mid_pos, min, max),
+            Job::MidDelta(min, max) => {
+                return Self::Middle(khsaemudol::compute_mid_delta, min, max)
+            }
+            Job::Weak(points) => return Self::Weak(points, Vec::new()),
+            Job::Link(_, major, units_per_em, scale) => {
+                let given = records::given(words, &SEGMENT, SEGMENTS);
+                let major = direction(major);
+                return Self::Link(given, Vec::new(), major, units_per_em, scale);
+            }
+            Job::Build(_, _, given) => {
+                let building = Building {
+                    dimension: dimension(given.dim),
+                    major: direction(given.major),
+                    group: group(given.group),
+                    top_to_bottom: given.top_to_bottom,
+                    scale: given.scale,
+                    distance: given.distance,
+                    length: given.length,
+                    width: given.width,
+                };
+                let room = Box::new([Edge::default(); MOST_EDGES]);
+                return Self::Build(
+                    records::given(words, &SEGMENT, SEGMENTS),
+                    Vec::new(),
+                    room,
+                    building,
+                );
+            }
+            Job::Blues(_, dim, script, rule) => {
+                Call::Blues(dimension(dim), group(script), Rule::of(rule))
+            }
+            Job::Linked(_, rule, base, stem) => Call::Linked(Rule::of(rule), base, stem),
+            Job::Serif(_, base, serif) => Call::Serif(base, serif),
+            Job::Adjust(_, edge, next, top_to_bottom) => Call::Adjust(edge, next, top_to_bottom),
+            Job::Bounds(_, edge) => Call::Bounds(edge),
+            Job::CjkStem(_, given) => {
+                let rule = Rule::of(given.rule.clone());
+                Call::CjkStem(given, rule)
+            }
+            Job::Stems(_, given) => {
+                let rule = Rule::of(given.rule.clone());
+                Call::Stems(given, rule)
+            }
+            Job::M(_, script) => Call::M(group(script)),
+            Job::MLent(_, script) => {
+                let given = records::given(words, &EDGE, LENT);
+                return Self::Edges(given, Vec::new(), Call::M(group(script)));
+            }
+        };
+        Self::Edges(records::given(words, &EDGE, EDGES), Vec::new(), call)
+    }
+
+    /// Sets anew what the call changes.
+    pub fn restore(&mut self) {
+        match self {
+            Self::Middle(..) => {}
+            Self::Weak(points, currents) => currents.clone_from(&points.currents),
+            Self::Link(given, segments, ..) | Self::Build(given, segments, ..) => {
+                segments.clone_from(given);
+            }
+            Self::Edges(given, edges, _) => edges.clone_from(given),
+        }
+    }
+
+    /// Calls the library.
+    pub fn run(&mut self) -> Result<Beside, Refusal> {
+        match self {
+            Self::Middle(middle, min, max) => {
+                let value = middle(black_box(*min), black_box(*max));
+                Ok([value.into(), 0])
+            }
+            Self::Weak(points, currents) => {
+                let Points {
+                    originals,
+                    touches,
+                    ends,
+                    ..
+                } = points;
+                khsaemudol::align_weak_points(originals, currents, touches, ends).map(|()| [0; 2])
+            }
+            Self::Link(_, segments, major, units_per_em, scale) => {
+                khsaemudol::link_segments_cjk(segments, *major, *units_per_em, *scale)
+                    .map(|()| [0; 2])
+            }
+            Self::Build(_, segments, room, building) => {
+                let count = khsaemudol::compute_edges(segments, room, building)?;
+                Ok([count as i32, 0])
+            }
+            Self::Edges(_, edges, call) => call.run(edges),
+        }
+    }
+}
+
+impl Call {
+    /// Calls the library on edges.
+    fn run(&self, edges: &mut [Edge]) -> Result<Beside, Refusal> {
+        Ok(match self {
+            Self::Blues(dim, group, rule) => {
+                let anchor = khsaemudol::align_edges_to_blues(edges, *dim, *group, rule.rule())?;
+                [word(anchor), 0]
+            }
+            Self::Linked(rule, base, stem) => {
+                khsaemudol::align_linked_edge(edges, rule.rule(), *base, *stem)?;
+                [0; 2]
+            }
+            Self::Serif(base, serif) => {
+                khsaemudol::align_serif_edge(edges, *base, *serif)?;
+                [0; 2]
+            }
+            Self::Adjust(edge, next, top_to_bottom) => {
+                khsaemudol::adjust_link(edges, *edge, *next, *top_to_bottom)?;
+                [0; 2]
+            }
+            Self::Bounds(edge) => khsaemudol::latin_remaining_bounds(edges, *edge)?.map(word),
+            Self::CjkStem(given, rule) => {
+                let given = CjkStem {
+                    dimension: dimension(given.dim),
+                    stem_adjust: given.stem_adjust,
+                    rule: rule.rule(),
+                    edge: given.edge,
+                    edge2: given.edge2,
+                    delta: given.delta,
+                };
+                [khsaemudol::hint_normal_stem_cjk(edges, &given)?, 0]
+            }
+            Self::Stems(given, rule) => {
+                let given = StemPass {
+                    dimension: dimension(given.dim),
+                    group: group(given.group),
+                    stem_adjust: given.stem_adjust,
+                    top_to_bottom: given.top_to_bottom,
+                    anchor: given.anchor,
+                    rule: rule.rule(),
+                };
+                let (count, anchor) = khsaemudol::align_stem_edges(edges, &given)?;
+                [count as i32, word(anchor)]
+            }
+            Self::M(group) => {
+                khsaemudol::hint_lowercase_m(edges, *group)?;
+                [0; 2]
+            }
+        })
+    }
 }

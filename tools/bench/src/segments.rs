@@ -25,7 +25,7 @@ impl Kind {
 }
 
 /// The words of so many segments, from their count on: up is the major direction, nothing is linked yet.
-pub fn segments(kind: Kind, count: usize, random: &mut Random) -> Vec<i32> {
+fn segments(kind: Kind, count: usize, random: &mut Random) -> Vec<i32> {
     let mut words = vec![count as i32];
     for i in 0..count {
         let [pos, start, length] = match (kind, i % 2) {
@@ -61,5 +61,13 @@ pub fn segments(kind: Kind, count: usize, random: &mut Random) -> Vec<i32> {
             -1,
         ]);
     }
+    words
+}
+
+/// A job that links so many segments.
+pub fn linking(kind: Kind, count: usize, random: &mut Random) -> Vec<i32> {
+    let mut words = vec![4];
+    words.extend(segments(kind, count, random));
+    words.extend([3, 1_000, 65_536]);
     words
 }

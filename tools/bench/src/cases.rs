@@ -1,0 +1,234 @@
+//! What is timed: for each call some kinds of inputs, at several sizes, as jobs.
+
+use crate::{
+    edges,
+    outlines::{self, Outlines},
+    port,
+    segments::{self, Kind},
+};
+use oracle::generate::Random;
+
+/// The calls, by short names.
+pub const NAMES: [&str; 12] = [
+    "mid", "weak", "link", "build", "blues", "linked", "serif", "adjust", "bounds", "stem",
+    "stems", "m",
+];
+
+/// The inputs of one round.
+pub struct Case {
+    pub name: &'static str,
+    pub kind: String,
+    pub size: usize,
+    /// Jobs that are done.
+    pub jobs: Vec<Vec<i32>>,
+    /// The same, refused by their last test; none for a call that refuses nothing.
+    pub refused: Vec<Vec<i32>>,
+}
+
+/// The groups of scripts by their words.
+const GROUPS: [(i32, &str); 2] = [(0, "default group"), (1, "CJK")];
+
+/// Jobs over edges in a round.
+const ROUND: usize = 16;
+
+/// The cases of a call.
+pub fn cases(name: &str) -> Vec<Case> {
+    match name {
+        "mid" => middles(),
+        "weak" => weak(),
+        "link" => link(),
+        "build" => build(),
+        "blues" => by_group("blues", 6, edges::on_zones, |group| vec![1, group, 0, 0]),
+        "linked" => single("linked", 7, &[0, 0, 0, 1]),
+        "serif" => single("serif", 8, &[0, 3]),
+        "adjust" => single("adjust", 9, &[2, 0, 0]),
+        "bounds" => single("bounds", 10, &[2]),
+        "stem" => single("stem", 11, &[1, 0, 0, 0, 0, 1, 0]),
+        "stems" => by_group("stems", 12, edges::stems, |group| {
+            vec![1, group, 0, 0, -1, 0, 0]
+        }),
+        "m" => m(),
+        _ => unreachable!("the names are those of NAMES"),
+    }
+}
+
+/// Pairs of coordinates, for both middles.
+fn middles() -> Vec<Case> {
+    let mut random = Random::new(1);
+    let mut any = || random.between(-1_000_000_000, 1_000_000_000);
+    let titles = ["compute_mid_pos", "compute_mid_delta"];
+    let case = |(call, title): (i32, &str)| Case {
+        name: "mid",
+        kind: title.to_string(),
+        size: 1,
+        jobs: (0..1_000).map(|_| vec![call, any(), any()]).collect(),
+        refused: Vec::new(),
+    };
+    (1..).zip(titles).map(case).collect()
+}
+
+/// Outlines.
+fn weak() -> Vec<Case> {
+    let mut cases = Vec::new();
+    for kind in Outlines::ALL {
+        for size in [4, 16, 64, 256, 1_024, 4_096] {
+            let mut random = Random::new(size as u64);
+            let outline = |_| outlines::job(&outlines::outline(kind, size, &mut random));
+            let jobs: Vec<_> = (0..4_096_usize.div_ceil(size)).map(outline).collect();
+            let far = |mut job: Vec<i32>| {
+                job[1 + size] = 16_384;
+                job
+            };
+            cases.push(Case {
+                name: "weak",
+                kind: kind.title(),
+                size,
+                refused: jobs.iter().cloned().map(far).collect(),
+                jobs,
+            });
+        }
+    }
+    cases
+}
+
+/// The sizes of tables of segments.
+const SEGMENTS: [usize; 4] = [10, 50, 150, 512];
+
+/// Where the words of the last segment's score stand in a job.
+fn last_score(size: usize) -> usize {
+    2 + 15 * (size - 1) + 7
+}
+
+/// The same jobs with a score below 0 in the last segment.
+fn with_bad_score(jobs: &[Vec<i32>], size: usize) -> Vec<Vec<i32>> {
+    let bad = |job: &Vec<i32>| {
+        let mut job = job.clone();
+        job[last_score(size)] = -1;
+        job
+    };
+    jobs.iter().map(bad).collect()
+}
+
+/// Segments to link.
+fn link() -> Vec<Case> {
+    let mut cases = Vec::new();
+    for kind in Kind::ALL {
+        for size in SEGMENTS {
+            let mut random = Random::new(size as u64);
+            let job = |_| segments::linking(kind, size, &mut random);
+            let jobs: Vec<_> = (0..20_000_usize.div_ceil(size * size)).map(job).collect();
+            cases.push(Case {
+                name: "link",
+                kind: kind.title().to_string(),
+                size,
+                refused: with_bad_score(&jobs, size),
+                jobs,
+            });
+        }
+    }
+    cases
+}
+
+/// Linked segments, at no more than 52 positions, to build edges from on the vertical axis, with an edge distance of 10 and no other threshold.
+fn build() -> Vec<Case> {
+    let mut cases = Vec::new();
+    for (group, title) in GROUPS {
+        for size in SEGMENTS {
+            let mut random = Random::new(size as u64);
+            let job = |_| {
+                let mut linking = segments::linking(Kind::Scattered, size, &mut random);
+                for pos in linking[2..].iter_mut().skip(2).step_by(15).take(size) {
+                    *pos -= *pos % 20;
+                }
+                let linked = port::answer(&linking);
+                let mut words = vec![5];
+                words.extend(&linked[1..]);
+                words.extend([0, 1, 3, group, 0, 65_536, 10, 0, 65_535]);
+                words
+            };
+            let jobs: Vec<_> = (0..2_000_usize.div_ceil(size)).map(job).collect();
+            cases.push(Case {
+                name: "build",
+                kind: title.to_string(),
+                size,
+                refused: with_bad_score(&jobs, size),
+                jobs,
+            });
+        }
+    }
+    cases
+}
+
+/// A case over edges: their words, and what a job has behind them.
+fn over_edges(
+    name: &'static str,
+    call: i32,
+    kind: String,
+    size: usize,
+    mut edges: impl FnMut() -> Vec<i32>,
+    behind: &[i32],
+) -> Case {
+    let job = |_| [&[call, size as i32], &edges()[..], behind].concat();
+    let jobs: Vec<Vec<i32>> = (0..ROUND).map(job).collect();
+    let far = |job: &Vec<i32>| {
+        let mut job = job.clone();
+        job[2 + 11 * (size - 1) + 1] = 16_384;
+        job
+    };
+    Case {
+        name,
+        kind,
+        size,
+        refused: jobs.iter().map(far).collect(),
+        jobs,
+    }
+}
+
+/// A pass over edges, for each group.
+fn by_group(
+    name: &'static str,
+    call: i32,
+    edges: fn(usize, &mut Random) -> Vec<i32>,
+    behind: fn(i32) -> Vec<i32>,
+) -> Vec<Case> {
+    let mut cases = Vec::new();
+    for (group, title) in GROUPS {
+        for size in [6, 20, 60, 128] {
+            let mut random = Random::new(size as u64);
+            let edges = || edges(size, &mut random);
+            let kind = title.to_string();
+            cases.push(over_edges(name, call, kind, size, edges, &behind(group)));
+        }
+    }
+    cases
+}
+
+/// A call that places one edge.
+fn single(name: &'static str, call: i32, behind: &[i32]) -> Vec<Case> {
+    let case = |size| {
+        let mut random = Random::new(size as u64);
+        let edges = || edges::stems(size, &mut random);
+        over_edges(name, call, "one edge".to_string(), size, edges, behind)
+    };
+    [6, 20, 60, 128].map(case).into()
+}
+
+/// The lowercase m.
+fn m() -> Vec<Case> {
+    let mut cases = Vec::new();
+    for (group, title) in GROUPS {
+        for size in [6, 12] {
+            let mut random = Random::new(size as u64);
+            let edges = || edges::m(size, &mut random);
+            cases.push(over_edges(
+                "m",
+                13,
+                title.to_string(),
+                size,
+                edges,
+                &[group],
+            ));
+        }
+    }
+    cases
+}

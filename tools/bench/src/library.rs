@@ -1,0 +1,87 @@
+//! Job lines answered by the library's functions, each by its own call, with no use of `jobs`.
+
+use crate::{
+    port::{Call, Prepared},
+    records::{self, EDGE, SEGMENT},
+};
+use oracle::{
+    answer::NOT_A_JOB,
+    decode,
+    job::Job,
+    limits::{EDGES, SEGMENTS},
+};
+
+/// The answer to a word list.
+pub fn answer(words: &[i32]) -> Vec<i32> {
+    let Some(job) = decode::decode(words) else {
+        return vec![NOT_A_JOB];
+    };
+    // The library's building has no old table: what a refusal hands back is the job's, and a table that is too long is refused here.
+    let old = match &job {
+        Job::Build(_, old, _) => old.count,
+        _ => 0,
+    };
+    let old_words = old_table(&job, words);
+    let mut prepared = Prepared::new(job, words);
+    prepared.restore();
+    let result = if old > EDGES {
+        Err(1)
+    } else {
+        prepared.run().map_err(|refusal| refusal.number())
+    };
+    let mut answer = vec![result.err().map_or(0, i32::from)];
+    let done = result.ok();
+    match &prepared {
+        Prepared::Middle(..) => answer.push(done.map_or(0, |[value, _]| value)),
+        Prepared::Weak(_, currents) => {
+            answer.push(currents.len() as i32);
+            answer.extend(currents);
+        }
+        Prepared::Link(given, segments, ..) => answer.extend(table(given.len(), segments)),
+        Prepared::Build(given, segments, room, _) => {
+            answer.extend(table(given.len(), segments));
+            match done {
+                Some([count, _]) => {
+                    let count = count as usize;
+                    answer.extend(records::words(count, &room[..count], &EDGE));
+                }
+                None => answer.extend(old_words),
+            }
+        }
+        Prepared::Edges(given, edges, call) => {
+            answer.extend(beside(call, done));
+            if !matches!(call, Call::Bounds(_)) {
+                let carried = if words[0] == 14 { edges.len() } else { EDGES };
+                let carried = &edges[..edges.len().min(carried)];
+                answer.extend(records::words(given.len(), carried, &EDGE));
+            }
+        }
+    }
+    answer
+}
+
+/// The words of a table of segments.
+fn table(count: usize, segments: &[khsaemudol::Segment]) -> Vec<i32> {
+    records::words(count, &segments[..segments.len().min(SEGMENTS)], &SEGMENT)
+}
+
+/// What stands between the number and the lists: beside a refusal 0 or none.
+fn beside(call: &Call, done: Option<[i32; 2]>) -> Vec<i32> {
+    let one = |none: i32| vec![done.map_or(none, |[first, _]| first)];
+    match call {
+        Call::Blues(..) => one(-1),
+        Call::CjkStem(..) => one(0),
+        Call::Bounds(_) => done.unwrap_or([-1, -1]).to_vec(),
+        Call::Stems(..) => done.unwrap_or([0, -1]).to_vec(),
+        Call::Linked(..) | Call::Serif(..) | Call::Adjust(..) | Call::M(_) => Vec::new(),
+    }
+}
+
+/// The words of a building job's old table of edges.
+fn old_table(job: &Job, words: &[i32]) -> Vec<i32> {
+    let Job::Build(segments, old, _) = job else {
+        return Vec::new();
+    };
+    let start = 2 + 15 * segments.items.len();
+    words[start..=start + 11 * old.items.len()].to_vec()
+}
