@@ -9,9 +9,9 @@ use crate::{
 use oracle::generate::Random;
 
 /// The calls, by short names.
-pub const NAMES: [&str; 12] = [
+pub const NAMES: [&str; 13] = [
     "mid", "weak", "link", "build", "blues", "linked", "serif", "adjust", "bounds", "stem",
-    "stems", "m",
+    "stems", "m", "lent",
 ];
 
 /// The inputs of one round.
@@ -47,7 +47,8 @@ pub fn cases(name: &str) -> Vec<Case> {
         "stems" => by_group("stems", 12, edges::stems, |group| {
             vec![1, group, 0, 0, -1, 0, 0]
         }),
-        "m" => m(),
+        "m" => m("m", 13),
+        "lent" => m("lent", 14),
         _ => unreachable!("the names are those of NAMES"),
     }
 }
@@ -213,16 +214,16 @@ fn single(name: &'static str, call: i32, behind: &[i32]) -> Vec<Case> {
     [6, 20, 60, 128].map(case).into()
 }
 
-/// The lowercase m.
-fn m() -> Vec<Case> {
+/// The lowercase m, in one of its two forms.
+fn m(name: &'static str, call: i32) -> Vec<Case> {
     let mut cases = Vec::new();
     for (group, title) in GROUPS {
         for size in [6, 12] {
             let mut random = Random::new(size as u64);
             let edges = || edges::m(size, &mut random);
             cases.push(over_edges(
-                "m",
-                13,
+                name,
+                call,
                 title.to_string(),
                 size,
                 edges,

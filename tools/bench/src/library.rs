@@ -48,6 +48,7 @@ pub fn answer(words: &[i32]) -> Vec<i32> {
                 None => answer.extend(old_words),
             }
         }
+        Prepared::Job(_, out) => answer.extend(out),
         Prepared::Edges(given, edges, call) => {
             answer.extend(beside(call, done));
             if !matches!(call, Call::Bounds(_)) {

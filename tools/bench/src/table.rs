@@ -19,7 +19,7 @@ pub struct Row {
 
 /// Prints a table for each of the calls, and hands back its rows.
 pub fn run(names: &[&str]) -> Vec<Row> {
-    println!("Median times of a call; setting back what it changes is not timed. The port is the library as gateways call it, from words to words:");
+    println!("Median times of a call; setting back what it changes is not timed. The port is the library as gateways call it, from words to words (lent: its job):");
     println!("`reading` is the part of its time that the same call takes if its last test refuses it. The Rust works on its vectors in place, without tests.");
     let mut rows = Vec::new();
     for name in names {
@@ -84,7 +84,10 @@ fn job(words: &[i32]) -> Job {
 
 /// The library's side of jobs.
 pub fn ports(jobs: &[Vec<i32>]) -> Vec<port::Prepared> {
-    let prepared = |words: &Vec<i32>| port::Prepared::new(job(words), words);
+    let prepared = |words: &Vec<i32>| match job(words) {
+        Job::MLent(..) => port::Prepared::by_job(words),
+        job => port::Prepared::new(job, words),
+    };
     jobs.iter().map(prepared).collect()
 }
 
