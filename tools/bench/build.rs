@@ -6,8 +6,8 @@ use std::{env, path::PathBuf};
 fn main() {
     let package = env::var("CARGO_MANIFEST_DIR").expect("cargo sets CARGO_MANIFEST_DIR");
     let target = PathBuf::from(package).join("../../target");
-    let library = target.join("libjobs_c.a");
+    let library = target.join("libjobs.a");
     println!("cargo:rerun-if-changed={}", library.display());
     println!("cargo:rustc-link-search=native={}", target.display());
-    println!("cargo:rustc-link-lib=static=jobs_c");
+    println!("cargo:rustc-link-lib=static=jobs");
 }

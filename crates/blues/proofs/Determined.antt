@@ -5,7 +5,7 @@ use lib.IntN.{ℤ}
 use Rattle.fixed.specs.declared.width.WidthRule.{WidthRule}
 use Rattle.axis.specs.declared.kinds.Group.{Group}
 use Rattle.axis.specs.declared.edge.Axis.{Axis}
-use Rattle.blues.specs.declared.pass.Anchored.{Anchored}
+use Rattle.blues_pass.specs.declared.pass.Anchored.{Anchored}
 use Rattle.blues.specs.Zones.{alignEdgesToBlues}
 
 pub determined : (axis : Axis) (group : Group) (rule : WidthRule) (xs : List ℤ) {r s : Anchored} → r ≡ alignEdgesToBlues axis group rule xs → s ≡ alignEdgesToBlues axis group rule xs → r ≡ s

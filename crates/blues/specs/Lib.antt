@@ -1,3 +1,2 @@
--- What the contracts of `blues` cite: `Zones`, what the call does; `Steps`, what the steps of the pass promise each other.
+-- What the contracts of `blues` cite.
 pub mod Zones
-pub mod Steps

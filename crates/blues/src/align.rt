@@ -1,11 +1,11 @@
 // The call.
-use super::pass::Anchored;
-use super::pass::align_to_zones;
 use axis::accept::edges_refusal;
 use axis::edge::Axis;
 use axis::kinds::Dimension;
 use axis::kinds::Group;
 use axis::kinds::Link;
+use blues_pass::pass::Anchored;
+use blues_pass::pass::align_to_zones;
 use fixed::width::WidthRule;
 use fixed::width::rule_holds;
 ghost use mathlib.Core.Path.{_≡_};

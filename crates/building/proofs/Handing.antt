@@ -22,10 +22,10 @@ use Rattle.joining.proofs.Rings.{Chain}
 use Rattle.joining.proofs.Good.{Good, members-below, members-once, ring-walk}
 use Rattle.joining.proofs.Steps.{of-len, of-next, of-full, of-edge, of-first, of-last}
 use Rattle.properties.specs.Steps.{EdgeBelow, Ready}
+use Rattle.marking.specs.Marks.{cleared, marked, Ended}
+use Rattle.marking.proofs.Marking.{marked-is}
 use Rattle.building.specs.Building.{lastState, builtSegments}
-use Rattle.building.specs.Marks.{cleared, marked, Ended}
 use Rattle.building.proofs.Joins.{last-good}
-use Rattle.building.proofs.Marking.{marked-is}
 use Rattle.building.proofs.Sound.{Rows, rows, ends-chain}
 
 -- a new edge has neither link nor serif

@@ -1,6 +1,5 @@
 -- The laws by subject, each over plain variables.
 pub mod Scales
-pub mod Marking
 pub mod Joins
 pub mod Sound
 pub mod Handing

@@ -29,8 +29,8 @@ use Rattle.joining.proofs.Rings.{Chain}
 use Rattle.joining.proofs.Settling.{same?, total, total-two}
 use Rattle.joining.proofs.Good.{Good, members-below, members-once}
 use Rattle.joining.proofs.Steps.{of-first, of-last}
+use Rattle.marking.specs.Marks.{forgotten, clear, cleared, memberOf, marks, groupMarks}
 use Rattle.building.specs.Building.{lastState, builtSegments, builtEdges}
-use Rattle.building.specs.Marks.{forgotten, clear, cleared, memberOf, marks, groupMarks}
 use Rattle.building.proofs.Joins.{last-good}
 use Rattle.building.proofs.Sound.{clear-at, rows}
 

@@ -23,7 +23,7 @@ use Rattle.axis.proofs.Rings.{ends-at}
 use Rattle.joining.specs.Joining.{lastOf, State, group}
 use Rattle.joining.proofs.Members.{times, times-head, times-more, times-last, Once, once-rest, head-last}
 use Rattle.joining.proofs.Rings.{Chain}
-use Rattle.building.specs.Marks.{forgotten, clear, cleared, memberOf, marks, groupMarks}
+use Rattle.marking.specs.Marks.{forgotten, clear, cleared, memberOf, marks, groupMarks}
 
 -- ---- a store
 -- what holds of the stored and of what was there holds behind a store

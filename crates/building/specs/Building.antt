@@ -18,9 +18,9 @@ use Rattle.axis.specs.Refusals.{inside, within, everySegment, segmentsRefusal, 
 use Rattle.joining.specs.declared.rules.Rules.{Rules}
 use Rattle.joining.specs.Joining.{State, shown, stateAt}
 use Rattle.properties.specs.Properties.{edgeProperties}
+use Rattle.marking.specs.Marks.{cleared, groupMarks}
 use Rattle.building.specs.declared.build.Built.{Built}
 use Rattle.building.specs.declared.numbers.Thresholds.{Thresholds}
-use Rattle.building.specs.Marks.{cleared, groupMarks}
 
 -- ---- the refusals
 -- scale and thresholds are within the table

@@ -1,3 +1,2 @@
--- What the contracts of `building` cite: how segments learn their edges, and the call.
-pub mod Marks
+-- What the contracts of `building` cite: the call.
 pub mod Building

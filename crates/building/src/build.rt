@@ -1,5 +1,4 @@
 // The public call (the Rust's `compute_edges`).
-use super::mark::link_segments_to_edges;
 use super::numbers::Thresholds;
 use super::numbers::near_of;
 use super::numbers::numbers_hold;
@@ -13,9 +12,10 @@ use axis::limits::MOST_EDGES;
 use axis::segment::Segments;
 use joining::join::Joined;
 use joining::join::join_segments;
-use joining::join::join_undirected;
+use joining::join::none_joined;
 use joining::ring::stems_of;
 use joining::rules::Rules;
+use marking::mark::link_segments_to_edges;
 use properties::properties::compute_edge_properties;
 ghost use mathlib.Core.Path.{_≡_};
 ghost use mathlib.Core.Bool.{true};
@@ -88,14 +88,17 @@ fn join_all(segments: Segments, rules: Rules) -> Joined
     ensures { λ r. ⌜ r ≡ shown segments rules (lastState segments rules) ⌝ }
 {
     let stems = stems_of(segments, rules.cjk);
-    let joined = join_segments(segments, &stems, rules);
+    let dim = rules.dim;
+    let major_dir = rules.major_dir;
+    let none = none_joined(dim, major_dir);
+    let joined = join_segments(segments, &stems, rules, false, none);
     if rules.cjk {
         return joined;
     }
     if joined.full {
         return joined;
     }
-    join_undirected(segments, rules, joined)
+    join_segments(segments, &stems, rules, true, joined)
 }
 
 // Builds the edges of an axis from its segments. A refusal, 1 to 5, hands segments and edges back as they were.

@@ -1,4 +1,3 @@
 // Document 01, module 4: edges from segments (topo/edges.rs of the Rust). `build` has the public call, the others its steps.
 pub mod build;
-mod mark;
 pub mod numbers;

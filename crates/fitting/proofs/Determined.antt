@@ -6,9 +6,9 @@ use Prim.Native.Nat.{ℕ}
 use lib.IntN.{ℤ}
 use Rattle.fixed.specs.declared.width.WidthRule.{WidthRule}
 use Rattle.axis.specs.declared.edge.Axis.{Axis}
+use Rattle.placing.specs.declared.adjust.LinkDir.{LinkDir}
 use Rattle.fitting.specs.declared.place.Fitted.{Fitted}
 use Rattle.fitting.specs.declared.bounds.Bounds.{Bounds}
-use Rattle.fitting.specs.declared.adjust.LinkDir.{LinkDir}
 use Rattle.fitting.specs.Fitting.{alignLinkedEdge, alignSerifEdge, latinRemainingBounds, adjustLink}
 
 pub align-linked-edge : (axis : Axis) (rule : WidthRule) (xs : List ℤ) (base stem : ℕ) {r s : Fitted} → r ≡ alignLinkedEdge axis rule xs base stem → s ≡ alignLinkedEdge axis rule xs base stem → r ≡ s

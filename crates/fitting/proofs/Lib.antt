@@ -1,4 +1,2 @@
--- The laws by subject, each over plain variables; then `Determined`, that each promise determines its outcome.
-pub mod Reach
-pub mod Neighbours
+-- `Determined`: each promise determines its outcome.
 pub mod Determined

@@ -1,39 +1,24 @@
--- The calls that place one edge (document 01, module 5): by its link, by its serif, by its neighbours.
-use mathlib.Core.Bool.{Bool, true, not, cond, _&&_}
+-- The calls that place one edge (document 01, module 5): by its link, by its serif, by its neighbours. Each is its refusal, then one step of `placing`.
+use mathlib.Core.Bool.{Bool, true}
 use mathlib.Core.List.{List}
-use Prim.Native.Nat.{ℕ, zero, suc, _+_}
+use Prim.Native.Nat.{ℕ}
 use lib.Dec.{ltb}
-use lib.IntN.{ℤ, natAbs, _+ℤ_, _-ℤ_}
-use lib.Signed.{ltZ}
+use lib.IntN.{ℤ}
 use Rattle.fixed.specs.declared.width.WidthRule.{WidthRule}
-use Rattle.fixed.specs.Width.{ruleHolds, fittedWidth}
+use Rattle.fixed.specs.Width.{ruleHolds}
 use Rattle.axis.specs.declared.kinds.Link.{Link}
 use Rattle.axis.specs.declared.kinds.Link.the-variants as Links
-use Rattle.axis.specs.declared.edge.Edge.{Edge}
 use Rattle.axis.specs.declared.edge.Axis.{Axis}
-use Rattle.axis.specs.Edge.{edgeAt, putEdge, placed}
+use Rattle.axis.specs.Edge.{edgeAt, putEdge}
 use Rattle.axis.specs.Refusals.{edgesRefusal, answered}
+use Rattle.placing.specs.declared.adjust.LinkDir.{LinkDir}
+use Rattle.placing.specs.Placing.{bothBelow, linkedEdge, serifEdge, lowerBound, upperBound, adjusted}
 use Rattle.fitting.specs.declared.place.Fitted.{Fitted}
 use Rattle.fitting.specs.declared.bounds.Bounds.{Bounds}
-use Rattle.fitting.specs.declared.adjust.LinkDir.{LinkDir}
-use Rattle.fitting.specs.declared.adjust.LinkDir.the-variants.{Prev, Next}
-
--- two edges named in a call are below the edge count
-abbrev pub bothBelow : ℕ → ℕ → ℕ → Bool
-bothBelow n i j = ltb i n && ltb j n
 
 -- an answer and an axis
 abbrev pub fitted : Axis → ℕ → Fitted
 fitted axis k = record { answer = k; axis = axis }
-
--- ---- the linked edge
--- its fitted width from the base edge
-unfoldable pub linkedPos : WidthRule → List ℤ → ℤ → ℤ → ℤ → ℤ
-linkedPos rule xs basePos baseOpos stemOpos = basePos +ℤ fittedWidth rule xs (stemOpos -ℤ baseOpos)
-
--- the stem edge there, its flags as they were
-abbrev pub linkedEdge : WidthRule → List ℤ → Edge → Edge → Edge
-linkedEdge rule xs base stem = placed stem (linkedPos rule xs (base .pos) (base .opos) (stem .opos))
 
 -- `align_linked_edge`: the refusal and the axis as it came, or 0 and the axis with the stem edge placed by the base edge
 unfoldable pub alignLinkedEdge : Axis → WidthRule → List ℤ → ℕ → ℕ → Fitted
@@ -41,30 +26,11 @@ alignLinkedEdge axis rule xs base stem =
     answered (edgesRefusal axis (ruleHolds rule xs) (bothBelow (axis .len) base stem) true) (fitted axis)
     (fitted (putEdge axis stem (linkedEdge rule xs (edgeAt axis base) (edgeAt axis stem))) 0)
 
--- ---- the serif edge
--- as far from the base edge as it was
-unfoldable pub serifPos : ℤ → ℤ → ℤ → ℤ
-serifPos basePos baseOpos serifOpos = basePos +ℤ (serifOpos -ℤ baseOpos)
-
--- the serif edge there, its flags as they were
-abbrev pub serifEdge : Edge → Edge → Edge
-serifEdge base serif = placed serif (serifPos (base .pos) (base .opos) (serif .opos))
-
 -- `align_serif_edge`: the refusal and the axis as it came, or 0 and the axis with the serif edge placed by the base edge
 unfoldable pub alignSerifEdge : Axis → ℕ → ℕ → Fitted
 alignSerifEdge axis base serif =
     answered (edgesRefusal axis true (bothBelow (axis .len) base serif) true) (fitted axis)
     (fitted (putEdge axis serif (serifEdge (edgeAt axis base) (edgeAt axis serif))) 0)
-
--- ---- the bounds
--- the edge before, where there is one
-unfoldable pub lowerBound : ℕ → Link
-lowerBound zero = Links.None
-lowerBound (suc i) = Links.To i
-
--- the edge behind, where there is one and it is done
-unfoldable pub upperBound : Axis → ℕ → Link
-upperBound axis i = cond (ltb (i + 1) (axis .len) && edgeAt axis (i + 1) .flags .done) (Links.To (i + 1)) Links.None
 
 -- an answer and two bounds
 abbrev pub bounds : Link → Link → ℕ → Bounds
@@ -74,40 +40,6 @@ bounds lower upper k = record { answer = k; lower = lower; upper = upper }
 unfoldable pub latinRemainingBounds : Axis → ℕ → Bounds
 latinRemainingBounds axis i =
     answered (edgesRefusal axis true (ltb i (axis .len)) true) (bounds Links.None Links.None) (bounds (lowerBound i) (upperBound axis i) 0)
-
--- ---- the adjustment
--- p is above q, or below it
-abbrev pub outOfOrder : Bool → ℤ → ℤ → Bool
-outOfOrder above p q = cond above (ltZ q p) (ltZ p q)
-
--- an edge at p has passed its neighbour at q: from bottom to top it is below the previous or above the next one, from top to bottom the other way round
-unfoldable pub hasPassed : LinkDir → Bool → ℤ → ℤ → Bool
-hasPassed Prev ttb p q = outOfOrder ttb p q
-hasPassed Next ttb p q = outOfOrder (not ttb) p q
-
--- two positions are more than 16 apart
-abbrev pub isFar : ℤ → ℤ → Bool
-isFar p q = ltb 16 (natAbs (p -ℤ q))
-
--- the neighbour that the edge is held to: the previous edge, or the next one where it is done
-unfoldable pub neighbour : LinkDir → Axis → ℕ → Link
-neighbour Prev axis i = lowerBound i
-neighbour Next axis i = upperBound axis i
-
--- the edge takes the position of its neighbour k, where its link is far from the previous edge h, in both directions
-unfoldable pub heldTo : Axis → ℕ → ℕ → ℕ → Link → Axis
-heldTo axis h i k Links.None = axis
-heldTo axis h i k (Links.To l) = cond (isFar (edgeAt axis l .pos) (edgeAt axis h .pos)) (putEdge axis i (placed (edgeAt axis i) (edgeAt axis k .pos))) axis
-
--- where it has passed the neighbour
-unfoldable pub boundBy : Axis → ℕ → ℕ → LinkDir → Bool → Link → Axis
-boundBy axis h i dir ttb Links.None = axis
-boundBy axis h i dir ttb (Links.To k) = cond (hasPassed dir ttb (edgeAt axis i .pos) (edgeAt axis k .pos)) (heldTo axis h i k (edgeAt axis i .link)) axis
-
--- the first edge has no previous one, and stays
-unfoldable pub adjusted : Axis → ℕ → LinkDir → Bool → Axis
-adjusted axis zero dir ttb = axis
-adjusted axis (suc h) dir ttb = boundBy axis h (suc h) dir ttb (neighbour dir axis (suc h))
 
 -- `adjust_link`: the refusal and the axis as it came, or 0 and the axis with the edge adjusted, moved or not
 unfoldable pub adjustLink : Axis → ℕ → LinkDir → Bool → Fitted

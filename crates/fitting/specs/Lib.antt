@@ -1,3 +1,2 @@
 -- What the contracts of `fitting` cite.
 pub mod Fitting
-pub mod Steps

@@ -1,96 +1,11 @@
 // An edge that passed its neighbour, put back to it.
-use super::bounds::lower_bound;
-use super::bounds::upper_bound;
 use super::place::Fitted;
 use axis::accept::edges_refusal;
 use axis::edge::Axis;
-use axis::edge::with_pos;
-use axis::kinds::Link;
-use fixed::point::magnitude;
+use placing::adjust::LinkDir;
+use placing::adjust::adjust;
 ghost use mathlib.Core.Path.{_≡_};
-ghost use Prim.Native.Nat.{_<_, _≤_};
-ghost use Rattle.signed.specs.Range.{Between};
-ghost use Rattle.axis.specs.Limits.{mostPos};
-ghost use Rattle.axis.specs.Accepted.{AxisWithin};
-ghost use Rattle.fitting.specs.Fitting.{outOfOrder, hasPassed, isFar, neighbour, adjusted, adjustLink};
-ghost use Rattle.fitting.specs.Steps.{mostReach};
-
-// Which neighbour an edge is held to.
-pub enum LinkDir {
-    Prev,
-    Next,
-}
-
-// Whether two positions are out of order: the first above the second, or below it.
-fn out_of_order(above: bool, pos1: i32, pos2: i32) -> bool
-    ensures { λ r. ⌜ r ≡ outOfOrder above pos1 pos2 ⌝ }
-{
-    if above {
-        return pos2 < pos1;
-    }
-    pos1 < pos2
-}
-
-// Whether an edge at pos1 has passed its neighbour at pos2.
-pub fn has_passed(dir: LinkDir, top_to_bottom: bool, pos1: i32, pos2: i32) -> bool
-    ensures { λ r. ⌜ r ≡ hasPassed dir «top_to_bottom» pos1 pos2 ⌝ }
-{
-    match dir {
-        LinkDir::Prev => out_of_order(top_to_bottom, pos1, pos2),
-        LinkDir::Next => out_of_order(!top_to_bottom, pos1, pos2),
-    }
-}
-
-// Whether two positions are more than 16 apart.
-pub fn is_far(pos1: i32, pos2: i32) -> bool
-    requires { ⌜ Between mostReach mostReach pos1 × Between mostReach mostReach pos2 ⌝ }
-    ensures { λ r. ⌜ r ≡ isFar pos1 pos2 ⌝ }
-{
-    let apart = pos1 - pos2;
-    16 < magnitude(apart as i64)
-}
-
-// The neighbour that an edge is held to, where there is one; a next one that is not done is none.
-fn neighbour_of(axis: Axis, edge: usize, dir: LinkDir) -> Link
-    requires { ⌜ (edge < axis .len) × (axis .len ≤ 128) ⌝ }
-    ensures { λ r. ⌜ r ≡ neighbour dir axis edge ⌝ }
-{
-    match dir {
-        LinkDir::Prev => lower_bound(edge),
-        LinkDir::Next => upper_bound(axis, edge),
-    }
-}
-
-// Puts the edge to its neighbour's position, where it has passed it and its link is far from the previous edge.
-fn adjust(axis: Axis, edge: usize, dir: LinkDir, top_to_bottom: bool) -> Axis
-    requires { ⌜ AxisWithin mostPos axis × (edge < axis .len) ⌝ }
-    ensures { λ r. ⌜ r ≡ adjusted axis edge dir «top_to_bottom» ⌝ }
-{
-    if edge == 0 {
-        return axis;
-    }
-    let neighbour = neighbour_of(axis, edge, dir);
-    let Link::To(k) = neighbour else {
-        return axis;
-    };
-    let edge1 = axis.edges[edge];
-    let edge2 = axis.edges[k as usize];
-    if !has_passed(dir, top_to_bottom, edge1.pos, edge2.pos) {
-        return axis;
-    }
-    let link = edge1.link;
-    let Link::To(l) = link else {
-        return axis;
-    };
-    let linked = axis.edges[l as usize];
-    let prev_edge = axis.edges[edge - 1];
-    if !is_far(linked.pos, prev_edge.pos) {
-        return axis;
-    }
-    let mut held = axis;
-    held.edges[edge] = with_pos(edge1, edge2.pos);
-    held
-}
+ghost use Rattle.fitting.specs.Fitting.{adjustLink};
 
 // Adjusts an edge's position where it has passed its neighbour.
 pub fn adjust_link(axis: Axis, edge: usize, dir: LinkDir, top_to_bottom: bool) -> Fitted

@@ -1,8 +1,6 @@
--- The laws that callers cite, by subject, the values worked out by hand, and that the promises of public calls determine their answers.
+-- The laws that callers cite, by subject, and the values worked out by hand.
 pub mod Rounding
 pub mod Pixels
-pub mod Middles
 pub mod Widths
 pub mod Interpolation
-pub mod Determined
 pub mod Worked

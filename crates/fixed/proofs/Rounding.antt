@@ -1,5 +1,5 @@
 -- Quotients rounded to nearest, and with them fixed multiply and divide: what they are, how large they are, how they grow.
-use mathlib.Core.Path.{_≡_, refl}
+use mathlib.Core.Path.{_≡_, refl, ap, _∙_}
 use Prim.Native.Nat.{ℕ, zero, suc, _+_, _*_, _^_, _≤_, _<_}
 use native.Mathlib.Nat.{div-mul-le-self, lt-div-mul-add, mul-le-mul, mul-le-mul-left, mul-le-mul-right}
 use native.Mathlib.Omega.{arith}
@@ -125,6 +125,24 @@ pub div-abs : (a b : ℤ) → 0 < natAbs b → natAbs (divFix a b) ≤ natAbs a 
 unfolding divFix
 div-abs a b h =
     rw (near-abs (a *ℤ pos 65536) b) (omega (arith, natAbs-mul a (pos 65536), near-at-most (natAbs (a *ℤ pos 65536)) (natAbs b) h))
+
+-- by the signs of the two
+module _ (a b : ℤ) where
+  pub div-pp : dn a ≤ up a → dn b ≤ up b → divFix a b ≡ pos (near (natAbs a * 65536) (natAbs b))
+  unfolding divFix
+  div-pp h k = near-pp (a *ℤ pos 65536) b (omega (arith, mul-up a 65536, mul-dn a 65536)) k ∙ ap (λ (n : ℕ). pos (near n (natAbs b))) (natAbs-mul a (pos 65536))
+
+  pub div-pn : dn a ≤ up a → up b < dn b → divFix a b ≡ negℤ (pos (near (natAbs a * 65536) (natAbs b)))
+  unfolding divFix
+  div-pn h k = near-pn (a *ℤ pos 65536) b (omega (arith, mul-up a 65536, mul-dn a 65536)) k ∙ ap (λ (n : ℕ). negℤ (pos (near n (natAbs b)))) (natAbs-mul a (pos 65536))
+
+  pub div-np : up a < dn a → dn b ≤ up b → divFix a b ≡ negℤ (pos (near (natAbs a * 65536) (natAbs b)))
+  unfolding divFix
+  div-np h k = near-np (a *ℤ pos 65536) b (omega (arith, mul-up a 65536, mul-dn a 65536)) k ∙ ap (λ (n : ℕ). negℤ (pos (near n (natAbs b)))) (natAbs-mul a (pos 65536))
+
+  pub div-nn : up a < dn a → up b < dn b → divFix a b ≡ pos (near (natAbs a * 65536) (natAbs b))
+  unfolding divFix
+  div-nn h k = near-nn (a *ℤ pos 65536) b (omega (arith, mul-up a 65536, mul-dn a 65536)) k ∙ ap (λ (n : ℕ). pos (near n (natAbs b))) (natAbs-mul a (pos 65536))
 
 -- the parts of a quotient by a positive divisor
 pub div-up : (c : ℤ) (s : ℕ) → 0 < s → up (divFix c (pos s)) ≡ near (up c * 65536) s

@@ -5,7 +5,6 @@ use Prim.Native.Nat.{ℕ}
 use lib.IntN.{ℤ, pos, negℤ}
 use Rattle.fixed.specs.Point.{near, nearZ, mulFix, divFix, derived}
 use Rattle.fixed.specs.Pixel.{pixFloor, pixRound}
-use Rattle.fixed.specs.Middle.{residue, wrapZ, midPos, midDelta}
 use Rattle.fixed.specs.Width.{noBetter, isNearest, standardThat, nearest, withSign, settled, snapped, fittedWidth}
 use Rattle.fixed.specs.declared.width.WidthRule.the-variants.{Keep, Snap}
 
@@ -51,14 +50,6 @@ rows =
     (pixRound (pos 32) is pos 64) ∷
     (pixRound (minus 32) is pos 0) ∷
     (pixRound (minus 33) is minus 64) ∷
-    (midPos (pos 10) (pos 21) is pos 15) ∷
-    (midPos (minus 1) (pos 0) is minus 1) ∷
-    (midPos (pos 2147483647) (pos 1) is pos 0) ∷
-    (midPos (pos 65536) (pos 0) is minus 32768) ∷
-    (midPos (minus 2147483648) (minus 2147483648) is pos 0) ∷
-    (midDelta (pos 10) (pos 21) is pos 5) ∷
-    (midDelta (pos 21) (pos 10) is minus 6) ∷
-    (midDelta (minus 2147483648) (pos 2147483647) is minus 1) ∷
     (fittedWidth Keep [] (minus 70) is minus 70) ∷
     (fittedWidth Snap [] (pos 70) is pos 70) ∷
     (fittedWidth Snap (pos 40 ∷ pos 60 ∷ []) (pos 50) is pos 40) ∷
@@ -74,5 +65,5 @@ rows =
 
 -- each row holds
 pub worked : map (λ (r : Row). r .gives) rows ≡ map (λ (r : Row). r .value) rows
-unfolding near nearZ mulFix divFix derived pixFloor pixRound residue wrapZ midPos midDelta noBetter isNearest standardThat nearest withSign settled snapped fittedWidth rows
+unfolding near nearZ mulFix divFix derived pixFloor pixRound noBetter isNearest standardThat nearest withSign settled snapped fittedWidth rows
 worked = refl

@@ -1,5 +1,4 @@
 -- Document 01, "Helpers, completed" and module 1.
 pub mod Point
 pub mod Pixel
-pub mod Middle
 pub mod Width

@@ -10,7 +10,7 @@ use Rattle.fitting.specs.Fitting.{alignLinkedEdge, alignSerifEdge, adjustLink, 
 use Rattle.words.specs.Field.{choiceOf, ruleOf, linkDirOf, linkWord}
 use Rattle.words.specs.Edge.{edgesOver}
 use Rattle.shape.specs.Shape.{within, index, choice, edgesShown}
-use Rattle.flat.specs.Lent.{Lent, bothIn, edgesOf}
+use Rattle.lent.specs.Lent.{Lent, bothIn, edgesOf}
 
 -- ---- the linked edge: edges, the width rule with its standards, the base edge and the stem edge
 abbrev pub linkedShown : List ℤ → ℤ → ℤ → ℤ → Bool

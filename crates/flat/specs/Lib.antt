@@ -1,4 +1,3 @@
--- What the contracts of `flat` cite, and with it every call over lent words.
-pub mod Lent
+-- What the contracts of `flat` cite.
 pub mod Fit
 pub mod M

@@ -8,7 +8,7 @@ use Rattle.lowercase_m.specs.M.{hintLowercaseM}
 use Rattle.words.specs.Field.{groupOf}
 use Rattle.words.specs.Edge.{edgesOver}
 use Rattle.shape.specs.Shape.{within, choice, edgesShown}
-use Rattle.flat.specs.Lent.{Lent, edgesOf}
+use Rattle.lent.specs.Lent.{Lent, edgesOf}
 
 -- every word is one of its field
 abbrev pub mShown : List ℤ → ℤ → Bool

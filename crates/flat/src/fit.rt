@@ -1,14 +1,14 @@
 // The calls that place one edge, over lent edges.
-use super::lent::NOT_WORDS;
-use super::lent::axis_of;
-use super::lent::both;
-use super::lent::both_in;
-use super::lent::give_edges;
-use super::lent::give_word;
 use fitting::adjust::adjust_link;
 use fitting::bounds::latin_remaining_bounds;
 use fitting::place::align_linked_edge;
 use fitting::place::align_serif_edge;
+use lent::edges::axis_of;
+use lent::edges::give_edges;
+use lent::shown::NOT_WORDS;
+use lent::shown::both;
+use lent::shown::both_in;
+use lent::word::give_word;
 use shape::element::is_edges;
 use shape::field::CHOICE;
 use shape::field::INDEX;

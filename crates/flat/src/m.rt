@@ -1,8 +1,8 @@
 // The lowercase m rule over lent edges.
-use super::lent::NOT_WORDS;
-use super::lent::axis_of;
-use super::lent::both;
-use super::lent::give_edges;
+use lent::edges::axis_of;
+use lent::edges::give_edges;
+use lent::shown::NOT_WORDS;
+use lent::shown::both;
 use lowercase_m::hint::hint_lowercase_m;
 use shape::element::is_edges;
 use shape::field::CHOICE;

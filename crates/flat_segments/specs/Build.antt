@@ -14,7 +14,7 @@ use Rattle.words.specs.Field.{choiceOf, dimensionOf, directionOf, groupOf}
 use Rattle.words.specs.Edge.{edgesOver}
 use Rattle.words.specs.Segment.{flatSegments, segmentsOver}
 use Rattle.shape.specs.Shape.{within, direction, segmentsShown}
-use Rattle.flat.specs.Lent.{Lent, choices}
+use Rattle.lent.specs.Lent.{Lent, choices}
 
 -- the words of the working table's 128 places
 abbrev pub tableWords : ℕ

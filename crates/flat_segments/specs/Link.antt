@@ -8,7 +8,7 @@ use Rattle.linking.specs.Linking.{linkSegmentsCjk}
 use Rattle.words.specs.Field.{directionOf}
 use Rattle.words.specs.Segment.{flatSegments, segmentsOver}
 use Rattle.shape.specs.Shape.{within, direction, segmentsShown}
-use Rattle.flat.specs.Lent.{Lent}
+use Rattle.lent.specs.Lent.{Lent}
 
 abbrev pub linkingShown : List ℤ → ℤ → Bool
 linkingShown ws major = segmentsShown ws && within direction major

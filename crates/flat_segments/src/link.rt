@@ -1,7 +1,7 @@
 // CJK linking over lent segments.
-use flat::lent::NOT_WORDS;
-use flat::lent::both;
-use flat::lent::give_segments;
+use lent::segments::give_segments;
+use lent::shown::NOT_WORDS;
+use lent::shown::both;
 use linking::link::link_segments_cjk;
 use shape::element::is_segments;
 use shape::field::DIRECTION;

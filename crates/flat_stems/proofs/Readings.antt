@@ -1,5 +1,5 @@
 -- What the words of a call read as, one reading at a time.
-use mathlib.Core.Path.{_≡_}
+use mathlib.Core.Path.{_≡_, _∙_}
 use mathlib.Core.Bool.{Bool}
 use mathlib.Core.List.{List}
 use Prim.Native.Nat.{ℕ}
@@ -11,15 +11,23 @@ use Rattle.axis.specs.declared.kinds.Direction.the-variants as Directions
 use Rattle.axis.specs.declared.kinds.Group.{Group}
 use Rattle.axis.specs.declared.kinds.Link.{Link}
 use Rattle.fixed.specs.declared.width.WidthRule.{WidthRule}
+use Rattle.stem_cjk.specs.declared.hint.StemCjk.{StemCjk}
 use Rattle.stem_cjk.specs.Cjk.{hintNormalStemCjk}
+use Rattle.stems.specs.declared.pass.Stems.{Stems}
 use Rattle.stems.specs.Stems.{alignStemEdges}
 use Rattle.words.specs.Field.{choiceOf, dimensionOf, groupOf, linkOf, ruleOf}
 use Rattle.words.specs.Edge.{flatAxis}
 use Rattle.flat_stems.specs.Stem.{stemHinted}
 use Rattle.flat_stems.specs.Stems.{stemsAligned}
 
-pub stem-reads : (ws : List ℤ) (dim adjust rule : ℤ) (standards : List ℤ) (edge edge2 delta : ℤ) {axis : Axis} {d : Dimension} {a : Bool} {k : WidthRule} {i j : ℕ} {z : ℤ} → axis ≡ flatAxis ws d Directions.None → d ≡ dimensionOf dim → a ≡ choiceOf adjust → k ≡ ruleOf rule → i ≡ up edge → j ≡ up edge2 → z ≡ delta → hintNormalStemCjk axis a k standards i j z ≡ stemHinted ws dim adjust rule standards edge edge2 delta
-stem-reads ws dim adjust rule standards edge edge2 delta p d a k i j z = rw (p, d, a, k, i, j, z)
+pub stem-reads :
+    (ws : List ℤ) (dim adjust rule : ℤ) (standards : List ℤ) (edge edge2 delta : ℤ) {axis : Axis} {d : Dimension} {a : Bool} {k : WidthRule} {i j : ℕ} {z : ℤ} {r : StemCjk}
+    → r ≡ hintNormalStemCjk axis a k standards i j z → axis ≡ flatAxis ws d Directions.None → d ≡ dimensionOf dim → a ≡ choiceOf adjust → k ≡ ruleOf rule → i ≡ up edge
+    → j ≡ up edge2 → z ≡ delta → r ≡ stemHinted ws dim adjust rule standards edge edge2 delta
+stem-reads ws dim adjust rule standards edge edge2 delta e p d a k i j z = e ∙ rw (p, d, a, k, i, j, z)
 
-pub stems-reads : (ws : List ℤ) (dim group adjust ttb anchor rule : ℤ) (standards : List ℤ) {axis : Axis} {d : Dimension} {g : Group} {a b : Bool} {l : Link} {k : WidthRule} → axis ≡ flatAxis ws d Directions.None → d ≡ dimensionOf dim → g ≡ groupOf group → a ≡ choiceOf adjust → b ≡ choiceOf ttb → l ≡ linkOf anchor → k ≡ ruleOf rule → alignStemEdges axis g a b l k standards ≡ stemsAligned ws dim group adjust ttb anchor rule standards
-stems-reads ws dim group adjust ttb anchor rule standards p d g a b l k = rw (p, d, g, a, b, l, k)
+pub stems-reads :
+    (ws : List ℤ) (dim group adjust ttb anchor rule : ℤ) (standards : List ℤ) {axis : Axis} {d : Dimension} {g : Group} {a b : Bool} {l : Link} {k : WidthRule} {r : Stems}
+    → r ≡ alignStemEdges axis g a b l k standards → axis ≡ flatAxis ws d Directions.None → d ≡ dimensionOf dim → g ≡ groupOf group → a ≡ choiceOf adjust → b ≡ choiceOf ttb
+    → l ≡ linkOf anchor → k ≡ ruleOf rule → r ≡ stemsAligned ws dim group adjust ttb anchor rule standards
+stems-reads ws dim group adjust ttb anchor rule standards e p d g a b l k = e ∙ rw (p, d, g, a, b, l, k)

@@ -11,7 +11,7 @@ use Rattle.stem_cjk.specs.Cjk.{hintNormalStemCjk}
 use Rattle.words.specs.Field.{choiceOf, dimensionOf, ruleOf}
 use Rattle.words.specs.Edge.{flatAxis, edgesOver}
 use Rattle.shape.specs.Shape.{index, edgesShown}
-use Rattle.flat.specs.Lent.{Lent, bothIn, choices}
+use Rattle.lent.specs.Lent.{Lent, bothIn, choices}
 
 abbrev pub stemShown : List ℤ → ℤ → ℤ → ℤ → ℤ → ℤ → Bool
 stemShown ws dim adjust rule edge edge2 = edgesShown ws && (choices dim adjust rule && bothIn index edge edge2)

@@ -10,7 +10,7 @@ use Rattle.stems.specs.Stems.{alignStemEdges}
 use Rattle.words.specs.Field.{choiceOf, dimensionOf, groupOf, linkOf, ruleOf, linkWord}
 use Rattle.words.specs.Edge.{flatAxis, edgesOver}
 use Rattle.shape.specs.Shape.{within, link, choice, edgesShown}
-use Rattle.flat.specs.Lent.{Lent, bothIn, choices}
+use Rattle.lent.specs.Lent.{Lent, bothIn, choices}
 
 abbrev pub stemsShown : List ℤ → ℤ → ℤ → ℤ → ℤ → ℤ → ℤ → Bool
 stemsShown ws dim group adjust ttb anchor rule = edgesShown ws && (choices dim group adjust && (bothIn choice ttb rule && within link anchor))

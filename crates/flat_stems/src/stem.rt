@@ -1,11 +1,11 @@
 // The CJK stem over lent edges.
 use axis::kinds::Direction;
-use flat::lent::NOT_WORDS;
-use flat::lent::are_choices;
-use flat::lent::both;
-use flat::lent::both_in;
-use flat::lent::give_edges;
-use flat::lent::give_word;
+use lent::edges::give_edges;
+use lent::shown::NOT_WORDS;
+use lent::shown::are_choices;
+use lent::shown::both;
+use lent::shown::both_in;
+use lent::word::give_word;
 use shape::element::is_edges;
 use shape::field::INDEX;
 use stem_cjk::hint::hint_normal_stem_cjk;

@@ -1,11 +1,11 @@
 // Blue zones over lent edges.
 use axis::kinds::Direction;
 use blues::align::align_edges_to_blues;
-use flat::lent::NOT_WORDS;
-use flat::lent::are_choices;
-use flat::lent::both;
-use flat::lent::give_edges;
-use flat::lent::give_word;
+use lent::edges::give_edges;
+use lent::shown::NOT_WORDS;
+use lent::shown::are_choices;
+use lent::shown::both;
+use lent::word::give_word;
 use shape::element::is_edges;
 use words::edge::flat_axis;
 use words::field::dimension_of;

@@ -1,212 +1,81 @@
 // Which call a word list is a job of.
-use super::item::Item;
-use super::item::skip_item;
 use shape::element::Element;
+use shape::element::skip_elements;
 use shape::field::BYTE;
 use shape::field::CHOICE;
 use shape::field::DIRECTION;
 use shape::field::INDEX;
 use shape::field::LINK;
 use shape::field::Place;
+use shape::field::Range;
 use shape::field::WORD;
+use shape::field::skip_field;
 use words::word::count_at;
-ghost use mathlib.Core.Path.{_≡_};
-ghost use Rattle.jobs.specs.Shape.{items, formatOf, callOf, jobOf};
+use words::word::least;
 
-// The calls, as document 01 names them.
-pub enum Call {
-    NotACall,
-    ComputeMidPos,
-    ComputeMidDelta,
-    AlignWeakPoints,
-    LinkSegmentsCjk,
-    ComputeEdges,
-    AlignEdgesToBlues,
-    AlignLinkedEdge,
-    AlignSerifEdge,
-    AdjustLink,
-    LatinRemainingBounds,
-    HintNormalStemCjk,
-    AlignStemEdges,
-    HintLowercaseM,
-    HintLowercaseMLent,
-}
-
-// The call that a job's first word names, by its place.
-const CALLS: [Call; 15] = [
-    Call::NotACall,
-    Call::ComputeMidPos,
-    Call::ComputeMidDelta,
-    Call::AlignWeakPoints,
-    Call::LinkSegmentsCjk,
-    Call::ComputeEdges,
-    Call::AlignEdgesToBlues,
-    Call::AlignLinkedEdge,
-    Call::AlignSerifEdge,
-    Call::AdjustLink,
-    Call::LatinRemainingBounds,
-    Call::HintNormalStemCjk,
-    Call::AlignStemEdges,
-    Call::HintLowercaseM,
-    Call::HintLowercaseMLent,
+// The items of each call's job behind the call's word, by the digits of `skip_item`, the first item in the last digit. No item has digit 15, so nothing is a job of call 0.
+const FORMATS: [u64; 15] = [
+    0xf, // none
+    0x11, // compute_mid_pos
+    0x11, // compute_mid_delta
+    0x8766, // align_weak_points
+    0x1149, // link_segments_cjk
+    0x11113343a9, // compute_edges
+    0x6333a, // align_edges_to_blues
+    0x2263a, // align_linked_edge
+    0x22a, // align_serif_edge
+    0x332a, // adjust_link
+    0x2a, // latin_remaining_bounds
+    0x1226333a, // hint_normal_stem_cjk
+    0x6353333a, // align_stem_edges
+    0x3a, // hint_lowercase_m, table form
+    0x3b, // hint_lowercase_m, lent list
 ];
 
-// The items of a call's job, behind the call's word.
-fn format_of(call: Call) -> [Item; 10]
-    ensures { λ r. ⌜ r ≡ formatOf call ⌝ }
-{
-    let edges = Item::Many(Element::Edge);
-    let numbers = Item::Many(Element::Number(WORD));
-    let word = Item::One(WORD);
-    let index = Item::One(INDEX);
-    let choice = Item::One(CHOICE);
-    let end = Item::End;
-    match call {
-        Call::NotACall => [end; 10],
-        Call::ComputeMidPos => [word, word, end, end, end, end, end, end, end, end],
-        Call::ComputeMidDelta => [word, word, end, end, end, end, end, end, end, end],
-        Call::AlignWeakPoints => [
-            numbers,
-            numbers,
-            Item::Many(Element::Number(BYTE)),
-            Item::Many(Element::Number(INDEX)),
-            end,
-            end,
-            end,
-            end,
-            end,
-            end,
-        ],
-        Call::LinkSegmentsCjk => [
-            Item::Many(Element::Segment),
-            Item::One(DIRECTION),
-            word,
-            word,
-            end,
-            end,
-            end,
-            end,
-            end,
-            end,
-        ],
-        Call::ComputeEdges => [
-            Item::Many(Element::Segment),
-            edges,
-            choice,
-            Item::One(DIRECTION),
-            choice,
-            choice,
-            word,
-            word,
-            word,
-            word,
-        ],
-        Call::AlignEdgesToBlues => [
-            edges,
-            choice,
-            choice,
-            choice,
-            numbers,
-            end,
-            end,
-            end,
-            end,
-            end,
-        ],
-        Call::AlignLinkedEdge => [
-            edges,
-            choice,
-            numbers,
-            index,
-            index,
-            end,
-            end,
-            end,
-            end,
-            end,
-        ],
-        Call::AlignSerifEdge => [edges, index, index, end, end, end, end, end, end, end],
-        Call::AdjustLink => [edges, index, choice, choice, end, end, end, end, end, end],
-        Call::LatinRemainingBounds => [edges, index, end, end, end, end, end, end, end, end],
-        Call::HintNormalStemCjk => [
-            edges,
-            choice,
-            choice,
-            choice,
-            numbers,
-            index,
-            index,
-            word,
-            end,
-            end,
-        ],
-        Call::AlignStemEdges => [
-            edges,
-            choice,
-            choice,
-            choice,
-            choice,
-            Item::One(LINK),
-            choice,
-            numbers,
-            end,
-            end,
-        ],
-        Call::HintLowercaseM => [edges, choice, end, end, end, end, end, end, end, end],
-        Call::HintLowercaseMLent => [
-            Item::Many(Element::LentEdge),
-            choice,
-            end,
-            end,
-            end,
-            end,
-            end,
-            end,
-            end,
-            end,
-        ],
+// The place behind a list: its count, at most so much, and its elements, of which a job carries at most so many.
+fn skip_list(words: &[i32], at: usize, kind: Element, most: i32, carried: usize) -> Place {
+    let counts = Range { low: 0, high: most };
+    let Place::At(next) = skip_field(words, at, counts) else {
+        return Place::Nowhere;
+    };
+    skip_elements(words, next, kind, least(count_at(words, at), carried))
+}
+
+// The place behind an item.
+fn skip_item(words: &[i32], at: usize, item: u64) -> Place {
+    match item {
+        1 => skip_field(words, at, WORD),
+        2 => skip_field(words, at, INDEX),
+        3 => skip_field(words, at, CHOICE),
+        4 => skip_field(words, at, DIRECTION),
+        5 => skip_field(words, at, LINK),
+        6 => skip_list(words, at, Element::Number(WORD), 8191, 8191),
+        7 => skip_list(words, at, Element::Number(BYTE), 8191, 8191),
+        8 => skip_list(words, at, Element::Number(INDEX), 8191, 8191),
+        9 => skip_list(words, at, Element::Segment, 65535, 512),
+        10 => skip_list(words, at, Element::Edge, 65535, 128),
+        11 => skip_list(words, at, Element::LentEdge, 160, 160),
+        _ => Place::Nowhere,
     }
 }
 
-// The call that the first word names.
-fn call_of(words: &[i32]) -> Call
-    ensures { λ r. ⌜ r ≡ callOf (now (words .entry)) ⌝ }
-{
-    let number = count_at(words, 0);
-    if number < 15 {
-        return CALLS[number];
+// The call that a word list is a job of, by its number, and 0 where it is none.
+pub fn job_of(words: &[i32]) -> usize {
+    let call = count_at(words, 0);
+    if 15 <= call {
+        return 0;
     }
-    Call::NotACall
-}
-
-// The place behind all items of a call's job.
-fn skip_items(words: &[i32], call: Call) -> Place
-    ensures { λ r. ⌜ r ≡ items (formatOf call) (now (words .entry)) 1 ⌝ }
-{
-    let format = format_of(call);
+    let mut items = FORMATS[call];
     let mut here = 1;
-    let mut i = 0;
-    while i < 10 {
-        let kind = format[i];
-        let Place::At(next) = skip_item(words, here, kind) else {
-            return Place::Nowhere;
+    while 0 < items {
+        let Place::At(next) = skip_item(words, here, items % 16) else {
+            return 0;
         };
         here = next;
-        i += 1;
+        items = items / 16;
     }
-    Place::At(here)
-}
-
-// The call that a word list is a job of, or that it is none.
-pub fn job_of(words: &[i32]) -> Call
-    ensures { λ r. ⌜ r ≡ jobOf (now (words .entry)) ⌝ }
-{
-    let call = call_of(words);
-    let Place::At(end) = skip_items(words, call) else {
-        return Call::NotACall;
-    };
-    if end == words.len() {
+    if here == words.len() {
         return call;
     }
-    Call::NotACall
+    0
 }

@@ -1,36 +1,57 @@
 // The lowercase m rule on a lent list, call 14: from the words of its job to those of its answer.
-use super::answer::number_of;
-use lowercase_m_list::first::First;
+use super::list::put;
+use axis::edge::EMPTY_EDGE;
+use axis::edge::Edge;
 use lowercase_m_list::first::hint_first;
-use words::field::group_at;
-use words::lent::lent_from;
-use words::lent::write_lent;
+use words::edge::edge_from;
+use words::edge::edge_words;
+use words::field::group_of;
 use words::word::count_at;
+use words::word::count_word;
 use words::word::least;
-ghost use mathlib.Core.Path.{_≡_};
-ghost use mathlib.Core.List.{_++_};
+use words::word::word_at;
 ghost use Prim.Native.Nat.{_≤_};
-ghost use lib.ListN.{length, drop};
-ghost use Rattle.jobs.specs.Lent.{jobFirst, lentAnswer};
+ghost use lib.ListN.{length};
 
-// What the call makes of a job's first n edges; its group stands behind them.
-fn hinted_at(words: &[i32], n: usize) -> First
+// The first n edges of a job.
+fn edges_from(words: &[i32], n: usize) -> [Edge; 160]
     requires { ⌜ n ≤ 160 ⌝ }
-    ensures { λ r. ⌜ r ≡ jobFirst (now (words .entry)) n ⌝ }
 {
-    let edges = lent_from(words, 1, n);
-    let group = group_at(words, 2 + 11 * n);
-    hint_first(edges, n, group)
+    let mut edges = [EMPTY_EDGE; 160];
+    let mut i = 0;
+    while i < n {
+        let edge = edge_from(words, 2 + 11 * i);
+        edges[i] = edge;
+        i += 1;
+    }
+    edges
+}
+
+// Writes the first n edges from a place on, and tells the place behind them.
+fn put_edges(out: &mut [i32], at: usize, edges: [Edge; 160], n: usize) -> usize
+    requires { ⌜ (n ≤ 160) × (at ≤ length (now out)) ⌝ }
+    ensures { λ r. ⌜ r ≤ length (now (out .entry)) ⌝ }
+{
+    let mut here = at;
+    let mut i = 0;
+    while i < n {
+        let edge = edges[i];
+        let words = edge_words(edge);
+        here = put(out, here, &words);
+        i += 1;
+    }
+    here
 }
 
 // The answer to a job of the m rule on a lent list: a count and as many edges, and a group.
 pub fn answer_lent(words: &[i32], out: &mut [i32]) -> usize
-    requires { ⌜ 1762 ≤ length (now out) ⌝ }
-    ensures { λ r. ⌜ (r ≡ length (lentAnswer (now (words .entry)))) × (now (out .exit) ≡ lentAnswer (now (words .entry)) ++ drop (length (lentAnswer (now (words .entry)))) (now (out .entry))) ⌝ }
+    ensures { λ r. ⌜ r ≤ length (now (out .entry)) ⌝ }
 {
     let n = least(count_at(words, 1), 160);
-    let hinted = hinted_at(words, n);
-    let edges = hinted.edges;
-    out[0] = number_of(hinted.answer);
-    1 + write_lent(out, 1, edges, n)
+    let group = group_of(word_at(words, 2 + 11 * n));
+    let edges = edges_from(words, n);
+    let hinted = hint_first(edges, n, group);
+    let moved = hinted.edges;
+    let at = put(out, 0, &[hinted.answer as i32, count_word(n)]);
+    put_edges(out, at, moved, n)
 }

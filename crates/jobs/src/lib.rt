@@ -1,14 +1,19 @@
-// Jobs: one word list for every public call, and its answer. Lines of text are the part of `lines` and of `replay`.
+// Jobs: one word list for every public call, and its answer, by the functions that gateways link. A tool, for comparisons: proved safe. Lines of text are the part of `lines` and of `replay`.
 pub mod answer;
-mod build;
 pub mod call;
-mod fit;
-pub mod item;
 mod lent;
-mod link;
-mod m;
-pub mod rule;
-mod stem;
-mod stem_pass;
-pub mod weak;
-mod zones;
+pub mod list;
+mod table;
+mod weak;
+
+use answer::answer;
+ghost use Prim.Native.Nat.{_≤_};
+ghost use lib.ListN.{length};
+
+// Jobs under a C name, for ./compare and ./bench.
+#[no_mangle]
+pub extern "C" fn jobs_answer(words: &[i32], out: &mut [i32]) -> usize
+    ensures { λ r. ⌜ r ≤ length (now (out .entry)) ⌝ }
+{
+    answer(words, out)
+}

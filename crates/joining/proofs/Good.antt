@@ -19,7 +19,7 @@ use Rattle.axis.specs.Direction.{same}
 use Rattle.axis.specs.Segment.{segmentAt}
 use Rattle.joining.specs.declared.rules.Rules.{Rules}
 use Rattle.joining.specs.Joining.{stopsBehind, settle, passedOver, skips, headOr, lastIn, edgeOf, State, group, start, join, overfull, create, placeOf, placed, visit, after, begun, stateAt}
-use Rattle.joining.specs.Walks.{walk, ends}
+use Rattle.joining.specs.Walks.{walk, ends, Latin}
 use Rattle.joining.proofs.Members.{times, times-nil, Once, last-in, times-snoc, times-one, times-self, few}
 use Rattle.joining.proofs.Rings.{Chain, chain-none, chain-other, ring-one, ring-more, ring-apart, walk-ring, ends-ring}
 use Rattle.joining.proofs.Settling.{same?, cond-both, settle-all, set-all, settle-above, length-settle, total, total-set, total-at, total-two, total-settle}
@@ -221,10 +221,6 @@ good-second t r s l G = record {
   used = G .used;
   unused = G .unused;
 }
-
--- the second loop is Latin's
-abbrev pub Latin : Rules → Bool → Type 0
-Latin r second = second ≡ true → r .cjk ≡ false
 
 good-after : (t : Segments) (r : Rules) (second : Bool) (s : State) → t .len ≤ 512 → Good t r second s 0 → (i : ℕ) → i ≤ t .len → Good t r second (after t r second s i) i
 unfolding after

@@ -1,6 +1,6 @@
 -- Segments that are passed over: one law for each way through the tests.
-use mathlib.Core.Path.{_≡_, sym, subst}
-use mathlib.Core.Bool.{Bool, true, false, not, _&&_}
+use mathlib.Core.Path.{_≡_, ap}
+use mathlib.Core.Bool.{Bool, true, false, not}
 use lib.IntN.{pos, _*ℤ_}
 use lib.Signed.{ltZ}
 use Rattle.axis.specs.declared.kinds.Direction.the-variants as Directions
@@ -33,11 +33,16 @@ module _ (r : Rules) (s : Segment) where
         unfolding passedOver
         a-serif l v e = rw (long, narrow, directed, l) e
 
-  -- CJK skips none in the first loop, Latin those that it passes over
-  pub skips-none : r .cjk ≡ true → false ≡ skips r false s
+  -- the second loop skips those with a direction
+  pub skips-directed : (second v : Bool) → second ≡ true → v ≡ same (s .dir) Directions.None → not v ≡ skips r second s
   unfolding skips
-  skips-none h = rw h
+  skips-directed second v h e = rw h (ap not e)
 
-  pub skips-some : r .cjk ≡ false → (v : Bool) → v ≡ passedOver r s → v ≡ skips r false s
+  -- in the first CJK skips none, Latin those that it passes over
+  pub skips-none : (second : Bool) → second ≡ false → r .cjk ≡ true → false ≡ skips r second s
   unfolding skips
-  skips-some h v e = subst (λ (b : Bool). v ≡ (not b && passedOver r s)) (sym h) e
+  skips-none second h g = rw (h, g)
+
+  pub skips-some : (second v : Bool) → second ≡ false → r .cjk ≡ false → v ≡ passedOver r s → v ≡ skips r second s
+  unfolding skips passedOver
+  skips-some second v h g e = rw (h, g) e

@@ -1,9 +1,40 @@
--- The search for an edge: one law for each way on.
+-- The search for an edge: one law for each way through the test of one, and for each way on.
 use mathlib.Core.Path.{_≡_, refl, sym, _∙_}
-use mathlib.Core.Bool.{Bool, true, false, cond}
+use mathlib.Core.Bool.{Bool, true, false, cond, _&&_}
 use Prim.Native.Nat.{ℕ, zero, suc, _+_, _-_, _≤_, _<_}
 use native.Mathlib.Omega.{arith}
-use Rattle.joining.specs.Joining.{seek}
+use borrow.Author.Tests.{le-ltb, lt-ltb}
+use Rattle.axis.specs.declared.edge.Edge.{Edge}
+use Rattle.axis.specs.declared.segment.Segment.{Segment}
+use Rattle.axis.specs.Direction.{same}
+use Rattle.joining.specs.Joining.{gap, fits, fitsIn, seek}
+
+-- ---- whether a segment goes with an edge, by its distance d
+module _ (second : Bool) (limit d : ℕ) (s : Segment) (e : Edge) (p : d ≡ gap (s .pos) (e .fpos)) where
+  pub fits-far : limit ≤ d → false ≡ fitsIn second limit s e
+  unfolding fitsIn fits
+  fits-far h = by second
+    where
+      by : (b : Bool) → false ≡ fitsIn b limit s e
+      by false = rw (le-ltb (gap (s .pos) (e .fpos)) limit (omega (arith, p)))
+      by true = sym (le-ltb (gap (s .pos) (e .fpos)) limit (omega (arith, p)))
+
+  pub fits-near : d < limit → second ≡ true → true ≡ fitsIn second limit s e
+  unfolding fitsIn
+  fits-near h b = rw b (sym (lt-ltb (gap (s .pos) (e .fpos)) limit (omega (arith, p))))
+
+  pub fits-directed : d < limit → second ≡ false → (v : Bool) → v ≡ same (e .dir) (s .dir) → v ≡ fitsIn second limit s e
+  unfolding fitsIn fits
+  fits-directed h b v q = rw (b, lt-ltb (gap (s .pos) (e .fpos)) limit (omega (arith, p))) q
+
+-- ---- two tests, one after the other
+pub test-no : (v a b : Bool) → v ≡ a → v ≡ false → false ≡ (a && b)
+test-no v a b e f = rw (sym e ∙ f)
+
+pub test-yes : (v a b w : Bool) → v ≡ a → v ≡ true → w ≡ b → w ≡ (a && b)
+test-yes v a b w e f g = rw (sym e ∙ f) g
+
+-- ---- the search
 
 module _ (better : ℕ → ℕ → Bool) (behind : ℕ → ℕ) where
   seek-step : (m n k best limit : ℕ) → m ≡ suc n → seek better behind m k best limit ≡ cond (better k limit) (seek better behind n (k + 1) k (behind k)) (seek better behind n (k + 1) best limit)

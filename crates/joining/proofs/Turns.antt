@@ -1,30 +1,28 @@
 -- One turn of a loop, as a function's loop takes it.
 use mathlib.Core.Path.{_≡_, refl, sym, ap, _∙_}
-use mathlib.Core.Bool.{Bool, true, false, not, _||_}
+use mathlib.Core.Bool.{Bool, true, false, _&&_, _||_}
 use mathlib.Core.List.{List, [], _∷_, map}
 use Prim.Native.Nat.{ℕ, zero, suc, _+_, _-_, _≤_, _<_}
 use native.Mathlib.Nat.{sub-zero}
 use native.Mathlib.Omega.{arith}
 use borrow.Author.Tests.{le-ltb}
-use lib.Dec.{ltb}
 use lib.IntN.{ℤ, pos}
 use lib.ListN.{getD, set, replicate}
 use lib.Signed.{leZ}
 use Rattle.axis.specs.declared.edge.Axis.{Axis}
 use Rattle.axis.specs.declared.edge.Edge.{Edge}
-use Rattle.axis.specs.declared.kinds.Direction.the-variants as Directions
 use Rattle.axis.specs.declared.segment.Segment.{Segment}
 use Rattle.axis.specs.declared.segment.Segments.{Segments}
-use Rattle.axis.specs.Direction.{same}
-use Rattle.axis.specs.Edge.{edgeAt, emptyEdge, emptyAxis}
+use Rattle.axis.specs.Edge.{edgeAt, emptyEdge}
 use Rattle.axis.specs.Segment.{segmentAt}
 use Rattle.joining.specs.declared.join.Joined.{Joined}
 use Rattle.joining.specs.declared.rules.Rules.{Rules}
-use Rattle.joining.specs.Joining.{gap, fits, fitsIn, agrees, withLast, stopsBehind, settle, skips, edgeOf, appended, State, group, overfull, start, shown, limitBehind, seek, mayJoin, behind, placeOf, visit, after, begun, stateAt}
-use Rattle.joining.specs.Walks.{walk, ends, StemsOf, stemsAgree}
+use Rattle.joining.specs.Joining.{gap, fits, fitsIn, withLast, stopsBehind, settle, skips, edgeOf, appended, State, group, overfull, start, unjoined, shown, limitBehind, seek, mayJoin, behind, placeOf, visit, after, begun, stateAt}
+use Rattle.joining.specs.Walks.{walk, ends, Latin, StemsOf, stemsAgree}
+use Rattle.signed.proofs.By.{by₂}
 use Rattle.joining.proofs.Members.{first-in}
 use Rattle.joining.proofs.Stems.{stems-agree}
-use Rattle.joining.proofs.Good.{Good, Latin, good, last-below, members-below, ring-walk}
+use Rattle.joining.proofs.Good.{Good, good, last-below, members-below, ring-walk}
 use Rattle.joining.proofs.Steps.{tables, visit-skip, visit-join, visit-none, visit-full, visit-made, of-len, of-full, of-next, of-edge, of-first, of-last, again-join, again-made, again-full, after-next, after-stuck}
 use Rattle.joining.proofs.Searching.{seek-no, seek-yes, seek-end, seek-stop}
 
@@ -45,33 +43,18 @@ map-replicate : {A B : Type 0} (f : A → B) (n : ℕ) (a : A) → map f (replic
 map-replicate f zero a = refl
 map-replicate {A} {B} f (suc n) a = ap (λ (l : List B). f a ∷ l) (map-replicate f n a)
 
-pub stands-start : (t : Segments) (r : Rules) (axis : Axis) → axis ≡ emptyAxis (r .dim) (r .«major_dir») → Stands t r false 0 false axis (replicate 512 0)
-unfolding after begun start shown
-stands-start t r axis e = rw e (ap (λ (es : List Edge). record { full = false; axis = record { dim = r .dim; «major_dir» = r .«major_dir»; edges = es; len = 0 }; next = replicate 512 0 }) (sym (map-replicate (edgeOf t (r .scale)) 128 [])))
+pub none-begun : (t : Segments) (r : Rules) (j : Joined) → j ≡ unjoined (r .dim) (r .«major_dir») → j ≡ shown t r (begun t r false)
+unfolding begun start shown
+none-begun t r j e = e ∙ ap (λ (es : List Edge). record { full = false; axis = record { dim = r .dim; «major_dir» = r .«major_dir»; edges = es; len = 0 }; next = replicate 512 0 }) (sym (map-replicate (edgeOf t (r .scale)) 128 []))
 
--- the first loop is everyone's, and asks for the direction
+-- the first loop is everyone's
 pub latin-first : (r : Rules) → Latin r false
 latin-first r e = absurd (let z : _≡_ {A = ℕ} 0 1 = cc in omega arith)
 
-pub first-fits : (limit : ℕ) (s : Segment) (e : Edge) → fitsIn false limit s e ≡ fits limit s e
-unfolding fitsIn
-first-fits limit s e = refl
-
--- the second loop is Latin's, asks for no direction, and leaves out all with one
-pub latin-second : (r : Rules) → r .cjk ≡ false → Latin r true
-latin-second r e h = e
-
-pub second-fits : (limit : ℕ) (s : Segment) (e : Edge) → fitsIn true limit s e ≡ ltb (gap (s .pos) (e .fpos)) limit
-unfolding fitsIn
-second-fits limit s e = refl
-
-pub second-skips : (r : Rules) (s : Segment) → skips r true s ≡ not (same (s .dir) Directions.None)
-unfolding skips
-second-skips r s = refl
-
-pub stands-second : (t : Segments) (r : Rules) (j : Joined) → j ≡ shown t r (begun t r true) → j .full ≡ false → Stands t r true 0 false (j .axis) (j .next)
+-- a loop starts with the tables of its begin
+pub stands-begun : (t : Segments) (r : Rules) (second : Bool) (j : Joined) → j ≡ shown t r (begun t r second) → j .full ≡ false → Stands t r second 0 false (j .axis) (j .next)
 unfolding after
-stands-second t r j e f = ap (λ (b : Bool). record { full = b; axis = j .axis; next = j .next }) (sym f) ∙ e
+stands-begun t r second j e f = ap (λ (b : Bool). record { full = b; axis = j .axis; next = j .next }) (sym f) ∙ e
 
 -- nothing is nearer than 0
 never-0 : (second : Bool) (s : Segment) (e : Edge) → fitsIn second 0 s e ≡ false
@@ -127,26 +110,24 @@ module _ (t : Segments) (r : Rules) (second : Bool) (i : ℕ) (axis : Axis) (nex
       ring-is : walk next (edgeAt axis k .last) 512 (edgeAt axis k .first) ≡ group s k
       ring-is = rw (of-first t r s false axis next J k, of-last t r s false axis next J k, of-next t r s false axis next J) (ring-walk t r second s i k long G in-count .0)
 
-      -- what the test of the ring said
-      pub ring-said : (stems : List ℤ) (v : Bool) → StemsOf t (r .cjk) stems → v ≡ (leZ (pos 65536) (getD stems i (pos 0)) || stemsAgree stems (r .near) (getD stems i (pos 0)) (walk next (edgeAt axis k .last) 512 (edgeAt axis k .first))) → v ≡ (not (r .cjk) || agrees t (r .near) (segmentAt t i .link) (group s k))
-      ring-said stems v S e = e ∙ ap (λ (l : List ℕ). leZ (pos 65536) (getD stems i (pos 0)) || stemsAgree stems (r .near) (getD stems i (pos 0)) l) ring-is ∙ stems-agree t (r .cjk) stems (r .near) i (group s k) S hi (λ x h. members-below t r second s i k long G in-count x h)
+      edge-is : edgeAt axis k ≡ edgeOf t (r .scale) (group s k)
+      edge-is = of-edge t r s false axis next J k
 
-      module _ (best limit x : ℕ) (p : left t r second i (axis .len) k best limit ≡ x) where
-        pub search-far : fitsIn second limit (segmentAt t i) (edgeAt axis k) ≡ false → left t r second i (axis .len) (k + 1) best limit ≡ x
-        unfolding mayJoin
-        search-far e = seek-no _ _ (axis .len) k best limit x p hk (rw (← of-edge t r s false axis next J k, e))
+      -- what the test of the edge said
+      pub may-said : (stems : List ℤ) (limit : ℕ) (v : Bool) → StemsOf t (r .cjk) stems → v ≡ (fitsIn second limit (segmentAt t i) (edgeAt axis k) && (leZ (pos 65536) (getD stems i (pos 0)) || stemsAgree stems (r .near) (getD stems i (pos 0)) (walk next (edgeAt axis k .last) 512 (edgeAt axis k .first)))) → v ≡ mayJoin t r second s i k limit
+      unfolding mayJoin
+      may-said stems limit v S e =
+          by₂ _&&_ e
+          (ap (fitsIn second limit (segmentAt t i)) edge-is)
+          (ap (λ (l : List ℕ). leZ (pos 65536) (getD stems i (pos 0)) || stemsAgree stems (r .near) (getD stems i (pos 0)) l) ring-is ∙ stems-agree t (r .cjk) stems (r .near) i (group s k) S hi (λ x h. members-below t r second s i k long G in-count x h))
 
-        module _ (near : fitsIn second limit (segmentAt t i) (edgeAt axis k) ≡ true) (v : Bool) (said : v ≡ (not (r .cjk) || agrees t (r .near) (segmentAt t i .link) (group s k))) where
-          may : mayJoin t r second s i k limit ≡ v
-          unfolding mayJoin
-          may = rw (← of-edge t r s false axis next J k, near) (sym said)
+      module _ (best limit x : ℕ) (p : left t r second i (axis .len) k best limit ≡ x) (v : Bool) (said : v ≡ mayJoin t r second s i k limit) where
+        pub search-no : v ≡ false → left t r second i (axis .len) (k + 1) best limit ≡ x
+        search-no e = seek-no _ _ (axis .len) k best limit x p hk (sym said ∙ e)
 
-          pub search-apart : v ≡ false → left t r second i (axis .len) (k + 1) best limit ≡ x
-          search-apart e = seek-no _ _ (axis .len) k best limit x p hk (may ∙ e)
-
-          pub search-found : v ≡ true → (l : ℕ) → l ≡ limitBehind (r .cjk) (gap (segmentAt t i .pos) (edgeAt axis k .fpos)) → left t r second i (axis .len) (k + 1) k l ≡ x
-          unfolding behind
-          search-found e l g = seek-yes _ _ (axis .len) k best limit x p hk (may ∙ e) l (rw (← of-edge t r s false axis next J k) g)
+        pub search-yes : v ≡ true → (l : ℕ) → l ≡ limitBehind (r .cjk) (gap (segmentAt t i .pos) (edgeAt axis k .fpos)) → left t r second i (axis .len) (k + 1) k l ≡ x
+        unfolding behind
+        search-yes e l g = seek-yes _ _ (axis .len) k best limit x p hk (sym said ∙ e) l (g ∙ ap (λ (y : Edge). limitBehind (r .cjk) (gap (segmentAt t i .pos) (y .fpos))) edge-is)
 
     pub search-end : (k best limit x : ℕ) → left t r second i (axis .len) k best limit ≡ x → axis .len ≤ k → x ≡ best
     search-end k best limit x p h = seek-end _ _ (axis .len) k best limit x p h
@@ -154,10 +135,6 @@ module _ (t : Segments) (r : Rules) (second : Bool) (i : ℕ) (axis : Axis) (nex
     pub search-stop : (k best limit x : ℕ) → left t r second i (axis .len) k best limit ≡ x → limit ≡ 0 → x ≡ best
     unfolding mayJoin
     search-stop k best limit x p h = seek-stop _ _ (λ k. rw (never-0 second (segmentAt t i) (edgeOf t (r .scale) (group s k)))) (axis .len - k) k best limit x h p
-
-    -- in Latin's second loop the first edge that is near is the place
-    pub search-first : r .cjk ≡ false → (k best limit x : ℕ) (hk : k < axis .len) → left t r second i (axis .len) k best limit ≡ x → fitsIn second limit (segmentAt t i) (edgeAt axis k) ≡ true → x ≡ k
-    search-first l k best limit x hk p near = search-stop (k + 1) k 0 x (search-found k hk best limit x p near true (rw l) refl 0 (rw l)) refl
 
     -- ---- the place is known
     module _ (free : skips r second (segmentAt t i) ≡ false) (k : ℕ) (found : place t r second i ≡ k) where

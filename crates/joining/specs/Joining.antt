@@ -10,13 +10,15 @@ use lib.Signed.{ltZ}
 use Rattle.fixed.specs.Point.{mulFix}
 use Rattle.axis.specs.declared.edge.Edge.{Edge}
 use Rattle.axis.specs.declared.kinds.Blue.the-variants as Blues
+use Rattle.axis.specs.declared.kinds.Dimension.{Dimension}
+use Rattle.axis.specs.declared.kinds.Direction.{Direction}
 use Rattle.axis.specs.declared.kinds.Direction.the-variants as Directions
 use Rattle.axis.specs.declared.kinds.Link.{Link}
 use Rattle.axis.specs.declared.kinds.Link.the-variants as Links
 use Rattle.axis.specs.declared.segment.Segment.{Segment}
 use Rattle.axis.specs.declared.segment.Segments.{Segments}
 use Rattle.axis.specs.Direction.{same}
-use Rattle.axis.specs.Edge.{emptyEdge}
+use Rattle.axis.specs.Edge.{emptyEdge, emptyAxis}
 use Rattle.axis.specs.Flags.{normal}
 use Rattle.axis.specs.Limits.{mostEdges}
 use Rattle.axis.specs.Segment.{segmentAt}
@@ -132,6 +134,10 @@ join s k i = record { groups = set (s .groups) k (group s k ++ i ∷ []); count 
 -- the same edges, and one more called for
 abbrev pub overfull : State → State
 overfull s = record { groups = s .groups; count = s .count; next = s .next; full = true }
+
+-- the tables of no edge
+abbrev pub unjoined : Dimension → Direction → Joined
+unjoined dim major = record { full = false; axis = emptyAxis dim major; next = replicate 512 0 }
 
 -- the tables that a state stands for
 unfoldable pub shown : Segments → Rules → State → Joined

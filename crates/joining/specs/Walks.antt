@@ -52,6 +52,10 @@ stemsAgree stems near z [] = true
 stemsAgree stems near z (m ∷ ms) = stemNear near z (getD stems m (pos 0)) && stemsAgree stems near z ms
 
 -- ---- what can be joined
+-- the second loop is Latin's
+abbrev pub Latin : Rules → Bool → Type 0
+Latin r second = second ≡ true → r .cjk ≡ false
+
 -- an accepted table: its segments are few, each position at this scale is within the table, and the length threshold is
 pub record Joinable (t : Segments) (r : Rules) : Type 0 where
   pub few : t .len ≤ 512

@@ -10,16 +10,22 @@ use super::rules::stops_behind;
 use super::rules::with_last;
 use axis::direction::same;
 use axis::edge::Axis;
+use axis::edge::Edge;
 use axis::edge::empty_axis;
+use axis::kinds::Dimension;
 use axis::kinds::Direction;
 use axis::limits::MOST_EDGES;
 use axis::segment::Segment;
 use axis::segment::Segments;
 ghost use mathlib.Core.Path.{_≡_};
-ghost use mathlib.Core.Bool.{true, false};
+ghost use mathlib.Core.Bool.{true, false, _&&_, _||_};
+ghost use Prim.Native.Nat.{_<_};
+ghost use lib.IntN.{pos};
+ghost use lib.ListN.{getD};
+ghost use lib.Signed.{leZ};
 ghost use Rattle.signed.specs.Range.{Between};
-ghost use Rattle.joining.specs.Joining.{skips as skipped, limitBehind, shown, begun, stateAt};
-ghost use Rattle.joining.specs.Walks.{Joinable, StemsOf};
+ghost use Rattle.joining.specs.Joining.{gap, skips as skipped, fitsIn, limitBehind, unjoined, shown, begun, stateAt};
+ghost use Rattle.joining.specs.Walks.{walk, ends, stemsAgree, Latin, Joinable, StemsOf};
 
 // Whether a 129th edge was called for, the edges, and the next of each segment that has joined one.
 pub struct Joined {
@@ -28,40 +34,82 @@ pub struct Joined {
     pub next: [u16; 512],
 }
 
-// Whether a segment is not asked for an edge: CJK asks them all.
-fn skips(segment: Segment, rules: Rules) -> bool
-    requires { ⌜ Between 0 65535 (rules .length) ⌝ }
-    ensures { λ r. ⌜ r ≡ skipped rules false segment ⌝ }
+// No edge yet.
+pub fn none_joined(dim: Dimension, major_dir: Direction) -> Joined
+    ensures { λ r. ⌜ r ≡ unjoined dim «major_dir» ⌝ }
 {
+    let axis = empty_axis(dim, major_dir);
+    let next = [0u16; 512];
+    Joined {
+        full: false,
+        axis,
+        next,
+    }
+}
+
+// Whether a loop leaves a segment out: the first one those that Latin passes over, the second one all with a direction.
+fn skips(segment: Segment, rules: Rules, second: bool) -> bool
+    requires { ⌜ Between 0 65535 (rules .length) ⌝ }
+    ensures { λ r. ⌜ r ≡ skipped rules second segment ⌝ }
+{
+    if second {
+        let dir = segment.dir;
+        return !same(dir, Direction::None);
+    }
     if rules.cjk {
         return false;
     }
     is_passed_over(segment, rules)
 }
 
-// What an edge must be nearer than to be taken in the place of one at this distance: CJK takes the nearest, Latin stays with the first.
-fn limit_behind(dist: u64, cjk: bool) -> u64
-    ensures { λ r. ⌜ r ≡ limitBehind cjk dist ⌝ }
+// Whether segment i may join an edge: it fits, and in CJK all linked segments of the edge agree with its link.
+fn may_join(
+    next: &[u16; 512],
+    stems: &[i32; 512],
+    i: usize,
+    segment: Segment,
+    edge: Edge,
+    limit: u64,
+    near: u64,
+    second: bool,
+) -> bool
+    requires { ⌜ (i < 512) × (edge .first < 512) × (ends (now next) (edge .last) 512 (edge .first) ≡ true) ⌝ }
+    ensures { λ r. ⌜ r ≡ (fitsIn second limit segment edge && (leZ (pos 65536) (getD (now (stems .entry)) i (pos 0)) || stemsAgree (now (stems .entry)) near (getD (now (stems .entry)) i (pos 0)) (walk (now (next .entry)) (edge .last) 512 (edge .first)))) ⌝ }
+{
+    if !fits(segment, edge, limit, second) {
+        return false;
+    }
+    ring_agrees(next, stems, edge.first, edge.last, stems[i], near)
+}
+
+// What an edge must be nearer than to be taken in the place of this one: CJK takes the nearest, Latin stays with the first.
+fn limit_behind(segment: Segment, edge: Edge, cjk: bool) -> u64
+    ensures { λ r. ⌜ r ≡ limitBehind cjk (gap (segment .pos) (edge .fpos)) ⌝ }
 {
     if cjk {
-        return dist;
+        return distance_to(segment, edge);
     }
     0
 }
 
-// The first loop: a segment joins the edge that it goes with, or makes one.
-pub fn join_segments(segments: Segments, stems: &[i32; 512], rules: Rules) -> Joined
-    requires { ⌜ Joinable segments rules × StemsOf segments (rules .cjk) (now stems) ⌝ }
-    ensures { λ r. ⌜ r ≡ shown segments rules (stateAt segments rules false (segments .len)) ⌝ }
+// One loop: a segment joins the edge that it goes with, or makes one; in Latin's second loop segments without direction join, and make none.
+pub fn join_segments(
+    segments: Segments,
+    stems: &[i32; 512],
+    rules: Rules,
+    second: bool,
+    joined: Joined,
+) -> Joined
+    requires { ⌜ Joinable segments rules × StemsOf segments (rules .cjk) (now stems) × Latin rules second ⌝ }
+    requires { ⌜ (joined ≡ shown segments rules (begun segments rules second)) × (joined .full ≡ false) ⌝ }
+    ensures { λ r. ⌜ r ≡ shown segments rules (stateAt segments rules second (segments .len)) ⌝ }
 {
     let count = segments.len;
-    let dim = rules.dim;
-    let major_dir = rules.major_dir;
-    let mut axis = empty_axis(dim, major_dir);
-    let mut next = [0u16; 512];
+    let mut axis = joined.axis;
+    let mut next = joined.next;
     for i in 0..count {
         let segment = segments.segments[i];
-        if skips(segment, rules) {
+        if skips(segment, rules, second) {
             continue;
         }
         let edges = axis.len;
@@ -72,19 +120,19 @@ pub fn join_segments(segments: Segments, stems: &[i32; 512], rules: Rules) -> Jo
                 break;
             }
             let edge = axis.edges[k];
-            if !fits(segment, edge, limit) {
-                continue;
-            }
-            if !ring_agrees(&next, stems, edge.first, edge.last, stems[i], rules.near) {
+            if !may_join(&next, stems, i, segment, edge, limit, rules.near, second) {
                 continue;
             }
             best = k;
-            limit = limit_behind(distance_to(segment, edge), rules.cjk);
+            limit = limit_behind(segment, edge, rules.cjk);
         }
         if best < edges {
             let edge = axis.edges[best];
             append(&mut next, edge.first, edge.last, i as u16);
             axis.edges[best] = with_last(edge, i as u16);
+            continue;
+        }
+        if second {
             continue;
         }
         if edges == MOST_EDGES {
@@ -108,44 +156,6 @@ pub fn join_segments(segments: Segments, stems: &[i32; 512], rules: Rules) -> Jo
         axis.edges[ix] = edge;
         axis.len = edges + 1;
         next[i] = i as u16;
-    }
-    Joined {
-        full: false,
-        axis,
-        next,
-    }
-}
-
-// Latin's second loop: a segment without direction joins the first edge that it is near to, if there is one.
-pub fn join_undirected(segments: Segments, rules: Rules, joined: Joined) -> Joined
-    requires { ⌜ Joinable segments rules × (rules .cjk ≡ false) ⌝ }
-    requires { ⌜ (joined ≡ shown segments rules (begun segments rules true)) × (joined .full ≡ false) ⌝ }
-    ensures { λ r. ⌜ r ≡ shown segments rules (stateAt segments rules true (segments .len)) ⌝ }
-{
-    let count = segments.len;
-    let mut axis = joined.axis;
-    let mut next = joined.next;
-    for i in 0..count {
-        let segment = segments.segments[i];
-        let dir = segment.dir;
-        if !same(dir, Direction::None) {
-            continue;
-        }
-        let edges = axis.len;
-        let mut k: usize = 0;
-        while k < edges {
-            let edge = axis.edges[k];
-            if distance_to(segment, edge) < rules.near {
-                break;
-            }
-            k += 1;
-        }
-        if edges <= k {
-            continue;
-        }
-        let edge = axis.edges[k];
-        append(&mut next, edge.first, edge.last, i as u16);
-        axis.edges[k] = with_last(edge, i as u16);
     }
     Joined {
         full: false,

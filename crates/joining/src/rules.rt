@@ -15,7 +15,7 @@ ghost use lib.IntN.{pos, _*ℤ_};
 ghost use lib.Signed.{ltZ};
 ghost use Rattle.fixed.specs.Point.{mulFix};
 ghost use Rattle.signed.specs.Range.{Between};
-ghost use Rattle.joining.specs.Joining.{gap, isLinked, passedOver, fits as goesWith, stopsBehind, newEdge, withLast};
+ghost use Rattle.joining.specs.Joining.{gap, isLinked, passedOver, fitsIn, stopsBehind, newEdge, withLast};
 
 // What building is told beside the segments. `near` is the distance below which a segment joins an edge, `length` and `width` are Latin's thresholds.
 pub struct Rules {
@@ -85,12 +85,15 @@ pub fn is_passed_over(segment: Segment, rules: Rules) -> bool
     is_short_serif(height, rules.length)
 }
 
-// Whether a segment goes with an edge: nearer than the limit, and in its direction.
-pub fn fits(segment: Segment, edge: Edge, limit: u64) -> bool
-    ensures { λ r. ⌜ r ≡ goesWith limit segment edge ⌝ }
+// Whether a segment goes with an edge: nearer than the limit, and in its direction, for which the second loop does not ask.
+pub fn fits(segment: Segment, edge: Edge, limit: u64, second: bool) -> bool
+    ensures { λ r. ⌜ r ≡ fitsIn second limit segment edge ⌝ }
 {
     if limit <= distance_to(segment, edge) {
         return false;
+    }
+    if second {
+        return true;
     }
     let own = segment.dir;
     let other = edge.dir;

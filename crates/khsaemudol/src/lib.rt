@@ -1,8 +1,6 @@
 // The static library that gateways link: the public calls under C names. A slice is passed as its pointer and then its length. Edges are lists of 11 words each
 // and segments of 15; the answer is 0 or document 01's number of the refusal, and 255 where a word is none of its field. include/khsaemudol.h documents each.
 use building::numbers::Thresholds;
-use fixed::middle::compute_mid_delta;
-use fixed::middle::compute_mid_pos;
 use flat::fit::lend_adjust;
 use flat::fit::lend_bounds;
 use flat::fit::lend_linked_edge;
@@ -13,9 +11,11 @@ use flat_segments::link::lend_linking;
 use flat_stems::pass::lend_stems;
 use flat_stems::stem::lend_stem;
 use flat_stems::zones::lend_zones;
+use middle::compute_mid_delta;
+use middle::compute_mid_pos;
 use outline::weak::align_weak_points;
 ghost use mathlib.Core.Path.{_≡_};
-ghost use Rattle.fixed.specs.Middle.{midPos, midDelta};
+ghost use Rattle.middle.specs.Middle.{midPos, midDelta};
 ghost use Rattle.outline.specs.Weak.{Outcome};
 ghost use Rattle.flat_segments.specs.Build.{thresholdsOf, BuiltLent};
 ghost use Rattle.flat.specs.Fit.{LinkedLent, SerifLent, AdjustLent, BoundsLent};

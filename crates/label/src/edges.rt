@@ -1,88 +1,136 @@
 // Edges that a step placed or moved, for a person to look at.
-use super::print::count;
-use super::print::distance;
-use super::print::extent;
-use super::print::font;
-use super::print::place;
-use super::print::position;
+use super::print::show;
 use super::print::text;
-use super::print::wide;
-use axis::accept::least;
-use axis::edge::Axis;
-use axis::edge::Edge;
-use axis::kinds::Blue;
-use axis::kinds::Link;
-use axis::link::index_or;
+use middle::bits::bits_of;
+use middle::bits::signed_of;
+use words::field::index_of;
+use words::word::count_word;
+use words::word::least;
+use words::word::size_of;
+use words::word::word_at;
+ghost use Prim.Native.Nat.{_≤_};
+
+// Where the fields of an edge stand among its 11 words.
+pub const FPOS: usize = 0;
+
+pub const OPOS: usize = 1;
+
+pub const POS: usize = 2;
+
+pub const FLAGS: usize = 3;
+
+pub const BLUE: usize = 5;
+
+pub const FITTED: usize = 6;
+
+pub const LINK: usize = 7;
+
+// The place of none, which is past the end of every list.
+pub const NONE: usize = 65535;
+
+// The word of an edge's field, and 0 where there is no such edge.
+pub fn field(edges: &[i32], i: usize, k: usize) -> i32
+    requires { ⌜ (i ≤ 65535) × (k ≤ 10) ⌝ }
+{
+    word_at(edges, 11 * i + k)
+}
+
+// The place that a word names.
+pub fn place_of(word: i32) -> usize
+    ensures { λ r. ⌜ r ≤ 65535 ⌝ }
+{
+    if word < 0 {
+        return NONE;
+    }
+    index_of(word) as usize
+}
+
+// Whether an edge is done.
+pub fn done(edges: &[i32], i: usize) -> bool
+    requires { ⌜ i ≤ 65535 ⌝ }
+{
+    4 <= size_of(field(edges, i, FLAGS)) % 8
+}
 
 // Whether a step left an edge as it was.
-fn stayed(was: Edge, edge: Edge) -> bool {
-    if was.pos == edge.pos {
-        return was.flags.done == edge.flags.done;
+fn stayed(before: &[i32], edges: &[i32], i: usize) -> bool
+    requires { ⌜ i ≤ 127 ⌝ }
+{
+    if field(before, i, POS) != field(edges, i, POS) {
+        return false;
     }
-    false
+    done(before, i) == done(edges, i)
 }
 
-// Whether an edge is on its zone.
-fn on_zone(edge: Edge) -> bool {
-    let blue = edge.blue;
-    match blue {
-        Blue::None => false,
-        Blue::Fitted(fitted) => edge.pos == fitted,
-    }
+// How far one edge is behind another, by one of their fields.
+fn distance(edges: &[i32], i: usize, other: usize, k: usize) -> i32
+    requires { ⌜ (i ≤ 65535) × (other ≤ 65535) × (k ≤ 10) ⌝ }
+{
+    let from = bits_of(field(edges, i, k));
+    let to = bits_of(field(edges, other, k));
+    signed_of(std::num::wrapping_sub_u32(to, from))
 }
 
-// Writes how wide a stem was and is.
-fn width(edge: Edge, other: Edge) {
-    text(b", width ");
-    extent(distance(edge.opos, other.opos));
-    text(b" -> ");
-    extent(distance(edge.pos, other.pos));
-}
-
-// Writes the stem that an edge is a side of, with its width at the first side once both are placed.
-fn stem(i: usize, edge: Edge, other: Edge) {
-    let link = edge.link;
-    let Link::To(k) = link else {
+// Writes the stem that an edge is a side of, with its width before and after at the first side once both are placed.
+fn stem(edges: &[i32], i: usize)
+    requires { ⌜ i ≤ 127 ⌝ }
+{
+    let link = field(edges, i, LINK);
+    let other = place_of(link);
+    if other == NONE {
         return;
-    };
-    text(b"  stem with ");
-    count(k as usize);
-    if i < k as usize {
-        if other.flags.done {
-            width(edge, other);
+    }
+    show(b"  stem with #", &[link]);
+    if i < other {
+        if done(edges, other) {
+            let was = distance(edges, i, other, OPOS);
+            let is = distance(edges, i, other, POS);
+            show(b", width ~ -> ~", &[was, is]);
         }
     }
 }
 
-// Writes an edge that a step changed: its font position, where it was and where it is, its stem and its zone.
-fn row(i: usize, was: Edge, edge: Edge, other: Edge) {
-    if stayed(was, edge) {
+// Writes that an edge is on its zone, where it is.
+fn zone(edges: &[i32], i: usize)
+    requires { ⌜ i ≤ 127 ⌝ }
+{
+    if field(edges, i, BLUE) == 0 {
         return;
     }
-    text(b"    edge");
-    place(i);
-    text(b"  at ");
-    font(edge.fpos);
-    position(wide(was.pos));
-    text(b" ->");
-    position(wide(edge.pos));
-    stem(i, edge, other);
-    if on_zone(edge) {
+    if field(edges, i, FITTED) == field(edges, i, POS) {
         text(b"  on its zone");
     }
+}
+
+// Writes an edge that a step changed: its font position, where it was and where it is, its stem and its zone. Where there were no edges before, its font position alone.
+fn row(before: &[i32], edges: &[i32], i: usize)
+    requires { ⌜ i ≤ 127 ⌝ }
+{
+    if before.len() == 0 {
+        show(b" ^", &[field(edges, i, FPOS)]);
+        return;
+    }
+    if stayed(before, edges, i) {
+        return;
+    }
+    let numbers = [
+        count_word(i),
+        field(edges, i, FPOS),
+        field(before, i, POS),
+        field(edges, i, POS),
+    ];
+    show(b"    edge^  at ^@ ->@", &numbers);
+    stem(edges, i);
+    zone(edges, i);
     text(b"\n");
 }
 
 // Writes the edges that a step changed.
-pub fn changes(before: Axis, after: Axis) {
-    let n = least(after.len, 128);
+pub fn changes(before: &[i32], edges: &[i32], count: usize) {
+    let n = least(count, 128);
     let mut i = 0;
     while i < n {
-        let was = before.edges[i];
-        let edge = after.edges[i];
-        let link = edge.link;
-        let k = least(index_or(link, i), 127);
-        row(i, was, edge, after.edges[k]);
+        row(before, edges, i);
         i += 1;
     }
 }

@@ -1,17 +1,14 @@
 // A glyph on its way through the chain.
-use axis::edge::Axis;
-use axis::edge::empty_axis;
-use axis::kinds::Dimension;
-use axis::kinds::Direction;
-use axis::kinds::Link;
-use axis::segment::Segments;
-use axis::segment::empty_segments;
+use words::word::least;
+ghost use Prim.Native.Nat.{_≤_};
 
-// What the steps hand on: the segments, the axis with its edges, and the anchor; and whether a step refused what it was given.
+// What the steps hand on: the words of the job that has the segments, as the last step left them; the words of the edges, and how many there are; the anchor; and
+// whether a step refused what it was given.
 pub struct Glyph {
-    pub segments: Segments,
-    pub axis: Axis,
-    pub anchor: Link,
+    pub topo: [i32; 32769],
+    pub edges: [i32; 1408],
+    pub count: usize,
+    pub anchor: i32,
     pub refused: bool,
 }
 
@@ -19,10 +16,30 @@ impl Glyph {
     // A glyph of which nothing is known yet.
     pub fn new() -> Glyph {
         Glyph {
-            segments: empty_segments(),
-            axis: empty_axis(Dimension::Horizontal, Direction::None),
-            anchor: Link::None,
+            topo: [0; 32769],
+            edges: [0; 1408],
+            count: 0,
+            anchor: -1,
             refused: false,
         }
     }
+}
+
+// The glyph that a step refused.
+pub fn stopped(mut glyph: Glyph) -> Glyph {
+    glyph.refused = true;
+    glyph
+}
+
+// The edges of a glyph, as an array whose length a caller knows.
+pub fn edges_of(glyph: Glyph) -> [i32; 1408] {
+    let edges = glyph.edges;
+    edges
+}
+
+// How many words the edges of a glyph are.
+pub fn edge_words(glyph: Glyph) -> usize
+    ensures { λ r. ⌜ r ≤ 1408 ⌝ }
+{
+    11 * least(glyph.count, 128)
 }

@@ -1,5 +1,9 @@
 // Texts, numbers, positions and refusals, written to standard output.
 use libc::STDOUT_FILENO;
+use middle::bits::bits_of;
+use words::word::size_of;
+use words::word::word_at;
+ghost use Prim.Native.Nat.{_≤_};
 
 // Writes bytes to standard output.
 pub fn text(bytes: &[u8]) {
@@ -7,77 +11,49 @@ pub fn text(bytes: &[u8]) {
 }
 
 // Writes a count in decimal.
-pub fn count(n: usize) {
+fn count(n: usize) {
     io::print_decimal(STDOUT_FILENO, n as u64);
 }
 
-// A number of 32 bits in 64.
-pub fn wide(x: i32) -> i64 {
-    x as i64
-}
-
-// A number of 16 bits in 64.
-pub fn wide_16(x: i16) -> i64 {
-    x as i64
-}
-
-// How far one position is behind another.
-pub fn distance(from: i32, to: i32) -> i64 {
-    (to as i64) - (from as i64)
-}
-
-// The magnitude of any number.
-fn size(x: i64) -> u64 {
+// The magnitude of a number.
+fn size(x: i32) -> usize {
     if x < 0 {
-        return (-1 - x) as u64 + 1;
+        return std::num::wrapping_sub_u32(0, bits_of(x)) as usize;
     }
-    x as u64
+    size_of(x)
 }
 
-// Writes a space where it is asked for.
-fn space(wanted: bool) {
-    if wanted {
+// Writes a space in front of a number below a bound.
+fn pad(n: usize, bound: usize) {
+    if n < bound {
         text(b" ");
     }
 }
 
-// Writes a minus or a space.
-fn sign(negative: bool) {
+// Writes a number behind a minus or a space, in three columns.
+fn signed(negative: bool, n: usize) {
+    pad(n, 10);
     if negative {
         text(b"-");
-        return;
+    } else {
+        text(b" ");
     }
-    text(b" ");
+    count(n);
 }
 
 // Writes a number of up to three digits and its sign in four columns.
-fn whole(negative: bool, n: u64) {
-    space(n < 100);
-    space(n < 10);
-    sign(negative);
-    io::print_decimal(STDOUT_FILENO, n);
-}
-
-// Writes 64ths of a pixel and their sign in six columns.
-fn part(negative: bool, n: u64) {
-    space(n < 10);
-    sign(negative);
-    io::print_decimal(STDOUT_FILENO, n);
-    text(b"/64");
-}
-
-// Writes a place in a list, in four columns.
-pub fn place(i: usize) {
-    whole(false, i as u64);
+fn whole(negative: bool, n: usize) {
+    pad(n, 100);
+    signed(negative, n);
 }
 
 // Writes a font position, in four columns.
-pub fn font(x: i16) {
-    whole(x < 0, size(wide_16(x)));
+fn font(x: i32) {
+    whole(x < 0, size(x));
 }
 
 // Writes a position in pixels and 64ths, in ten columns.
-pub fn position(x: i64) {
+fn position(x: i32) {
     let n = size(x);
     if n % 64 == 0 {
         text(b"      ");
@@ -86,51 +62,80 @@ pub fn position(x: i64) {
     }
     if n < 64 {
         text(b"    ");
-        part(x < 0, n);
-        return;
+        signed(x < 0, n);
+    } else {
+        whole(x < 0, n / 64);
+        signed(false, n % 64);
     }
-    whole(x < 0, n / 64);
-    part(false, n % 64);
+    text(b"/64");
 }
 
 // Writes a width in pixels and 64ths.
-pub fn extent(x: i64) {
+fn extent(x: i32) {
     let n = size(x);
     if x < 0 {
         text(b"-");
     }
     if n % 64 == 0 {
-        io::print_decimal(STDOUT_FILENO, n / 64);
+        count(n / 64);
         return;
     }
     if 64 <= n {
-        io::print_decimal(STDOUT_FILENO, n / 64);
+        count(n / 64);
         text(b" ");
     }
-    io::print_decimal(STDOUT_FILENO, n % 64);
+    count(n % 64);
     text(b"/64");
 }
 
-// Writes what a refusal of document 01 means.
-fn refusal(number: u8) {
-    match number {
-        1 => text(b"a list is too long, or the point lists differ in length"),
-        2 => text(b"a number or the width rule's list is outside its limits"),
-        3 => text(b"a contour end breaks its rule, or an index is beyond its list"),
-        4 => text(b"a coordinate, position, score, len or delta is outside its limits"),
-        5 => text(b"no room for one edge more"),
-        _ => text(b"no refusal has this number"),
+// Writes a byte of a text, or in its place a number: # a count, ^ a number in four columns, @ a position, ~ a width. Tells how many numbers that took.
+fn mark(byte: u8, x: i32) -> usize
+    ensures { λ r. ⌜ r ≤ 1 ⌝ }
+{
+    match byte {
+        35 => count(size_of(x)),
+        94 => font(x),
+        64 => position(x),
+        126 => extent(x),
+        _ => {
+            let bytes = [byte];
+            text(&bytes);
+            return 0;
+        }
+    }
+    1
+}
+
+// Writes a text with numbers in the places of its marks.
+pub fn show(template: &[u8], numbers: &[i32]) {
+    let mut k = 0;
+    let mut i = 0;
+    while i < template.len() {
+        k += mark(template[i], word_at(numbers, k));
+        i += 1;
     }
 }
 
-// Writes the end of a step's line where it was refused, and tells whether it was.
-pub fn refused(answer: u8) -> bool {
+// Writes what a refusal of the library means.
+fn refusal(answer: u8) {
+    match answer {
+        1 => text(b"refused by 1: a list is too long, or the point lists differ in length"),
+        2 => text(b"refused by 2: a number or the width rule's list is outside its limits"),
+        3 => text(b"refused by 3: a contour end breaks its rule, or an index is beyond its list"),
+        4 => text(
+            b"refused by 4: a coordinate, position, score, len or delta is outside its limits",
+        ),
+        5 => text(b"refused by 5: no room for one edge more"),
+        _ => text(b"refused by 255: a word is none of its field's values"),
+    }
+}
+
+// Begins the line of a step, ends it where the step was refused, and tells whether it was.
+pub fn refused(step: &[u8], answer: u8) -> bool {
+    text(step);
     if answer == 0 {
         return false;
     }
-    text(b"refused by ");
-    io::print_decimal(STDOUT_FILENO, answer as u64);
-    text(b": ");
     refusal(answer);
     text(b"; the steps behind it are left out\n");
     true

@@ -7,28 +7,37 @@ use super::points::weak;
 use super::print::text;
 use super::topo::build;
 use super::topo::link;
-use jobs::call::Call;
-use jobs::call::job_of;
+use words::word::word_at;
+ghost use Prim.Native.Nat.{_≤_};
 
-// What a line that is no step leaves: the glyph as it was.
-fn no_step(glyph: Glyph) -> Glyph {
-    text(b"  a line that is no step of the chain is left out\n");
-    glyph
+// The glyph after a step that fits its edges or its points.
+fn fit(words: &[i32], glyph: Glyph) -> Glyph {
+    match word_at(words, 0) {
+        3 => weak(words, glyph),
+        6 => zones(words, glyph),
+        12 => stems(words, glyph),
+        13 => m(words, glyph),
+        _ => {
+            text(b"  a line that is no step of the chain is left out\n");
+            glyph
+        }
+    }
 }
 
-// The glyph after the step that a line's words ask for; nothing more is done once a step was refused.
-pub fn step(words: &[i32], glyph: Glyph) -> Glyph {
+// The glyph behind the end of a line of n words: a new one where there are none, else the glyph after the step that they ask for. Nothing more is done once a step was refused.
+pub fn step(words: [i32; 32769], n: usize, glyph: Glyph) -> Glyph
+    requires { ⌜ n ≤ 32769 ⌝ }
+{
+    if n == 0 {
+        text(b"\n");
+        return Glyph::new();
+    }
     if glyph.refused {
         return glyph;
     }
-    let call = job_of(words);
-    match call {
-        Call::LinkSegmentsCjk => link(words, glyph),
-        Call::ComputeEdges => build(words, glyph),
-        Call::AlignEdgesToBlues => zones(words, glyph),
-        Call::AlignStemEdges => stems(words, glyph),
-        Call::HintLowercaseM => m(words, glyph),
-        Call::AlignWeakPoints => weak(words, glyph),
-        _ => no_step(glyph),
+    match words[0] {
+        4 => link(words, glyph),
+        5 => build(words, glyph),
+        _ => fit(&words[0..n], glyph),
     }
 }

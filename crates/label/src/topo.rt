@@ -1,142 +1,131 @@
 // What is there: segments linked, and edges built from them.
+use super::edges::changes;
 use super::glyph::Glyph;
-use super::print::count;
-use super::print::font;
+use super::glyph::stopped;
 use super::print::refused;
+use super::print::show;
 use super::print::text;
-use axis::accept::least;
-use axis::edge::Axis;
-use axis::edge::empty_axis;
-use axis::kinds::Link;
-use axis::link::index_or;
-use axis::segment::Segment;
-use axis::segment::Segments;
-use building::build::compute_edges;
-use building::numbers::Thresholds;
-use linking::link::link_segments_cjk;
-use words::edge::behind_edges;
-use words::field::choice_at;
-use words::field::dimension_at;
-use words::field::direction_at;
-use words::field::group_at;
-use words::segment::behind_segments;
-use words::segment::segments_from;
-use words::word::count_at;
+use khsaemudol::khs_compute_edges;
+use khsaemudol::khs_link_segments_cjk;
+use words::word::count_word;
+use words::word::least;
+use words::word::size_of;
 use words::word::word_at;
+ghost use Prim.Native.Nat.{_≤_};
 
-// Writes the stem that a segment is linked to, once where the two are linked to each other.
-fn pair(i: usize, segment: Segment, other: Segment) {
-    let link = segment.link;
-    let Link::To(k) = link else {
-        return;
-    };
-    let back = other.link;
-    if (k as usize) < i {
-        if index_or(back, 512) == i {
-            return;
-        }
+// The words from a place on.
+pub fn tail(words: &[i32], at: usize) -> &[i32] {
+    if at < words.len() {
+        return &words[at..];
     }
-    text(b", ");
-    count(i);
-    text(b" with ");
-    count(k as usize);
+    &words[..0]
+}
+
+// How many segments a job has: at most one more than a call takes.
+fn segments(words: &[i32]) -> usize
+    ensures { λ r. ⌜ r ≤ 513 ⌝ }
+{
+    least(size_of(word_at(words, 1)), 513)
+}
+
+// Writes the stem that a segment is linked to, at the first of its two sides.
+fn pair(words: &[i32], i: usize)
+    requires { ⌜ i ≤ 512 ⌝ }
+{
+    let link = word_at(words, 2 + 15 * i + 9);
+    let n = count_word(i);
+    if n < link {
+        show(b", # with #", &[n, link]);
+    }
 }
 
 // Writes all stems.
-fn pairs(table: Segments) {
-    let n = least(table.len, 512);
+fn pairs(words: &[i32]) {
+    let n = segments(words);
     let mut i = 0;
     while i < n {
-        let segment = table.segments[i];
-        let link = segment.link;
-        let k = least(index_or(link, 0), 511);
-        pair(i, segment, table.segments[k]);
+        pair(words, i);
         i += 1;
+    }
+}
+
+// The glyph of the segments that were linked, which are written.
+fn paired(topo: [i32; 32769]) -> Glyph {
+    show(b"# segments", &[word_at(&topo, 1)]);
+    pairs(&topo);
+    text(b"\n");
+    Glyph {
+        topo,
+        edges: [0; 1408],
+        count: 0,
+        anchor: -1,
+        refused: false,
     }
 }
 
 // Links the segments of a job.
-pub fn link(words: &[i32], glyph: Glyph) -> Glyph {
-    let segments = segments_from(words, 1);
-    let behind = behind_segments(words, 1);
-    let major_dir = direction_at(words, behind);
-    let units_per_em = word_at(words, behind + 1);
-    let scale = word_at(words, behind + 2);
-    let linked = link_segments_cjk(segments, major_dir, units_per_em, scale);
-    let table = linked.segments;
-    text(b"  linking   ");
-    let no = refused(linked.answer);
-    if !no {
-        count(table.len);
-        text(b" segments");
-        pairs(table);
-        text(b"\n");
-    }
-    let axis = glyph.axis;
-    let anchor = glyph.anchor;
-    Glyph {
-        segments: table,
-        axis,
-        anchor,
-        refused: no,
-    }
-}
-
-// The segments of a job, or those that linking handed on where the job has none.
-fn segments_of(words: &[i32], linked: Segments) -> Segments {
-    if count_at(words, 1) == 0 {
-        return linked;
-    }
-    segments_from(words, 1)
-}
-
-// Writes the font positions of all edges.
-fn places(axis: Axis) {
-    let n = least(axis.len, 128);
-    let mut i = 0;
-    while i < n {
-        let edge = axis.edges[i];
-        text(b" ");
-        font(edge.fpos);
-        i += 1;
-    }
-}
-
-// Builds the edges of a glyph.
-pub fn build(words: &[i32], glyph: Glyph) -> Glyph {
-    let at = behind_edges(words, behind_segments(words, 1));
-    let dim = dimension_at(words, at);
-    let major_dir = direction_at(words, at + 1);
-    let linked = glyph.segments;
-    let built = compute_edges(
-        segments_of(words, linked),
-        empty_axis(dim, major_dir),
-        group_at(words, at + 2),
-        choice_at(words, at + 3),
-        word_at(words, at + 4),
-        Thresholds {
-            distance: word_at(words, at + 5),
-            length: word_at(words, at + 6),
-            width: word_at(words, at + 7),
-        },
+pub fn link(words: [i32; 32769], glyph: Glyph) -> Glyph {
+    let mut topo = words;
+    let end = 2 + 15 * segments(&words);
+    let numbers = tail(&words, end);
+    let answer = khs_link_segments_cjk(
+        &mut topo[2..end],
+        word_at(numbers, 0),
+        word_at(numbers, 1),
+        word_at(numbers, 2),
     );
-    let segments = built.segments;
-    let axis = built.axis;
-    text(b"  building  ");
-    let no = refused(built.answer);
-    if !no {
-        count(segments.len);
-        text(b" segments make ");
-        count(axis.len);
-        text(b" edges, at");
-        places(axis);
-        text(b"\n");
+    if refused(b"  linking   ", answer) {
+        return stopped(glyph);
     }
-    let anchor = glyph.anchor;
+    paired(topo)
+}
+
+// The words that have the segments: the job's, or those that linking handed on where the job has none.
+fn topo_of(words: [i32; 32769], glyph: Glyph) -> [i32; 32769] {
+    if segments(&words) == 0 {
+        let topo = glyph.topo;
+        return topo;
+    }
+    words
+}
+
+// The glyph of the edges that were built, which are written.
+fn built(topo: [i32; 32769], edges: [i32; 1408], count: i32) -> Glyph {
+    show(b"# segments make # edges, at", &[word_at(&topo, 1), count]);
+    let n = size_of(count);
+    changes(&[], &edges, n);
+    text(b"\n");
     Glyph {
-        segments,
-        axis,
-        anchor,
-        refused: no,
+        topo,
+        edges,
+        count: n,
+        anchor: -1,
+        refused: false,
     }
+}
+
+// Builds the edges of a glyph. The job has no old edges.
+pub fn build(words: [i32; 32769], glyph: Glyph) -> Glyph {
+    let mut topo = topo_of(words, glyph);
+    let end = 2 + 15 * segments(&topo);
+    let numbers = tail(&words, 3 + 15 * segments(&words));
+    let mut edges = [0i32; 1408];
+    let mut count = 0;
+    let answer = khs_compute_edges(
+        &mut topo[2..end],
+        &mut edges,
+        word_at(numbers, 0),
+        word_at(numbers, 1),
+        word_at(numbers, 2),
+        word_at(numbers, 3),
+        word_at(numbers, 4),
+        word_at(numbers, 5),
+        word_at(numbers, 6),
+        word_at(numbers, 7),
+        &mut count,
+    );
+    if refused(b"  building  ", answer) {
+        return stopped(glyph);
+    }
+    built(topo, edges, count)
 }

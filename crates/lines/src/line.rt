@@ -1,5 +1,5 @@
 // A line of text as it is read: words of eight upper-case hexadecimal digits, nothing between them.
-use fixed::bits::signed_of;
+use middle::bits::signed_of;
 ghost use Prim.Native.Nat.{_≤_};
 ghost use lib.ListN.{length};
 

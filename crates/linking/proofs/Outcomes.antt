@@ -9,13 +9,15 @@ use Rattle.axis.specs.declared.segment.Segments.{Segments}
 use Rattle.axis.specs.Accepted.{SegmentsWithin}
 use Rattle.axis.specs.Refusals.{firstRefusal, segmentsRefusal}
 use Rattle.axis.specs.Segment.{segmentAt}
+use Rattle.linking_rounds.specs.Rounds.{linked}
+use Rattle.linking_rounds.proofs.Handing.{start-closed}
+use Rattle.linking_rounds.proofs.Ranges.{Shorts, linked-within}
+use Rattle.linking_rounds.proofs.Unchanged.{OnlyLinked, linked-only}
 use Rattle.linking.specs.declared.link.Linked.{Linked}
-use Rattle.linking.specs.Linking.{linked, thresholdsOf, linkingRefusal, beside, linkSegmentsCjk}
+use Rattle.linking.specs.Linking.{thresholdsOf, linkingRefusal, beside, linkSegmentsCjk}
 use Rattle.linking.proofs.Accepting.{no-reason}
-use Rattle.linking.proofs.Calls.{accepted, start-closed}
+use Rattle.linking.proofs.Calls.{accepted}
 use Rattle.linking.proofs.Numbers.{len-not-below-0}
-use Rattle.linking.proofs.Ranges.{Shorts, linked-within}
-use Rattle.linking.proofs.Unchanged.{OnlyLinked, linked-only}
 
 module _ (t : Segments) (major : Direction) (upem scale : ℤ) where
   -- a refusal hands back its number and the segments as they were

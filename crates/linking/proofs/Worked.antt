@@ -17,9 +17,10 @@ use Rattle.axis.specs.Limits.{mostSegments}
 use Rattle.axis.specs.Link.{linksTo}
 use Rattle.axis.specs.Refusals as R
 use Rattle.axis.specs.Segment.{emptySegment}
+use Rattle.linking_rounds.specs.Loops.{turns, till}
+use Rattle.linking_rounds.specs.Pairs as P
+use Rattle.linking_rounds.specs.Rounds as Q
 use Rattle.linking.specs.declared.link.Linked.{Linked}
-use Rattle.linking.specs.Loops.{turns, till}
-use Rattle.linking.specs.Pairs as P
 use Rattle.linking.specs.Linking as L
 
 -- what the definition gives, and what it should
@@ -114,5 +115,5 @@ rows =
 
 -- each row holds
 pub worked : map (λ (r : Row). r .gives) rows ≡ map (λ (r : Row). r .value) rows
-unfolding near nearZ divFix derived D.same D.opposite linksTo R.linkHolds R.every R.segmentIndices R.segmentNext R.segmentNumbers R.segmentsIndices R.segmentsNexts R.segmentsNumbers R.segmentsRefusal turns till P.maxZ P.minZ P.gapOf P.facing P.checkSeg P.improvedBy P.nearStem P.encloses P.muchLonger P.rewritten P.staysSerif P.settled L.improvePair L.pairTurn L.majorTurn L.pairRound L.rewriteTurn L.rewriteAll L.unlink L.heldTo L.givenUpTo L.holdTurn L.givenUp L.hold L.serifTo L.serifTurn L.serifRound L.lastTo L.lastTurn L.lastRound L.linked L.thresholdsOf L.numbersHold L.linkingRefusal L.linkSegmentsCjk rows
+unfolding near nearZ divFix derived D.same D.opposite linksTo R.linkHolds R.every R.segmentIndices R.segmentNext R.segmentNumbers R.segmentsIndices R.segmentsNexts R.segmentsNumbers R.segmentsRefusal turns till P.maxZ P.minZ P.gapOf P.facing P.checkSeg P.improvedBy P.nearStem P.encloses P.muchLonger P.rewritten P.staysSerif P.settled Q.improvePair Q.pairTurn Q.majorTurn Q.pairRound Q.rewriteTurn Q.rewriteAll Q.unlink Q.heldTo Q.givenUpTo Q.holdTurn Q.givenUp Q.hold Q.serifTo Q.serifTurn Q.serifRound Q.lastTo Q.lastTurn Q.lastRound Q.linked L.thresholdsOf L.numbersHold L.linkingRefusal L.linkSegmentsCjk rows
 worked = refl

@@ -1,6 +1,2 @@
--- What the contracts of `linking` cite: loops as iterations, what is asked of one segment or of two, the three rounds and the call, and what the steps
--- promise each other.
-pub mod Loops
-pub mod Pairs
+-- What the contracts of `linking` cite: the call, over the definition of the rounds in `linking_rounds`.
 pub mod Linking
-pub mod Steps

@@ -1,7 +1,3 @@
-// Document 01, module 3: CJK linking (topo/segments.rs of the Rust). `link` has the public call, the others its steps.
-mod gap;
+// Document 01, module 3: CJK linking (topo/segments.rs of the Rust). `link` has the public call; its rounds are `linking_rounds`.
 pub mod link;
-mod rounds;
-mod serif;
-mod stem;
 mod thresholds;

@@ -1,13 +1,13 @@
 // The public call (the Rust's `link_segments_cjk`).
-use super::rounds::last_round;
-use super::rounds::pair_round;
-use super::rounds::serif_round;
 use super::thresholds::numbers_hold;
 use super::thresholds::thresholds_of;
 use axis::accept::segments_nexts;
 use axis::accept::segments_refusal;
 use axis::kinds::Direction;
 use axis::segment::Segments;
+use linking_rounds::rounds::last_round;
+use linking_rounds::rounds::pair_round;
+use linking_rounds::rounds::serif_round;
 ghost use mathlib.Core.Path.{_≡_};
 ghost use Rattle.linking.specs.Linking.{linkSegmentsCjk};
 

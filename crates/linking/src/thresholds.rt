@@ -1,4 +1,4 @@
-// What the rounds measure stems by (the Rust's `len_threshold` and `dist_threshold`), and the numbers that it comes from.
+// The thresholds of a call, and the numbers that they come from.
 use axis::accept::is_inside;
 use axis::limits::LEAST_SCALE;
 use axis::limits::LEAST_UNITS_PER_EM;
@@ -6,15 +6,10 @@ use axis::limits::MOST_SCALE;
 use axis::limits::MOST_UNITS_PER_EM;
 use fixed::point::derived_constant;
 use fixed::point::fixed_div;
+use linking_rounds::thresholds::Thresholds;
 ghost use mathlib.Core.Path.{_≡_};
 ghost use mathlib.Core.Bool.{true};
 ghost use Rattle.linking.specs.Linking.{numbersHold, thresholdsOf};
-
-// The least overlap of the two segments of a stem, and the distance below which a stem is near.
-pub struct Thresholds {
-    pub len: i32,
-    pub dist: i32,
-}
 
 // Whether units per em and scale are accepted.
 pub fn numbers_hold(units_per_em: i32, scale: i32) -> bool

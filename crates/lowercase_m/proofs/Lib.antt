@@ -1,3 +1,4 @@
 -- The laws by subject, each over plain variables; then `Determined`, that the promise determines the outcome.
+pub mod Choices
 pub mod Places
 pub mod Determined

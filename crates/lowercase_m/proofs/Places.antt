@@ -1,5 +1,5 @@
 -- How far the moves take the positions.
-use mathlib.Core.Path.{_≡_, refl}
+use mathlib.Core.Path.{_≡_, refl, sym, subst}
 use mathlib.Core.Bool.{Bool, true, false}
 use mathlib.Core.List.{List, [], _∷_}
 use Prim.Native.Nat.{ℕ, zero, suc, _+_, _<_, _≤_}
@@ -44,6 +44,13 @@ units-read z h = is (fits-in w32 h tt tt)
 
 pub pos-read : (z : ℤ) → Between unmoved unmoved z → toZ w32 (ofZ w32 z) ≡ z
 pos-read z h = is (fits-in w32 h tt tt)
+
+-- and is within it when read back
+pub units-held : (z : ℤ) → Between mostUnits mostUnits z → Between mostUnits mostUnits (toZ w32 (ofZ w32 z))
+units-held z h = subst (Between mostUnits mostUnits) (sym (units-read z h)) h
+
+pub pos-held : (z : ℤ) → Between unmoved unmoved z → Between unmoved unmoved (toZ w32 (ofZ w32 z))
+pos-held z h = subst (Between unmoved unmoved) (sym (pos-read z h)) h
 
 pub delta-between : (z : ℤ) → I32 mostDelta mostDelta z → Between mostDelta mostDelta z
 delta-between z h = omega (arith, h)

@@ -11,10 +11,11 @@ use lib.IntN.{ℤ, pos, negℤ, _-ℤ_}
 use lib.Signed.{_≤ℤ_}
 use Rattle.signed.specs.Range.{Between}
 use Rattle.signed.proofs.Signed.{add-law, sub-law, between-plain}
-use Rattle.outline.specs.Limits.{mostResult}
+use Rattle.contours.specs.Limits.{mostResult}
 use Rattle.signed.specs.Equality.{eqZ}
-use Rattle.outline.specs.Weak.{at, Contour, contourOf, isTouched, References, references, firstOf, secondOf, betweenAt, shiftedAt, followed, weakAt, onContour, alignedAt, Outcome}
-use Rattle.outline.specs.Steps.{Coordinates}
+use Rattle.contours.specs.Contour.{at, Contour, isTouched, References, references, firstOf, secondOf, betweenAt, shiftedAt, followed, weakAt}
+use Rattle.outline.specs.Weak.{contourOf, onContour, alignedAt, Outcome}
+use Rattle.contours.specs.Steps.{Coordinates}
 use Rattle.outline.proofs.Refusals.{accepted}
 use Rattle.outline.proofs.Interpolated.{bounded}
 use Rattle.outline.proofs.Outcomes.{result-at}

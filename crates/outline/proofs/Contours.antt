@@ -13,8 +13,10 @@ use lib.Dec.{leb, ltb}
 use lib.ListN.{length, getD, take, drop, length-take, length-drop, drop-of-length-le, List·getD-append, List·getD-eq-default}
 use lib.Seq.{getD-take, getD-drop, getD-append-add, drop-drop, length-take-le}
 use lib.IntN.{ℤ, pos}
-use Rattle.outline.specs.Weak.{at, endsHold, Contour, contourOf, weakAt, onContour, alignedAt}
-use Rattle.outline.specs.Steps.{Coordinate, Coordinates, Done, AllDone}
+use Rattle.contours.specs.Contour.{at, Contour, weakAt}
+use Rattle.outline.specs.Weak.{endsHold, contourOf, onContour, alignedAt}
+use Rattle.contours.specs.Steps.{Coordinate, Coordinates, Done}
+use Rattle.outline.specs.Steps.{AllDone}
 use Rattle.outline.proofs.Refusals.{drop-one, both, EndAt, end-at}
 use Rattle.outline.proofs.Parts.{stretch, weak-part}
 

@@ -10,16 +10,16 @@ use lib.ListN.{length}
 use lib.IntN.{ℤ}
 use lib.Signed.{_≤ℤ_, _<ℤ_}
 use Rattle.signed.proofs.Signed.{signed}
-use Rattle.outline.specs.Weak.{at, Contour, contourOf, isTouched, References, refs, references, firstOf, secondOf, betweenAt, interpolated, onContour, alignedAt, Outcome}
+use Rattle.contours.specs.Contour.{at, Contour, isTouched, References, refs, references, firstOf, secondOf, betweenAt, interpolated}
+use Rattle.outline.specs.Weak.{contourOf, onContour, alignedAt, Outcome}
 use Rattle.outline.specs.Steps.{Accepted}
 use Rattle.outline.specs.Faithful.{Follows, Faithful, Amid, InOrder}
 use Rattle.outline.proofs.Refusals.{accepted}
-use Rattle.outline.proofs.Searches.{unmarked}
-use Rattle.outline.proofs.References.{refs-differ}
-use Rattle.outline.proofs.Points.{weak-two}
+use Rattle.contours.proofs.Searches.{unmarked}
+use Rattle.contours.proofs.Points.{weak-two}
 use Rattle.outline.proofs.Contours.{contour-holds}
 use Rattle.outline.proofs.Interpolated.{faithful-at, grows}
-use Rattle.outline.proofs.Neighbours.{refs-ordered, low, high, around, spanned, rising}
+use Rattle.outline.proofs.Neighbours.{refs-ordered, refs-differ, low, high, around, spanned, rising}
 use Rattle.outline.proofs.Outcomes.{result-at}
 
 module _ (o c d : List ℤ) (t es : List ℕ) (outcome : Outcome o c t es 0 d) where

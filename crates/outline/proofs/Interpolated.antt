@@ -10,11 +10,11 @@ use Rattle.signed.specs.Range.{Between}
 use Rattle.signed.proofs.Signed.{add-law, sub-law, one-zero, lt-or-le, same, atmost, _also_, signed}
 use Rattle.fixed.specs.Point.{mulFix, divFix}
 use Rattle.fixed.proofs.Interpolation.{interpolation-grows}
-use Rattle.outline.specs.Limits.{mostResult}
-use Rattle.outline.specs.Weak.{interpolated}
-use Rattle.outline.specs.Steps.{Coordinate, Ordered}
+use Rattle.contours.specs.Limits.{mostResult}
+use Rattle.contours.specs.Contour.{interpolated}
+use Rattle.contours.specs.Steps.{Coordinate, Ordered}
 use Rattle.outline.specs.Faithful.{Faithful}
-use Rattle.outline.proofs.Spans.{interpolated-low, interpolated-high, interpolated-is, between-law}
+use Rattle.contours.proofs.Spans.{interpolated-low, interpolated-high, interpolated-is, between-law}
 
 -- ---- the three places of an original: at or below the first, between, at or above the second
 pub data Place (v v1 v2 : ℤ) : Type 0 where

@@ -1,12 +1,5 @@
 -- The laws by subject, each over plain variables; then `Outcomes`, that the promise determines the outcome, and demand 3: `Faithful` and `Bounds`.
 pub mod Refusals
-pub mod Writing
-pub mod Spans
-pub mod Shifts
-pub mod Searches
-pub mod References
-pub mod Points
-pub mod Stretch
 pub mod Parts
 pub mod Contours
 pub mod Outcomes

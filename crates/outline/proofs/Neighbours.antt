@@ -1,17 +1,21 @@
--- The references of a point in their order.
-use mathlib.Core.Path.{_≡_, refl, sym}
+-- The references of a point: in their order, and two of them where two points are touched.
+use mathlib.Core.Path.{_≡_, refl, sym, _∙_, ap}
 use mathlib.Core.Bool.{Bool, true, false}
 use mathlib.Core.List.{List}
-use Prim.Native.Nat.{ℕ, _+_, _<_}
+use mathlib.Core.Option.{some}
+use Prim.Native.Nat.{ℕ, _+_, _≤_, _<_}
 use native.Mathlib.Omega.{arith}
+use lib.ListN.{getD}
 use lib.IntN.{ℤ}
 use lib.Signed.{ltZ, _≤ℤ_}
 use Rattle.signed.specs.Parts.{up, dn}
 use Rattle.signed.proofs.Signed.{atmost, same, is-<ℤ, signed}
-use Rattle.outline.specs.Weak.{at, References, refs, firstOf, secondOf}
-use Rattle.outline.specs.Steps.{Coordinates, Ordered}
-use Rattle.outline.specs.Faithful.{InOrder}
-use Rattle.outline.proofs.Spans.{apart}
+use Rattle.contours.specs.Contour.{at, Contour, References, refs, references, firstOf, secondOf}
+use Rattle.contours.specs.Steps.{Coordinates, Ordered}
+use Rattle.outline.specs.Faithful.{TwoTouched, InOrder}
+use Rattle.contours.proofs.Searches.{marked}
+use Rattle.contours.proofs.References.{refs-same}
+use Rattle.contours.proofs.Spans.{apart}
 
 -- the first has no larger original
 refs-order : (o : List ℤ) (r : References) → at o (firstOf o r) ≤ℤ at o (secondOf o r)
@@ -26,6 +30,14 @@ refs-order o r = by (ltZ (at o (r .behind)) (at o (r .before))) refl
 pub refs-ordered : (o c : List ℤ) (r : References) → Coordinates o → Coordinates c → Ordered (at o (firstOf o r)) (at c (firstOf o r)) (at o (secondOf o r)) (at c (secondOf o r))
 refs-ordered o c r ho hc =
     record { original1 = ho (firstOf o r); current1 = hc (firstOf o r); original2 = ho (secondOf o r); current2 = hc (secondOf o r); order = refs-order o r }
+
+-- where a contour has two touched points, the references of an untouched one differ
+pub refs-differ : (t : List ℕ) (k : Contour) (i : ℕ) → k .start ≤ i → i < k .end → getD t i 0 ≡ 0 → TwoTouched t k → (r : References) → references t k i ≡ some r → r .before ≡ r .behind → ⊥
+refs-differ t k i inside below free w r e q =
+    let f = e ∙ ap (λ (b : ℕ). some (refs (r .before) b)) (sym q) in
+    w .different
+    (refs-same t k i inside below (r .before) free f (w .x) (w .x-on .0) (w .x-on .1) (marked t (w .x) (w .x-touched))
+    ∙ sym (refs-same t k i inside below (r .before) free f (w .y) (w .y-on .0) (w .y-on .1) (marked t (w .y) (w .y-touched))))
 
 -- ---- two neighbouring touched points p and q
 -- the one of smaller original

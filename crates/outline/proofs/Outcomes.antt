@@ -8,7 +8,8 @@ use borrow.Author.Tests.{eq-eqb, ne-eqb}
 use lib.ListN.{length}
 use lib.Seq.{ext-getD}
 use lib.IntN.{ℤ, pos}
-use Rattle.outline.specs.Weak.{at, refusal, alignedAt, listOf, result, Outcome}
+use Rattle.contours.specs.Contour.{at}
+use Rattle.outline.specs.Weak.{refusal, alignedAt, listOf, result, Outcome}
 use Rattle.outline.specs.Steps.{AllDone}
 
 -- ---- `listOf`

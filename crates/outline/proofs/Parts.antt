@@ -12,8 +12,8 @@ use lib.ListN.{getD, take, drop}
 use lib.Seq.{getD-take, getD-drop}
 use lib.IntN.{ℤ, pos}
 use lib.Signed.{ltZ}
-use Rattle.outline.specs.Weak.{at, isTouched, firstTouched, lastTouched, orElse, Contour, touchedBefore, touchedBehind, References, refs, paired, references, firstOf, secondOf, betweenAt, shiftedAt, followed, weakAt}
-use Rattle.outline.proofs.Searches.{last-is, first-is, found-by}
+use Rattle.contours.specs.Contour.{at, isTouched, firstTouched, lastTouched, orElse, Contour, touchedBefore, touchedBehind, References, refs, paired, references, firstOf, secondOf, betweenAt, shiftedAt, followed, weakAt}
+use Rattle.contours.proofs.Searches.{last-is, first-is, found-by}
 
 -- the stretch of a list
 abbrev pub part {ℓ} : {A : Type ℓ} → ℕ → ℕ → List A → List A

@@ -12,9 +12,11 @@ use lib.Seq.{drop-cons}
 use lib.IntN.{ℤ, pos, negsuc, negℤ, natAbs}
 use lib.Signed.{ltZ, leZ}
 use Rattle.signed.proofs.Signed.{natAbs-is}
-use Rattle.outline.specs.Limits.{mostPoints, mostCoordinate}
-use Rattle.outline.specs.Weak.{at, endsHold, coordinateHolds, coordinatesHold, refusal}
-use Rattle.outline.specs.Steps.{Coordinate, Coordinates, Accepted}
+use Rattle.contours.specs.Limits.{mostPoints, mostCoordinate}
+use Rattle.contours.specs.Contour.{at}
+use Rattle.outline.specs.Weak.{endsHold, coordinateHolds, coordinatesHold, refusal}
+use Rattle.contours.specs.Steps.{Coordinate, Coordinates}
+use Rattle.outline.specs.Steps.{Accepted}
 
 -- a list from its element i on
 pub drop-one {ℓ} : {A : Type ℓ} (l : List A) (i : ℕ) (d : A) → i < length l → drop i l ≡ getD l i d ∷ drop (i + 1) l

@@ -7,7 +7,8 @@ use mathlib.Core.Option.{some}
 use Prim.Native.Nat.{ℕ, _*_, _≤_, _<_}
 use lib.IntN.{ℤ, pos, natAbs, _-ℤ_, _*ℤ_}
 use lib.Signed.{_≤ℤ_, _<ℤ_}
-use Rattle.outline.specs.Weak.{at, contourOf, Contour, isTouched, References, refs, references}
+use Rattle.contours.specs.Contour.{at, Contour, isTouched, References, refs, references}
+use Rattle.outline.specs.Weak.{contourOf}
 
 -- the contour k has two or more touched points: x and y are two of them
 pub record TwoTouched (t : List ℕ) (k : Contour) : Type 0 where

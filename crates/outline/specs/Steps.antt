@@ -1,25 +1,14 @@
--- What the steps of `align_weak_points` promise each other. They work on one contour's stretch of the lists: originals o, currents c and marks t.
+-- What the steps of `align_weak_points` promise each other.
 use mathlib.Core.Path.{_≡_}
-use mathlib.Core.Bool.{true, cond}
+use mathlib.Core.Bool.{true}
 use mathlib.Core.List.{List}
 use Prim.Native.Nat.{ℕ, _≤_, _<_}
-use lib.ListN.{length, getD}
-use lib.IntN.{ℤ, pos, _+ℤ_, _-ℤ_}
-use lib.Signed.{_≤ℤ_}
-use Rattle.signed.specs.Range.{Between}
-use Rattle.fixed.specs.Point.{divFix}
-use Rattle.outline.specs.Limits.{mostPoints, mostCoordinate}
-use Rattle.signed.specs.Equality.{eqZ}
-use Rattle.outline.specs.Weak.{at, endsHold, Contour, interpolated, shiftedAt, weakAt, alignedAt}
-use Rattle.outline.specs.declared.iup.Span.{Span}
-
--- z is an accepted coordinate
-abbrev pub Coordinate : ℤ → Type 0
-Coordinate z = Between mostCoordinate mostCoordinate z
-
--- every coordinate of the list is accepted
-abbrev pub Coordinates : List ℤ → Type 0
-Coordinates l = (i : ℕ) → Coordinate (at l i)
+use lib.ListN.{length}
+use lib.IntN.{ℤ}
+use Rattle.contours.specs.Limits.{mostPoints}
+use Rattle.contours.specs.Contour.{at}
+use Rattle.contours.specs.Steps.{Coordinates}
+use Rattle.outline.specs.Weak.{endsHold, alignedAt}
 
 -- an outline that is not refused
 pub record Accepted (o c : List ℤ) (t es : List ℕ) : Type 0 where
@@ -29,78 +18,6 @@ pub record Accepted (o c : List ℤ) (t es : List ℕ) : Type 0 where
   pub ends : endsHold 0 (length o) es ≡ true
   pub originals : Coordinates o
   pub currents : Coordinates c
-
--- the contour that a stretch is
-abbrev pub whole : List ℕ → Contour
-whole t = record { start = 0; end = length t }
-
--- no point from a on that is in front of b is touched
-abbrev pub Clear : List ℕ → ℕ → ℕ → Type 0
-Clear t a b = (z : ℕ) → z < b → a ≤ z → getD t z 0 ≡ 0
-
--- r is the first touched point at or behind a, or the number of points
-pub record Next (t : List ℕ) (a r : ℕ) : Type 0 where
-  pub low : a ≤ r
-  pub high : r ≤ length t
-  pub clear : Clear t a r
-  pub here : r < length t → 0 < getD t r 0
-
--- d is c with f i at each place i from a on that is in front of b
-pub record Wrote (f : ℕ → ℤ) (a b : ℕ) (c d : List ℤ) : Type 0 where
-  pub len : length d ≡ length c
-  pub inside : (i : ℕ) → a ≤ i → i < b → at d i ≡ f i
-  pub below : (i : ℕ) → i < a → at d i ≡ at c i
-  pub above : (i : ℕ) → b ≤ i → at d i ≡ at c i
-
--- the fixed quotient of the spans between two references, 0 where it is not used
-unfoldable pub slope : ℤ → ℤ → ℤ → ℤ → ℤ
-slope v1 u1 v2 u2 = cond (eqZ u1 u2) (pos 0) (cond (eqZ v1 v2) (pos 0) (divFix (u2 -ℤ u1) (v2 -ℤ v1)))
-
--- accepted coordinates of two references, the first of which has no larger original
-pub record Ordered (v1 u1 v2 u2 : ℤ) : Type 0 where
-  pub original1 : Coordinate v1
-  pub current1 : Coordinate u1
-  pub original2 : Coordinate v2
-  pub current2 : Coordinate u2
-  pub order : v1 ≤ℤ v2
-
--- the span between two references
-abbrev pub spanOf : ℤ → ℤ → ℤ → ℤ → Span
-spanOf v1 u1 v2 u2 = record { v1 = v1; u1 = u1; v2 = v2; u2 = u2; scale = slope v1 u1 v2 u2 }
-
--- a span as `spanOf` makes it, between accepted references in their order
-pub record SpanHolds (s : Span) : Type 0 where
-  pub ordered : Ordered (s .v1) (s .u1) (s .v2) (s .u2)
-  pub scaled : s .scale ≡ slope (s .v1) (s .u1) (s .v2) (s .u2)
-
--- where the original of the point i comes to by the references of a span
-unfoldable pub spannedAt : List ℤ → Span → ℕ → ℤ
-spannedAt o s i = interpolated (at o i) (s .v1) (s .u1) (s .v2) (s .u2)
-
--- the original of the point i, moved by delta
-unfoldable pub movedBy : List ℤ → ℤ → ℕ → ℤ
-movedBy o delta i = at o i +ℤ delta
-
--- d is c with every point but p moved as p, the only touched one, was
-pub record Shifted (o c : List ℤ) (p : ℕ) (d : List ℤ) : Type 0 where
-  pub len : length d ≡ length c
-  pub here : at d p ≡ at c p
-  pub others : (i : ℕ) → (i ≡ p → ⊥) → i < length c → at d i ≡ shiftedAt o c p i
-
--- d is c with the points from f up to and with p, which is touched, aligned
-pub record Upto (o c : List ℤ) (t : List ℕ) (f p : ℕ) (d : List ℤ) : Type 0 where
-  pub len : length d ≡ length c
-  pub low : f ≤ p
-  pub high : p < length t
-  pub mark : 0 < getD t p 0
-  pub inside : (i : ℕ) → f ≤ i → i ≤ p → at d i ≡ weakAt o c t (whole t) i
-  pub below : (i : ℕ) → i < f → at d i ≡ at c i
-  pub above : (i : ℕ) → p < i → at d i ≡ at c i
-
--- d is c with every point aligned
-pub record Done (o c : List ℤ) (t : List ℕ) (d : List ℤ) : Type 0 where
-  pub len : length d ≡ length c
-  pub each : (i : ℕ) → i < length c → at d i ≡ weakAt o c t (whole t) i
 
 -- d is c with every contour of the outline aligned
 pub record AllDone (o c : List ℤ) (t es : List ℕ) (d : List ℤ) : Type 0 where

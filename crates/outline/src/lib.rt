@@ -1,6 +1,4 @@
-// Document 01, module 2: weak points (the Rust's hint/outline.rs). `weak` has the public call, the others its steps.
+// Document 01, module 2: weak points (the Rust's hint/outline.rs). `weak` has the public call, `accept` its refusals.
 mod accept;
-mod contour;
-mod iup;
 mod limits;
 pub mod weak;

@@ -1,7 +1,7 @@
 // The public call (the Rust's `align_weak_points`, for one axis).
 use super::accept::refusal_of;
 use super::accept::wide;
-use super::contour::align_contour;
+use contours::contour::align_contour;
 ghost use Rattle.outline.specs.Weak.{Outcome};
 ghost use Rattle.outline.specs.Steps.{Accepted, AllDone};
 

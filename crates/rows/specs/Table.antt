@@ -8,7 +8,8 @@ use Rattle.fixed.specs.declared.width.WidthRule.the-variants.{Keep}
 use Rattle.fixed.specs.Pixel.{pixFloor, pixRound}
 use Rattle.fixed.specs.Width.{ruleHolds, fittedWidth}
 use Rattle.fixed.specs.Point.{near, nearZ, mulFix, divFix, derived}
-use Rattle.outline.specs.Weak.{endsHold, coordinateHolds, coordinatesHold, refusal, contourOf, firstTouched, lastTouched, touchedBefore, touchedBehind, references, firstOf, secondOf, interpolated, betweenAt, shiftedAt, followed, weakAt, onContour, alignedAt, listOf, result}
+use Rattle.contours.specs.Contour.{firstTouched, lastTouched, touchedBefore, touchedBehind, references, firstOf, secondOf, interpolated, betweenAt, shiftedAt, followed, weakAt}
+use Rattle.outline.specs.Weak.{endsHold, coordinateHolds, coordinatesHold, refusal, contourOf, onContour, alignedAt, listOf, result}
 use Rattle.axis.specs.declared.kinds.Dimension.the-variants.{Vertical}
 use Rattle.axis.specs.declared.kinds.Direction.{Direction}
 use Rattle.axis.specs.declared.kinds.Direction.the-variants as Directions
@@ -25,14 +26,16 @@ use Rattle.axis.specs.Link.{linksTo}
 use Rattle.axis.specs.Edge.{emptyEdge, finished}
 use Rattle.axis.specs.Refusals.{linkHolds, blueHolds, every, edgeIndices, edgeNumbers, edgesIndices, edgesNumbers, edgesRefusal, segmentIndices, segmentNext, segmentNumbers, segmentsIndices, segmentsNexts, segmentsNumbers, segmentsRefusal}
 use Rattle.building.specs.Building.{distanceThreshold}
-use Rattle.linking.specs.Loops.{turns, till}
-use Rattle.linking.specs.Pairs as P
+use Rattle.linking_rounds.specs.Loops.{turns, till}
+use Rattle.linking_rounds.specs.Pairs as P
+use Rattle.linking_rounds.specs.Rounds as Q
 use Rattle.linking.specs.Linking as L
 use Rattle.lowercase_m.specs.M.{linkedOn, groupHolds, applies, moveDone, moveOnly, moveLink, moveSerifs, moveStem, aligned, hintLowercaseM}
-use Rattle.stem_cjk.specs.Cjk.{maxGap, gapOf, pixelOffset, narrowDelta, isBlocked, shortestMove, wideDelta, offsetsDelta, startOf, clamped, deltaOf, stemAt, stemOf, placedStem, hintedStem, hintNormalStemCjk}
-use Rattle.fitting.specs.Fitting.{lowerBound, hasPassed, neighbour, boundBy, adjusted}
+use Rattle.cjk_numbers.specs.Cjk.{maxGap, gapOf, pixelOffset, narrowDelta, isBlocked, shortestMove, wideDelta, offsetsDelta, startOf, clamped, deltaOf, stemAt, stemOf, placedStem, hintedStem}
+use Rattle.stem_cjk.specs.Cjk.{hintNormalStemCjk}
+use Rattle.placing.specs.Placing.{lowerBound, hasPassed, neighbour, boundBy, adjusted}
 use Rattle.stem_latin.specs.Latin.{centreOf, lowerOffset, upperOffset, nearerCentre, thinCentre, thinFirst, thinSecond, anchoredFirst, anchoredSecond}
-use Rattle.blues.specs.Zones.{visits}
+use Rattle.zone.specs.Zones.{visits}
 use Rattle.stems_plan.specs.Visit.{tooClose}
 use Rattle.stems.specs.Stems.{besideAnchor, latinStem, groupStem, zoneStem, visitLink, visit, stemsOf, alignStemEdges}
 use Rattle.rows.specs.Row.{Row, weak, stems, stemCjk, build, m, link, All}
@@ -89,5 +92,5 @@ table =
 
 -- every row holds
 pub rows-hold : All table
-unfolding near nearZ mulFix divFix distanceThreshold endsHold coordinateHolds coordinatesHold refusal contourOf firstTouched lastTouched touchedBefore touchedBehind references firstOf secondOf interpolated betweenAt shiftedAt followed weakAt onContour alignedAt listOf result linkHolds blueHolds every edgeIndices edgeNumbers edgesIndices edgesNumbers edgesRefusal linkedOn groupHolds applies moveDone moveOnly moveLink moveSerifs moveStem aligned hintLowercaseM D.same D.opposite linksTo segmentIndices segmentNext segmentNumbers segmentsIndices segmentsNexts segmentsNumbers segmentsRefusal derived turns till P.maxZ P.minZ P.gapOf P.facing P.checkSeg P.improvedBy P.nearStem P.encloses P.muchLonger P.rewritten P.staysSerif P.settled L.improvePair L.pairTurn L.majorTurn L.pairRound L.rewriteTurn L.rewriteAll L.unlink L.heldTo L.givenUpTo L.holdTurn L.givenUp L.hold L.serifTo L.serifTurn L.serifRound L.lastTo L.lastTurn L.lastRound L.linked L.thresholdsOf L.numbersHold L.linkingRefusal L.linkSegmentsCjk pixFloor pixRound ruleHolds fittedWidth maxGap gapOf pixelOffset narrowDelta isBlocked shortestMove wideDelta offsetsDelta startOf clamped deltaOf stemAt stemOf placedStem hintedStem hintNormalStemCjk lowerBound hasPassed neighbour boundBy adjusted centreOf lowerOffset upperOffset nearerCentre thinCentre thinFirst thinSecond anchoredFirst anchoredSecond visits tooClose besideAnchor latinStem groupStem zoneStem visitLink visit stemsOf alignStemEdges
+unfolding near nearZ mulFix divFix distanceThreshold endsHold coordinateHolds coordinatesHold refusal contourOf firstTouched lastTouched touchedBefore touchedBehind references firstOf secondOf interpolated betweenAt shiftedAt followed weakAt onContour alignedAt listOf result linkHolds blueHolds every edgeIndices edgeNumbers edgesIndices edgesNumbers edgesRefusal linkedOn groupHolds applies moveDone moveOnly moveLink moveSerifs moveStem aligned hintLowercaseM D.same D.opposite linksTo segmentIndices segmentNext segmentNumbers segmentsIndices segmentsNexts segmentsNumbers segmentsRefusal derived turns till P.maxZ P.minZ P.gapOf P.facing P.checkSeg P.improvedBy P.nearStem P.encloses P.muchLonger P.rewritten P.staysSerif P.settled Q.improvePair Q.pairTurn Q.majorTurn Q.pairRound Q.rewriteTurn Q.rewriteAll Q.unlink Q.heldTo Q.givenUpTo Q.holdTurn Q.givenUp Q.hold Q.serifTo Q.serifTurn Q.serifRound Q.lastTo Q.lastTurn Q.lastRound Q.linked L.thresholdsOf L.numbersHold L.linkingRefusal L.linkSegmentsCjk pixFloor pixRound ruleHolds fittedWidth maxGap gapOf pixelOffset narrowDelta isBlocked shortestMove wideDelta offsetsDelta startOf clamped deltaOf stemAt stemOf placedStem hintedStem hintNormalStemCjk lowerBound hasPassed neighbour boundBy adjusted centreOf lowerOffset upperOffset nearerCentre thinCentre thinFirst thinSecond anchoredFirst anchoredSecond visits tooClose besideAnchor latinStem groupStem zoneStem visitLink visit stemsOf alignStemEdges
 rows-hold = ((refl, refl), ((refl, refl), ((refl, refl), ((refl, refl), ((refl, refl), ((refl, refl), ((refl, refl), (refl, (refl, (refl, (refl, (refl, (refl, (refl, (refl, tt)))))))))))))))

@@ -1,3 +1,2 @@
--- The laws by subject, each over plain variables; then `Determined`, that the promise determines the outcome.
-pub mod Moves
+-- `Determined`: the promise determines the outcome.
 pub mod Determined

@@ -1,21 +1,22 @@
 // The call.
-use super::stem::Stem;
-use super::stem::stem_of;
 use axis::accept::edges_refusal;
 use axis::accept::is_inside;
 use axis::edge::Axis;
 use axis::edge::with_pos;
 use axis::limits::LEAST_UNITS;
 use axis::limits::MOST_UNITS;
-use fitting::named::both_below;
+use cjk_numbers::stem::Stem;
+use cjk_numbers::stem::stem_of;
 use fixed::width::WidthRule;
 use fixed::width::rule_holds;
+use placing::named::both_below;
 ghost use mathlib.Core.Path.{_≡_};
 ghost use Prim.Native.Nat.{_<_};
 ghost use Rattle.signed.specs.Range.{Between};
 ghost use Rattle.axis.specs.Limits.{mostPos};
 ghost use Rattle.axis.specs.Accepted.{AxisWithin};
-ghost use Rattle.stem_cjk.specs.Cjk.{placedStem, hintedStem, hintNormalStemCjk, mostWidth, mostStart};
+ghost use Rattle.cjk_numbers.specs.Cjk.{placedStem, hintedStem, mostWidth, mostStart};
+ghost use Rattle.stem_cjk.specs.Cjk.{hintNormalStemCjk};
 
 // An answer, 0 or the refusal, what the stem was moved by, and the axis.
 pub struct StemCjk {

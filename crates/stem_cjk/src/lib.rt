@@ -1,5 +1,2 @@
-// Document 01, module 5: the CJK stem (the Rust's `hint_normal_stem_cjk`).
-mod gap;
+// Document 01, module 5: the call that places a CJK stem (the Rust's `hint_normal_stem_cjk`).
 pub mod hint;
-mod offsets;
-pub mod stem;

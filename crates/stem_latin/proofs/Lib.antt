@@ -1,3 +1,4 @@
 -- The laws by subject, each over plain variables, and the values worked out by hand.
+pub mod Choices
 pub mod Moves
 pub mod Worked

@@ -1,17 +1,11 @@
 // A stem of width below 96, by its centre.
+use super::center::center_of;
 use super::nearer::nearer_of;
+use super::trunc::half;
 use fixed::pixel::pix_round;
 ghost use mathlib.Core.Path.{_≡_};
 ghost use Rattle.signed.specs.Range.{Between};
-ghost use Rattle.stem_latin.specs.Latin.{mostStart, mostLength, mostWidth, mostCentre, centreOf, nearerCentre, thinCentre, thinFirst, thinSecond};
-
-// The centre of a stem by its start and its original length.
-pub fn center_of(start: i32, org_len: i32) -> i32
-    requires { ⌜ Between mostStart mostStart start × Between mostLength mostLength «org_len» ⌝ }
-    ensures { λ r. ⌜ r ≡ centreOf start «org_len» ⌝ }
-{
-    start + (org_len >> 1)
-}
+ghost use Rattle.stem_latin.specs.Latin.{mostStart, mostLength, mostWidth, mostCentre, nearerCentre, thinCentre, thinFirst, thinSecond};
 
 // The nearer of two centres beside the nearest pixel edge, one below it by `u_off` and one above it by `d_off`.
 fn nearer_center(center: i32, u_off: i32, d_off: i32) -> i32
@@ -40,7 +34,7 @@ pub fn thin_first(start: i32, org_len: i32, width: i32) -> i32
     requires { ⌜ Between mostStart mostStart start × Between mostLength mostLength «org_len» × Between mostWidth mostWidth width ⌝ }
     ensures { λ r. ⌜ r ≡ thinFirst start «org_len» width ⌝ }
 {
-    thin_center(center_of(start, org_len), width) - width / 2
+    thin_center(center_of(start, org_len), width) - half(width)
 }
 
 // The second edge, half the width behind it: an odd width loses a unit.
@@ -48,5 +42,5 @@ pub fn thin_second(start: i32, org_len: i32, width: i32) -> i32
     requires { ⌜ Between mostStart mostStart start × Between mostLength mostLength «org_len» × Between mostWidth mostWidth width ⌝ }
     ensures { λ r. ⌜ r ≡ thinSecond start «org_len» width ⌝ }
 {
-    thin_center(center_of(start, org_len), width) + width / 2
+    thin_center(center_of(start, org_len), width) + half(width)
 }

@@ -1,6 +1,7 @@
 // A stem of width 96 and more, by its edges.
+use super::center::center_of;
+use super::floor::half;
 use super::nearer::nearer_of;
-use super::thin::center_of;
 use fixed::pixel::pix_round;
 ghost use mathlib.Core.Path.{_≡_};
 ghost use Rattle.signed.specs.Range.{Between};
@@ -12,12 +13,12 @@ pub fn wide_first(start: i32, org_len: i32, width: i32) -> i32
     ensures { λ r. ⌜ r ≡ wideFirst start «org_len» width ⌝ }
 {
     let center = center_of(start, org_len);
-    let half = width >> 1;
+    let half_width = half(width);
     let cur_pos1 = pix_round(start);
     let cur_pos2 = pix_round(start + org_len) - width;
     nearer_of(
-        cur_pos1 + half - center,
-        cur_pos2 + half - center,
+        cur_pos1 + half_width - center,
+        cur_pos2 + half_width - center,
         cur_pos1,
         cur_pos2,
     )

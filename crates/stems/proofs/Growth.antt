@@ -19,14 +19,14 @@ use Rattle.axis.specs.declared.kinds.Dimension.{Dimension}
 use Rattle.axis.specs.declared.kinds.Dimension.the-variants.{Horizontal, Vertical}
 use Rattle.axis.specs.declared.edge.Edge.{Edge}
 use Rattle.axis.specs.Limits.{mostUnits, mostPos}
-use Rattle.fitting.specs.Fitting.{linkedPos}
-use Rattle.fitting.specs.Steps.{mostReach, InReach}
-use Rattle.fitting.proofs.Reach.{width-range}
+use Rattle.placing.specs.Placing.{linkedPos}
+use Rattle.placing.specs.Steps.{mostReach, InReach}
+use Rattle.placing.proofs.Reach.{width-range}
 use Rattle.stem_latin.proofs.Moves.{anchored-ends, first-range, second-range, free-ends, free-range, free-second-range}
-use Rattle.stem_cjk.specs.declared.stem.Stem.{Stem}
-use Rattle.stem_cjk.specs.Cjk.{mostStart, mostWidth, mostMove}
-use Rattle.stem_cjk.proofs.Moves.{stem-pos-range, stem-width-range, stem-delta-range}
-use Rattle.blues.proofs.Kept.{either-way}
+use Rattle.cjk_numbers.specs.declared.stem.Stem.{Stem}
+use Rattle.cjk_numbers.specs.Cjk.{mostStart, mostWidth, mostMove}
+use Rattle.cjk_numbers.proofs.Moves.{stem-pos-range, stem-width-range, stem-delta-range}
+use Rattle.zone.proofs.Kept.{either-way}
 use Rattle.stems_plan.specs.declared.kinds.Mode.{Mode}
 use Rattle.stems_plan.specs.declared.kinds.LastStem.the-variants as LastStems
 use Rattle.stems_plan.specs.declared.kinds.Trail.{Trail}

@@ -19,9 +19,9 @@ use Rattle.axis.specs.Limits.{mostPos}
 use Rattle.axis.specs.Refusals.{linkHolds, edgesRefusal, answered}
 use Rattle.axis.specs.Accepted.{Below, EdgeWithin, AxisWithin}
 use Rattle.axis.proofs.Acceptance.{below-to, link-below, edges-accepted}
-use Rattle.fitting.specs.Steps.{mostReach}
-use Rattle.blues.specs.Zones.{visits}
-use Rattle.blues.proofs.Kept.{either-way, within-more, put-within, edge-at}
+use Rattle.placing.specs.Steps.{mostReach}
+use Rattle.zone.specs.Zones.{visits}
+use Rattle.zone.proofs.Kept.{either-way, within-more, put-within, edge-at}
 use Rattle.stems_plan.specs.declared.kinds.Mode.{Mode}
 use Rattle.stems_plan.specs.declared.kinds.Second.{Second}
 use Rattle.stems_plan.specs.declared.kinds.Second.the-variants.{Stays, Placed, Fixed}

@@ -24,12 +24,12 @@ use Rattle.axis.specs.declared.edge.Edge.{Edge}
 use Rattle.axis.specs.declared.edge.Axis.{Axis}
 use Rattle.axis.specs.Link.{indexOr}
 use Rattle.axis.specs.Edge.{emptyEdge, edgeAt, putEdge, placed, finished}
-use Rattle.fitting.specs.declared.adjust.LinkDir.the-variants.{Prev}
-use Rattle.fitting.specs.Fitting.{linkedPos, lowerBound, hasPassed, isFar, neighbour, heldTo, boundBy, adjusted}
+use Rattle.placing.specs.declared.adjust.LinkDir.the-variants.{Prev}
+use Rattle.placing.specs.Placing.{linkedPos, lowerBound, hasPassed, isFar, neighbour, heldTo, boundBy, adjusted}
 use Rattle.stem_latin.specs.Latin.{anchoredFirst, anchoredSecond}
-use Rattle.stem_cjk.specs.Cjk.{stemAt, stemOf, placedStem, hintedStem}
-use Rattle.blues.specs.Zones.{visits}
-use Rattle.blues.proofs.Straight.{put-same, keeps, visits-same}
+use Rattle.cjk_numbers.specs.Cjk.{stemAt, stemOf, placedStem, hintedStem}
+use Rattle.zone.specs.Zones.{visits}
+use Rattle.zone.proofs.Straight.{put-same, keeps, visits-same}
 use Rattle.stems_plan.specs.declared.kinds.Mode.{Mode}
 use Rattle.stems_plan.specs.declared.kinds.LastStem.the-variants as LastStems
 use Rattle.stems_plan.specs.declared.kinds.Trail.{Trail}

@@ -19,10 +19,10 @@ use Rattle.axis.specs.declared.edge.Edge.{Edge}
 use Rattle.axis.specs.declared.edge.Axis.{Axis}
 use Rattle.axis.specs.Flags.{normal}
 use Rattle.axis.specs.Edge.{finished}
-use Rattle.fitting.specs.Fitting.{linkedPos, lowerBound, hasPassed, neighbour, heldTo, boundBy, adjusted}
+use Rattle.placing.specs.Placing.{linkedPos, lowerBound, hasPassed, neighbour, heldTo, boundBy, adjusted}
 use Rattle.stem_latin.specs.Latin.{centreOf, lowerOffset, upperOffset, nearerCentre, thinCentre, thinFirst, thinSecond, anchoredFirst, anchoredSecond, freeFirst}
-use Rattle.stem_cjk.specs.Cjk.{maxGap, gapOf, pixelOffset, narrowDelta, offsetsDelta, startOf, clamped, deltaOf, stemAt, stemOf, placedStem, hintedStem}
-use Rattle.blues.specs.Zones.{visits}
+use Rattle.cjk_numbers.specs.Cjk.{maxGap, gapOf, pixelOffset, narrowDelta, offsetsDelta, startOf, clamped, deltaOf, stemAt, stemOf, placedStem, hintedStem}
+use Rattle.zone.specs.Zones.{visits}
 use Rattle.stems_plan.specs.Visit.{isClose, tooClose, deltaAfter}
 use Rattle.stems.specs.declared.pass.Stems.{Stems}
 use Rattle.stems.specs.Stems.{besideAnchor, latinStem, cjkStem, groupStem, zoneStem, visitLink, visit, stems, stemsOf, modeOf}

@@ -17,12 +17,12 @@ use Rattle.axis.specs.declared.edge.Edge.{Edge}
 use Rattle.axis.specs.declared.edge.Axis.{Axis}
 use Rattle.axis.specs.Edge.{edgeAt, putEdge, finished}
 use Rattle.axis.specs.Refusals.{linkHolds, edgesRefusal, answered}
-use Rattle.fitting.specs.declared.adjust.LinkDir.the-variants.{Prev}
-use Rattle.fitting.specs.Fitting.{linkedEdge, adjusted}
+use Rattle.placing.specs.declared.adjust.LinkDir.the-variants.{Prev}
+use Rattle.placing.specs.Placing.{linkedEdge, adjusted}
 use Rattle.stem_latin.specs.Latin.{anchoredFirst, anchoredSecond, freeFirst}
-use Rattle.stem_cjk.specs.declared.stem.Stem.{Stem}
-use Rattle.stem_cjk.specs.Cjk.{stemOf, hintedStem}
-use Rattle.blues.specs.Zones.{visits}
+use Rattle.cjk_numbers.specs.declared.stem.Stem.{Stem}
+use Rattle.cjk_numbers.specs.Cjk.{stemOf, hintedStem}
+use Rattle.zone.specs.Zones.{visits}
 use Rattle.stems_plan.specs.declared.kinds.Mode.{Mode}
 use Rattle.stems_plan.specs.declared.kinds.LastStem.the-variants as LastStems
 use Rattle.stems_plan.specs.declared.kinds.Trail.{Trail}

@@ -48,7 +48,7 @@ pub fn align_stems(axis: Axis, mode: Mode, standards: &[i32], start: Link) -> St
         }
         let link = edge.link;
         let Link::To(k) = link else {
-            serif_count += 1;
+            serif_count += 1; // no stem
             continue;
         };
         let edge2_ix = k as usize;

@@ -10,9 +10,9 @@ use Rattle.signed.proofs.Signed.{add-law, fits-in, is}
 use Rattle.fixed.specs.declared.width.WidthRule.{WidthRule}
 use Rattle.fixed.specs.Width.{fittedWidth}
 use Rattle.axis.specs.declared.edge.Edge.{Edge}
-use Rattle.fitting.specs.Fitting.{linkedPos, linkedEdge}
-use Rattle.fitting.specs.Steps.{InReach}
-use Rattle.fitting.proofs.Reach.{width-range}
+use Rattle.placing.specs.Placing.{linkedPos, linkedEdge}
+use Rattle.placing.specs.Steps.{InReach}
+use Rattle.placing.proofs.Reach.{width-range}
 use Rattle.stems_plan.specs.Steps.{mostPlace}
 
 -- an edge placed by its link

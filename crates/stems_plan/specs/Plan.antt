@@ -15,11 +15,11 @@ use Rattle.axis.specs.declared.kinds.Group.{Group}
 use Rattle.axis.specs.declared.kinds.Group.the-variants.{Default, Cjk}
 use Rattle.axis.specs.declared.edge.Edge.{Edge}
 use Rattle.axis.specs.Edge.{placed}
-use Rattle.fitting.specs.declared.adjust.LinkDir.the-variants.{Prev}
-use Rattle.fitting.specs.Fitting.{linkedPos, linkedEdge, hasPassed, isFar}
+use Rattle.placing.specs.declared.adjust.LinkDir.the-variants.{Prev}
+use Rattle.placing.specs.Placing.{linkedPos, linkedEdge, hasPassed, isFar}
 use Rattle.stem_latin.specs.Latin.{anchoredFirst, anchoredSecond, freeFirst}
-use Rattle.stem_cjk.specs.declared.stem.Stem.{Stem}
-use Rattle.stem_cjk.specs.Cjk.{stemOf}
+use Rattle.cjk_numbers.specs.declared.stem.Stem.{Stem}
+use Rattle.cjk_numbers.specs.Cjk.{stemOf}
 use Rattle.stems_plan.specs.Visit.{originalLen, widthOf, startBeside, deltaAfter, fixedAt}
 use Rattle.stems_plan.specs.declared.kinds.Mode.{Mode}
 use Rattle.stems_plan.specs.declared.kinds.LastStem.the-variants as LastStems

@@ -5,7 +5,7 @@ use super::kinds::Trail;
 use axis::edge::Edge;
 use axis::kinds::Group;
 ghost use mathlib.Core.Path.{_≡_};
-ghost use Rattle.fitting.specs.Steps.{InReach};
+ghost use Rattle.placing.specs.Steps.{InReach};
 ghost use Rattle.stems_plan.specs.Visit.{isClose, tooClose};
 ghost use Rattle.stems_plan.specs.Steps.{LastWithin};
 

@@ -14,7 +14,8 @@ ghost use mathlib.Core.Path.{_≡_};
 ghost use mathlib.Core.Bool.{true};
 ghost use Rattle.signed.specs.Range.{Between};
 ghost use Rattle.fixed.specs.Width.{ruleHolds};
-ghost use Rattle.fitting.specs.Steps.{InReach};
+ghost use Rattle.placing.specs.Steps.{InReach};
+ghost use Rattle.stem_latin.specs.Latin.{mostStart, mostLength, mostWidth};
 ghost use Rattle.stems_plan.specs.Visit.{originalLen, widthOf, startBeside};
 ghost use Rattle.stems_plan.specs.Plan.{behindPlan, centredPlan, anchoredPlan, freePlan, latinPlan};
 
@@ -45,7 +46,7 @@ fn start_beside(anchor: Edge, edge: Edge) -> i32
 
 // The first edge goes to the width before the second, which is placed for good already.
 fn behind_plan(edge2: Edge, width: i32, trail: Trail) -> Plan
-    requires { ⌜ InReach edge2 × Between 32782 32782 width ⌝ }
+    requires { ⌜ InReach edge2 × Between mostWidth mostWidth width ⌝ }
     ensures { λ r. ⌜ r ≡ behindPlan edge2 width trail ⌝ }
 {
     Plan {
@@ -59,11 +60,11 @@ fn behind_plan(edge2: Edge, width: i32, trail: Trail) -> Plan
 
 // Both edges are placed for good by the start, the length and the fitted width of the stem.
 fn centred_plan(start: i32, org_len: i32, width: i32, trail: Trail) -> Plan
-    requires { ⌜ Between 34000000 34000000 start × Between 32766 32766 «org_len» × Between 32782 32782 width ⌝ }
+    requires { ⌜ Between mostStart mostStart start × Between mostLength mostLength «org_len» × Between mostWidth mostWidth width ⌝ }
     ensures { λ r. ⌜ r ≡ centredPlan start «org_len» width trail ⌝ }
 {
     let first = anchored_first(start, org_len, width);
-    let second = anchored_second(start, org_len, width);
+    let second = anchored_second(start, org_len, width, first);
     Plan {
         first,
         second: Second::Fixed(second),

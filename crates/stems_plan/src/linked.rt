@@ -4,11 +4,11 @@ use super::kinds::Plan;
 use super::kinds::Second;
 use super::kinds::Trail;
 use axis::edge::Edge;
-use fitting::place::linked_edge;
+use placing::place::linked_edge;
 ghost use mathlib.Core.Path.{_≡_};
 ghost use mathlib.Core.Bool.{true};
 ghost use Rattle.fixed.specs.Width.{ruleHolds};
-ghost use Rattle.fitting.specs.Steps.{InReach};
+ghost use Rattle.placing.specs.Steps.{InReach};
 ghost use Rattle.stems_plan.specs.Plan.{linkedPlan};
 
 // The edge goes to its fitted width from the edge that it is linked to.

@@ -14,7 +14,7 @@ ghost use mathlib.Core.Bool.{true};
 ghost use Rattle.signed.specs.Range.{Between};
 ghost use Rattle.axis.specs.Limits.{mostUnits};
 ghost use Rattle.fixed.specs.Width.{ruleHolds};
-ghost use Rattle.fitting.specs.Steps.{InReach};
+ghost use Rattle.placing.specs.Steps.{InReach};
 ghost use Rattle.stems_plan.specs.Plan.{groupPlan, planOf};
 
 // A stem by its group.

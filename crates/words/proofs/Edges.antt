@@ -1,8 +1,7 @@
 -- Edges as words.
 use mathlib.Core.Path.{_≡_, refl}
 use mathlib.Core.List.{List}
-use Prim.Native.Nat.{ℕ, _+_, _*_, _<_, min}
-use native.Mathlib.Omega.{arith}
+use Prim.Native.Nat.{ℕ, _+_, _<_, min}
 use lib.ListN.{length}
 use lib.IntN.{ℤ}
 use Rattle.axis.specs.declared.edge.Edge.{Edge}
@@ -11,8 +10,8 @@ use Rattle.axis.specs.declared.kinds.Dimension.{Dimension}
 use Rattle.axis.specs.declared.kinds.Direction.{Direction}
 use Rattle.axis.specs.Edge.{emptyEdge, emptyAxis, putEdge}
 use Rattle.axis.specs.Limits.{mostEdges}
-use Rattle.words.specs.Edge.{edgeOf, axisTo, axisRun, edgeWords, edgeWordsAt, edgesWords}
-use Rattle.words.proofs.Tables.{table-none, table-more, joined-length}
+use Rattle.words.specs.Edge.{edgeOf, axisTo, axisRun, edgeWords, edgeWordsAt}
+use Rattle.words.proofs.Tables.{table-none, table-more}
 
 -- ---- reading
 module _ (ws : List ℤ) (first : ℕ) where
@@ -37,8 +36,3 @@ edge-length e = refl
 
 pub edge-lengths : (axis : Axis) (i : ℕ) → length (edgeWordsAt axis i) ≡ 11
 edge-lengths axis i = edge-length _
-
--- the edges of an axis are one word and 11 for each that the table holds
-pub edges-length : (axis : Axis) → length (edgesWords axis) ≡ 1 + 11 * min (axis .len) mostEdges
-unfolding edgesWords
-edges-length axis = omega (arith, joined-length (edgeWordsAt axis) 11 (edge-lengths axis) (min (axis .len) mostEdges))

@@ -4,5 +4,4 @@ pub mod Writing
 pub mod Tables
 pub mod Edges
 pub mod Segments
-pub mod Lents
 pub mod RoundTrip

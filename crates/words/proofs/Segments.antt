@@ -1,16 +1,15 @@
 -- Segments as words.
 use mathlib.Core.Path.{_≡_, refl}
 use mathlib.Core.List.{List}
-use Prim.Native.Nat.{ℕ, _+_, _*_, _<_, min}
-use native.Mathlib.Omega.{arith}
+use Prim.Native.Nat.{ℕ, _+_, _<_, min}
 use lib.ListN.{length}
 use lib.IntN.{ℤ}
 use Rattle.axis.specs.declared.segment.Segment.{Segment}
 use Rattle.axis.specs.declared.segment.Segments.{Segments}
 use Rattle.axis.specs.Segment.{emptySegment, emptySegments, putSegment}
 use Rattle.axis.specs.Limits.{mostSegments}
-use Rattle.words.specs.Segment.{segmentOf, segmentsTo, segmentsRun, segmentWords, segmentWordsAt, segmentsWords}
-use Rattle.words.proofs.Tables.{table-none, table-more, joined-length}
+use Rattle.words.specs.Segment.{segmentOf, segmentsTo, segmentsRun, segmentWords, segmentWordsAt}
+use Rattle.words.proofs.Tables.{table-none, table-more}
 
 -- ---- reading
 module _ (ws : List ℤ) (first : ℕ) where
@@ -35,8 +34,3 @@ segment-length s = refl
 
 pub segment-lengths : (t : Segments) (i : ℕ) → length (segmentWordsAt t i) ≡ 15
 segment-lengths t i = segment-length _
-
--- the segments of a table are one word and 15 for each that the table holds
-pub segments-length : (t : Segments) → length (segmentsWords t) ≡ 1 + 15 * min (t .len) mostSegments
-unfolding segmentsWords
-segments-length t = omega (arith, joined-length (segmentWordsAt t) 15 (segment-lengths t) (min (t .len) mostSegments))

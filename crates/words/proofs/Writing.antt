@@ -1,11 +1,11 @@
 -- Words written from a place of a buffer on.
 use mathlib.Core.Path.{_≡_, refl, sym, ap, _∙_}
-use mathlib.Core.List.{List, [], _∷_, _++_, append-assoc}
+use mathlib.Core.List.{List, [], _++_, append-assoc}
 use Prim.Native.Nat.{ℕ, _+_, _≤_, _<_}
 use native.Mathlib.Numerals.{add-one}
 use native.Mathlib.Omega.{arith}
 use lib.ListN.{length, getD, take, drop, set, length-append, length-take, length-set}
-use lib.Seq.{take-all, take-at, drop-append-add, drop-drop, sets-eq, paste, paste-zero, paste-suc, length-paste}
+use lib.Seq.{take-all, take-at, drop-append-add, drop-drop, paste, paste-zero, paste-suc, length-paste}
 use lib.IntN.{ℤ, pos}
 use Rattle.words.specs.Word.{written}
 
@@ -43,11 +43,6 @@ pub written-none : (out : List ℤ) (at : ℕ) → out ≡ written out at []
 unfolding written
 written-none out at = paste-zero out at []
 
--- one word
-pub written-one : (out : List ℤ) (w : ℤ) (at : ℕ) → at < length out → set out at w ≡ written out at (w ∷ [])
-unfolding written
-written-one out w at h = sets-eq (w ∷ []) out at (omega arith)
-
 -- words behind words
 pub written-more : (out xs ys : List ℤ) (at : ℕ) → at + length xs + length ys ≤ length out → written (written out at xs) (at + length xs) ys ≡ written out at (xs ++ ys)
 unfolding written
@@ -67,10 +62,6 @@ written-more out xs ys at h = rw (take-at front rest (at + length xs) front-leng
 
     end : at + length (xs ++ ys) ≡ at + length xs + length ys
     end = simp length-append (omega arith)
-
--- words behind one word
-pub written-next : (out ws : List ℤ) (w : ℤ) (at : ℕ) → at + 1 + length ws ≤ length out → written (set out at w) (at + 1) ws ≡ written out at (w ∷ ws)
-written-next out ws w at h = rw (written-one out w at (omega arith)) (written-more out (w ∷ []) ws at h)
 
 -- words from the front on
 pub written-front : (out ws : List ℤ) → written out 0 ws ≡ ws ++ drop (length ws) out

@@ -1,9 +1,8 @@
--- Edges as words: the count, and 11 words for each edge that the table holds.
+-- Edges as words: 11 for each edge.
 use mathlib.Core.List.{List, [], _∷_}
-use Prim.Native.Nat.{ℕ, _+_, _*_, _/_, _%_, min}
+use Prim.Native.Nat.{ℕ, _+_, _*_, _/_, min}
 use lib.ListN.{length}
 use lib.IntN.{ℤ, pos}
-use Rattle.signed.specs.Parts.{up}
 use Rattle.axis.specs.declared.edge.Edge.{Edge}
 use Rattle.axis.specs.declared.edge.Axis.{Axis}
 use Rattle.axis.specs.declared.kinds.Dimension.{Dimension}
@@ -33,14 +32,6 @@ edgeFrom ws at = record {
 abbrev pub edgeOf : List ℤ → ℕ → ℕ → Edge
 edgeOf ws first i = edgeFrom ws (first + 11 * i)
 
--- how many edges the list carries whose count stands at a place
-abbrev pub carriedEdges : List ℤ → ℕ → ℕ
-carriedEdges ws at = min (up (wordAt ws at)) mostEdges
-
--- the place behind the list
-abbrev pub behindEdges : List ℤ → ℕ → ℕ
-behindEdges ws at = at + 1 + 11 * carriedEdges ws at
-
 -- an axis whose table holds the first n edges from a place on; its other places are empty
 abbrev pub axisTo : List ℤ → ℕ → Dimension → Direction → ℕ → ℕ → Axis
 axisTo ws first dim major len n = record { dim = dim; «major_dir» = major; edges = table mostEdges emptyEdge (edgeOf ws first) n; len = len }
@@ -48,10 +39,6 @@ axisTo ws first dim major len n = record { dim = dim; «major_dir» = major; edg
 -- the axis of len edges from a place on, of which the table holds as many as it has places
 unfoldable pub axisRun : List ℤ → ℕ → Dimension → Direction → ℕ → Axis
 axisRun ws first dim major len = axisTo ws first dim major len (min len mostEdges)
-
--- the axis whose edges are the list whose count stands at a place
-unfoldable pub axisFrom : List ℤ → ℕ → Dimension → Direction → Axis
-axisFrom ws at dim major = axisRun ws (at + 1) dim major (up (wordAt ws at))
 
 -- how many edges a list without a count has
 abbrev pub edgesIn : List ℤ → ℕ
@@ -68,10 +55,6 @@ edgeWords e = e .fpos ∷ e .opos ∷ e .pos ∷ flagsWord (e .flags) ∷ direct
 -- an edge of an axis
 abbrev pub edgeWordsAt : Axis → ℕ → List ℤ
 edgeWordsAt axis i = edgeWords (edgeAt axis i)
-
--- the edges of an axis; in an answer the count is below 65,536, and the remainder is the count
-unfoldable pub edgesWords : Axis → List ℤ
-edgesWords axis = pos (axis .len % 65536) ∷ joined (edgeWordsAt axis) (min (axis .len) mostEdges)
 
 -- a list without a count with the edges of an axis written over it, as many as it has room for
 unfoldable pub edgesOver : List ℤ → Axis → List ℤ

@@ -21,8 +21,8 @@ use Rattle.axis.specs.declared.kinds.Link.{Link}
 use Rattle.axis.specs.declared.kinds.Link.the-variants as Links
 use Rattle.fixed.specs.declared.width.WidthRule.{WidthRule}
 use Rattle.fixed.specs.declared.width.WidthRule.the-variants.{Keep, Snap}
-use Rattle.fitting.specs.declared.adjust.LinkDir.{LinkDir}
-use Rattle.fitting.specs.declared.adjust.LinkDir.the-variants.{Prev, Next}
+use Rattle.placing.specs.declared.adjust.LinkDir.{LinkDir}
+use Rattle.placing.specs.declared.adjust.LinkDir.the-variants.{Prev, Next}
 
 -- ---- a word as a field
 -- a 16-bit number; a word that is none reads as 0

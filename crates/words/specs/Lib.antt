@@ -3,4 +3,3 @@ pub mod Word
 pub mod Field
 pub mod Edge
 pub mod Segment
-pub mod Lent

@@ -1,9 +1,8 @@
--- Segments as words: the count, and 15 words for each segment that the table holds.
+-- Segments as words: 15 for each segment.
 use mathlib.Core.List.{List, [], _∷_}
-use Prim.Native.Nat.{ℕ, _+_, _*_, _/_, _%_, min}
+use Prim.Native.Nat.{ℕ, _+_, _*_, _/_, min}
 use lib.ListN.{length}
 use lib.IntN.{ℤ, pos}
-use Rattle.signed.specs.Parts.{up}
 use Rattle.axis.specs.declared.segment.Segment.{Segment}
 use Rattle.axis.specs.declared.segment.Segments.{Segments}
 use Rattle.axis.specs.Segment.{emptySegment, segmentAt}
@@ -36,14 +35,6 @@ segmentFrom ws at = record {
 abbrev pub segmentOf : List ℤ → ℕ → ℕ → Segment
 segmentOf ws first i = segmentFrom ws (first + 15 * i)
 
--- how many segments the list carries whose count stands at a place
-abbrev pub carriedSegments : List ℤ → ℕ → ℕ
-carriedSegments ws at = min (up (wordAt ws at)) mostSegments
-
--- the place behind the list
-abbrev pub behindSegments : List ℤ → ℕ → ℕ
-behindSegments ws at = at + 1 + 15 * carriedSegments ws at
-
 -- a table that holds the first n segments from a place on; its other places are empty
 abbrev pub segmentsTo : List ℤ → ℕ → ℕ → ℕ → Segments
 segmentsTo ws first len n = record { segments = table mostSegments emptySegment (segmentOf ws first) n; len = len }
@@ -51,10 +42,6 @@ segmentsTo ws first len n = record { segments = table mostSegments emptySegment 
 -- the table of len segments from a place on, of which it holds as many as it has places
 unfoldable pub segmentsRun : List ℤ → ℕ → ℕ → Segments
 segmentsRun ws first len = segmentsTo ws first len (min len mostSegments)
-
--- the segments of the list whose count stands at a place
-unfoldable pub segmentsFrom : List ℤ → ℕ → Segments
-segmentsFrom ws at = segmentsRun ws (at + 1) (up (wordAt ws at))
 
 -- how many segments a list without a count has
 abbrev pub segmentsIn : List ℤ → ℕ
@@ -71,10 +58,6 @@ segmentWords s = flagsWord (s .flags) ∷ directionWord (s .dir) ∷ s .pos ∷ 
 -- a segment of a table
 abbrev pub segmentWordsAt : Segments → ℕ → List ℤ
 segmentWordsAt t i = segmentWords (segmentAt t i)
-
--- the segments of a table; in an answer the count is below 65,536, and the remainder is the count
-unfoldable pub segmentsWords : Segments → List ℤ
-segmentsWords t = pos (t .len % 65536) ∷ joined (segmentWordsAt t) (min (t .len) mostSegments)
 
 -- a list without a count with the segments of a table written over it, as many as it has room for
 unfoldable pub segmentsOver : List ℤ → Segments → List ℤ

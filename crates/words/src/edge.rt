@@ -12,8 +12,6 @@ use super::field::link_word;
 use super::field::present_word;
 use super::field::short_at;
 use super::field::short_word;
-use super::word::count_at;
-use super::word::count_word;
 use super::word::least;
 use super::word::word_at;
 use super::word::write_words;
@@ -26,7 +24,7 @@ ghost use mathlib.Core.Path.{_≡_};
 ghost use Prim.Native.Nat.{_+_, _*_, _≤_};
 ghost use lib.ListN.{length};
 ghost use Rattle.words.specs.Word.{written, joined};
-ghost use Rattle.words.specs.Edge.{edgeFrom, axisRun, axisFrom, flatAxis, behindEdges, edgeWords, edgeWordsAt, edgesWords, edgesOver};
+ghost use Rattle.words.specs.Edge.{edgeFrom, axisRun, flatAxis, edgeWords, edgeWordsAt, edgesOver};
 
 // The edge whose words stand at a place.
 pub fn edge_from(words: &[i32], at: usize) -> Edge
@@ -64,29 +62,11 @@ fn axis_run(words: &[i32], first: usize, dim: Dimension, major_dir: Direction, l
     axis
 }
 
-// The axis whose edges are the list at a place.
-pub fn axis_from(words: &[i32], at: usize, dim: Dimension, major_dir: Direction) -> Axis
-    requires { ⌜ at ≤ 65536 ⌝ }
-    ensures { λ r. ⌜ r ≡ axisFrom (now (words .entry)) at dim «major_dir» ⌝ }
-{
-    let count = count_at(words, at);
-    axis_run(words, at + 1, dim, major_dir, count)
-}
-
 // The axis whose edges are the whole list.
 pub fn flat_axis(words: &[i32], dim: Dimension, major_dir: Direction) -> Axis
     ensures { λ r. ⌜ r ≡ flatAxis (now (words .entry)) dim «major_dir» ⌝ }
 {
     axis_run(words, 0, dim, major_dir, words.len() / 11)
-}
-
-// The place behind the list of edges at a place.
-pub fn behind_edges(words: &[i32], at: usize) -> usize
-    requires { ⌜ at ≤ 65536 ⌝ }
-    ensures { λ r. ⌜ r ≡ behindEdges (now (words .entry)) at ⌝ }
-{
-    let n = least(count_at(words, at), 128);
-    at + 1 + 11 * n
 }
 
 // The 11 words of an edge.
@@ -125,17 +105,6 @@ fn write_run(out: &mut [i32], first: usize, axis: Axis, n: usize)
         write_words(out, first + 11 * i, &words);
         i += 1;
     }
-}
-
-// Writes the edges of an axis from a place on, and tells how many words they are.
-pub fn write_edges(out: &mut [i32], at: usize, axis: Axis) -> usize
-    requires { ⌜ at + 1409 ≤ length (now out) ⌝ }
-    ensures { λ r. ⌜ (r ≡ length (edgesWords axis)) × (now (out .exit) ≡ written (now (out .entry)) at (edgesWords axis)) ⌝ }
-{
-    let n = least(axis.len, 128);
-    out[at] = count_word(axis.len);
-    write_run(out, at + 1, axis, n);
-    1 + 11 * n
 }
 
 // Writes the edges of an axis over the whole list.

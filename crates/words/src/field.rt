@@ -7,8 +7,8 @@ use axis::kinds::Dimension;
 use axis::kinds::Direction;
 use axis::kinds::Group;
 use axis::kinds::Link;
-use fitting::adjust::LinkDir;
 use fixed::width::WidthRule;
+use placing::adjust::LinkDir;
 ghost use mathlib.Core.Path.{_≡_};
 ghost use Prim.Native.Nat.{_+_, _≤_};
 ghost use lib.IntN.{pos};
@@ -111,13 +111,6 @@ pub fn group_of(word: i32) -> Group
     Group::Default
 }
 
-// The group at a place.
-pub fn group_at(words: &[i32], i: usize) -> Group
-    ensures { λ r. ⌜ r ≡ groupOf (wordAt (now (words .entry)) i) ⌝ }
-{
-    group_of(word_at(words, i))
-}
-
 // A dimension.
 pub fn dimension_of(word: i32) -> Dimension
     ensures { λ r. ⌜ r ≡ dimensionOf word ⌝ }
@@ -126,13 +119,6 @@ pub fn dimension_of(word: i32) -> Dimension
         return Dimension::Vertical;
     }
     Dimension::Horizontal
-}
-
-// The dimension at a place.
-pub fn dimension_at(words: &[i32], i: usize) -> Dimension
-    ensures { λ r. ⌜ r ≡ dimensionOf (wordAt (now (words .entry)) i) ⌝ }
-{
-    dimension_of(word_at(words, i))
 }
 
 // A width rule; its standards stand beside it.

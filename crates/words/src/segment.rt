@@ -9,8 +9,6 @@ use super::field::link_at;
 use super::field::link_word;
 use super::field::short_at;
 use super::field::short_word;
-use super::word::count_at;
-use super::word::count_word;
 use super::word::least;
 use super::word::word_at;
 use super::word::write_words;
@@ -21,7 +19,7 @@ ghost use mathlib.Core.Path.{_≡_};
 ghost use Prim.Native.Nat.{_+_, _*_, _≤_};
 ghost use lib.ListN.{length};
 ghost use Rattle.words.specs.Word.{written, joined};
-ghost use Rattle.words.specs.Segment.{segmentFrom, segmentsRun, segmentsFrom, flatSegments, behindSegments, segmentWords, segmentWordsAt, segmentsWords, segmentsOver};
+ghost use Rattle.words.specs.Segment.{segmentFrom, segmentsRun, flatSegments, segmentWords, segmentWordsAt, segmentsOver};
 
 // The segment whose words stand at a place.
 fn segment_from(words: &[i32], at: usize) -> Segment
@@ -64,29 +62,11 @@ fn segments_run(words: &[i32], first: usize, len: usize) -> Segments
     table
 }
 
-// The segments of the list at a place.
-pub fn segments_from(words: &[i32], at: usize) -> Segments
-    requires { ⌜ at ≤ 65536 ⌝ }
-    ensures { λ r. ⌜ r ≡ segmentsFrom (now (words .entry)) at ⌝ }
-{
-    let count = count_at(words, at);
-    segments_run(words, at + 1, count)
-}
-
 // The segments that are the whole list.
 pub fn flat_segments(words: &[i32]) -> Segments
     ensures { λ r. ⌜ r ≡ flatSegments (now (words .entry)) ⌝ }
 {
     segments_run(words, 0, words.len() / 15)
-}
-
-// The place behind the list of segments at a place.
-pub fn behind_segments(words: &[i32], at: usize) -> usize
-    requires { ⌜ at ≤ 65536 ⌝ }
-    ensures { λ r. ⌜ r ≡ behindSegments (now (words .entry)) at ⌝ }
-{
-    let n = least(count_at(words, at), 512);
-    at + 1 + 15 * n
 }
 
 // The 15 words of a segment.
@@ -130,17 +110,6 @@ fn write_run(out: &mut [i32], first: usize, table: Segments, n: usize)
         write_words(out, first + 15 * i, &words);
         i += 1;
     }
-}
-
-// Writes the segments of a table from a place on, and tells how many words they are.
-pub fn write_segments(out: &mut [i32], at: usize, table: Segments) -> usize
-    requires { ⌜ at + 7681 ≤ length (now out) ⌝ }
-    ensures { λ r. ⌜ (r ≡ length (segmentsWords table)) × (now (out .exit) ≡ written (now (out .entry)) at (segmentsWords table)) ⌝ }
-{
-    let n = least(table.len, 512);
-    out[at] = count_word(table.len);
-    write_run(out, at + 1, table, n);
-    1 + 15 * n
 }
 
 // Writes the segments of a table over the whole list.

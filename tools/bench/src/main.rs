@@ -1,5 +1,5 @@
 //! The port, compiled for this machine, as tools use it. `bench all` or `bench CALL..` times it and the given Rust side by side on the same inputs and counts
-//! instructions; `bench answer` and `bench library` answer job lines, by jobs and by the library's own calls.
+//! instructions; `bench answer` answers job lines by `jobs`, which asks the library's functions, and `bench library` by the library as its Rust wrapper calls it.
 
 mod answer;
 mod cases;

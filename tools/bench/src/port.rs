@@ -1,4 +1,4 @@
-//! The port as tools use it: jobs by `jobs_c`, and calls of the library as gateways make them.
+//! The port as tools use it: jobs by `jobs`, and calls of the library as gateways make them.
 
 use crate::records::{self, EDGE, SEGMENT};
 use khsaemudol::{
@@ -13,7 +13,7 @@ use std::hint::black_box;
 
 extern "C" {
     /// Writes the answer to a word list, and tells how many words it has.
-    fn jobs_c_answer(words: *const i32, words_len: usize, out: *mut i32, out_len: usize) -> usize;
+    fn jobs_answer(words: *const i32, words_len: usize, out: *mut i32, out_len: usize) -> usize;
 }
 
 /// The words of the longest answer.
@@ -30,7 +30,7 @@ pub fn answer(words: &[i32]) -> Vec<i32> {
 /// Writes the answer to a word list, and tells how many words it has.
 fn answer_into(words: &[i32], out: &mut [i32]) -> usize {
     // SAFETY: each pointer and length is of one live slice, and `out` is lent to this call alone.
-    unsafe { jobs_c_answer(words.as_ptr(), words.len(), out.as_mut_ptr(), out.len()) }
+    unsafe { jobs_answer(words.as_ptr(), words.len(), out.as_mut_ptr(), out.len()) }
 }
 
 /// A job of the library: what it is given, what its call changes, and the call.

@@ -1,25 +1,21 @@
 -- `label::main` is safe.
 use borrow.Author.Needs.{needs}
 use mathlib.Core.Path.{_≡_}
-use Prim.Native.Nat.{}
 use lib.ListN.{length}
 use Rattle.label.proofs.main.Statement.{statement}
 use Rattle.label.proofs.main.Tie as tie
 
 abbrev Inv-loop : tie.InvT-loop
-Inv-loop block₀ words₀ state₀ turns₀ block words state turns = (length block ≡ 65536) × (length words ≡ 32769)
+Inv-loop byte₀ words₀ line₀ glyph₀ turns₀ byte words line glyph turns = (length byte ≡ 1) × (length words ≡ 32769)
 
 abbrev μ-loop : tie.MeasureT-loop
-μ-loop block₀ words₀ state₀ turns₀ block words state turns = turns
+μ-loop byte₀ words₀ line₀ glyph₀ turns₀ byte words line glyph turns = turns
 
 slice-aggregate-text : tie.Need-slice-aggregate-text Inv-loop μ-loop
 slice-aggregate-text c = search needs
 
 text-requires : tie.Need-text-requires Inv-loop μ-loop
 text-requires c κs = search needs
-
-large-buffer-requires : tie.Need-large-buffer-requires Inv-loop μ-loop
-large-buffer-requires c κs = search needs
 
 new-requires : tie.Need-new-requires Inv-loop μ-loop
 new-requires c κs = search needs
@@ -30,17 +26,14 @@ new-requires-2 c κs = search needs
 loop-holds : tie.Need-loop-holds Inv-loop μ-loop
 loop-holds c = search needs
 
-slice-aggregate-read : tie.Need-slice-aggregate-read Inv-loop μ-loop
-slice-aggregate-read c = search needs
+sub-turns : tie.Need-sub-turns Inv-loop μ-loop
+sub-turns c = search needs
 
-read-requires : tie.Need-read-requires Inv-loop μ-loop
-read-requires c κs = search needs
+slice-aggregate-read-full : tie.Need-slice-aggregate-read-full Inv-loop μ-loop
+slice-aggregate-read-full c = search needs
 
-slice-aggregate-count : tie.Need-slice-aggregate-count Inv-loop μ-loop
-slice-aggregate-count c = search needs
-
-count-requires : tie.Need-count-requires Inv-loop μ-loop
-count-requires c κs = search needs
+read-full-requires : tie.Need-read-full-requires Inv-loop μ-loop
+read-full-requires c κs = search needs
 
 loop-less : tie.Need-loop-less Inv-loop μ-loop
 loop-less c = search needs
@@ -48,17 +41,14 @@ loop-less c = search needs
 loop-again : tie.Need-loop-again Inv-loop μ-loop
 loop-again c = search needs
 
-slice-aggregate-take-block : tie.Need-slice-aggregate-take-block Inv-loop μ-loop
-slice-aggregate-take-block c = search needs
+array-read-b : tie.Need-array-read-b Inv-loop μ-loop
+array-read-b c = search needs
 
-slice-aggregate-take-block-2 : tie.Need-slice-aggregate-take-block-2 Inv-loop μ-loop
-slice-aggregate-take-block-2 c = search needs
+slice-aggregate-take : tie.Need-slice-aggregate-take Inv-loop μ-loop
+slice-aggregate-take c = search needs
 
-take-block-requires : tie.Need-take-block-requires Inv-loop μ-loop
-take-block-requires c κs = search needs
-
-sub-turns : tie.Need-sub-turns Inv-loop μ-loop
-sub-turns c = search needs
+take-requires : tie.Need-take-requires Inv-loop μ-loop
+take-requires c κs = search needs
 
 loop-less-2 : tie.Need-loop-less-2 Inv-loop μ-loop
 loop-less-2 c = search needs
@@ -66,17 +56,23 @@ loop-less-2 c = search needs
 loop-again-2 : tie.Need-loop-again-2 Inv-loop μ-loop
 loop-again-2 c = search needs
 
-slice-aggregate-end-line : tie.Need-slice-aggregate-end-line Inv-loop μ-loop
-slice-aggregate-end-line c = search needs
+words-of-requires : tie.Need-words-of-requires Inv-loop μ-loop
+words-of-requires c κs = search needs
 
-end-line-requires : tie.Need-end-line-requires Inv-loop μ-loop
-end-line-requires c κs = search needs
+step-requires : tie.Need-step-requires Inv-loop μ-loop
+step-requires c κs = search needs
+
+new-requires-3 : tie.Need-new-requires-3 Inv-loop μ-loop
+new-requires-3 c κs = search needs
+
+loop-less-3 : tie.Need-loop-less-3 Inv-loop μ-loop
+loop-less-3 c = search needs
+
+loop-again-3 : tie.Need-loop-again-3 Inv-loop μ-loop
+loop-again-3 c = search needs
 
 returns : tie.Need-returns Inv-loop μ-loop
 returns c = search needs
-
-returns-2 : tie.Need-returns-2 Inv-loop μ-loop
-returns-2 c = search needs
 
 pub main-spec : {M : Type 1} → statement M
 main-spec =
@@ -86,23 +82,22 @@ main-spec =
     μ-loop
     slice-aggregate-text
     text-requires
-    large-buffer-requires
     new-requires
     new-requires-2
     loop-holds
-    slice-aggregate-read
-    read-requires
-    slice-aggregate-count
-    count-requires
+    sub-turns
+    slice-aggregate-read-full
+    read-full-requires
     loop-less
     loop-again
-    slice-aggregate-take-block
-    slice-aggregate-take-block-2
-    take-block-requires
-    sub-turns
+    array-read-b
+    slice-aggregate-take
+    take-requires
     loop-less-2
     loop-again-2
-    slice-aggregate-end-line
-    end-line-requires
-    returns
-    returns-2)
+    words-of-requires
+    step-requires
+    new-requires-3
+    loop-less-3
+    loop-again-3
+    returns)

@@ -6,7 +6,8 @@ use Rattle.axis.specs.declared.kinds.Link.the-variants as Links
 use Rattle.axis.specs.Refusals.{edgesRefusal}
 use Rattle.axis.proofs.Tests.{answered-no, answered-yes}
 use Rattle.axis.proofs.Acceptance.{EdgesAccepted, edges-accepted}
-use Rattle.blues.specs.Zones.{anchored, alignEdgesToBlues}
+use Rattle.blues_pass.specs.Pass.{anchored}
+use Rattle.blues.specs.Zones.{alignEdgesToBlues}
 use borrow.Author.Needs.{needs}
 use Rattle.blues.proofs.align.align_edges_to_blues.Statement.{statement}
 use Rattle.blues.proofs.align.align_edges_to_blues.Tie as tie
@@ -19,7 +20,7 @@ edges-refusal-requires c κs = search needs
 
 -- the answer is the refusal
 refusal-is : (c : tie.After-edges-refusal) → c .edges-refusal .result ≡ edgesRefusal (c .before .before .args .axis) (ruleHolds (c .before .before .args .rule) (c .before .before .args .standards .now)) true true
-refusal-is c = rw (c .before .rule-holds .ensures) at (c .edges-refusal .ensures)
+refusal-is c = c .edges-refusal .ensures ∙ λ i. edgesRefusal (c .before .before .args .axis) (c .before .rule-holds .ensures i) true true
 
 -- what acceptance yields
 accepted : (c : tie.Else1) → EdgesAccepted (c .before .before .before .args .axis) (ruleHolds (c .before .before .before .args .rule) (c .before .before .before .args .standards .now)) true true

@@ -1,10 +1,16 @@
 -- `building::build::compute_edges` meets its contract: a refusal hands back what came, and an accepted call goes through the steps. Assumes nothing.
 use borrow.Author.Needs.{needs}
 use mathlib.Core.Path.{_≡_, ap, _∙_}
+use mathlib.Core.Bool.{Bool, true}
+use lib.Dec.{leb}
+use lib.IntN.{ℤ}
 use Rattle.signed.proofs.Signed.{is}
+use Rattle.axis.specs.Limits.{mostEdges}
+use Rattle.axis.specs.Refusals.{segmentsRefusal}
 use Rattle.axis.proofs.Tests.{answered-no, answered-yes}
 use Rattle.joining.specs.declared.rules.Rules.{Rules}
 use Rattle.building.specs.Building as B
+use Rattle.signed.proofs.By.{by₂}
 use Rattle.building.proofs.Calls.{Accepted, accepted, joinable, full-built, done-built}
 use Rattle.building.proofs.Handing.{ended, few-edges, segments-are, ready}
 use Rattle.building.proofs.build.compute_edges.Statement.{statement}
@@ -17,8 +23,11 @@ answer-is c =
     let products-hold = c .before in
     let numbers-hold = products-hold .before in
     let start = numbers-hold .before .before in
-    let e = rw (numbers-hold .numbers-hold .ensures, products-hold .products-hold .ensures) at (c .segments-refusal .ensures) in
-    rw (is (start .fits .scale)) at e
+    let g = start .args in
+    by₂ (λ (right near : Bool). segmentsRefusal (g .segments) (leb (g .old .len) mostEdges) right true near)
+    (c .segments-refusal .ensures)
+    (numbers-hold .numbers-hold .ensures ∙ ap (λ (z : ℤ). B.numbersHold z (g .thresholds)) (is (start .fits .scale)))
+    (products-hold .products-hold .ensures ∙ ap (B.productsHold (g .segments)) (is (start .fits .scale)))
 
 -- where the code goes on, the call is accepted
 taken : (c : tie.Else1) → Accepted (c .before .before .before .before .before .args .segments) (c .before .before .before .before .before .args .old) (c .before .before .before .before .before .args .scale) (c .before .before .before .before .before .args .thresholds)
@@ -46,14 +55,15 @@ rules-of-requires : tie.Need-rules-of-requires
 rules-of-requires c κs =
     let else1 = c .before in
     let start = else1 .before .before .before .before .before in
-    rw (is (start .fits .scale)) (taken else1 .numbers)
+    ap (λ (z : ℤ). B.numbersHold z (start .args .thresholds)) (is (start .fits .scale)) ∙ taken else1 .numbers
 
 -- the rules are those of the definition
 rules-are : (c : tie.After-rules-of) → c .rules-of .result ≡ B.rulesOf (c .before .before .before .before .before .before .before .args .old .dim) (c .before .before .before .before .before .before .before .args .old .«major_dir») (B.isCjk (c .before .before .before .before .before .before .before .args .group)) (c .before .before .before .before .before .before .before .args .top-to-bottom) (c .before .before .before .before .before .before .before .args .scale) (c .before .before .before .before .before .before .before .args .thresholds)
 rules-are c =
     let is-cjk = c .before in
     let start = is-cjk .before .before .before .before .before .before in
-    rw (is-cjk .is-cjk .ensures, is (start .fits .scale)) at (c .rules-of .ensures)
+    let g = start .args in
+    by₂ (λ (cjk : Bool) (z : ℤ). B.rulesOf (g .old .dim) (g .old .«major_dir») cjk (g .top-to-bottom) z (g .thresholds)) (c .rules-of .ensures) (is-cjk .is-cjk .ensures) (is (start .fits .scale))
 
 join-all-requires : tie.Need-join-all-requires
 join-all-requires c κs =

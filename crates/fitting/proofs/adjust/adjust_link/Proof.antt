@@ -1,9 +1,7 @@
 -- `fitting::adjust::adjust_link` meets its contract. Assumes nothing.
-use mathlib.Core.Path.{ap}
 use mathlib.Core.Bool.{true}
 use borrow.Author.Tests.{ltb-true}
 use lib.Dec.{ltb}
-use Rattle.axis.specs.declared.edge.Axis.{Axis}
 use Rattle.axis.proofs.Tests.{answered-no, answered-yes}
 use Rattle.axis.proofs.Acceptance.{EdgesAccepted, edges-accepted}
 use Rattle.fitting.specs.Fitting.{fitted, adjustLink}
@@ -30,7 +28,7 @@ unfolding adjustLink
 returns-2 c =
     let o = c .before in
     let s = o .before .before .before in
-    answered-yes _ _ (fitted (s .args .axis)) _ _ (o .before .edges-refusal .ensures) (o .if1 .left) (ap (λ (a : Axis). fitted a 0) (c .adjust .ensures))
+    answered-yes _ _ (fitted (s .args .axis)) _ _ (o .before .edges-refusal .ensures) (o .if1 .left) (λ i. fitted (c .adjust .ensures i) 0)
 
 pub adjust-link-spec : {M : Type 1} → statement M
 adjust-link-spec =

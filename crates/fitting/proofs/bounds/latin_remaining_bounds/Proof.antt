@@ -6,8 +6,8 @@ use lib.Dec.{ltb}
 use Rattle.axis.specs.declared.kinds.Link.the-variants as Links
 use Rattle.axis.proofs.Tests.{answered-no, answered-yes}
 use Rattle.axis.proofs.Acceptance.{EdgesAccepted, edges-accepted}
+use Rattle.placing.proofs.Reach.{in-table}
 use Rattle.fitting.specs.Fitting.{bounds, latinRemainingBounds}
-use Rattle.fitting.proofs.Reach.{in-table}
 use borrow.Author.Needs.{needs}
 use Rattle.fitting.proofs.bounds.latin_remaining_bounds.Statement.{statement}
 use Rattle.fitting.proofs.bounds.latin_remaining_bounds.Tie as tie
@@ -37,7 +37,7 @@ unfolding latinRemainingBounds
 returns-2 c =
     let l = c .before in
     let o = c .before .before in
-    answered-yes _ _ (bounds Links.None Links.None) _ _ (o .before .edges-refusal .ensures) (o .if1 .left) (rw (l .lower-bound .ensures, c .upper-bound .ensures))
+    answered-yes _ _ (bounds Links.None Links.None) _ _ (o .before .edges-refusal .ensures) (o .if1 .left) (λ i. bounds (l .lower-bound .ensures i) (c .upper-bound .ensures i) 0)
 
 pub latin-remaining-bounds-spec : {M : Type 1} → statement M
 latin-remaining-bounds-spec =

@@ -1,15 +1,15 @@
 -- `fitting::place::align_serif_edge` meets its contract. Assumes nothing.
-use mathlib.Core.Path.{_≡_, ap}
+use mathlib.Core.Path.{_≡_, _∙_}
 use mathlib.Core.Bool.{true}
 use Prim.Native.Nat.{_<_}
 use native.Mathlib.Omega.{arith}
-use Rattle.axis.specs.declared.edge.Edge.{Edge}
 use Rattle.axis.specs.Edge.{putEdge}
 use Rattle.axis.specs.Refusals.{edgesRefusal}
 use Rattle.axis.proofs.Tests.{answered-no, answered-yes}
 use Rattle.axis.proofs.Acceptance.{EdgesAccepted, edges-accepted}
-use Rattle.fitting.specs.Fitting.{bothBelow, fitted, alignSerifEdge}
-use Rattle.fitting.proofs.Reach.{below-first, below-second, in-table, in-reach}
+use Rattle.placing.specs.Placing.{bothBelow}
+use Rattle.placing.proofs.Reach.{below-first, below-second, in-table, in-reach}
+use Rattle.fitting.specs.Fitting.{fitted, alignSerifEdge}
 use borrow.Author.Needs.{needs}
 use Rattle.fitting.proofs.place.align_serif_edge.Statement.{statement}
 use Rattle.fitting.proofs.place.align_serif_edge.Tie as tie
@@ -22,7 +22,7 @@ edges-refusal-requires c κs = search needs
 
 -- the answer is the refusal
 refusal-is : (c : tie.After-edges-refusal) → c .edges-refusal .result ≡ edgesRefusal (c .before .before .args .t1) true (bothBelow (c .before .before .args .t1 .len) (c .before .before .args .base) (c .before .before .args .serif)) true
-refusal-is c = rw (c .before .both-below .ensures) at (c .edges-refusal .ensures)
+refusal-is c = c .edges-refusal .ensures ∙ λ i. edgesRefusal (c .before .before .args .t1) true (c .before .both-below .ensures i) true
 
 -- what acceptance yields
 accepted : (c : tie.Else1) → EdgesAccepted (c .before .before .before .args .t1) true (bothBelow (c .before .before .before .args .t1 .len) (c .before .before .before .args .base) (c .before .before .before .args .serif)) true
@@ -73,7 +73,7 @@ unfolding alignSerifEdge
 returns-2 c =
     let o = c .before .before .before in
     let s = o .before .before .before in
-    answered-yes _ _ (fitted (s .args .t1)) _ _ (refusal-is (o .before)) (o .if1 .left) (ap (λ (e : Edge). fitted (putEdge (s .args .t1) (s .args .serif) e) 0) (c .serif-edge .ensures))
+    answered-yes _ _ (fitted (s .args .t1)) _ _ (refusal-is (o .before)) (o .if1 .left) (λ i. fitted (putEdge (s .args .t1) (s .args .serif) (c .serif-edge .ensures i)) 0)
 
 pub align-serif-edge-spec : {M : Type 1} → statement M
 align-serif-edge-spec =

@@ -1,6 +1,8 @@
 -- `fixed::pixel::pix_floor` meets its contract. The shift rounds down, so 64 times it is between x - 63 and x, and no less than -2 ^ 31, a multiple of 64.
 -- Assumes nothing.
 use native.Mathlib.Omega.{arith}
+use mathlib.Core.Path.{ap, _∙_}
+use lib.IntN.{ℤ, pos, _*ℤ_}
 use lib.Signed.{shrZ}
 use mir.Syntax.{w32}
 use mir.Val.{SFits, toZ, ofZ}
@@ -19,7 +21,7 @@ mul-result c =
 
 returns : tie.Need-returns
 unfolding pixFloor
-returns c = cc (is (c .fits .x), is (shifted c), is (mul-result c))
+returns c = is (mul-result c) ∙ ap (λ (z : ℤ). z *ℤ pos 64) (is (shifted c) ∙ ap (λ (z : ℤ). shrZ z 64) (is (c .fits .x)))
 
 pub pix-floor-spec : {M : Type 1} → statement M
 pix-floor-spec = tie.close (tie.spec mul-result returns)

@@ -1,5 +1,8 @@
 -- `fixed::point::derived_constant` meets its contract. Assumes nothing.
 use native.Mathlib.Omega.{arith}
+use mathlib.Core.Path.{ap, _∙_}
+use lib.IntN.{ℤ, pos, _*ℤ_}
+use lib.Signed.{quotZ}
 use Rattle.signed.proofs.Signed.{is, fits-prod, fits-quot, back-fits}
 use Rattle.fixed.specs.Point.{derived}
 use Rattle.fixed.proofs.point.derived_constant.Statement.{statement}
@@ -13,7 +16,7 @@ div-result c = (omega arith, fits-quot _ 2048 (back-fits (mul-result c)) tt)
 
 returns : tie.Need-returns
 unfolding derived
-returns c = cc (is (c .fits .c), is (c .fits .units-per-em), is (mul-result c), is (div-result c .1))
+returns c = is (div-result c .1) ∙ ap (λ (z : ℤ). quotZ z (pos 2048)) (is (mul-result c) ∙ λ i. is (c .fits .c) i *ℤ is (c .fits .units-per-em) i)
 
 pub derived-constant-spec : {M : Type 1} → statement M
 derived-constant-spec = tie.close (tie.spec mul-result div-result returns)

@@ -1,6 +1,8 @@
 -- `fixed::width::distance` meets its contract. Assumes nothing.
 use borrow.Author.Needs.{needs}
 use native.Mathlib.Omega.{arith}
+use mathlib.Core.Path.{ap, _∙_}
+use lib.IntN.{natAbs, _-ℤ_}
 use Rattle.signed.proofs.Signed.{signed, fits, is, range, _also_}
 use Rattle.fixed.proofs.width.distance.Statement.{statement}
 use Rattle.fixed.proofs.width.distance.Tie as tie
@@ -22,7 +24,7 @@ magnitude-requires c κs =
 returns : tie.Need-returns
 returns c =
     let s = c .before in
-    cc (c .magnitude .ensures, is (sub-magnitude s), is (cast-magnitude s), is (cast-magnitude-2 s), is (s .fits .standard))
+    c .magnitude .ensures ∙ ap natAbs (is (sub-magnitude s) ∙ λ i. (is (cast-magnitude s) ∙ is (s .fits .standard)) i -ℤ is (cast-magnitude-2 s) i)
 
 pub distance-spec : {M : Type 1} → statement M
 distance-spec =

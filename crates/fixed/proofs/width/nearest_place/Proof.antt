@@ -2,10 +2,10 @@
 use borrow.Author.Needs.{needs}
 use native.Mathlib.Omega.{arith}
 use mathlib.Core.Logic.{⊎-elim}
-use mathlib.Core.Path.{_≡_, sym, subst}
+use mathlib.Core.Path.{_≡_, sym, ap, subst, _∙_}
 use Prim.Native.Nat.{_+_, _≤_, _-_}
 use lib.ListN.{length, getD}
-use lib.IntN.{pos}
+use lib.IntN.{ℤ, pos}
 use mir.Syntax.{w32}
 use Rattle.signed.proofs.Signed.{is, got}
 use Rattle.fixed.specs.Width.{away}
@@ -23,11 +23,18 @@ abbrev μ-loop : tie.MeasureT-loop
 abbrev at-loop : tie.After-distance2 Inv-loop μ-loop → tie.At-loop Inv-loop μ-loop
 at-loop c = c .before .before .before .before .before
 
-new-is : (c : tie.After-distance Inv-loop μ-loop) → c .distance .result ≡ away (c .before .before .before .before .args .width) (getD (c .before .before .before .before .args .standards .now) (c .before .before .before .loop .i) (pos 0))
-new-is c = cc (c .distance .ensures, is (got w32 _ (c .before .distance-arg .given)))
+-- the standards that a turn compares: the one it comes to, and the nearest so far
+abbrev new : tie.After-distance Inv-loop μ-loop → ℤ
+new c = getD (c .before .before .before .before .args .standards .now) (c .before .before .before .loop .i) (pos 0)
 
-old-is : (c : tie.After-distance2 Inv-loop μ-loop) → c .distance2 .result ≡ away (at-loop c .before .args .width) (getD (at-loop c .before .args .standards .now) (at-loop c .loop .best) (pos 0))
-old-is c = cc (c .distance2 .ensures, is (got w32 _ (c .before .distance-arg2 .given)))
+abbrev old : tie.After-distance2 Inv-loop μ-loop → ℤ
+old c = getD (at-loop c .before .args .standards .now) (at-loop c .loop .best) (pos 0)
+
+new-is : (c : tie.After-distance Inv-loop μ-loop) → c .distance .result ≡ away (c .before .before .before .before .args .width) (new c)
+new-is c = c .distance .ensures ∙ ap (λ (z : ℤ). away (c .before .before .before .before .args .width) z) (is (got w32 (new c) (c .before .distance-arg .given)))
+
+old-is : (c : tie.After-distance2 Inv-loop μ-loop) → c .distance2 .result ≡ away (at-loop c .before .args .width) (old c)
+old-is c = c .distance2 .ensures ∙ ap (λ (z : ℤ). away (at-loop c .before .args .width) z) (is (got w32 (old c) (c .before .distance-arg2 .given)))
 
 loop-holds : tie.Need-loop-holds Inv-loop μ-loop
 loop-holds c = (omega arith, nearest-first (c .args .standards .now) (c .args .width))

@@ -1,15 +1,16 @@
 -- `fixed::width::snap` meets its contract: the standard at the place found is `nearest`, by which the width settles. Assumes nothing.
 use borrow.Author.Needs.{needs}
 use native.Mathlib.Omega.{arith}
-use mathlib.Core.Path.{_≡_, subst, _∙_}
+use mathlib.Core.Path.{_≡_, sym, ap, subst, _∙_}
 use mathlib.Core.List.{List}
 use Prim.Native.Nat.{_≤_}
 use lib.ListN.{getD}
-use lib.IntN.{ℤ, pos, negℤ, natAbs, +ℤ-idl}
+use lib.IntN.{ℤ, pos, negℤ, natAbs, _-ℤ_, +ℤ-idl}
 use mir.Syntax.{w32}
 use mir.Val.{SFits}
 use Rattle.signed.proofs.Signed.{signed, fits, is, range, got, abs-of, between-sfits}
 use Rattle.fixed.specs.Width.{away, Nearest, nearest, settled, snapped}
+use Rattle.signed.proofs.By.{by₂}
 use Rattle.fixed.proofs.Widths.{nearest-found, snapped-empty, snapped-some, settled-zero, settled-far, settled-pos, settled-neg}
 use Rattle.fixed.proofs.width.snap.Statement.{statement}
 use Rattle.fixed.proofs.width.snap.Tie as tie
@@ -18,7 +19,7 @@ abbrev list : tie.Start → List ℤ
 list s = s .args .standards .now
 
 returns : tie.Need-returns
-returns c = let s = c .before in cc (is (s .fits .width), snapped-empty (list s) (s .args .width) (c .if1 .taken))
+returns c = let s = c .before in is (s .fits .width) ∙ sym (snapped-empty (list s) (s .args .width) (c .if1 .taken))
 
 cast-magnitude : tie.Need-cast-magnitude
 cast-magnitude c = fits (omega (arith, signed, range (c .before .fits .width)))
@@ -28,7 +29,7 @@ magnitude-requires c κs = let k = cast-magnitude c in omega (arith, signed, ran
 
 -- the width's magnitude
 size-is : (c : tie.After-magnitude) → c .magnitude .result ≡ natAbs (c .before .before .args .width)
-size-is c = cc (c .magnitude .ensures, is (cast-magnitude (c .before)), is (c .before .before .fits .width))
+size-is c = c .magnitude .ensures ∙ ap natAbs (is (cast-magnitude (c .before)) ∙ is (c .before .before .fits .width))
 
 size-most : (c : tie.After-magnitude) → c .magnitude .result ≤ 2147483648
 size-most c = omega (arith, size-is c, abs-of (between-sfits (c .before .before .fits .width)))
@@ -37,11 +38,7 @@ returns-2 : tie.Need-returns-2
 returns-2 c =
     let s = c .before .before .before in
     let w = s .args .width in
-    cc (
-      is (s .fits .width),
-      snapped-some (list s) w (c .before .before .if1 .left),
-      settled-zero w (nearest (natAbs w) (list s)) (omega (arith, size-is (c .before))),
-    )
+    is (s .fits .width) ∙ sym (snapped-some (list s) w (c .before .before .if1 .left) ∙ settled-zero w (nearest (natAbs w) (list s)) (sym (size-is (c .before)) ∙ c .if2 .taken))
 
 nearest-place-requires : tie.Need-nearest-place-requires
 nearest-place-requires c κs = ((omega (arith, c .before .before .if1 .left), size-most (c .before)), c .before .before .before .pre)
@@ -66,7 +63,7 @@ distance-requires : tie.Need-distance-requires
 distance-requires c κs = size-most (c .before .before .before)
 
 distance-is : (c : tie.After-distance) → c .distance .result ≡ away (natAbs (start (c .before) .args .width)) (standard (c .before))
-distance-is c = cc (c .distance .ensures, size-is (c .before .before .before .before), is (whole (c .before)))
+distance-is c = by₂ away (c .distance .ensures) (size-is (c .before .before .before .before)) (is (whole (c .before)))
 
 -- the width settles by the standard found
 settles : (c : tie.After-standard) → snapped (list (start c)) (start c .args .width) ≡ settled (start c .args .width) (standard c)
@@ -75,7 +72,7 @@ settles c =
     let w = s .args .width in
     let e = size-is (c .before .before .before) in
     let n = subst (λ m. Nearest (list s) m (standard c)) e (c .before .nearest-place .ensures .1) in
-    cc (snapped-some (list s) w (c .before .before .before .before .if1 .left), nearest-found (list s) (natAbs w) (standard c) n)
+    snapped-some (list s) w (c .before .before .before .before .if1 .left) ∙ ap (settled w) (nearest-found (list s) (natAbs w) (standard c) n)
 
 not-zero : (c : tie.After-standard) → natAbs (start c .args .width) ≡ 0 → ⊥
 not-zero c e = c .before .before .if2 .left (size-is (c .before .before .before) ∙ e)
@@ -84,7 +81,7 @@ returns-3 : tie.Need-returns-3
 returns-3 c =
     let d = c .before in
     let a = d .before in
-    cc (is (start a .fits .width), settles a, settled-far (start a .args .width) (standard a) (not-zero a) (omega (arith, distance-is d)))
+    is (start a .fits .width) ∙ sym (settles a ∙ settled-far (start a .args .width) (standard a) (not-zero a) (omega (arith, distance-is d)))
 
 sub-result : tie.Need-sub-result
 sub-result c = let a = c .before .before .before in let k = whole a in fits (omega (arith, signed, range k, start a .pre .least (a .before .nearest-place .result) (a .before .nearest-place .ensures .0)))
@@ -93,19 +90,14 @@ returns-4 : tie.Need-returns-4
 returns-4 c =
     let d = c .before .before in
     let a = d .before in
-    cc (
-      is (sub-result c),
-      is (whole a),
-      +ℤ-idl (negℤ (standard a)),
-      settles a,
-      settled-neg (start a .args .width) (standard a) (not-zero a) (omega (arith, distance-is d)) (omega (arith, signed)),
-    )
+    is (sub-result c) ∙ ap (λ (z : ℤ). pos 0 -ℤ z) (is (whole a)) ∙ +ℤ-idl (negℤ (standard a))
+    ∙ sym (settles a ∙ settled-neg (start a .args .width) (standard a) (not-zero a) (omega (arith, distance-is d)) (omega (arith, signed)))
 
 returns-5 : tie.Need-returns-5
 returns-5 c =
     let d = c .before .before in
     let a = d .before in
-    cc (is (whole a), settles a, settled-pos (start a .args .width) (standard a) (not-zero a) (omega (arith, distance-is d)) (omega (arith, signed)))
+    is (whole a) ∙ sym (settles a ∙ settled-pos (start a .args .width) (standard a) (not-zero a) (omega (arith, distance-is d)) (omega (arith, signed)))
 
 pub snap-spec : {M : Type 1} → statement M
 snap-spec =

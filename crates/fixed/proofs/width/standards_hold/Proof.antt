@@ -1,8 +1,8 @@
 -- `fixed::width::standards_hold` meets its contract. The invariant: the list holds where what is left rises from the last standard. Assumes nothing.
 use borrow.Author.Needs.{needs}
 use native.Mathlib.Omega.{arith}
-use mathlib.Core.Path.{_≡_, sym}
-use Prim.Native.Nat.{_≤_, _-_}
+use mathlib.Core.Path.{_≡_, sym, ap, _∙_}
+use Prim.Native.Nat.{_+_, _≤_, _-_}
 use lib.ListN.{length, getD, drop}
 use lib.IntN.{ℤ, pos}
 use mir.Syntax.{w32}
@@ -43,14 +43,14 @@ returns-2 c =
     let a = c .before in
     let l = a .before .before .loop in
     let k = whole a in
-    cc (l .inv .1, rises-not-above (toZ w32 (l .last)) (a .before .before .before .before .args .standards .now) (l .i) (omega arith) (omega (arith, signed)))
+    sym (l .inv .1 ∙ rises-not-above (toZ w32 (l .last)) (a .before .before .before .before .args .standards .now) (l .i) (omega arith) (omega (arith, signed)))
 
 returns-3 : tie.Need-returns-3 Inv-loop μ-loop
 returns-3 c =
     let a = c .before .before in
     let l = a .before .before .loop in
     let k = whole a in
-    cc (l .inv .1, rises-too-large (toZ w32 (l .last)) (a .before .before .before .before .args .standards .now) (l .i) (omega arith) (omega (arith, signed)))
+    sym (l .inv .1 ∙ rises-too-large (toZ w32 (l .last)) (a .before .before .before .before .args .standards .now) (l .i) (omega arith) (omega (arith, signed)))
 
 add-i : tie.Need-add-i Inv-loop μ-loop
 add-i c = omega arith
@@ -64,17 +64,15 @@ loop-again c =
     let l = a .before .before .loop in
     let k = whole a in (
       omega arith,
-      cc (
-        l .inv .1,
-        is k,
-        rises-on (toZ w32 (l .last)) (a .before .before .before .before .args .standards .now) (l .i) (omega arith) (omega (arith, signed)) (omega (arith, signed)),
-      ),
+      l .inv .1
+          ∙ rises-on (toZ w32 (l .last)) (a .before .before .before .before .args .standards .now) (l .i) (omega arith) (omega (arith, signed)) (omega (arith, signed))
+          ∙ ap (λ (z : ℤ). risesFrom z (drop (l .i + 1) (a .before .before .before .before .args .standards .now))) (sym (is k)),
     )
 
 returns-4 : tie.Need-returns-4 Inv-loop μ-loop
 returns-4 c =
     let l = c .before .loop in
-    cc (l .inv .1, rises-end (toZ w32 (l .last)) (c .before .before .before .args .standards .now) (l .i) (omega arith))
+    sym (l .inv .1 ∙ rises-end (toZ w32 (l .last)) (c .before .before .before .args .standards .now) (l .i) (omega arith))
 
 pub standards-hold-spec : {M : Type 1} → statement M
 standards-hold-spec =

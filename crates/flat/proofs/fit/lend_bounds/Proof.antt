@@ -1,14 +1,20 @@
 -- `flat::fit::lend_bounds` meets its contract. Assumes nothing.
 use borrow.Author.Needs.{needs}
 use borrow.Author.Tests.{not-true, not-false}
-use mathlib.Core.Path.{_≡_, _∙_}
+use mathlib.Core.Path.{_≡_, sym, ap, _∙_}
+use mathlib.Core.Bool.{_&&_}
 use mir.Syntax.{w32}
 use mir.Val.{toZ, ofZ}
 use Rattle.words.specs.Field.{linkWord}
-use Rattle.signed.proofs.Signed.{is, got}
+use Rattle.words.proofs.Fields.{kept}
+use Rattle.signed.specs.Parts.{up}
+use Rattle.signed.proofs.Signed.{is}
+use Rattle.fitting.specs.Fitting.{latinRemainingBounds}
+use Rattle.shape.specs.Shape.{within, index}
 use Rattle.fitting.specs.declared.bounds.Bounds.{Bounds}
 use Rattle.flat.specs.Fit.{boundsShown, boundsFound, boundsWords}
-use Rattle.flat.proofs.Lents.{not-shown, shown-by, lent-as, lent-pair}
+use Rattle.signed.proofs.By.{by₂}
+use Rattle.lent.proofs.Lents.{not-shown, shown-by, lent-as, lent-pair}
 use Rattle.flat.proofs.fit.lend_bounds.Statement.{statement}
 use Rattle.flat.proofs.fit.lend_bounds.Tie as tie
 
@@ -17,21 +23,24 @@ start c = c .before .before .before
 
 -- what the tests tell
 shown : (c : tie.After-both) → boundsShown (start c .args .edges .now) (start c .args .edge) ≡ c .both .result
-shown c = let s = start c in cc (c .both .ensures, c .before .is-in .ensures, c .before .before .is-edges .ensures, is (s .fits .edge))
+shown c = sym (by₂ _&&_ (c .both .ensures) (c .before .before .is-edges .ensures) (c .before .is-in .ensures ∙ ap (within index) (is (start c .fits .edge))))
 
 abbrev tested : tie.After-latin-remaining-bounds → tie.Else1
 tested c = c .before .before .before
 
+abbrev from : tie.After-latin-remaining-bounds → tie.Start
+from c = start (tested c .before)
+
 -- what the call hands back
-handed : (c : tie.After-latin-remaining-bounds) → c .latin-remaining-bounds .result ≡ boundsFound (start (tested c .before) .args .edges .now) (start (tested c .before) .args .edge)
-handed c = let s = start (tested c .before) in cc (c .latin-remaining-bounds .ensures, c .before .size-of .ensures, c .before .before .axis-of .ensures, is (s .fits .edge))
+handed : (c : tie.After-latin-remaining-bounds) → c .latin-remaining-bounds .result ≡ boundsFound (from c .args .edges .now) (from c .args .edge)
+handed c = by₂ latinRemainingBounds (c .latin-remaining-bounds .ensures) (c .before .before .axis-of .ensures) (c .before .size-of .ensures ∙ ap up (is (from c .fits .edge)))
 
 -- the bounds' words
 upper : (c : tie.After-give-word) → toZ w32 (ofZ w32 (c .before .link-word .result)) ≡ linkWord (c .before .before .before .latin-remaining-bounds .result .upper)
-upper c = cc (c .before .link-word .ensures, is (got w32 (c .before .link-word .result) (c .before .link-word .ok)))
+upper c = let w = c .before .link-word in kept w32 (w .result) (w .ok) ∙ w .ensures
 
 lower : (c : tie.After-give-word2) → toZ w32 (ofZ w32 (c .before .link-word2 .result)) ≡ linkWord (c .before .before .before .before .before .before .latin-remaining-bounds .result .lower)
-lower c = cc (c .before .link-word2 .ensures, is (got w32 (c .before .link-word2 .result) (c .before .link-word2 .ok)))
+lower c = let w = c .before .link-word2 in kept w32 (w .result) (w .ok) ∙ w .ensures
 
 is-edges-requires : tie.Need-is-edges-requires
 is-edges-requires c κs = search needs
@@ -70,7 +79,8 @@ returns-2 : tie.Need-returns-2
 returns-2 c =
     let h = c .before .before .before .before .before .before in
     let e = tested h in
-    shown-by (λ (x : Bounds). x .answer) (λ (x : Bounds). boundsWords x) (shown (e .before) ∙ not-false _ (e .if1 .left)) (handed h) (lent-pair (lent-as (lower c) (c .give-word2 .ensures)) (lent-as (upper (c .before .before .before)) (c .before .before .before .give-word .ensures)))
+    shown-by (λ (x : Bounds). x .answer) (λ (x : Bounds). boundsWords x) (shown (e .before) ∙ not-false _ (e .if1 .left)) (handed h)
+    (lent-pair (lent-as (lower c) (c .give-word2 .ensures)) (lent-as (upper (c .before .before .before)) (c .before .before .before .give-word .ensures)))
 
 pub lend-bounds-spec : {M : Type 1} → statement M
 lend-bounds-spec =

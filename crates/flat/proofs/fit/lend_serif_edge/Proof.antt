@@ -1,12 +1,18 @@
 -- `flat::fit::lend_serif_edge` meets its contract. Assumes nothing.
 use borrow.Author.Needs.{needs}
 use borrow.Author.Tests.{not-true, not-false}
-use mathlib.Core.Path.{_≡_, _∙_}
+use mathlib.Core.Path.{_≡_, sym, ap, _∙_}
+use mathlib.Core.Bool.{_&&_}
 use Rattle.words.specs.Edge.{edgesOver}
+use Rattle.signed.specs.Parts.{up}
 use Rattle.signed.proofs.Signed.{is}
+use Rattle.fitting.specs.Fitting.{alignSerifEdge}
+use Rattle.shape.specs.Shape.{index}
 use Rattle.fitting.specs.declared.place.Fitted.{Fitted}
+use Rattle.lent.specs.Lent.{bothIn}
 use Rattle.flat.specs.Fit.{serifShown, serifFitted}
-use Rattle.flat.proofs.Lents.{not-shown, shown-by}
+use Rattle.signed.proofs.By.{by₂, by₃}
+use Rattle.lent.proofs.Lents.{not-shown, shown-by}
 use Rattle.flat.proofs.fit.lend_serif_edge.Statement.{statement}
 use Rattle.flat.proofs.fit.lend_serif_edge.Tie as tie
 
@@ -15,14 +21,21 @@ start c = c .before .before .before .before
 
 -- what the tests tell
 shown : (c : tie.After-both) → serifShown (start c .args .edges .now) (start c .args .base) (start c .args .serif) ≡ c .both .result
-shown c = let s = start c in cc (c .both .ensures, c .before .both-in .ensures, c .before .before .is-edges .ensures, is (s .fits .base), is (s .fits .serif))
+shown c = let s = start c in sym (by₂ _&&_ (c .both .ensures) (c .before .before .is-edges .ensures) (by₂ (bothIn index) (c .before .both-in .ensures) (is (s .fits .base)) (is (s .fits .serif))))
 
 abbrev tested : tie.After-align-serif-edge → tie.Else1
 tested c = c .before .before .before .before .before
 
+abbrev from : tie.After-align-serif-edge → tie.Start
+from c = start (tested c .before)
+
 -- what the call hands back
-handed : (c : tie.After-align-serif-edge) → c .align-serif-edge .result ≡ serifFitted (start (tested c .before) .args .edges .now) (start (tested c .before) .args .base) (start (tested c .before) .args .serif)
-handed c = let s = start (tested c .before) in cc (c .align-serif-edge .ensures, c .before .size-of2 .ensures, c .before .before .size-of .ensures, c .before .before .before .axis-of .ensures, is (s .fits .base), is (s .fits .serif))
+handed : (c : tie.After-align-serif-edge) → c .align-serif-edge .result ≡ serifFitted (from c .args .edges .now) (from c .args .base) (from c .args .serif)
+handed c =
+    let s = from c in
+    let j = c .before in
+    let i = j .before in
+    by₃ alignSerifEdge (c .align-serif-edge .ensures) (i .before .axis-of .ensures) (i .size-of .ensures ∙ ap up (is (s .fits .base))) (j .size-of2 .ensures ∙ ap up (is (s .fits .serif)))
 
 is-edges-requires : tie.Need-is-edges-requires
 is-edges-requires c κs = search needs
@@ -61,7 +74,8 @@ returns-2 : tie.Need-returns-2
 returns-2 c =
     let h = c .before .before .before .before in
     let e = tested h in
-    shown-by (λ (x : Fitted). x .answer) (λ (x : Fitted). edgesOver (start (e .before) .args .edges .now) (x .axis)) (shown (e .before) ∙ not-false _ (e .if1 .left)) (handed h) (c .before .give-edges .ensures)
+    shown-by (λ (x : Fitted). x .answer) (λ (x : Fitted). edgesOver (start (e .before) .args .edges .now) (x .axis)) (shown (e .before) ∙ not-false _ (e .if1 .left)) (handed h)
+    (c .before .give-edges .ensures)
 
 pub lend-serif-edge-spec : {M : Type 1} → statement M
 lend-serif-edge-spec =

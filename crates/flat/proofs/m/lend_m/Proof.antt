@@ -1,12 +1,17 @@
 -- `flat::m::lend_m` meets its contract. Assumes nothing.
 use borrow.Author.Needs.{needs}
 use borrow.Author.Tests.{not-true, not-false}
-use mathlib.Core.Path.{_≡_, _∙_}
+use mathlib.Core.Path.{_≡_, sym, ap, _∙_}
+use mathlib.Core.Bool.{_&&_}
+use Rattle.words.specs.Field.{groupOf}
 use Rattle.words.specs.Edge.{edgesOver}
 use Rattle.signed.proofs.Signed.{is}
 use Rattle.lowercase_m.specs.declared.hint.Hinted.{Hinted}
+use Rattle.lowercase_m.specs.M.{hintLowercaseM}
+use Rattle.shape.specs.Shape.{within, choice}
 use Rattle.flat.specs.M.{mShown, mHinted}
-use Rattle.flat.proofs.Lents.{not-shown, shown-by}
+use Rattle.signed.proofs.By.{by₂}
+use Rattle.lent.proofs.Lents.{not-shown, shown-by}
 use Rattle.flat.proofs.m.lend_m.Statement.{statement}
 use Rattle.flat.proofs.m.lend_m.Tie as tie
 
@@ -15,14 +20,17 @@ start c = c .before .before .before .before
 
 -- what the tests tell
 shown : (c : tie.After-both) → mShown (start c .args .edges .now) (start c .args .group) ≡ c .both .result
-shown c = let s = start c in cc (c .both .ensures, c .before .is-in .ensures, c .before .before .is-edges .ensures, is (s .fits .group))
+shown c = sym (by₂ _&&_ (c .both .ensures) (c .before .before .is-edges .ensures) (c .before .is-in .ensures ∙ ap (within choice) (is (start c .fits .group))))
 
 abbrev tested : tie.After-hint-lowercase-m → tie.Else1
 tested c = c .before .before .before .before
 
+abbrev from : tie.After-hint-lowercase-m → tie.Start
+from c = start (tested c .before)
+
 -- what the call hands back
-handed : (c : tie.After-hint-lowercase-m) → c .hint-lowercase-m .result ≡ mHinted (start (tested c .before) .args .edges .now) (start (tested c .before) .args .group)
-handed c = let s = start (tested c .before) in cc (c .hint-lowercase-m .ensures, c .before .group-of .ensures, c .before .before .axis-of .ensures, is (s .fits .group))
+handed : (c : tie.After-hint-lowercase-m) → c .hint-lowercase-m .result ≡ mHinted (from c .args .edges .now) (from c .args .group)
+handed c = by₂ hintLowercaseM (c .hint-lowercase-m .ensures) (c .before .before .axis-of .ensures) (c .before .group-of .ensures ∙ ap groupOf (is (from c .fits .group)))
 
 is-edges-requires : tie.Need-is-edges-requires
 is-edges-requires c κs = search needs
@@ -58,7 +66,8 @@ returns-2 : tie.Need-returns-2
 returns-2 c =
     let h = c .before .before .before .before in
     let e = tested h in
-    shown-by (λ (x : Hinted). x .answer) (λ (x : Hinted). edgesOver (start (e .before) .args .edges .now) (x .axis)) (shown (e .before) ∙ not-false _ (e .if1 .left)) (handed h) (c .before .give-edges .ensures)
+    shown-by (λ (x : Hinted). x .answer) (λ (x : Hinted). edgesOver (start (e .before) .args .edges .now) (x .axis)) (shown (e .before) ∙ not-false _ (e .if1 .left)) (handed h)
+    (c .before .give-edges .ensures)
 
 pub lend-m-spec : {M : Type 1} → statement M
 lend-m-spec =

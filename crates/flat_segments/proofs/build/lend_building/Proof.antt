@@ -1,17 +1,24 @@
 -- `flat_segments::build::lend_building` meets its contract. Assumes nothing.
 use borrow.Author.Needs.{needs}
 use borrow.Author.Tests.{not-true, not-false}
-use mathlib.Core.Path.{_≡_, ap, _∙_}
+use mathlib.Core.Path.{_≡_, sym, ap, _∙_}
+use mathlib.Core.Bool.{Bool, _&&_}
 use Prim.Native.Nat.{_%_}
+use lib.Dec.{eqb}
+use lib.ListN.{length}
 use lib.IntN.{pos}
 use mir.Syntax.{w32}
 use mir.Val.{toZ, ofZ}
 use Rattle.words.specs.Field.{choiceOf, dimensionOf, directionOf, groupOf}
 use Rattle.flat_segments.proofs.Readings.{building-reads}
-use Rattle.signed.proofs.Signed.{is, got}
+use Rattle.words.proofs.Fields.{kept}
+use Rattle.signed.proofs.Signed.{is}
+use Rattle.shape.specs.Shape.{within, direction}
+use Rattle.lent.specs.Lent.{choices}
+use Rattle.signed.proofs.By.{by₂, by₃}
 use Rattle.building.specs.declared.build.Built.{Built}
-use Rattle.flat_segments.specs.Build.{buildShown, built, builtWords}
-use Rattle.flat.proofs.Lents.{not-shown, shown-by, lent-as, lent-pair}
+use Rattle.flat_segments.specs.Build.{tableWords, buildShown, built, builtWords}
+use Rattle.lent.proofs.Lents.{not-shown, shown-by, lent-as, lent-pair}
 use Rattle.flat_segments.proofs.build.lend_building.Statement.{statement}
 use Rattle.flat_segments.proofs.build.lend_building.Tie as tie
 
@@ -19,26 +26,44 @@ abbrev start : tie.After-both3 → tie.Start
 start c = c .before .before .before .before .before .before .before
 
 -- what the tests tell
-shown : (c : tie.After-both3) → buildShown (start c .args .segments .now) (start c .args .edges .now) (start c .args .dim) (start c .args .major-dir) (start c .args .group) (start c .args .top-to-bottom) ≡ c .both3 .result
-shown c = let s = start c in cc (c .both3 .ensures, c .before .both2 .ensures, c .before .before .is-segments .ensures, c .before .before .before .before .both .ensures, c .before .before .before .before .before .are-choices .ensures, c .before .before .before .before .before .before .is-in .ensures, is (s .fits .dim), is (s .fits .major-dir), is (s .fits .group), is (s .fits .top-to-bottom))
+shown :
+    (c : tie.After-both3)
+    → buildShown (start c .args .segments .now) (start c .args .edges .now) (start c .args .dim) (start c .args .major-dir) (start c .args .group) (start c .args .top-to-bottom)
+    ≡ c .both3 .result
+shown c =
+    let s = start c in
+    let g = c .before .before in
+    let w = g .before .before in
+    let words =
+    by₂ _&&_ (w .both .ensures) (w .before .before .is-in .ensures ∙ ap (within direction) (is (s .fits .major-dir)))
+    (by₃ choices (w .before .are-choices .ensures) (is (s .fits .dim)) (is (s .fits .group)) (is (s .fits .top-to-bottom)))
+    in
+    sym (by₂ _&&_ (c .both3 .ensures) (g .is-segments .ensures) (c .before .both2 .ensures ∙ ap (λ (b : Bool). eqb (length (s .args .edges .now)) tableWords && b) words))
 
 abbrev tested : tie.After-compute-edges → tie.Else1
 tested c = c .before .before .before .before .before .before .before .before
 
+abbrev from : tie.After-compute-edges → tie.Start
+from c = start (tested c .before)
+
 -- what the call hands back
-handed : (c : tie.After-compute-edges) → c .compute-edges .result ≡ built (start (tested c .before) .args .segments .now) (start (tested c .before) .args .dim) (start (tested c .before) .args .major-dir) (start (tested c .before) .args .group) (start (tested c .before) .args .top-to-bottom) (start (tested c .before) .args .scale) (start (tested c .before) .args .thresholds)
+handed :
+    (c : tie.After-compute-edges)
+    → c .compute-edges .result ≡ built (from c .args .segments .now) (from c .args .dim) (from c .args .major-dir) (from c .args .group) (from c .args .top-to-bottom)
+    (from c .args .scale) (from c .args .thresholds)
 handed c =
-    let s = start (tested c .before) in
+    let s = from c in
     let a = s .args in
     let g = c .before .before in
     let d = g .before .before in
-    c .compute-edges .ensures
-    ∙ building-reads (a .segments .now) (a .dim) (a .major-dir) (a .group) (a .top-to-bottom) (a .scale) (a .thresholds) (d .before .before .flat-segments .ensures) (g .before .empty-axis .ensures) (d .before .dimension-of .ensures ∙ ap dimensionOf (is (s .fits .dim)))
-    (d .direction-of .ensures ∙ ap directionOf (is (s .fits .major-dir))) (g .group-of .ensures ∙ ap groupOf (is (s .fits .group))) (c .before .choice-of .ensures ∙ ap choiceOf (is (s .fits .top-to-bottom))) (is (s .fits .scale))
+    building-reads (a .segments .now) (a .dim) (a .major-dir) (a .group) (a .top-to-bottom) (a .scale) (a .thresholds) (c .compute-edges .ensures)
+    (d .before .before .flat-segments .ensures) (g .before .empty-axis .ensures) (d .before .dimension-of .ensures ∙ ap dimensionOf (is (s .fits .dim)))
+    (d .direction-of .ensures ∙ ap directionOf (is (s .fits .major-dir))) (g .group-of .ensures ∙ ap groupOf (is (s .fits .group)))
+    (c .before .choice-of .ensures ∙ ap choiceOf (is (s .fits .top-to-bottom))) (is (s .fits .scale))
 
 -- the count's word
 word : (c : tie.After-give-word) → toZ w32 (ofZ w32 (c .before .count-word .result)) ≡ pos (c .before .before .before .before .before .compute-edges .result .axis .len % 65536)
-word c = cc (c .before .count-word .ensures, is (got w32 (c .before .count-word .result) (c .before .count-word .ok)))
+word c = let w = c .before .count-word in kept w32 (w .result) (w .ok) ∙ w .ensures
 
 is-in-requires : tie.Need-is-in-requires
 is-in-requires c κs = search needs
@@ -105,9 +130,12 @@ same-length-3 c = search needs
 
 returns-2 : tie.Need-returns-2
 returns-2 c =
-    let h = c .before .before .before .before .before .before .before .before .before .before .before in
+    let n = c .before .before .before .before .before .before in
+    let h = n .before .before .before .before .before in
     let e = tested h in
-    shown-by (λ (x : Built). x .answer) (λ (x : Built). builtWords (start (e .before) .args .segments .now) (start (e .before) .args .edges .now) x) (shown (e .before) ∙ not-false _ (e .if1 .left)) (handed h) (lent-pair (c .before .give-segments .ensures) (lent-pair (c .before .before .before .before .give-edges .ensures) (lent-as (word (c .before .before .before .before .before .before)) (c .before .before .before .before .before .before .give-word .ensures))))
+    shown-by (λ (x : Built). x .answer) (λ (x : Built). builtWords (start (e .before) .args .segments .now) (start (e .before) .args .edges .now) x)
+    (shown (e .before) ∙ not-false _ (e .if1 .left)) (handed h)
+    (lent-pair (c .before .give-segments .ensures) (lent-pair (c .before .before .before .before .give-edges .ensures) (lent-as (word n) (n .give-word .ensures))))
 
 pub lend-building-spec : {M : Type 1} → statement M
 lend-building-spec =

@@ -1,12 +1,17 @@
 -- `flat_segments::link::lend_linking` meets its contract. Assumes nothing.
 use borrow.Author.Needs.{needs}
 use borrow.Author.Tests.{not-true, not-false}
-use mathlib.Core.Path.{_≡_, _∙_}
+use mathlib.Core.Path.{_≡_, sym, ap, _∙_}
+use mathlib.Core.Bool.{_&&_}
+use Rattle.words.specs.Field.{directionOf}
 use Rattle.words.specs.Segment.{segmentsOver}
 use Rattle.signed.proofs.Signed.{is}
 use Rattle.linking.specs.declared.link.Linked.{Linked}
+use Rattle.linking.specs.Linking.{linkSegmentsCjk}
+use Rattle.shape.specs.Shape.{within, direction}
+use Rattle.signed.proofs.By.{by₂, by₄}
 use Rattle.flat_segments.specs.Link.{linkingShown, linkingLinked}
-use Rattle.flat.proofs.Lents.{not-shown, shown-by}
+use Rattle.lent.proofs.Lents.{not-shown, shown-by}
 use Rattle.flat_segments.proofs.link.lend_linking.Statement.{statement}
 use Rattle.flat_segments.proofs.link.lend_linking.Tie as tie
 
@@ -15,14 +20,21 @@ start c = c .before .before .before .before
 
 -- what the tests tell
 shown : (c : tie.After-both) → linkingShown (start c .args .segments .now) (start c .args .major-dir) ≡ c .both .result
-shown c = let s = start c in cc (c .both .ensures, c .before .is-in .ensures, c .before .before .is-segments .ensures, is (s .fits .major-dir))
+shown c = sym (by₂ _&&_ (c .both .ensures) (c .before .before .is-segments .ensures) (c .before .is-in .ensures ∙ ap (within direction) (is (start c .fits .major-dir))))
 
 abbrev tested : tie.After-link-segments-cjk → tie.Else1
 tested c = c .before .before .before .before
 
+abbrev from : tie.After-link-segments-cjk → tie.Start
+from c = start (tested c .before)
+
 -- what the call hands back
-handed : (c : tie.After-link-segments-cjk) → c .link-segments-cjk .result ≡ linkingLinked (start (tested c .before) .args .segments .now) (start (tested c .before) .args .major-dir) (start (tested c .before) .args .units-per-em) (start (tested c .before) .args .scale)
-handed c = let s = start (tested c .before) in cc (c .link-segments-cjk .ensures, c .before .direction-of .ensures, c .before .before .flat-segments .ensures, is (s .fits .major-dir), is (s .fits .units-per-em), is (s .fits .scale))
+handed : (c : tie.After-link-segments-cjk) → c .link-segments-cjk .result ≡ linkingLinked (from c .args .segments .now) (from c .args .major-dir) (from c .args .units-per-em) (from c .args .scale)
+handed c =
+    let s = from c in
+    let d = c .before in
+    by₄ linkSegmentsCjk (c .link-segments-cjk .ensures) (d .before .flat-segments .ensures) (d .direction-of .ensures ∙ ap directionOf (is (s .fits .major-dir)))
+    (is (s .fits .units-per-em)) (is (s .fits .scale))
 
 is-segments-requires : tie.Need-is-segments-requires
 is-segments-requires c κs = search needs
@@ -58,7 +70,8 @@ returns-2 : tie.Need-returns-2
 returns-2 c =
     let h = c .before .before .before .before in
     let e = tested h in
-    shown-by (λ (x : Linked). x .answer) (λ (x : Linked). segmentsOver (start (e .before) .args .segments .now) (x .segments)) (shown (e .before) ∙ not-false _ (e .if1 .left)) (handed h) (c .before .give-segments .ensures)
+    shown-by (λ (x : Linked). x .answer) (λ (x : Linked). segmentsOver (start (e .before) .args .segments .now) (x .segments)) (shown (e .before) ∙ not-false _ (e .if1 .left))
+    (handed h) (c .before .give-segments .ensures)
 
 pub lend-linking-spec : {M : Type 1} → statement M
 lend-linking-spec =

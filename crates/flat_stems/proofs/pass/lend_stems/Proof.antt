@@ -1,15 +1,20 @@
 -- `flat_stems::pass::lend_stems` meets its contract. Assumes nothing.
 use borrow.Author.Needs.{needs}
 use borrow.Author.Tests.{not-true, not-false}
-use mathlib.Core.Path.{_≡_, ap, _∙_}
+use mathlib.Core.Path.{_≡_, sym, ap, _∙_}
+use mathlib.Core.Bool.{_&&_}
 use Prim.Native.Nat.{_%_}
 use lib.IntN.{pos}
 use mir.Syntax.{w32}
 use mir.Val.{toZ, ofZ}
-use Rattle.signed.proofs.Signed.{is, got}
+use Rattle.signed.proofs.Signed.{is}
 use Rattle.stems.specs.declared.pass.Stems.{Stems}
 use Rattle.words.specs.Field.{choiceOf, dimensionOf, groupOf, linkOf, ruleOf, linkWord}
-use Rattle.flat.proofs.Lents.{not-shown, shown-by, lent-as, lent-pair}
+use Rattle.words.proofs.Fields.{kept}
+use Rattle.shape.specs.Shape.{within, link, choice}
+use Rattle.lent.specs.Lent.{bothIn, choices}
+use Rattle.signed.proofs.By.{by₂, by₃}
+use Rattle.lent.proofs.Lents.{not-shown, shown-by, lent-as, lent-pair}
 use Rattle.flat_stems.specs.Stems.{stemsShown, stemsAligned, stemsWords}
 use Rattle.flat_stems.proofs.Readings.{stems-reads}
 use Rattle.flat_stems.proofs.pass.lend_stems.Statement.{statement}
@@ -19,33 +24,49 @@ abbrev start : tie.After-both3 → tie.Start
 start c = c .before .before .before .before .before .before .before .before
 
 -- what the tests tell
-shown : (c : tie.After-both3) → stemsShown (start c .args .edges .now) (start c .args .dim) (start c .args .group) (start c .args .stem-adjust) (start c .args .top-to-bottom) (start c .args .anchor) (start c .args .rule) ≡ c .both3 .result
+shown :
+    (c : tie.After-both3)
+    → stemsShown (start c .args .edges .now) (start c .args .dim) (start c .args .group) (start c .args .stem-adjust) (start c .args .top-to-bottom) (start c .args .anchor)
+    (start c .args .rule) ≡ c .both3 .result
 shown c =
     let s = start c in
     let b = c .before .before .before in
-    cc (c .both3 .ensures, c .before .is-edges .ensures, b .both2 .ensures, b .before .are-choices .ensures, b .before .before .both .ensures, b .before .before .before .is-in .ensures, b .before .before .before .before .both-in .ensures, is (s .fits .dim), is (s .fits .group), is (s .fits .stem-adjust), is (s .fits .top-to-bottom), is (s .fits .anchor), is (s .fits .rule))
+    let t = b .before in
+    let o = t .before in
+    let i = o .before in
+    sym (by₂ _&&_ (c .both3 .ensures) (c .before .is-edges .ensures) (by₂ _&&_ (b .both2 .ensures)
+    (by₃ choices (t .are-choices .ensures) (is (s .fits .dim)) (is (s .fits .group)) (is (s .fits .stem-adjust)))
+    (by₂ _&&_ (o .both .ensures) (by₂ (bothIn choice) (i .before .both-in .ensures) (is (s .fits .top-to-bottom)) (is (s .fits .rule))) (i .is-in .ensures ∙ ap (within link) (is (s .fits .anchor))))))
 
 abbrev tested : tie.After-align-stem-edges → tie.Else1
 tested c = c .before .before .before .before .before .before .before .before .before
 
+abbrev from : tie.After-align-stem-edges → tie.Start
+from c = start (tested c .before)
+
 -- what the call hands back
-handed : (c : tie.After-align-stem-edges) → c .align-stem-edges .result ≡ stemsAligned (start (tested c .before) .args .edges .now) (start (tested c .before) .args .dim) (start (tested c .before) .args .group) (start (tested c .before) .args .stem-adjust) (start (tested c .before) .args .top-to-bottom) (start (tested c .before) .args .anchor) (start (tested c .before) .args .rule) (start (tested c .before) .args .standards .now)
+handed :
+    (c : tie.After-align-stem-edges)
+    → c .align-stem-edges .result ≡ stemsAligned (from c .args .edges .now) (from c .args .dim) (from c .args .group) (from c .args .stem-adjust) (from c .args .top-to-bottom)
+    (from c .args .anchor) (from c .args .rule) (from c .args .standards .now)
 handed c =
-    let s = start (tested c .before) in
+    let s = from c in
     let a = s .args in
     let k = c .before in
     let b = k .before .before in
     let g = b .before .before in
-    c .align-stem-edges .ensures
-    ∙ stems-reads (a .edges .now) (a .dim) (a .group) (a .stem-adjust) (a .top-to-bottom) (a .anchor) (a .rule) (a .standards .now) (g .before .flat-axis .ensures) (g .before .before .dimension-of .ensures ∙ ap dimensionOf (is (s .fits .dim)))
-    (g .group-of .ensures ∙ ap groupOf (is (s .fits .group))) (b .before .choice-of .ensures ∙ ap choiceOf (is (s .fits .stem-adjust))) (b .choice-of2 .ensures ∙ ap choiceOf (is (s .fits .top-to-bottom))) (k .before .link-of .ensures ∙ ap linkOf (is (s .fits .anchor))) (k .rule-of .ensures ∙ ap ruleOf (is (s .fits .rule)))
+    stems-reads (a .edges .now) (a .dim) (a .group) (a .stem-adjust) (a .top-to-bottom) (a .anchor) (a .rule) (a .standards .now) (c .align-stem-edges .ensures)
+    (g .before .flat-axis .ensures) (g .before .before .dimension-of .ensures ∙ ap dimensionOf (is (s .fits .dim)))
+    (g .group-of .ensures ∙ ap groupOf (is (s .fits .group))) (b .before .choice-of .ensures ∙ ap choiceOf (is (s .fits .stem-adjust)))
+    (b .choice-of2 .ensures ∙ ap choiceOf (is (s .fits .top-to-bottom))) (k .before .link-of .ensures ∙ ap linkOf (is (s .fits .anchor)))
+    (k .rule-of .ensures ∙ ap ruleOf (is (s .fits .rule)))
 
 -- the words of the anchor and of the count
 anchor : (c : tie.After-give-word) → toZ w32 (ofZ w32 (c .before .link-word .result)) ≡ linkWord (c .before .before .before .before .align-stem-edges .result .anchor)
-anchor c = cc (c .before .link-word .ensures, is (got w32 (c .before .link-word .result) (c .before .link-word .ok)))
+anchor c = let w = c .before .link-word in kept w32 (w .result) (w .ok) ∙ w .ensures
 
 count : (c : tie.After-give-word2) → toZ w32 (ofZ w32 (c .before .count-word .result)) ≡ pos (c .before .before .before .before .before .before .before .align-stem-edges .result .count % 65536)
-count c = cc (c .before .count-word .ensures, is (got w32 (c .before .count-word .result) (c .before .count-word .ok)))
+count c = let w = c .before .count-word in kept w32 (w .result) (w .ok) ∙ w .ensures
 
 both-in-requires : tie.Need-both-in-requires
 both-in-requires c κs = search needs

@@ -1,15 +1,22 @@
 -- `flat_stems::zones::lend_zones` meets its contract. Assumes nothing.
 use borrow.Author.Needs.{needs}
 use borrow.Author.Tests.{not-true, not-false}
-use mathlib.Core.Path.{_≡_, _∙_}
-use lib.IntN.{ℤ}
+use mathlib.Core.Path.{_≡_, refl, sym, ap, _∙_}
+use mathlib.Core.Bool.{_&&_}
 use mir.Syntax.{w32}
 use mir.Val.{toZ, ofZ}
-use Rattle.words.specs.Field.{linkWord}
-use Rattle.signed.proofs.Signed.{is, got}
-use Rattle.blues.specs.declared.pass.Anchored.{Anchored}
+use Rattle.axis.specs.declared.kinds.Dimension.{Dimension}
+use Rattle.axis.specs.declared.kinds.Direction.the-variants as Directions
+use Rattle.words.specs.Field.{dimensionOf, groupOf, ruleOf, linkWord}
+use Rattle.words.specs.Edge.{flatAxis}
+use Rattle.words.proofs.Fields.{kept}
+use Rattle.signed.proofs.Signed.{is}
+use Rattle.blues_pass.specs.declared.pass.Anchored.{Anchored}
+use Rattle.blues.specs.Zones.{alignEdgesToBlues}
+use Rattle.lent.specs.Lent.{choices}
+use Rattle.signed.proofs.By.{by₂, by₃, by₄}
 use Rattle.flat_stems.specs.Zones.{zonesShown, zonesAnchored, zonesWords}
-use Rattle.flat.proofs.Lents.{not-shown, shown-by, lent-as, lent-pair}
+use Rattle.lent.proofs.Lents.{not-shown, shown-by, lent-as, lent-pair}
 use Rattle.flat_stems.proofs.zones.lend_zones.Statement.{statement}
 use Rattle.flat_stems.proofs.zones.lend_zones.Tie as tie
 
@@ -18,18 +25,33 @@ start c = c .before .before .before .before
 
 -- what the tests tell
 shown : (c : tie.After-both) → zonesShown (start c .args .edges .now) (start c .args .dim) (start c .args .group) (start c .args .rule) ≡ c .both .result
-shown c = let s = start c in cc (c .both .ensures, c .before .are-choices .ensures, c .before .before .is-edges .ensures, is (s .fits .dim), is (s .fits .group), is (s .fits .rule))
+shown c =
+    let s = start c in
+    sym
+    (by₂ _&&_ (c .both .ensures) (c .before .before .is-edges .ensures) (by₃ choices (c .before .are-choices .ensures) (is (s .fits .dim)) (is (s .fits .group)) (is (s .fits .rule))))
 
 abbrev tested : tie.After-align-edges-to-blues → tie.Else1
 tested c = c .before .before .before .before .before .before
 
+abbrev from : tie.After-align-edges-to-blues → tie.Start
+from c = start (tested c .before)
+
 -- what the call hands back
-handed : (c : tie.After-align-edges-to-blues) → c .align-edges-to-blues .result ≡ zonesAnchored (start (tested c .before) .args .edges .now) (start (tested c .before) .args .dim) (start (tested c .before) .args .group) (start (tested c .before) .args .rule) (start (tested c .before) .args .standards .now)
-handed c = let s = start (tested c .before) in cc (c .align-edges-to-blues .ensures, c .before .rule-of .ensures, c .before .before .group-of .ensures, c .before .before .before .flat-axis .ensures, c .before .before .before .before .dimension-of .ensures, is (s .fits .dim), is (s .fits .group), is (s .fits .rule))
+handed :
+    (c : tie.After-align-edges-to-blues)
+    → c .align-edges-to-blues .result ≡ zonesAnchored (from c .args .edges .now) (from c .args .dim) (from c .args .group) (from c .args .rule) (from c .args .standards .now)
+handed c =
+    let s = from c in
+    let k = c .before in
+    let g = k .before in
+    let x = g .before in
+    by₄ alignEdgesToBlues (c .align-edges-to-blues .ensures)
+    (x .flat-axis .ensures ∙ ap (λ (d : Dimension). flatAxis (s .args .edges .now) d Directions.None) (x .before .dimension-of .ensures ∙ ap dimensionOf (is (s .fits .dim))))
+    (g .group-of .ensures ∙ ap groupOf (is (s .fits .group))) (k .rule-of .ensures ∙ ap ruleOf (is (s .fits .rule))) refl
 
 -- the anchor's word
 word : (c : tie.After-give-word) → toZ w32 (ofZ w32 (c .before .link-word .result)) ≡ linkWord (c .before .before .before .before .align-edges-to-blues .result .anchor)
-word c = cc (c .before .link-word .ensures, is (got w32 (c .before .link-word .result) (c .before .link-word .ok)))
+word c = let w = c .before .link-word in kept w32 (w .result) (w .ok) ∙ w .ensures
 
 is-edges-requires : tie.Need-is-edges-requires
 is-edges-requires c κs = search needs
@@ -77,7 +99,8 @@ returns-2 : tie.Need-returns-2
 returns-2 c =
     let h = c .before .before .before .before .before .before .before in
     let e = tested h in
-    shown-by (λ (x : Anchored). x .answer) (λ (x : Anchored). zonesWords (start (e .before) .args .edges .now) x) (shown (e .before) ∙ not-false _ (e .if1 .left)) (handed h) (lent-pair (c .before .give-edges .ensures) (lent-as (word (c .before .before .before)) (c .before .before .before .give-word .ensures)))
+    shown-by (λ (x : Anchored). x .answer) (λ (x : Anchored). zonesWords (start (e .before) .args .edges .now) x) (shown (e .before) ∙ not-false _ (e .if1 .left)) (handed h)
+    (lent-pair (c .before .give-edges .ensures) (lent-as (word (c .before .before .before)) (c .before .before .before .give-word .ensures)))
 
 pub lend-zones-spec : {M : Type 1} → statement M
 lend-zones-spec =

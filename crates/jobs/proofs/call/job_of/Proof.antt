@@ -1,58 +1,70 @@
--- `jobs::call::job_of` meets its contract. Assumes nothing.
+-- `jobs::call::job_of` is safe and ends: every turn takes a digit off. Assumes nothing.
 use borrow.Author.Needs.{needs}
-use mathlib.Core.Path.{_≡_, _∙_}
-use Prim.Native.Nat.{ℕ}
-use Rattle.shape.specs.declared.field.Place.the-variants.{At}
-use Rattle.jobs.specs.Shape.{items, formatOf, callOf}
-use Rattle.jobs.proofs.Shapes.{job-none, job-whole, job-more}
+use Prim.Native.Nat.{_≤_}
 use Rattle.jobs.proofs.call.job_of.Statement.{statement}
 use Rattle.jobs.proofs.call.job_of.Tie as tie
 
-abbrev start : tie.After-skip-items → tie.Start
-start c = c .before .before
+abbrev Inv-loop : tie.InvT-loop
+Inv-loop words call items₀ here₀ items here = items ≤ items₀
 
--- the place behind all items
-place : (c : tie.After-skip-items) → c .skip-items .result ≡ items (formatOf (callOf (start c .args .words .now))) (start c .args .words .now) 1
-place c = cc (c .skip-items .ensures, c .before .call-of .ensures)
+abbrev μ-loop : tie.MeasureT-loop
+μ-loop words call items₀ here₀ items here = items
 
-abbrev end : tie.After-known-told → ℕ
-end c = c .before .end .given .0 .0
+count-at-requires : tie.Need-count-at-requires Inv-loop μ-loop
+count-at-requires c κs = search needs
 
-ends : (c : tie.After-known-told) → items (formatOf (callOf (start (c .before .before .before) .args .words .now))) (start (c .before .before .before) .args .words .now) 1 ≡ At (end c)
-ends c = cc (place (c .before .before .before), c .before .end .given .1)
+returns : tie.Need-returns Inv-loop μ-loop
+returns c = search needs
 
-call-of-requires : tie.Need-call-of-requires
-call-of-requires c κs = search needs
+mul-items : tie.Need-mul-items Inv-loop μ-loop
+mul-items c = search needs
 
-skip-items-requires : tie.Need-skip-items-requires
-skip-items-requires c κs = search needs
+array-read-items : tie.Need-array-read-items Inv-loop μ-loop
+array-read-items c = search needs
 
-enum-known-end : tie.Need-enum-known-end
-enum-known-end c = search needs
+loop-holds : tie.Need-loop-holds Inv-loop μ-loop
+loop-holds c = search needs
 
-enum-told : tie.Need-enum-told
+skip-item-requires : tie.Need-skip-item-requires Inv-loop μ-loop
+skip-item-requires c κs = search needs
+
+enum-known-next : tie.Need-enum-known-next Inv-loop μ-loop
+enum-known-next c = search needs
+
+enum-told : tie.Need-enum-told Inv-loop μ-loop
 enum-told c = search needs
 
-returns : tie.Need-returns
-returns c = let s = c .before .before in job-none (start s .args .words .now) (cc (place s, c .enum-told .given .1))
+returns-2 : tie.Need-returns-2 Inv-loop μ-loop
+returns-2 c = search needs
 
-returns-2 : tie.Need-returns-2
-returns-2 c =
-    let k = c .before in
-    let s = k .before .before .before in
-    s .before .call-of .ensures ∙ job-whole (start s .args .words .now) (end k) (ends k) (c .if1 .taken)
+loop-less : tie.Need-loop-less Inv-loop μ-loop
+loop-less c = search needs
 
-returns-3 : tie.Need-returns-3
-returns-3 c = let k = c .before in job-more (start (k .before .before .before) .args .words .now) (end k) (ends k) (c .if1 .left)
+loop-again : tie.Need-loop-again Inv-loop μ-loop
+loop-again c = search needs
+
+returns-3 : tie.Need-returns-3 Inv-loop μ-loop
+returns-3 c = search needs
+
+returns-4 : tie.Need-returns-4 Inv-loop μ-loop
+returns-4 c = search needs
 
 pub job-of-spec : {M : Type 1} → statement M
 job-of-spec =
     tie.close
     (tie.spec
-    call-of-requires
-    skip-items-requires
-    enum-known-end
-    enum-told
+    Inv-loop
+    μ-loop
+    count-at-requires
     returns
+    mul-items
+    array-read-items
+    loop-holds
+    skip-item-requires
+    enum-known-next
+    enum-told
     returns-2
-    returns-3)
+    loop-less
+    loop-again
+    returns-3
+    returns-4)

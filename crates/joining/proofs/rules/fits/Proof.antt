@@ -1,8 +1,6 @@
--- `joining::rules::fits` meets its contract: by its two tests. Assumes nothing.
+-- `joining::rules::fits` meets its contract: by its tests. Assumes nothing.
 use borrow.Author.Needs.{needs}
-use borrow.Author.Tests.{le-ltb, lt-ltb}
-use native.Mathlib.Omega.{arith}
-use Rattle.joining.specs.Joining as J
+use Rattle.joining.proofs.Searching.{fits-far, fits-near, fits-directed}
 use Rattle.joining.proofs.rules.fits.Statement.{statement}
 use Rattle.joining.proofs.rules.fits.Tie as tie
 
@@ -10,22 +8,19 @@ distance-to-requires : tie.Need-distance-to-requires
 distance-to-requires c κs = search needs
 
 returns : tie.Need-returns
-unfolding J.fits
-returns c =
-    let start = c .before .before in
-    let h = rw (c .before .distance-to .ensures) at (c .if1 .taken) in
-    rw (le-ltb (J.gap (start .args .segment .pos) (start .args .edge .fpos)) (start .args .limit) (omega arith))
+returns c = fits-far _ _ _ _ _ (c .before .distance-to .ensures) (c .if1 .taken)
+
+returns-2 : tie.Need-returns-2
+returns-2 c = let else1 = c .before in fits-near _ _ _ _ _ (else1 .before .distance-to .ensures) (else1 .if1 .left) (c .if2 .taken)
 
 same-requires : tie.Need-same-requires
 same-requires c κs = search needs
 
-returns-2 : tie.Need-returns-2
-unfolding J.fits
-returns-2 c =
-    let else1 = c .before in
-    let start = else1 .before .before in
-    let h = rw (else1 .before .distance-to .ensures) at (else1 .if1 .left) in
-    rw (lt-ltb (J.gap (start .args .segment .pos) (start .args .edge .fpos)) (start .args .limit) (omega arith)) (c .same .ensures)
+returns-3 : tie.Need-returns-3
+returns-3 c =
+    let else2 = c .before in
+    let else1 = else2 .before in
+    fits-directed _ _ _ _ _ (else1 .before .distance-to .ensures) (else1 .if1 .left) (else2 .if2 .left) _ (c .same .ensures)
 
 pub fits-spec : {M : Type 1} → statement M
-fits-spec = tie.close (tie.spec distance-to-requires returns same-requires returns-2)
+fits-spec = tie.close (tie.spec distance-to-requires returns returns-2 same-requires returns-3)

@@ -5,10 +5,13 @@ use Rattle.label.proofs.fit.with_zones.Statement.{statement}
 use Rattle.label.proofs.fit.with_zones.Tie as tie
 
 abbrev Inv-loop : tie.InvT-loop
-Inv-loop words n zoned₀ i₀ zoned i = (i ≤ n) × (n ≤ 128)
+Inv-loop words zones edges₀ n i₀ edges i = (i ≤ n) × (n ≤ 128)
 
 abbrev μ-loop : tie.MeasureT-loop
-μ-loop words n zoned₀ i₀ zoned i = n - i
+μ-loop words zones edges₀ n i₀ edges i = n - i
+
+tail-requires : tie.Need-tail-requires Inv-loop μ-loop
+tail-requires c κs = search needs
 
 least-requires : tie.Need-least-requires Inv-loop μ-loop
 least-requires c κs = search needs
@@ -16,23 +19,35 @@ least-requires c κs = search needs
 loop-holds : tie.Need-loop-holds Inv-loop μ-loop
 loop-holds c = search needs
 
-mul-edge : tie.Need-mul-edge Inv-loop μ-loop
-mul-edge c = search needs
+field-requires : tie.Need-field-requires Inv-loop μ-loop
+field-requires c κs = search needs
 
-element-copy-out-edge : tie.Need-element-copy-out-edge Inv-loop μ-loop
-element-copy-out-edge c = search needs
+mul-edges : tie.Need-mul-edges Inv-loop μ-loop
+mul-edges c = search needs
 
-blue-of-requires : tie.Need-blue-of-requires Inv-loop μ-loop
-blue-of-requires c κs = search needs
+add-edges : tie.Need-add-edges Inv-loop μ-loop
+add-edges c = search needs
 
-with-blue-requires : tie.Need-with-blue-requires Inv-loop μ-loop
-with-blue-requires c κs = search needs
+mul-edges-2 : tie.Need-mul-edges-2 Inv-loop μ-loop
+mul-edges-2 c = search needs
 
-mul-t8 : tie.Need-mul-t8 Inv-loop μ-loop
-mul-t8 c = search needs
+array-set-from-edges : tie.Need-array-set-from-edges Inv-loop μ-loop
+array-set-from-edges c = search needs
 
-element-set-from-zoned : tie.Need-element-set-from-zoned Inv-loop μ-loop
-element-set-from-zoned c = search needs
+field-requires-2 : tie.Need-field-requires-2 Inv-loop μ-loop
+field-requires-2 c κs = search needs
+
+mul-edges-3 : tie.Need-mul-edges-3 Inv-loop μ-loop
+mul-edges-3 c = search needs
+
+add-edges-2 : tie.Need-add-edges-2 Inv-loop μ-loop
+add-edges-2 c = search needs
+
+mul-edges-4 : tie.Need-mul-edges-4 Inv-loop μ-loop
+mul-edges-4 c = search needs
+
+array-set-from-edges-2 : tie.Need-array-set-from-edges-2 Inv-loop μ-loop
+array-set-from-edges-2 c = search needs
 
 add-i : tie.Need-add-i Inv-loop μ-loop
 add-i c = search needs
@@ -52,14 +67,19 @@ with-zones-spec =
     (tie.spec
     Inv-loop
     μ-loop
+    tail-requires
     least-requires
     loop-holds
-    mul-edge
-    element-copy-out-edge
-    blue-of-requires
-    with-blue-requires
-    mul-t8
-    element-set-from-zoned
+    field-requires
+    mul-edges
+    add-edges
+    mul-edges-2
+    array-set-from-edges
+    field-requires-2
+    mul-edges-3
+    add-edges-2
+    mul-edges-4
+    array-set-from-edges-2
     add-i
     loop-less
     loop-again

@@ -1,27 +1,32 @@
 -- `label::points::cells` is safe.
 use borrow.Author.Needs.{needs}
 use Prim.Native.Nat.{_≤_, _-_}
-use lib.ListN.{length}
 use Rattle.label.proofs.points.cells.Statement.{statement}
 use Rattle.label.proofs.points.cells.Tie as tie
 
 abbrev Inv-loop : tie.InvT-loop
-Inv-loop originals currents marks column₀ i₀ t6 column i = i ≤ length marks
+Inv-loop words n currents touched column₀ i₀ t9 column i = (i ≤ n) × (n ≤ 8191)
 
 abbrev μ-loop : tie.MeasureT-loop
-μ-loop originals currents marks column₀ i₀ t6 column i = length marks - i
+μ-loop words n currents touched column₀ i₀ t9 column i = n - i
 
 loop-holds : tie.Need-loop-holds Inv-loop μ-loop
 loop-holds c = search needs
 
-shared-slice-read-cell : tie.Need-shared-slice-read-cell Inv-loop μ-loop
-shared-slice-read-cell c = search needs
+array-read-cell : tie.Need-array-read-cell Inv-loop μ-loop
+array-read-cell c = search needs
+
+add-word-at : tie.Need-add-word-at Inv-loop μ-loop
+add-word-at c = search needs
 
 word-at-requires : tie.Need-word-at-requires Inv-loop μ-loop
 word-at-requires c κs = search needs
 
-word-at-requires-2 : tie.Need-word-at-requires-2 Inv-loop μ-loop
-word-at-requires-2 c κs = search needs
+mul-cell : tie.Need-mul-cell Inv-loop μ-loop
+mul-cell c = search needs
+
+array-copy-out-cell : tie.Need-array-copy-out-cell Inv-loop μ-loop
+array-copy-out-cell c = search needs
 
 cell-requires : tie.Need-cell-requires Inv-loop μ-loop
 cell-requires c κs = search needs
@@ -54,9 +59,11 @@ cells-spec =
     Inv-loop
     μ-loop
     loop-holds
-    shared-slice-read-cell
+    array-read-cell
+    add-word-at
     word-at-requires
-    word-at-requires-2
+    mul-cell
+    array-copy-out-cell
     cell-requires
     add-i
     loop-less

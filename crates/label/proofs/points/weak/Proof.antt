@@ -1,68 +1,94 @@
 -- `label::points::weak` is safe.
 use borrow.Author.Needs.{needs}
-use Rattle.jobs.proofs.Weaks.{part-short}
+use Prim.Native.Nat.{_≤_, _-_}
 use Rattle.label.proofs.points.weak.Statement.{statement}
 use Rattle.label.proofs.points.weak.Tie as tie
 
-part-at-requires : tie.Need-part-at-requires
-part-at-requires c κs = search needs
+abbrev Inv-loop : tie.InvT-loop
+Inv-loop words glyph n currents₀ touched₀ ends₀ placed₀ i₀ currents touched ends placed i = (i ≤ n) × ((placed ≤ i) × (n ≤ 8191))
 
-part-at-requires-2 : tie.Need-part-at-requires-2
-part-at-requires-2 c κs = search needs
+abbrev μ-loop : tie.MeasureT-loop
+μ-loop words glyph n currents₀ touched₀ ends₀ placed₀ i₀ currents touched ends placed i = n - i
 
-part-at-requires-3 : tie.Need-part-at-requires-3
-part-at-requires-3 c κs = search needs
+word-at-requires : tie.Need-word-at-requires Inv-loop μ-loop
+word-at-requires c κs = search needs
 
-part-at-requires-4 : tie.Need-part-at-requires-4
-part-at-requires-4 c κs = search needs
+size-of-requires : tie.Need-size-of-requires Inv-loop μ-loop
+size-of-requires c κs = search needs
 
-mul-fit-lists : tie.Need-mul-fit-lists
-mul-fit-lists c = search needs
+least-requires : tie.Need-least-requires Inv-loop μ-loop
+least-requires c κs = search needs
 
-sub-fit-lists : tie.Need-sub-fit-lists
-sub-fit-lists c = search needs
+loop-holds : tie.Need-loop-holds Inv-loop μ-loop
+loop-holds c = search needs
 
-part-fit-lists-start : tie.Need-part-fit-lists-start
-part-fit-lists-start c = search needs
+point-of-requires : tie.Need-point-of-requires Inv-loop μ-loop
+point-of-requires c κs = search needs
 
-part-fit-lists-end : tie.Need-part-fit-lists-end
-part-fit-lists-end c = search needs
+mul-currents : tie.Need-mul-currents Inv-loop μ-loop
+mul-currents c = search needs
 
-mul-fit-lists-2 : tie.Need-mul-fit-lists-2
-mul-fit-lists-2 c = search needs
+array-set-from-currents : tie.Need-array-set-from-currents Inv-loop μ-loop
+array-set-from-currents c = search needs
 
-sub-fit-lists-2 : tie.Need-sub-fit-lists-2
-sub-fit-lists-2 c = search needs
+array-write-touched : tie.Need-array-write-touched Inv-loop μ-loop
+array-write-touched c = search needs
 
-part-fit-lists-start-2 : tie.Need-part-fit-lists-start-2
-part-fit-lists-start-2 c = search needs
+mul-ends : tie.Need-mul-ends Inv-loop μ-loop
+mul-ends c = search needs
 
-part-fit-lists-end-2 : tie.Need-part-fit-lists-end-2
-part-fit-lists-end-2 c = search needs
+array-write-ends : tie.Need-array-write-ends Inv-loop μ-loop
+array-write-ends c = search needs
 
-fit-lists-requires : tie.Need-fit-lists-requires
-fit-lists-requires c κs =
-    let p = c .before .before .before .before in
-    (part-short (p .before .before .before .part-at .ensures), part-short (p .part-at4 .ensures))
+cast-placed : tie.Need-cast-placed Inv-loop μ-loop
+cast-placed c = search needs
 
-returns : tie.Need-returns
+add-placed : tie.Need-add-placed Inv-loop μ-loop
+add-placed c = search needs
+
+add-i : tie.Need-add-i Inv-loop μ-loop
+add-i c = search needs
+
+loop-less : tie.Need-loop-less Inv-loop μ-loop
+loop-less c = search needs
+
+loop-again : tie.Need-loop-again Inv-loop μ-loop
+loop-again c = search needs
+
+align-requires : tie.Need-align-requires Inv-loop μ-loop
+align-requires c κs = search needs
+
+stopped-requires : tie.Need-stopped-requires Inv-loop μ-loop
+stopped-requires c κs = search needs
+
+returns : tie.Need-returns Inv-loop μ-loop
 returns c = search needs
+
+returns-2 : tie.Need-returns-2 Inv-loop μ-loop
+returns-2 c = search needs
 
 pub weak-spec : {M : Type 1} → statement M
 weak-spec =
     tie.close
     (tie.spec
-    part-at-requires
-    part-at-requires-2
-    part-at-requires-3
-    part-at-requires-4
-    mul-fit-lists
-    sub-fit-lists
-    part-fit-lists-start
-    part-fit-lists-end
-    mul-fit-lists-2
-    sub-fit-lists-2
-    part-fit-lists-start-2
-    part-fit-lists-end-2
-    fit-lists-requires
-    returns)
+    Inv-loop
+    μ-loop
+    word-at-requires
+    size-of-requires
+    least-requires
+    loop-holds
+    point-of-requires
+    mul-currents
+    array-set-from-currents
+    array-write-touched
+    mul-ends
+    array-write-ends
+    cast-placed
+    add-placed
+    add-i
+    loop-less
+    loop-again
+    align-requires
+    stopped-requires
+    returns
+    returns-2)

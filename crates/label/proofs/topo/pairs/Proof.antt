@@ -5,34 +5,16 @@ use Rattle.label.proofs.topo.pairs.Statement.{statement}
 use Rattle.label.proofs.topo.pairs.Tie as tie
 
 abbrev Inv-loop : tie.InvT-loop
-Inv-loop table n i₀ i = (i ≤ n) × (n ≤ 512)
+Inv-loop words n i₀ i = (i ≤ n) × (n ≤ 513)
 
 abbrev μ-loop : tie.MeasureT-loop
-μ-loop table n i₀ i = n - i
+μ-loop words n i₀ i = n - i
 
-least-requires : tie.Need-least-requires Inv-loop μ-loop
-least-requires c κs = search needs
+segments-requires : tie.Need-segments-requires Inv-loop μ-loop
+segments-requires c κs = search needs
 
 loop-holds : tie.Need-loop-holds Inv-loop μ-loop
 loop-holds c = search needs
-
-mul-segment : tie.Need-mul-segment Inv-loop μ-loop
-mul-segment c = search needs
-
-element-copy-out-segment : tie.Need-element-copy-out-segment Inv-loop μ-loop
-element-copy-out-segment c = search needs
-
-index-or-requires : tie.Need-index-or-requires Inv-loop μ-loop
-index-or-requires c κs = search needs
-
-least-requires-2 : tie.Need-least-requires-2 Inv-loop μ-loop
-least-requires-2 c κs = search needs
-
-mul-pair : tie.Need-mul-pair Inv-loop μ-loop
-mul-pair c = search needs
-
-element-copy-out-pair : tie.Need-element-copy-out-pair Inv-loop μ-loop
-element-copy-out-pair c = search needs
 
 pair-requires : tie.Need-pair-requires Inv-loop μ-loop
 pair-requires c κs = search needs
@@ -55,14 +37,8 @@ pairs-spec =
     (tie.spec
     Inv-loop
     μ-loop
-    least-requires
+    segments-requires
     loop-holds
-    mul-segment
-    element-copy-out-segment
-    index-or-requires
-    least-requires-2
-    mul-pair
-    element-copy-out-pair
     pair-requires
     add-i
     loop-less

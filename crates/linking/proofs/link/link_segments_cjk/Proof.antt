@@ -1,12 +1,17 @@
 -- `linking::link::link_segments_cjk` meets its contract: a refusal hands back what came, and an accepted call goes through the rounds. Assumes nothing.
 use borrow.Author.Needs.{needs}
-use mathlib.Core.Path.{_≡_, ap, _∙_}
+use mathlib.Core.Path.{_≡_, sym, ap, _∙_}
+use mathlib.Core.Bool.{Bool, true}
 use Rattle.signed.proofs.Signed.{is}
 use Rattle.axis.specs.declared.segment.Segments.{Segments}
+use Rattle.axis.specs.Refusals.{segmentsRefusal}
 use Rattle.axis.proofs.Tests.{answered-no, answered-yes}
-use Rattle.linking.specs.declared.thresholds.Thresholds.{Thresholds}
+use Rattle.linking_rounds.specs.declared.thresholds.Thresholds.{Thresholds}
+use Rattle.linking_rounds.specs.Rounds.{linked}
+use Rattle.linking_rounds.proofs.Handing.{Ready, start-ready, after-pairs, after-serifs, whole}
 use Rattle.linking.specs.Linking as L
-use Rattle.linking.proofs.Calls.{Accepted, accepted, Ready, start-closed, after-pairs, after-serifs, whole}
+use Rattle.signed.proofs.By.{by₂}
+use Rattle.linking.proofs.Calls.{Accepted, accepted}
 use Rattle.linking.proofs.link.link_segments_cjk.Statement.{statement}
 use Rattle.linking.proofs.link.link_segments_cjk.Tie as tie
 
@@ -16,8 +21,10 @@ unfolding L.linkingRefusal
 answer-is c =
     let numbers-hold = c .before .before in
     let start = numbers-hold .before in
-    let e = rw (numbers-hold .numbers-hold .ensures, c .before .segments-nexts .ensures) at (c .segments-refusal .ensures) in
-    rw (is (start .fits .units-per-em), is (start .fits .scale)) at e
+    by₂ (λ (right below : Bool). segmentsRefusal (start .args .segments) true right below true)
+    (c .segments-refusal .ensures)
+    (by₂ L.numbersHold (numbers-hold .numbers-hold .ensures) (is (start .fits .units-per-em)) (is (start .fits .scale)))
+    (c .before .segments-nexts .ensures)
 
 -- where the code goes on, the call is accepted
 taken : (c : tie.Else1) → Accepted (c .before .before .before .before .args .segments) (c .before .before .before .before .args .units-per-em) (c .before .before .before .before .args .scale)
@@ -26,14 +33,11 @@ taken c = accepted _ _ _ (c .before .segments-refusal .result) (answer-is (c .be
 measured : (c : tie.After-thresholds-of) → c .thresholds-of .result ≡ L.thresholdsOf (c .before .before .before .before .before .args .units-per-em) (c .before .before .before .before .before .args .scale)
 measured c =
     let start = c .before .before .before .before .before in
-    rw (is (start .fits .units-per-em), is (start .fits .scale)) at (c .thresholds-of .ensures)
+    by₂ L.thresholdsOf (c .thresholds-of .ensures) (is (start .fits .units-per-em)) (is (start .fits .scale))
 
 -- what each round hands on
 paired : (c : tie.After-pair-round) → Ready (c .pair-round .result)
-paired c =
-    let else1 = c .before .before in
-    let w = taken else1 .within in
-    after-pairs _ _ (record { few = w .few; closed = start-closed _ w }) _ _ (c .pair-round .ensures)
+paired c = after-pairs _ _ (start-ready _ (taken (c .before .before) .within)) _ _ (c .pair-round .ensures)
 
 held : (c : tie.After-serif-round) → Ready (c .serif-round .result)
 held c = after-serifs _ _ (paired (c .before)) _ (c .serif-round .ensures)
@@ -56,7 +60,7 @@ returns c =
 thresholds-of-requires : tie.Need-thresholds-of-requires
 thresholds-of-requires c κs =
     let start = c .before .before .before .before in
-    rw (is (start .fits .units-per-em), is (start .fits .scale)) (taken c .numbers)
+    sym (by₂ L.numbersHold (sym (taken c .numbers)) (sym (is (start .fits .units-per-em))) (sym (is (start .fits .scale))))
 
 pair-round-requires : tie.Need-pair-round-requires
 pair-round-requires c κs = taken (c .before) .within .few
@@ -78,7 +82,7 @@ returns-2 c =
     let s = start .args in
     let t = whole _ _ _ _ _ _ (pair-round .pair-round .ensures) (c .before .serif-round .ensures) (c .last-round .ensures) in
     answered-yes _ _ (L.beside (s .segments)) _ _ (answer-is segments-refusal) (else1 .if1 .left)
-    (ap (λ (u : Segments). L.beside u 0) (t ∙ ap (λ (by : Thresholds). L.linked (s .major-dir) by (s .segments)) (measured thresholds-of)))
+    (ap (λ (u : Segments). L.beside u 0) (t ∙ ap (λ (by : Thresholds). linked (s .major-dir) by (s .segments)) (measured thresholds-of)))
 
 pub link-segments-cjk-spec : {M : Type 1} → statement M
 link-segments-cjk-spec =

@@ -1,10 +1,12 @@
 -- `linking::thresholds::thresholds_of` meets its contract: both numbers fit where the input is accepted. Assumes nothing.
 use borrow.Author.Needs.{needs}
+use mathlib.Core.Path.{ap, _∙_}
+use lib.IntN.{ℤ, pos}
 use mir.Syntax.{w32}
-use Rattle.signed.proofs.Signed.{is}
+use Rattle.signed.proofs.Signed.{is, got}
+use Rattle.fixed.specs.Point.{divFix, derived}
 use Rattle.linking.specs.Linking.{thresholdsOf}
 use Rattle.linking.proofs.Numbers.{eight, em-between, scale-some, dist-fits}
-use Rattle.linking.proofs.Reading.{back}
 use Rattle.linking.proofs.thresholds.thresholds_of.Statement.{statement}
 use Rattle.linking.proofs.thresholds.thresholds_of.Tie as tie
 
@@ -23,7 +25,10 @@ returns c =
     let start = c .before .before in
     let d = c .before .derived-constant in
     let q = c .fixed-div in
-    rw (back w32 (d .result) (d .ok), back w32 (q .result) (q .ok), d .ensures, q .ensures, is (start .fits .units-per-em), is (start .fits .scale))
+    λ i. record {
+      len = (is (got w32 (d .result) (d .ok)) ∙ d .ensures ∙ ap (λ (u : ℤ). derived u (pos 8)) (is (start .fits .units-per-em))) i;
+      dist = (is (got w32 (q .result) (q .ok)) ∙ q .ensures ∙ ap (divFix (pos 192)) (is (start .fits .scale))) i;
+    }
 
 pub thresholds-of-spec : {M : Type 1} → statement M
 thresholds-of-spec =

@@ -1,14 +1,16 @@
 -- `lowercase_m::hint::align_stems` meets its contract. Assumes nothing.
-use mathlib.Core.Path.{_≡_, sym, _∙_}
+use mathlib.Core.Path.{_≡_, sym, ap, subst, _∙_}
 use mathlib.Core.Bool.{true}
 use borrow.Author.Tests.{not-true, not-false}
 use Rattle.axis.specs.declared.edge.Edge.{Edge}
 use Rattle.axis.specs.Edge.{edgeAt}
 use Rattle.axis.specs.Limits.{mostPos}
 use Rattle.axis.specs.Accepted.{EdgeWithin}
-use Rattle.lowercase_m.specs.M.{even, delta, groupHolds, applies, aligned}
+use Rattle.lowercase_m.specs.M.{even, delta, mostDelta, groupHolds, applies, moveStem, aligned}
+use Rattle.signed.specs.Range.{Between}
 use Rattle.signed.proofs.Signed.{is}
-use Rattle.lowercase_m.proofs.Places.{units-read, pos-read, delta-between, places-of}
+use Rattle.lowercase_m.proofs.Choices.{by-and, where-true}
+use Rattle.lowercase_m.proofs.Places.{units-read, units-held, pos-read, pos-held, delta-between, places-of}
 use borrow.Author.Needs.{needs}
 use Rattle.lowercase_m.proofs.hint.align_stems.Statement.{statement}
 use Rattle.lowercase_m.proofs.hint.align_stems.Tie as tie
@@ -40,13 +42,13 @@ group-held c = sym (c .before .group-holds .ensures) ∙ not-false _ (c .if1 .le
 even-is : (c : tie.After-is-even) → c .is-even .result ≡ even (first (c .before .before .before .before .before .before .before .before .before) .opos) (second (c .before .before .before .before .before .before .before .before .before) .opos) (third (c .before .before .before .before .before .before .before .before .before) .opos)
 even-is c =
     let s = c .before .before .before .before .before .before .before .before .before in
-    rw (units-read _ (first-holds s .opos), units-read _ (second-holds s .opos), units-read _ (third-holds s .opos)) at (c .is-even .ensures)
+    c .is-even .ensures ∙ λ i. even (units-read _ (first-holds s .opos) i) (units-read _ (second-holds s .opos) i) (units-read _ (third-holds s .opos) i)
 
 -- what the third stem is moved by
 delta-is : (c : tie.After-delta-of) → c .delta-of .result ≡ delta (first (c .before .before .before .before .before .before .before .before .before .before .before .before .before .before) .pos) (second (c .before .before .before .before .before .before .before .before .before .before .before .before .before .before) .pos) (third (c .before .before .before .before .before .before .before .before .before .before .before .before .before .before) .pos)
 delta-is c =
     let s = c .before .before .before .before .before .before .before .before .before .before .before .before .before .before in
-    rw (pos-read _ (first-holds s .pos), pos-read _ (second-holds s .pos), pos-read _ (third-holds s .pos)) at (c .delta-of .ensures .0)
+    c .delta-of .ensures .0 ∙ λ i. delta (pos-read _ (first-holds s .pos) i) (pos-read _ (second-holds s .pos) i) (pos-read _ (third-holds s .pos) i)
 
 group-holds-requires : tie.Need-group-holds-requires
 group-holds-requires c κs = search needs
@@ -76,7 +78,7 @@ element-copy-out-edge3 c = search needs
 is-even-requires : tie.Need-is-even-requires
 is-even-requires c κs =
     let s = c .before .before .before .before .before .before .before .before in
-    rw (units-read _ (first-holds s .opos), units-read _ (second-holds s .opos), units-read _ (third-holds s .opos)) (first-holds s .opos, second-holds s .opos, third-holds s .opos)
+    (units-held _ (first-holds s .opos), units-held _ (second-holds s .opos), units-held _ (third-holds s .opos))
 
 returns-2 : tie.Need-returns-2
 unfolding aligned applies
@@ -85,19 +87,21 @@ returns-2 c = rw (group-held (c .before .before .before .before .before .before 
 delta-of-requires : tie.Need-delta-of-requires
 delta-of-requires c κs =
     let s = c .before .before .before .before .before .before .before .before .before .before .before .before .before in
-    rw (pos-read _ (first-holds s .pos), pos-read _ (second-holds s .pos), pos-read _ (third-holds s .pos)) (first-holds s .pos, second-holds s .pos, third-holds s .pos)
+    (pos-held _ (first-holds s .pos), pos-held _ (second-holds s .pos), pos-held _ (third-holds s .pos))
 
 move-stem-requires : tie.Need-move-stem-requires
 move-stem-requires c κs =
     let s = c .before .before .before .before .before .before .before .before .before .before .before .before .before .before in
-    ((s .pre .1 .third-below, third-holds s .link), (places-of _ (s .pre .0), rw (is (c .delta-of .ensures .1 .fits)) (delta-between _ (c .delta-of .ensures .1))))
+    ((s .pre .1 .third-below, third-holds s .link), (places-of _ (s .pre .0), subst (Between mostDelta mostDelta) (sym (is (c .delta-of .ensures .1 .fits))) (delta-between _ (c .delta-of .ensures .1))))
 
 returns-3 : tie.Need-returns-3
 unfolding aligned applies
 returns-3 c =
     let d = c .before in
     let e = d .before .before .before .before in
-    rw (group-held (e .before .before .before .before .before .before .before .before), sym (even-is (e .before)) ∙ not-false _ (e .if2 .left)) (rw (is (d .delta-of .ensures .1 .fits), delta-is d) at (c .move-stem .ensures))
+    let s = d .before .before .before .before .before .before .before .before .before .before .before .before .before .before in
+    let h = by-and _ _ (group-held (e .before .before .before .before .before .before .before .before)) (sym (even-is (e .before)) ∙ not-false _ (e .if2 .left)) in
+    where-true _ _ _ h (c .move-stem .ensures ∙ ap (moveStem (s .args .t1) (s .args .stems .third)) (is (d .delta-of .ensures .1 .fits) ∙ delta-is d))
 
 pub align-stems-spec : {M : Type 1} → statement M
 align-stems-spec =

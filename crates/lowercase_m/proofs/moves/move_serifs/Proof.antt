@@ -1,11 +1,16 @@
 -- `lowercase_m::moves::move_serifs` meets its contract. Assumes nothing.
-use mathlib.Core.Path.{_≡_}
+use mathlib.Core.Path.{_≡_, refl, sym, ap, subst, _∙_}
 use native.Mathlib.Omega.{arith}
 use borrow.Author.Tests.{eq-eqb, ne-eqb}
+use mir.Syntax.{w32}
+use mir.Val.{toZ, ofZ}
+use Rattle.signed.specs.Range.{Between}
 use Rattle.signed.proofs.Signed.{is}
+use Rattle.axis.specs.declared.edge.Edge.{Edge}
 use Rattle.axis.specs.Edge.{putEdge, edgeAt}
 use Rattle.lowercase_m.specs.Steps.{Places, twiceMoved, thriceMoved}
-use Rattle.lowercase_m.specs.M.{movedBack, moveSerifs, moveOnly}
+use Rattle.lowercase_m.specs.M.{mostDelta, movedBack, moveSerifs, moveOnly}
+use Rattle.lowercase_m.proofs.Choices.{where-true, where-false}
 use Rattle.lowercase_m.proofs.Places.{further, only-places}
 use borrow.Author.Needs.{needs}
 use Rattle.lowercase_m.proofs.moves.move_serifs.Statement.{statement}
@@ -15,9 +20,13 @@ use Rattle.lowercase_m.proofs.moves.move_serifs.Tie as tie
 twelve : (c : tie.Else1) → c .before .before .args .axis .len ≡ 12
 twelve c = c .if1 .left
 
+-- delta is within its limit when read back
+delta-held : (c : tie.Start) → Between mostDelta mostDelta (toZ w32 (ofZ w32 (c .args .delta)))
+delta-held c = subst (Between mostDelta mostDelta) (sym (is (c .fits .delta))) (c .pre .1)
+
 -- edge 8, moved
 first-moved : (c : tie.After-moved-back) → c .moved-back .result ≡ movedBack (edgeAt (c .before .before .before .before .args .axis) 8) (c .before .before .before .before .args .delta)
-first-moved c = rw (is (c .before .before .before .before .fits .delta)) at (c .moved-back .ensures)
+first-moved c = let s = c .before .before .before .before in c .moved-back .ensures ∙ ap (movedBack (edgeAt (s .args .axis) 8)) (is (s .fits .delta))
 
 -- the positions behind that move
 first-places : (c : tie.After-moved-back) → Places thriceMoved (putEdge (c .before .before .before .before .args .axis) 8 (c .moved-back .result))
@@ -25,17 +34,26 @@ unfolding moveOnly
 first-places c =
     let s = c .before .before .before .before in
     let q = twelve (c .before .before) in
-    rw (first-moved c) (only-places twiceMoved 8 (s .args .axis) (s .args .delta) (s .pre .0) (omega arith) (s .pre .1))
+    subst (λ (e : Edge). Places thriceMoved (putEdge (s .args .axis) 8 e)) (sym (first-moved c)) (only-places twiceMoved 8 (s .args .axis) (s .args .delta) (s .pre .0) (omega arith) (s .pre .1))
+
+-- edges 8 and 11, moved
+both-moved : (c : tie.After-moved-back2) → putEdge (putEdge (c .before .before .before .before .before .before .args .axis) 8 (c .before .before .moved-back .result)) 11 (c .moved-back2 .result) ≡ moveOnly (moveOnly (c .before .before .before .before .before .before .args .axis) 8 (c .before .before .before .before .before .before .args .delta)) 11 (c .before .before .before .before .before .before .args .delta)
+unfolding moveOnly
+both-moved c =
+    let o = c .before .before in
+    let s = o .before .before .before .before in
+    let e = c .moved-back2 .ensures ∙ λ i. movedBack (edgeAt (putEdge (s .args .axis) 8 (first-moved o i)) 11) (is (s .fits .delta) i) in
+    λ i. putEdge (putEdge (s .args .axis) 8 (first-moved o i)) 11 (e i)
 
 returns : tie.Need-returns
 unfolding moveSerifs
-returns c = rw (ne-eqb (c .before .before .args .axis .len) 12 (c .if1 .taken))
+returns c = where-false _ _ _ (ne-eqb (c .before .before .args .axis .len) 12 (c .if1 .taken)) refl
 
 element-copy-out-moved-back : tie.Need-element-copy-out-moved-back
 element-copy-out-moved-back c = search needs
 
 moved-back-requires : tie.Need-moved-back-requires
-moved-back-requires c κs = let s = c .before .before .before in let q = twelve (c .before) in (further twiceMoved _ (omega arith) (s .pre .0 .at 8 (omega arith)), rw (is (s .fits .delta)) (s .pre .1))
+moved-back-requires c κs = let s = c .before .before .before in let q = twelve (c .before) in (further twiceMoved _ (omega arith) (s .pre .0 .at 8 (omega arith)), delta-held s)
 
 element-set-from-moved : tie.Need-element-set-from-moved
 element-set-from-moved c = search needs
@@ -44,7 +62,7 @@ element-copy-out-moved-back-2 : tie.Need-element-copy-out-moved-back-2
 element-copy-out-moved-back-2 c = search needs
 
 moved-back-requires-2 : tie.Need-moved-back-requires-2
-moved-back-requires-2 c κs = let o = c .before in let s = o .before .before .before .before in let q = twelve (o .before .before) in (first-places o .at 11 (omega arith), rw (is (s .fits .delta)) (s .pre .1))
+moved-back-requires-2 c κs = let o = c .before in let s = o .before .before .before .before in let q = twelve (o .before .before) in (first-places o .at 11 (omega arith), delta-held s)
 
 element-set-from-moved-2 : tie.Need-element-set-from-moved-2
 element-set-from-moved-2 c = search needs
@@ -54,7 +72,7 @@ unfolding moveSerifs moveOnly
 returns-2 c =
     let o = c .before .before in
     let s = o .before .before .before .before in
-    rw (eq-eqb (s .args .axis .len) 12 (twelve (o .before .before)), rw (is (s .fits .delta)) at (c .moved-back2 .ensures), first-moved o)
+    where-true _ _ (s .args .axis) (eq-eqb (s .args .axis .len) 12 (twelve (o .before .before))) (both-moved c)
 
 pub move-serifs-spec : {M : Type 1} → statement M
 move-serifs-spec =

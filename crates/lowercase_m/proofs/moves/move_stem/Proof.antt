@@ -1,13 +1,17 @@
 -- `lowercase_m::moves::move_stem` meets its contract. Assumes nothing.
-use mathlib.Core.Path.{_≡_, ap, _∙_}
+use mathlib.Core.Path.{_≡_, sym, ap, subst, _∙_}
 use Prim.Native.Nat.{_<_}
 use native.Mathlib.Omega.{arith}
-use lib.ListN.{set}
+use mir.Syntax.{w32}
+use mir.Val.{toZ, ofZ}
+use Rattle.signed.specs.Range.{Between}
 use Rattle.signed.proofs.Signed.{is}
+use Rattle.axis.specs.declared.kinds.Link.{Link}
 use Rattle.axis.specs.declared.edge.Axis.{Axis}
-use Rattle.axis.specs.Edge.{putEdge, finished}
-use Rattle.lowercase_m.specs.Steps.{Places, unmoved, onceMoved, twiceMoved}
-use Rattle.lowercase_m.specs.M.{moveDone, moveLink, moveStem}
+use Rattle.axis.specs.Edge.{putEdge, edgeAt, finished}
+use Rattle.lowercase_m.specs.Steps.{Places, unmoved, onceMoved, twiceMoved, thriceMoved}
+use Rattle.lowercase_m.specs.M.{mostDelta, movedBack, moveDone, moveLink, moveSerifs, moveStem}
+use Rattle.signed.proofs.By.{by₂}
 use Rattle.lowercase_m.proofs.Places.{further, done-len, done-places, wider-places}
 use borrow.Author.Needs.{needs}
 use Rattle.lowercase_m.proofs.moves.move_stem.Statement.{statement}
@@ -26,10 +30,7 @@ stemPut c = putEdge (start c .args .t1) (start c .args .third) (c .with-done-fla
 
 stem-moved : (c : tie.After-with-done-flag) → stemPut c ≡ stemDone c
 unfolding moveDone
-stem-moved c = ap (putEdge (start c .args .t1) (start c .args .third)) (c .with-done-flag .ensures ∙ ap finished (rw (is (start c .fits .delta)) at (c .before .moved-back .ensures)))
-
-stem-edges : (c : tie.After-with-done-flag) → set (start c .args .t1 .edges) (start c .args .third) (c .with-done-flag .result) ≡ stemDone c .edges
-stem-edges c = ap (λ (a : Axis). a .edges) (stem-moved c)
+stem-moved c = ap (putEdge (start c .args .t1) (start c .args .third)) (c .with-done-flag .ensures ∙ ap finished (c .before .moved-back .ensures ∙ ap (movedBack (edgeAt (start c .args .t1) (start c .args .third))) (is (start c .fits .delta))))
 
 stem-places : (c : tie.After-with-done-flag) → Places onceMoved (stemDone c)
 stem-places c = let s = start c in done-places unmoved (s .args .third) (s .args .t1) (s .args .delta) (s .pre .1 .0) (s .pre .0 .0) (s .pre .1 .1)
@@ -54,10 +55,18 @@ link-moved c =
     let l = c .before .before .before .before in
     let w = l .before .before in
     ap (λ (a : Axis). putEdge a (l .link .given .0 .0) (c .with-done-flag2 .result)) (stem-moved w)
-    ∙ ap (putEdge (stemDone w) (l .link .given .0 .0)) (c .with-done-flag2 .ensures ∙ ap finished (rw (stem-edges w, is (start w .fits .delta)) at (c .before .moved-back2 .ensures)))
+    ∙ ap (putEdge (stemDone w) (l .link .given .0 .0)) (c .with-done-flag2 .ensures ∙ ap finished (c .before .moved-back2 .ensures ∙ λ i. movedBack (edgeAt (stem-moved w i) (l .link .given .0 .0)) (is (start w .fits .delta) i)))
 
 link-places : (c : tie.After-link) → Places twiceMoved (linkDone c)
 link-places c = let s = start (c .before .before) in done-places onceMoved (c .link .given .0 .0) (stemDone (c .before .before)) (s .args .delta) (stem-places (c .before .before)) (linked-place c) (s .pre .1 .1)
+
+-- the axis once the serifs behind a link are moved: a second time, where one of them is the link
+serifs-moved : (c : tie.After-move-serifs2) → c .move-serifs2 .result ≡ moveSerifs (linkDone (c .before .before .before .before .before)) (start (c .before .before .before .before .before .before .before) .args .delta)
+serifs-moved c = by₂ moveSerifs (c .move-serifs2 .ensures) (link-moved (c .before)) (is (start (c .before .before .before .before .before .before .before) .fits .delta))
+
+-- delta is within its limit when read back
+delta-held : (c : tie.Start) → Between mostDelta mostDelta (toZ w32 (ofZ w32 (c .args .delta)))
+delta-held c = subst (Between mostDelta mostDelta) (sym (is (c .fits .delta))) (c .pre .1 .1)
 
 mul-stem : tie.Need-mul-stem
 mul-stem c = search needs
@@ -66,7 +75,7 @@ element-copy-out-stem : tie.Need-element-copy-out-stem
 element-copy-out-stem c = search needs
 
 moved-back-requires : tie.Need-moved-back-requires
-moved-back-requires c κs = let s = c .before in (further unmoved _ (omega arith) (s .pre .1 .0 .at _ (s .pre .0 .0)), rw (is (s .fits .delta)) (s .pre .1 .1))
+moved-back-requires c κs = let s = c .before in (further unmoved _ (omega arith) (s .pre .1 .0 .at _ (s .pre .0 .0)), delta-held s)
 
 with-done-flag-requires : tie.Need-with-done-flag-requires
 with-done-flag-requires c κs = search needs
@@ -84,11 +93,14 @@ enum-told : tie.Need-enum-told
 enum-told c = search needs
 
 move-serifs-requires : tie.Need-move-serifs-requires
-move-serifs-requires c κs = let w = c .before .before in (rw (stem-moved w) (wider-places onceMoved twiceMoved _ (omega arith) (stem-places w)), rw (is (start w .fits .delta)) (start w .pre .1 .1))
+move-serifs-requires c κs = let w = c .before .before in (subst (Places twiceMoved) (sym (stem-moved w)) (wider-places onceMoved twiceMoved _ (omega arith) (stem-places w)), delta-held (start w))
 
 returns : tie.Need-returns
 unfolding moveStem moveLink
-returns c = let e = c .before in let w = e .before .before in rw (e .enum-told .given .1) (rw (stem-moved w, is (start w .fits .delta)) at (c .move-serifs .ensures))
+returns c =
+    let e = c .before in
+    let w = e .before .before in
+    by₂ moveSerifs (c .move-serifs .ensures) (stem-moved w) (is (start w .fits .delta)) ∙ ap (λ (l : Link). moveSerifs (moveLink (stemDone w) l (start w .args .delta)) (start w .args .delta)) (sym (e .enum-told .given .1))
 
 cast-at : tie.Need-cast-at
 cast-at c = search needs
@@ -100,7 +112,7 @@ element-copy-out-linked : tie.Need-element-copy-out-linked
 element-copy-out-linked c = linked-below (c .before)
 
 moved-back-requires-2 : tie.Need-moved-back-requires-2
-moved-back-requires-2 c κs = let l = c .before .before in let w = l .before .before in (rw (stem-edges w) (further onceMoved _ (omega arith) (stem-places w .at _ (linked-place l))), rw (is (start w .fits .delta)) (start w .pre .1 .1))
+moved-back-requires-2 c κs = let l = c .before .before in let w = l .before .before in (subst (λ (a : Axis). Between thriceMoved thriceMoved (edgeAt a (l .link .given .0 .0) .pos)) (sym (stem-moved w)) (further onceMoved _ (omega arith) (stem-places w .at _ (linked-place l))), delta-held (start w))
 
 with-done-flag-requires-2 : tie.Need-with-done-flag-requires-2
 with-done-flag-requires-2 c κs = search needs
@@ -112,11 +124,14 @@ element-set-from-moved : tie.Need-element-set-from-moved
 element-set-from-moved c = linked-below (c .before .before .before .before)
 
 move-serifs-requires-2 : tie.Need-move-serifs-requires-2
-move-serifs-requires-2 c κs = let l = c .before .before .before .before in let w = l .before .before in (rw (link-moved c) (link-places l), rw (is (start w .fits .delta)) (start w .pre .1 .1))
+move-serifs-requires-2 c κs = let l = c .before .before .before .before in let w = l .before .before in (subst (Places twiceMoved) (sym (link-moved c)) (link-places l), delta-held (start w))
 
 returns-2 : tie.Need-returns-2
 unfolding moveStem moveLink
-returns-2 c = let d = c .before in let l = d .before .before .before .before in let w = l .before .before in rw (l .link .given .1) (rw (link-moved d, is (start w .fits .delta)) at (c .move-serifs2 .ensures))
+returns-2 c =
+    let l = c .before .before .before .before .before in
+    let w = l .before .before in
+    serifs-moved c ∙ ap (λ (k : Link). moveSerifs (moveLink (stemDone w) k (start w .args .delta)) (start w .args .delta)) (sym (l .link .given .1))
 
 pub move-stem-spec : {M : Type 1} → statement M
 move-stem-spec =

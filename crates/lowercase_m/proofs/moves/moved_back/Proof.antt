@@ -1,7 +1,11 @@
 -- `lowercase_m::moves::moved_back` meets its contract. Assumes nothing.
+use mathlib.Core.Path.{ap, _∙_}
 use native.Mathlib.Omega.{arith}
+use lib.IntN.{_-ℤ_}
 use mir.Syntax.{w32}
+use Rattle.axis.specs.Edge.{placed}
 use Rattle.signed.proofs.Signed.{fits, fits-in, is, signed}
+use Rattle.signed.proofs.By.{by₂}
 use borrow.Author.Needs.{needs}
 use Rattle.lowercase_m.proofs.moves.moved_back.Statement.{statement}
 use Rattle.lowercase_m.proofs.moves.moved_back.Tie as tie
@@ -13,7 +17,10 @@ with-pos-requires : tie.Need-with-pos-requires
 with-pos-requires c κs = search needs
 
 returns : tie.Need-returns
-returns c = let s = c .before in cc (c .with-pos .ensures, is (sub-with-pos s), is (fits-in w32 (s .before .pre .0) tt tt), is (s .before .fits .delta))
+returns c =
+    let p = c .before in
+    let s = p .before in
+    c .with-pos .ensures ∙ ap (placed (s .args .edge)) (by₂ _-ℤ_ (is (sub-with-pos p)) (is (fits-in w32 (s .pre .0) tt tt)) (is (s .fits .delta)))
 
 pub moved-back-spec : {M : Type 1} → statement M
 moved-back-spec = tie.close (tie.spec sub-with-pos with-pos-requires returns)

@@ -1,9 +1,11 @@
 -- `lowercase_m::stems::is_even` meets its contract. Assumes nothing.
-use mathlib.Core.Path.{ap}
+use mathlib.Core.Path.{ap, _∙_}
 use Prim.Native.Nat.{ℕ}
 use lib.Dec.{ltb}
+use lib.IntN.{natAbs, _-ℤ_}
 use native.Mathlib.Omega.{arith}
 use Rattle.signed.proofs.Signed.{fits, is, _also_, signed}
+use Rattle.signed.proofs.By.{by₂}
 use Rattle.lowercase_m.proofs.stems.is_even.Statement.{statement}
 use Rattle.lowercase_m.proofs.stems.is_even.Tie as tie
 
@@ -23,7 +25,7 @@ magnitude-requires : tie.Need-magnitude-requires
 magnitude-requires c κs = let k = sub-dist1 c also sub-dist2 c also sub-apart c also cast-magnitude c in omega (arith, signed)
 
 returns : tie.Need-returns
-returns c = let s = c .before in let f = s .fits in ap (λ (n : ℕ). ltb n 8) (rw (is (cast-magnitude s), is (sub-apart s), is (sub-dist1 s), is (sub-dist2 s), is (f .first), is (f .second), is (f .third)) at (c .magnitude .ensures))
+returns c = let s = c .before in let f = s .fits in ap (λ (n : ℕ). ltb n 8) (c .magnitude .ensures ∙ ap natAbs (is (cast-magnitude s) ∙ by₂ _-ℤ_ (is (sub-apart s)) (by₂ _-ℤ_ (is (sub-dist1 s)) (is (f .second)) (is (f .first))) (by₂ _-ℤ_ (is (sub-dist2 s)) (is (f .third)) (is (f .second)))))
 
 pub is-even-spec : {M : Type 1} → statement M
 is-even-spec =

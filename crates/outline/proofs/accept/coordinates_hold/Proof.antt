@@ -2,12 +2,13 @@
 use borrow.Author.Needs.{needs}
 use mathlib.Core.Bool.{_&&_}
 use native.Mathlib.Omega.{arith}
-use mathlib.Core.Path.{_≡_, sym, _∙_}
+use mathlib.Core.Path.{_≡_, sym, ap, _∙_}
 use Prim.Native.Nat.{_≤_, _-_}
 use lib.ListN.{length, drop}
 use mir.Syntax.{w32}
 use Rattle.signed.proofs.Signed.{is, got}
-use Rattle.outline.specs.Weak.{at, coordinateHolds, coordinatesHold}
+use Rattle.contours.specs.Contour.{at}
+use Rattle.outline.specs.Weak.{coordinateHolds, coordinatesHold}
 use Rattle.outline.proofs.Refusals.{coordinates-next, coordinates-end}
 use Rattle.outline.proofs.accept.coordinates_hold.Statement.{statement}
 use Rattle.outline.proofs.accept.coordinates_hold.Tie as tie
@@ -24,7 +25,7 @@ at-loop c = c .before .before .before
 
 -- what the test says of the element
 told : (c : tie.After-coordinate-holds Inv-loop μ-loop) → c .coordinate-holds .result ≡ coordinateHolds (at (at-loop c .before .args .list .now) (at-loop c .loop .i))
-told c = cc (c .coordinate-holds .ensures, is (got w32 _ (c .before .coordinate-holds-arg .given)))
+told c = c .coordinate-holds .ensures ∙ ap coordinateHolds (is (got w32 (at (at-loop c .before .args .list .now) (at-loop c .loop .i)) (c .before .coordinate-holds-arg .given)))
 
 loop-holds : tie.Need-loop-holds Inv-loop μ-loop
 loop-holds c = search needs

@@ -1,8 +1,8 @@
 -- `outline::accept::ends_hold` meets its contract. The invariant: the ends hold where those that are left do, from `start` on. Assumes nothing.
 use borrow.Author.Needs.{needs}
 use native.Mathlib.Omega.{arith}
-use mathlib.Core.Path.{_≡_}
-use Prim.Native.Nat.{_≤_, _-_}
+use mathlib.Core.Path.{_≡_, sym, ap, _∙_}
+use Prim.Native.Nat.{ℕ, _+_, _≤_, _-_}
 use lib.ListN.{length, drop}
 use Rattle.outline.specs.Weak.{endsHold}
 use Rattle.outline.proofs.Refusals.{ends-low, ends-high, ends-on, ends-end}
@@ -35,13 +35,13 @@ returns : tie.Need-returns Inv-loop μ-loop
 returns c =
     let l = at-loop (c .before) in
     let a = l .before .before .args in
-    cc (l .loop .inv .1, ends-low (l .loop .start) (a .count) (a .ends .now) (l .loop .k) (omega arith) (omega arith))
+    sym (l .loop .inv .1 ∙ ends-low (l .loop .start) (a .count) (a .ends .now) (l .loop .k) (omega arith) (omega arith))
 
 returns-2 : tie.Need-returns-2 Inv-loop μ-loop
 returns-2 c =
     let l = at-loop (c .before .before) in
     let a = l .before .before .args in
-    cc (l .loop .inv .1, ends-high (l .loop .start) (a .count) (a .ends .now) (l .loop .k) (omega arith) (omega arith) (omega arith))
+    sym (l .loop .inv .1 ∙ ends-high (l .loop .start) (a .count) (a .ends .now) (l .loop .k) (omega arith) (omega arith) (omega arith))
 
 add-start : tie.Need-add-start Inv-loop μ-loop
 add-start c = search needs
@@ -56,13 +56,14 @@ loop-again : tie.Need-loop-again Inv-loop μ-loop
 loop-again c =
     let l = at-loop (c .before .before) in
     let a = l .before .before .args in
-    (omega arith, cc (l .loop .inv .1, c .before .before .wide .ensures, ends-on (l .loop .start) (a .count) (a .ends .now) (l .loop .k) (omega arith) (omega arith) (omega arith)))
+    let e = l .loop .inv .1 ∙ ends-on (l .loop .start) (a .count) (a .ends .now) (l .loop .k) (omega arith) (omega arith) (omega arith) in
+    (omega arith, e ∙ ap (λ (x : ℕ). endsHold (x + 1) (a .count) (drop (l .loop .k + 1) (a .ends .now))) (sym (c .before .before .wide .ensures)))
 
 returns-3 : tie.Need-returns-3 Inv-loop μ-loop
 returns-3 c =
     let l = c .before in
     let a = l .before .before .args in
-    cc (l .loop .inv .1, ends-end (l .loop .start) (a .count) (a .ends .now) (l .loop .k) (omega arith))
+    sym (l .loop .inv .1 ∙ ends-end (l .loop .start) (a .count) (a .ends .now) (l .loop .k) (omega arith))
 
 pub ends-hold-spec : {M : Type 1} → statement M
 ends-hold-spec =

@@ -8,7 +8,7 @@ use Rattle.outline.proofs.accept.refusal_of.Statement.{statement}
 use Rattle.outline.proofs.accept.refusal_of.Tie as tie
 
 returns : tie.Need-returns
-returns c = sym (refused-long _ _ _ _ (c .if1 .taken))
+returns c = sym (refused-long _ _ _ _ (omega arith))
 
 returns-2 : tie.Need-returns-2
 returns-2 c = sym (refused-currents _ _ _ _ (omega arith) (c .if2 .taken))

@@ -1,5 +1,6 @@
 -- `properties::outcome::finished` meets its contract: each number that is kept is read back. Assumes nothing.
 use borrow.Author.Needs.{needs}
+use mathlib.Core.Bool.{false}
 use mir.Syntax.{w16, w32}
 use Rattle.signed.proofs.Signed.{is, got}
 use Rattle.properties.specs.Properties as P
@@ -19,7 +20,19 @@ returns c =
     let told = told2 .before in
     let serif-beside = told .before in
     let start = serif-beside .before .before in
-    rw (is (got w16 (start .args .edge .fpos) (told .struct-told .given .0 .1)), is (got w32 (start .args .edge .opos) (told2 .struct-told2 .given .1 .0 .1)), is (got w32 (start .args .edge .pos) (c .struct-told3 .given .1 .1 .0 .1)), serif-beside .serif-beside .ensures, serif-beside .before .is-round .ensures)
+    let e = start .args .edge in
+    λ i. record {
+      fpos = is (got w16 (e .fpos) (told .struct-told .given .0 .1)) i;
+      opos = is (got w32 (e .opos) (told2 .struct-told2 .given .1 .0 .1)) i;
+      pos = is (got w32 (e .pos) (c .struct-told3 .given .1 .1 .0 .1)) i;
+      flags = record { round = serif-beside .before .is-round .ensures i; serif = false; done = false; neutral = false };
+      dir = e .dir;
+      blue = e .blue;
+      link = e .link;
+      serif = serif-beside .serif-beside .ensures i;
+      first = e .first;
+      last = e .last;
+    }
 
 pub finished-spec : {M : Type 1} → statement M
 finished-spec = tie.close (tie.spec is-round-requires serif-beside-requires returns)

@@ -1,7 +1,11 @@
 -- `shape::element::range_of` meets its contract. Assumes nothing.
 use borrow.Author.Needs.{needs}
 use native.Mathlib.Omega.{arith}
+use mathlib.Core.Path.{sym, ap, subst}
 use Prim.Native.Nat.{_<_}
+use lib.ListN.{length, getD}
+use Rattle.shape.specs.declared.element.Record.{Record}
+use Rattle.shape.specs.Shape.{noRange, rangesOf}
 use Rattle.shape.proofs.element.range_of.Statement.{statement}
 use Rattle.shape.proofs.element.range_of.Tie as tie
 
@@ -10,10 +14,10 @@ enum-told c = search needs
 
 -- the place is within the record at hand
 within-segment : (c : tie.After-enum-told) → c .before .before .args .i < 15
-within-segment c = rw (c .enum-told .given .1) at (c .before .before .pre)
+within-segment c = let s = c .before .before in subst (λ (k : Record). s .args .i < length (rangesOf k)) (c .enum-told .given .1) (s .pre)
 
 within-edge : (c : tie.After-enum-told2) → c .before .before .args .i < 11
-within-edge c = rw (c .enum-told2 .given .1) at (c .before .before .pre)
+within-edge c = let s = c .before .before in subst (λ (k : Record). s .args .i < length (rangesOf k)) (c .enum-told2 .given .1) (s .pre)
 
 mul-result : tie.Need-mul-result
 mul-result c = omega (arith, within-segment c)
@@ -31,10 +35,10 @@ array-copy-out-result-2 : tie.Need-array-copy-out-result-2
 array-copy-out-result-2 c = within-edge c
 
 returns : tie.Need-returns
-returns c = rw (c .before .enum-told .given .1)
+returns c = let e = c .before in sym (ap (λ (k : Record). getD (rangesOf k) (e .before .before .args .i) noRange) (e .enum-told .given .1))
 
 returns-2 : tie.Need-returns-2
-returns-2 c = rw (c .before .enum-told2 .given .1)
+returns-2 c = let e = c .before in sym (ap (λ (k : Record). getD (rangesOf k) (e .before .before .args .i) noRange) (e .enum-told2 .given .1))
 
 pub range-of-spec : {M : Type 1} → statement M
 range-of-spec =

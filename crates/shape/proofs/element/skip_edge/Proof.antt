@@ -1,11 +1,11 @@
 -- `shape::element::skip_edge` meets its contract. Assumes nothing.
 use borrow.Author.Needs.{needs}
 use native.Mathlib.Omega.{arith}
-use mathlib.Core.Path.{_≡_, ap, _∙_}
+use mathlib.Core.Path.{_≡_, sym, ap, _∙_}
 use Prim.Native.Nat.{ℕ, _+_}
 use mir.Syntax.{w32}
 use mir.Val.{toZ, ofZ}
-use Rattle.signed.proofs.Signed.{is, got}
+use Rattle.words.proofs.Fields.{kept}
 use Rattle.shape.specs.declared.field.Place.the-variants.{At}
 use Rattle.shape.specs.declared.element.Record.the-variants.{Edge}
 use Rattle.shape.specs.Shape.{fields, rangesOf}
@@ -21,7 +21,7 @@ abbrev next : tie.After-known-told → ℕ
 next c = c .before .next .given .0 .0
 
 there : (c : tie.After-known-told) → fields (rangesOf Edge) (start c .args .words .now) (start c .args .at) ≡ At (next c)
-there c = cc (c .before .before .before .skip-record .ensures, c .before .next .given .1)
+there c = sym (c .before .before .before .skip-record .ensures) ∙ c .before .next .given .1
 
 place : (c : tie.After-known-told) → next c ≡ start c .args .at + 11
 place c = fields-place (rangesOf Edge) (start c .args .words .now) (start c .args .at) (next c) (there c)
@@ -36,7 +36,7 @@ enum-told : tie.Need-enum-told
 enum-told c = search needs
 
 returns : tie.Need-returns
-returns c = let s = c .before .before in edge-nowhere (s .before .args .words .now) (s .before .args .at) (cc (s .skip-record .ensures, c .enum-told .given .1))
+returns c = let s = c .before .before in edge-nowhere (s .before .args .words .now) (s .before .args .at) (sym (s .skip-record .ensures) ∙ c .enum-told .given .1)
 
 sub-word-at : tie.Need-sub-word-at
 sub-word-at c = omega (arith, place c)
@@ -45,7 +45,10 @@ word-at-requires : tie.Need-word-at-requires
 word-at-requires c κs = search needs
 
 returns-2 : tie.Need-returns-2
-returns-2 c = let k = c .before .before in edge-blue (start k .args .words .now) (start k .args .at) (next k) (there k) (cc (c .before .word-at .ensures, is (got w32 (c .before .word-at .result) (c .before .word-at .ok)), ap (toZ w32) (c .if1 .taken)))
+returns-2 c =
+    let k = c .before .before in
+    let w = c .before .word-at in
+    edge-blue (start k .args .words .now) (start k .args .at) (next k) (there k) (sym (w .ensures) ∙ sym (kept w32 (w .result) (w .ok)) ∙ ap (toZ w32) (c .if1 .taken))
 
 sub-word-at-2 : tie.Need-sub-word-at-2
 sub-word-at-2 c = omega (arith, place (c .before .before))
@@ -54,7 +57,10 @@ word-at-requires-2 : tie.Need-word-at-requires-2
 word-at-requires-2 c κs = search needs
 
 returns-3 : tie.Need-returns-3
-returns-3 c = let k = c .before .before .before .before in edge-plain (start k .args .words .now) (start k .args .at) (next k) (there k) (cc (c .before .word-at2 .ensures, is (got w32 (c .before .word-at2 .result) (c .before .word-at2 .ok)), ap (toZ w32) (c .if2 .taken)))
+returns-3 c =
+    let k = c .before .before .before .before in
+    let w = c .before .word-at2 in
+    edge-plain (start k .args .words .now) (start k .args .at) (next k) (there k) (sym (w .ensures) ∙ sym (kept w32 (w .result) (w .ok)) ∙ ap (toZ w32) (c .if2 .taken))
 
 returns-4 : tie.Need-returns-4
 returns-4 c =

@@ -1,9 +1,10 @@
 -- `shape::element::skip_elements` meets its contract. The invariant: the elements that are left, read from here, give the whole. Assumes nothing.
 use borrow.Author.Needs.{needs}
 use native.Mathlib.Omega.{arith}
-use mathlib.Core.Path.{_≡_, ap}
+use mathlib.Core.Path.{_≡_, sym, ap, _∙_}
 use Prim.Native.Nat.{ℕ, _+_, _-_, _≤_}
-use Rattle.shape.specs.Shape.{elements}
+use Rattle.shape.specs.declared.field.Place.{Place}
+use Rattle.shape.specs.Shape.{andThen, elements}
 use Rattle.shape.proofs.Shapes.{Goes, then-nowhere, then-at, elements-step, elements-end}
 use Rattle.shape.proofs.element.skip_elements.Statement.{statement}
 use Rattle.shape.proofs.element.skip_elements.Tie as tie
@@ -24,11 +25,15 @@ abbrev head : tie.After-skip-element Inv-loop μ-loop → tie.At-loop Inv-loop �
 head c = c .before .before
 
 -- the reading goes on from what this turn's element gives
-step : (c : tie.After-skip-element Inv-loop μ-loop) → Goes (elements (head c .before .args .n) (head c .before .args .kind) (head c .before .args .words .now) (head c .before .args .at)) (c .skip-element .result) (elements (head c .before .args .n - (head c .loop .i + 1)) (head c .before .args .kind) (head c .before .args .words .now))
+step :
+    (c : tie.After-skip-element Inv-loop μ-loop)
+    → Goes (elements (head c .before .args .n) (head c .before .args .kind) (head c .before .args .words .now) (head c .before .args .at)) (c .skip-element .result)
+    (elements (head c .before .args .n - (head c .loop .i + 1)) (head c .before .args .kind) (head c .before .args .words .now))
 step c =
     let a = head c .before .args in
     let l = head c .loop in
-    record { on = cc (l .inv .1, elements-step (a .n) (l .i) (a .kind) (a .words .now) (l .here) (omega arith), c .skip-element .ensures) }
+    let next = ap (λ (p : Place). andThen p (elements (a .n - (l .i + 1)) (a .kind) (a .words .now))) (sym (c .skip-element .ensures)) in
+    record { on = l .inv .1 ∙ elements-step (a .n) (l .i) (a .kind) (a .words .now) (l .here) (omega arith) ∙ next }
 
 enum-known-next : tie.Need-enum-known-next Inv-loop μ-loop
 enum-known-next c = search needs
@@ -52,7 +57,7 @@ returns-2 : tie.Need-returns-2 Inv-loop μ-loop
 returns-2 c =
     let a = c .before .before .args in
     let l = c .before .loop in
-    cc (l .inv .1, elements-end (a .n) (l .i) (a .kind) (a .words .now) (l .here) (omega arith))
+    sym (l .inv .1 ∙ elements-end (a .n) (l .i) (a .kind) (a .words .now) (l .here) (omega arith))
 
 pub skip-elements-spec : {M : Type 1} → statement M
 skip-elements-spec =

@@ -1,10 +1,12 @@
 -- `shape::element::skip_record` meets its contract. The invariant: what is left of the record, read from here, gives the whole. Assumes nothing.
 use borrow.Author.Needs.{needs}
 use native.Mathlib.Omega.{arith}
-use mathlib.Core.Path.{_≡_, refl}
+use mathlib.Core.Path.{_≡_, refl, sym, ap, _∙_}
 use Prim.Native.Nat.{_+_, _≤_, _-_}
 use lib.ListN.{drop}
-use Rattle.shape.specs.Shape.{noRange, fields, rangesOf}
+use Rattle.shape.specs.declared.field.Place.{Place}
+use Rattle.shape.specs.declared.field.Range.{Range}
+use Rattle.shape.specs.Shape.{andThen, noRange, field, fields, rangesOf}
 use Rattle.shape.proofs.Shapes.{Goes, then-nowhere, then-at, fields-step, fields-end}
 use Rattle.shape.proofs.element.skip_record.Statement.{statement}
 use Rattle.shape.proofs.element.skip_record.Tie as tie
@@ -34,11 +36,19 @@ skip-field-requires : tie.Need-skip-field-requires Inv-loop μ-loop
 skip-field-requires c κs = search needs
 
 -- the reading goes on from what this turn's field gives
-step : (c : tie.After-skip-field Inv-loop μ-loop) → Goes (fields (rangesOf (start c .args .kind)) (start c .args .words .now) (start c .args .at)) (c .skip-field .result) (fields (drop (head c .loop .i + 1) (rangesOf (start c .args .kind))) (start c .args .words .now))
+step :
+    (c : tie.After-skip-field Inv-loop μ-loop)
+    → Goes (fields (rangesOf (start c .args .kind)) (start c .args .words .now) (start c .args .at)) (c .skip-field .result)
+    (fields (drop (head c .loop .i + 1) (rangesOf (start c .args .kind))) (start c .args .words .now))
 step c =
     let a = start c .args in
     let l = head c .loop in
-    record { on = cc (l .inv .1, fields-step (rangesOf (a .kind)) noRange (a .words .now) (l .i) (l .here) (omega (arith, head c .before .size .ensures)), c .skip-field .ensures, c .before .range-of .ensures) }
+    record {
+      on =
+          l .inv .1 ∙ fields-step (rangesOf (a .kind)) noRange (a .words .now) (l .i) (l .here) (omega (arith, head c .before .size .ensures))
+          ∙ ap (λ (p : Place). andThen p (fields (drop (l .i + 1) (rangesOf (a .kind))) (a .words .now)))
+          (sym (c .skip-field .ensures ∙ ap (λ (r : Range). field r (a .words .now) (l .here)) (c .before .range-of .ensures)));
+    }
 
 enum-known-next : tie.Need-enum-known-next Inv-loop μ-loop
 enum-known-next c = search needs
@@ -62,7 +72,7 @@ returns-2 : tie.Need-returns-2 Inv-loop μ-loop
 returns-2 c =
     let a = c .before .before .before .args in
     let l = c .before .loop in
-    cc (l .inv .1, fields-end (rangesOf (a .kind)) (a .words .now) (l .i) (l .here) (omega (arith, c .before .before .size .ensures)))
+    sym (l .inv .1 ∙ fields-end (rangesOf (a .kind)) (a .words .now) (l .i) (l .here) (omega (arith, c .before .before .size .ensures)))
 
 pub skip-record-spec : {M : Type 1} → statement M
 skip-record-spec =

@@ -1,7 +1,7 @@
 -- `shape::field::skip_field` meets its contract. Assumes nothing.
 use borrow.Author.Needs.{needs}
 use native.Mathlib.Omega.{arith}
-use mathlib.Core.Path.{_≡_, sym, _∙_}
+use mathlib.Core.Path.{_≡_, sym, ap, _∙_}
 use lib.ListN.{getD}
 use lib.IntN.{pos}
 use mir.Syntax.{w32}
@@ -28,7 +28,7 @@ add-t10 c = search needs
 
 -- what the test says of the word
 tested : (c : tie.After-is-in) → within (c .before .before .before .args .range) (getD (c .before .before .before .args .words .now) (c .before .before .before .args .at) (pos 0)) ≡ c .is-in .result
-tested c = cc (c .is-in .ensures, is (got w32 _ (c .before .word .given)))
+tested c = sym (c .is-in .ensures ∙ ap (within (c .before .before .before .args .range)) (is (got w32 _ (c .before .word .given))))
 
 returns-2 : tie.Need-returns-2
 returns-2 c = let s = c .before .before .before .before in sym (field-on (s .args .range) (s .args .words .now) (s .args .at) (omega arith) (tested (c .before) ∙ c .if2 .taken))

@@ -1,19 +1,20 @@
 -- `stem_cjk::hint::hint_normal_stem_cjk` meets its contract. Assumes nothing.
-use mathlib.Core.Path.{_≡_}
+use mathlib.Core.Path.{_≡_, ap, _∙_}
 use Prim.Native.Nat.{_<_}
 use native.Mathlib.Omega.{arith}
 use Rattle.signed.proofs.Signed.{is}
 use Rattle.fixed.specs.Width.{ruleHolds}
 use Rattle.axis.specs.Limits.{mostUnits}
 use Rattle.axis.specs.Edge.{edgeAt}
-use Rattle.axis.specs.Refusals.{within}
+use Rattle.axis.specs.Refusals.{within, edgesRefusal}
 use Rattle.axis.proofs.Tests.{answered-no, answered-yes}
 use Rattle.axis.proofs.Acceptance.{EdgesAccepted, within-between, edges-accepted}
-use Rattle.fitting.specs.Fitting.{bothBelow}
-use Rattle.fitting.specs.Steps.{InReach}
-use Rattle.fitting.proofs.Reach.{below-first, below-second, in-table, in-reach}
-use Rattle.stem_cjk.specs.Cjk.{stemOf, hinted, refusal, hintNormalStemCjk}
-use Rattle.stem_cjk.proofs.Moves.{stem-pos-range, stem-width-range, stem-delta-range, move-read}
+use Rattle.placing.specs.Placing.{bothBelow}
+use Rattle.placing.specs.Steps.{InReach}
+use Rattle.placing.proofs.Reach.{below-first, below-second, in-table, in-reach}
+use Rattle.cjk_numbers.specs.Cjk.{stemOf}
+use Rattle.cjk_numbers.proofs.Moves.{stem-pos-range, stem-width-range, stem-delta-range, move-read}
+use Rattle.stem_cjk.specs.Cjk.{hinted, refusal, hintNormalStemCjk}
 use borrow.Author.Needs.{needs}
 use Rattle.stem_cjk.proofs.hint.hint_normal_stem_cjk.Statement.{statement}
 use Rattle.stem_cjk.proofs.hint.hint_normal_stem_cjk.Tie as tie
@@ -33,11 +34,11 @@ edges-refusal-requires c κs = search needs
 -- the answer is the refusal
 refusal-is : (c : tie.After-edges-refusal) → c .edges-refusal .result ≡ refusal (c .before .before .before .before .args .t1) (c .before .before .before .before .args .rule) (c .before .before .before .before .args .standards .now) (c .before .before .before .before .args .edge) (c .before .before .before .before .args .edge2) (c .before .before .before .before .args .delta)
 refusal-is c =
-    let i = c .before in
-    let b = i .before in
+    let d = c .before in
+    let b = d .before in
     let r = b .before in
     let s = r .before in
-    rw (rw (is (s .fits .delta)) at (i .is-inside .ensures), b .both-below .ensures, r .rule-holds .ensures) at (c .edges-refusal .ensures)
+    c .edges-refusal .ensures ∙ λ i. edgesRefusal (s .args .t1) (r .rule-holds .ensures i) (b .both-below .ensures i) ((d .is-inside .ensures ∙ ap (within mostUnits) (is (s .fits .delta))) i)
 
 -- what acceptance yields
 accepted : (c : tie.Else1) → EdgesAccepted (c .before .before .before .before .before .args .t1) (ruleHolds (c .before .before .before .before .before .args .rule) (c .before .before .before .before .before .args .standards .now)) (bothBelow (c .before .before .before .before .before .args .t1 .len) (c .before .before .before .before .before .args .edge) (c .before .before .before .before .before .args .edge2)) (within mostUnits (c .before .before .before .before .before .args .delta))

@@ -1,7 +1,7 @@
 -- `stem_cjk::hint::hint_stem` meets its contract. Assumes nothing.
-use Rattle.fitting.proofs.Reach.{in-table, units-read}
-use Rattle.stem_cjk.specs.Cjk.{hintedStem}
-use Rattle.stem_cjk.proofs.Moves.{start-read, width-read}
+use Rattle.placing.proofs.Reach.{in-table, units-read}
+use Rattle.cjk_numbers.specs.Cjk.{hintedStem}
+use Rattle.cjk_numbers.proofs.Moves.{start-read, width-read}
 use borrow.Author.Needs.{needs}
 use Rattle.stem_cjk.proofs.hint.hint_stem.Statement.{statement}
 use Rattle.stem_cjk.proofs.hint.hint_stem.Tie as tie

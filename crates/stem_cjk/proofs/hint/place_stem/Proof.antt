@@ -4,7 +4,7 @@ use native.Mathlib.Omega.{arith}
 use lib.IntN.{_+ℤ_}
 use Rattle.signed.proofs.Signed.{fits, is, signed}
 use Rattle.axis.specs.Edge.{edgeAt, putEdge, placed}
-use Rattle.stem_cjk.specs.Cjk.{placedStem}
+use Rattle.cjk_numbers.specs.Cjk.{placedStem}
 use borrow.Author.Needs.{needs}
 use Rattle.stem_cjk.proofs.hint.place_stem.Statement.{statement}
 use Rattle.stem_cjk.proofs.hint.place_stem.Tie as tie

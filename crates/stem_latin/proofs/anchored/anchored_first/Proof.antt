@@ -1,7 +1,14 @@
 -- `stem_latin::anchored::anchored_first` meets its contract. Assumes nothing.
+use mathlib.Core.Path.{_≡_, sym, ap, _∙_}
+use mathlib.Core.Bool.{Bool, true, false}
+use lib.IntN.{ℤ, pos}
+use lib.Signed.{ltZ}
 use mir.Syntax.{w32}
+use mir.Val.{toZ, ofZ}
 use Rattle.signed.proofs.Signed.{is, got}
-use Rattle.stem_latin.specs.Latin.{anchoredFirst}
+use Rattle.stem_latin.specs.Latin.{thinFirst, wideFirst, anchoredFirst}
+use Rattle.signed.proofs.By.{by₃}
+use Rattle.stem_latin.proofs.Choices.{where-true, where-false}
 use borrow.Author.Needs.{needs}
 use Rattle.stem_latin.proofs.anchored.anchored_first.Statement.{statement}
 use Rattle.stem_latin.proofs.anchored.anchored_first.Tie as tie
@@ -9,13 +16,17 @@ use Rattle.stem_latin.proofs.anchored.anchored_first.Tie as tie
 thin-first-requires : tie.Need-thin-first-requires
 thin-first-requires c κs = search needs
 
+-- whether the stem is thin, by the test of its width's bits
+thin : (c : tie.Start) (b : Bool) → ltZ (toZ w32 (ofZ w32 (c .args .width))) (pos 96) ≡ b → ltZ (c .args .width) (pos 96) ≡ b
+thin c b h = ap (λ (z : ℤ). ltZ z (pos 96)) (sym (is (c .fits .width))) ∙ h
+
 returns : tie.Need-returns
 unfolding anchoredFirst
 returns c =
-    let t = c .before in
-    let f = t .before .fits in
-    rw (rw (is (f .width)) at (t .if1 .taken), is (got w32 (c .thin-first .result) (c .thin-first .ok)))
-    (rw (is (f .start), is (f .org-len), is (f .width)) at (c .thin-first .ensures))
+    let s = c .before .before in
+    let f = s .fits in
+    where-true _ _ _ (thin s true (c .before .if1 .taken))
+    (is (got w32 (c .thin-first .result) (c .thin-first .ok)) ∙ by₃ thinFirst (c .thin-first .ensures) (is (f .start)) (is (f .org-len)) (is (f .width)))
 
 wide-first-requires : tie.Need-wide-first-requires
 wide-first-requires c κs = search needs
@@ -23,10 +34,10 @@ wide-first-requires c κs = search needs
 returns-2 : tie.Need-returns-2
 unfolding anchoredFirst
 returns-2 c =
-    let t = c .before in
-    let f = t .before .fits in
-    rw (rw (is (f .width)) at (t .if1 .left), is (got w32 (c .wide-first .result) (c .wide-first .ok)))
-    (rw (is (f .start), is (f .org-len), is (f .width)) at (c .wide-first .ensures))
+    let s = c .before .before in
+    let f = s .fits in
+    where-false _ _ _ (thin s false (c .before .if1 .left))
+    (is (got w32 (c .wide-first .result) (c .wide-first .ok)) ∙ by₃ wideFirst (c .wide-first .ensures) (is (f .start)) (is (f .org-len)) (is (f .width)))
 
 pub anchored-first-spec : {M : Type 1} → statement M
 anchored-first-spec =

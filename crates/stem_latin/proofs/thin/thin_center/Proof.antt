@@ -1,7 +1,14 @@
 -- `stem_latin::thin::thin_center` meets its contract. Assumes nothing.
+use mathlib.Core.Path.{_≡_, refl, sym, ap, _∙_}
+use mathlib.Core.Bool.{Bool, true, false}
+use lib.IntN.{ℤ, pos}
+use lib.Signed.{leZ}
 use mir.Syntax.{w32}
+use mir.Val.{toZ, ofZ}
 use Rattle.signed.proofs.Signed.{is, got}
-use Rattle.stem_latin.specs.Latin.{lowerOffset, upperOffset, thinCentre}
+use Rattle.stem_latin.specs.Latin.{lowerOffset, upperOffset, nearerCentre, thinCentre}
+use Rattle.signed.proofs.By.{by₃}
+use Rattle.stem_latin.proofs.Choices.{where-true, where-false}
 use borrow.Author.Needs.{needs}
 use Rattle.stem_latin.proofs.thin.thin_center.Statement.{statement}
 use Rattle.stem_latin.proofs.thin.thin_center.Tie as tie
@@ -9,13 +16,16 @@ use Rattle.stem_latin.proofs.thin.thin_center.Tie as tie
 nearer-center-requires : tie.Need-nearer-center-requires
 nearer-center-requires c κs = search needs
 
+-- whether the width is at most a pixel, by the test of its bits
+narrow : (c : tie.Start) (b : Bool) → leZ (toZ w32 (ofZ w32 (c .args .width))) (pos 64) ≡ b → leZ (c .args .width) (pos 64) ≡ b
+narrow c b h = ap (λ (z : ℤ). leZ z (pos 64)) (sym (is (c .fits .width))) ∙ h
+
 returns : tie.Need-returns
 unfolding thinCentre lowerOffset upperOffset
 returns c =
-    let t = c .before in
-    let s = t .before in
-    rw (rw (is (s .fits .width)) at (t .if1 .taken), is (got w32 (c .nearer-center .result) (c .nearer-center .ok)))
-    (rw (is (s .fits .center)) at (c .nearer-center .ensures))
+    let s = c .before .before in
+    let h = narrow s true (c .before .if1 .taken) in
+    is (got w32 (c .nearer-center .result) (c .nearer-center .ok)) ∙ by₃ nearerCentre (c .nearer-center .ensures) (is (s .fits .center)) (where-true _ _ _ h refl) (where-true _ _ _ h refl)
 
 nearer-center-requires-2 : tie.Need-nearer-center-requires-2
 nearer-center-requires-2 c κs = search needs
@@ -23,10 +33,9 @@ nearer-center-requires-2 c κs = search needs
 returns-2 : tie.Need-returns-2
 unfolding thinCentre lowerOffset upperOffset
 returns-2 c =
-    let t = c .before in
-    let s = t .before in
-    rw (rw (is (s .fits .width)) at (t .if1 .left), is (got w32 (c .nearer-center2 .result) (c .nearer-center2 .ok)))
-    (rw (is (s .fits .center)) at (c .nearer-center2 .ensures))
+    let s = c .before .before in
+    let h = narrow s false (c .before .if1 .left) in
+    is (got w32 (c .nearer-center2 .result) (c .nearer-center2 .ok)) ∙ by₃ nearerCentre (c .nearer-center2 .ensures) (is (s .fits .center)) (where-false _ _ _ h refl) (where-false _ _ _ h refl)
 
 pub thin-center-spec : {M : Type 1} → statement M
 thin-center-spec =

@@ -1,12 +1,13 @@
 -- `stem_latin::thin::thin_first` meets its contract. Assumes nothing.
-use mathlib.Core.Path.{_≡_}
+use mathlib.Core.Path.{_≡_, ap, _∙_}
 use native.Mathlib.Omega.{arith}
-use lib.IntN.{pos}
+use lib.IntN.{ℤ, pos, _-ℤ_}
 use lib.Signed.{quotZ}
 use mir.Syntax.{w32}
-use mir.Val.{SFits, toZ, ofZ}
-use Rattle.signed.proofs.Signed.{fits, is, got, fits-quot, back-fits, _also_, signed}
+use Rattle.signed.proofs.Operations.{quot-up, quot-dn}
+use Rattle.signed.proofs.Signed.{fits, is, got, _also_, signed}
 use Rattle.stem_latin.specs.Latin.{centreOf, thinCentre, thinFirst}
+use Rattle.signed.proofs.By.{by₂}
 use Rattle.stem_latin.proofs.Moves.{centre-range, thin-near}
 use borrow.Author.Needs.{needs}
 use Rattle.stem_latin.proofs.thin.thin_first.Statement.{statement}
@@ -17,7 +18,7 @@ center-of-requires c κs = search needs
 
 -- the centre that the start and the length give
 center-is : (c : tie.After-center-of) → c .center-of .result ≡ centreOf (c .before .args .start) (c .before .args .org-len)
-center-is c = let f = c .before .fits in rw (is (f .start), is (f .org-len)) at (c .center-of .ensures)
+center-is c = let f = c .before .fits in by₂ centreOf (c .center-of .ensures) (is (f .start)) (is (f .org-len))
 
 thin-center-requires : tie.Need-thin-center-requires
 thin-center-requires c κs =
@@ -29,26 +30,28 @@ thin-center-requires c κs =
 chosen-is : (c : tie.After-thin-center) → c .thin-center .result ≡ thinCentre (centreOf (c .before .before .args .start) (c .before .before .args .org-len)) (c .before .before .args .width)
 chosen-is c =
     let m = c .before in
-    let s = m .before in
-    rw (is (got w32 (m .center-of .result) (m .center-of .ok)), center-is m, is (s .fits .width)) at (c .thin-center .ensures)
+    by₂ thinCentre (c .thin-center .ensures) (is (got w32 (m .center-of .result) (m .center-of .ok)) ∙ center-is m) (is (m .before .fits .width))
 
--- half the width fits
-half : (c : tie.After-thin-center) → SFits w32 (quotZ (toZ w32 (ofZ w32 (c .before .before .args .width))) (pos 2))
-half c = fits-quot _ 2 (back-fits (c .before .before .fits .width)) tt
+half-requires : tie.Need-half-requires
+half-requires c κs = search needs
 
-div-result : tie.Need-div-result
-div-result c = (omega arith, half c)
+-- half the width, its fraction dropped
+half-is : (c : tie.After-half) → c .half .result ≡ quotZ (c .before .before .before .args .width) (pos 2)
+half-is c = c .half .ensures ∙ ap (λ (z : ℤ). quotZ z (pos 2)) (is (c .before .before .before .fits .width))
 
 sub-result : tie.Need-sub-result
 sub-result c =
-    let s = c .before .before in
-    let e = chosen-is c also got w32 (c .thin-center .result) (c .thin-center .ok) also half c in
-    let m = centre-range (s .args .start) (s .args .org-len) (s .pre .0) (s .pre .1) in
-    fits (omega (arith, signed, m, thin-near (centreOf (s .args .start) (s .args .org-len)) (s .args .width)))
+    let m = c .before in
+    let s = m .before .before in
+    let e = chosen-is m also got w32 (m .thin-center .result) (m .thin-center .ok) also half-is c also got w32 (c .half .result) (c .half .ok) in
+    let r = centre-range (s .args .start) (s .args .org-len) (s .pre .0) (s .pre .1) in
+    fits (omega (arith, signed, r, thin-near (centreOf (s .args .start) (s .args .org-len)) (s .args .width), quot-up (s .args .width) 2, quot-dn (s .args .width) 2))
 
 returns : tie.Need-returns
 unfolding thinFirst
-returns c = rw (is (sub-result c), is (got w32 (c .thin-center .result) (c .thin-center .ok)), chosen-is c, is (half c), is (c .before .before .fits .width))
+returns c =
+    let m = c .before in
+    by₂ _-ℤ_ (is (sub-result c)) (is (got w32 (m .thin-center .result) (m .thin-center .ok)) ∙ chosen-is m) (is (got w32 (c .half .result) (c .half .ok)) ∙ half-is c)
 
 pub thin-first-spec : {M : Type 1} → statement M
 thin-first-spec =
@@ -56,6 +59,6 @@ thin-first-spec =
     (tie.spec
     center-of-requires
     thin-center-requires
-    div-result
+    half-requires
     sub-result
     returns)

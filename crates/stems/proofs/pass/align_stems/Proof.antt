@@ -6,10 +6,10 @@ use native.Mathlib.Omega.{arith}
 use Rattle.axis.specs.declared.edge.Axis.{Axis}
 use Rattle.axis.specs.Edge.{edgeAt, putEdge}
 use Rattle.axis.specs.Accepted.{AxisWithin}
-use Rattle.fitting.specs.Steps.{InReach}
-use Rattle.blues.specs.Zones.{visits}
-use Rattle.blues.proofs.Kept.{within-more, reach-at}
-use Rattle.blues.proofs.Turns.{turn, visits-end}
+use Rattle.placing.specs.Steps.{InReach}
+use Rattle.zone.specs.Zones.{visits}
+use Rattle.zone.proofs.Kept.{within-more, reach-at}
+use Rattle.zone.proofs.Turns.{turn, visits-end}
 use Rattle.stems.specs.Stems.{State, begun, done, stemsOf}
 use Rattle.stems.specs.Steps.{planAt, firstPut, step}
 use Rattle.stems.proofs.Straight.{steps-are}

@@ -2,9 +2,9 @@
 use mathlib.Core.Path.{_≡_}
 use mir.Syntax.{w32}
 use Rattle.signed.proofs.Signed.{is, got}
-use Rattle.fitting.proofs.Reach.{units-read, reach-read}
-use Rattle.stem_cjk.specs.Cjk.{stemOf}
-use Rattle.stem_cjk.proofs.Moves.{stem-pos-range, stem-width-range, stem-delta-range, move-read}
+use Rattle.placing.proofs.Reach.{units-read, reach-read}
+use Rattle.cjk_numbers.specs.Cjk.{stemOf}
+use Rattle.cjk_numbers.proofs.Moves.{stem-pos-range, stem-width-range, stem-delta-range, move-read}
 use Rattle.stems_plan.specs.Visit.{deltaAfter}
 use Rattle.stems_plan.specs.Plan.{cjkPlan}
 use borrow.Author.Needs.{needs}

@@ -2,8 +2,8 @@
 use native.Mathlib.Omega.{arith}
 use mir.Syntax.{w32}
 use Rattle.signed.proofs.Signed.{fits, fits-in, is, _also_, signed}
-use Rattle.fitting.proofs.Reach.{units-read}
-use Rattle.stem_cjk.proofs.Moves.{start-read, width-read}
+use Rattle.placing.proofs.Reach.{units-read}
+use Rattle.cjk_numbers.proofs.Moves.{start-read, width-read}
 use Rattle.stems_plan.specs.Plan.{stemPlan}
 use borrow.Author.Needs.{needs}
 use Rattle.stems_plan.proofs.cjk.stem_plan.Statement.{statement}

@@ -5,7 +5,7 @@ use lib.IntN.{_-ℤ_}
 use mir.Syntax.{w32}
 use mir.Val.{toZ, ofZ}
 use Rattle.signed.proofs.Signed.{is, got, add-law, sub-law}
-use Rattle.fitting.proofs.Reach.{width-range}
+use Rattle.placing.proofs.Reach.{width-range}
 use Rattle.stems_plan.specs.Visit.{widthOf, startBeside}
 use Rattle.stems_plan.specs.Plan.{anchoredPlan}
 use borrow.Author.Needs.{needs}

@@ -2,7 +2,7 @@
 use native.Mathlib.Omega.{arith}
 use mir.Syntax.{w32}
 use Rattle.signed.proofs.Signed.{fits, fits-in, is, signed}
-use Rattle.fitting.proofs.Reach.{reach-read}
+use Rattle.placing.proofs.Reach.{reach-read}
 use Rattle.stems_plan.proofs.latin.behind_plan.Statement.{statement}
 use Rattle.stems_plan.proofs.latin.behind_plan.Tie as tie
 

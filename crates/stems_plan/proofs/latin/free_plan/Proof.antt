@@ -8,8 +8,8 @@ use Rattle.signed.specs.Range.{Between}
 use Rattle.signed.proofs.Signed.{fits-in, is, got, add-law, sub-law}
 use Rattle.stem_latin.specs.Latin.{freeFirst}
 use Rattle.stem_latin.proofs.Moves.{free-ends, free-second-range}
-use Rattle.fitting.specs.Fitting.{linkedPos}
-use Rattle.fitting.proofs.Reach.{units-read, width-range}
+use Rattle.placing.specs.Placing.{linkedPos}
+use Rattle.placing.proofs.Reach.{units-read, width-range}
 use Rattle.stems_plan.specs.Visit.{originalLen, widthOf}
 use Rattle.stems_plan.specs.Plan.{freePlan}
 use borrow.Author.Needs.{needs}

@@ -2,7 +2,7 @@
 use native.Mathlib.Omega.{arith}
 use mir.Syntax.{w32}
 use Rattle.signed.proofs.Signed.{fits, fits-in, is, _also_, signed}
-use Rattle.fitting.proofs.Reach.{units-read}
+use Rattle.placing.proofs.Reach.{units-read}
 use Rattle.stems_plan.proofs.latin.original_len.Statement.{statement}
 use Rattle.stems_plan.proofs.latin.original_len.Tie as tie
 

@@ -1,6 +1,6 @@
 -- `stems_plan::store::hold` meets its contract. Assumes nothing.
 use mathlib.Core.Path.{sym, _∙_}
-use Rattle.fitting.proofs.Reach.{reach-read}
+use Rattle.placing.proofs.Reach.{reach-read}
 use Rattle.stems_plan.specs.Plan.{heldEdge}
 use borrow.Author.Needs.{needs}
 use Rattle.stems_plan.proofs.store.hold.Statement.{statement}

@@ -1,6 +1,6 @@
 -- `stems_plan::store::is_over` meets its contract. Assumes nothing.
 use mathlib.Core.Path.{sym, _∙_}
-use Rattle.fitting.proofs.Reach.{reach-read}
+use Rattle.placing.proofs.Reach.{reach-read}
 use borrow.Author.Needs.{needs}
 use Rattle.stems_plan.proofs.store.is_over.Statement.{statement}
 use Rattle.stems_plan.proofs.store.is_over.Tie as tie

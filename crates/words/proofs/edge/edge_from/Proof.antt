@@ -1,10 +1,12 @@
 -- `words::edge::edge_from` meets its contract. Assumes nothing.
 use borrow.Author.Needs.{needs}
+use Rattle.words.specs.Word.{wordAt}
+use Rattle.words.specs.Field.{blueOf}
 use Rattle.words.specs.Edge.{edgeFrom}
 use mir.Syntax.{w16, w32}
 use Rattle.words.proofs.Fields.{kept}
-use mathlib.Core.Path.{_≡_}
-use Prim.Native.Nat.{_+_}
+use mathlib.Core.Path.{_≡_, ap, _∙_}
+use Prim.Native.Nat.{ℕ, _+_}
 use native.Mathlib.Omega.{arith}
 use Rattle.words.proofs.edge.edge_from.Statement.{statement}
 use Rattle.words.proofs.edge.edge_from.Tie as tie
@@ -78,24 +80,20 @@ returns c =
     let pos = flags .before in
     let opos = pos .before in
     let fpos = opos .before in
-    let at = fpos .before .args .at in
-    let q : at + 5 + 1 ≡ at + 6 = omega arith in
-    rw (
-      kept w16 (fpos .short-at .result) (fpos .short-at .ok),
-      kept w32 (opos .word-at .result) (opos .word-at .ok),
-      kept w32 (pos .word-at2 .result) (pos .word-at2 .ok),
-      fpos .short-at .ensures,
-      opos .word-at .ensures,
-      pos .word-at2 .ensures,
-      flags .flags-at .ensures,
-      dir .direction-at .ensures,
-      blue .blue-at .ensures,
-      link .link-at .ensures,
-      serif .link-at2 .ensures,
-      first .index-at .ensures,
-      c .index-at2 .ensures,
-      q,
-    )
+    let a = fpos .before .args in
+    let q : a .at + 5 + 1 ≡ a .at + 6 = omega arith in
+    λ i. record {
+      fpos = (kept w16 (fpos .short-at .result) (fpos .short-at .ok) ∙ fpos .short-at .ensures) i;
+      opos = (kept w32 (opos .word-at .result) (opos .word-at .ok) ∙ opos .word-at .ensures) i;
+      pos = (kept w32 (pos .word-at2 .result) (pos .word-at2 .ok) ∙ pos .word-at2 .ensures) i;
+      flags = flags .flags-at .ensures i;
+      dir = dir .direction-at .ensures i;
+      blue = (blue .blue-at .ensures ∙ ap (λ (k : ℕ). blueOf (wordAt (a .words .now) (a .at + 5)) (wordAt (a .words .now) k)) q) i;
+      link = link .link-at .ensures i;
+      serif = serif .link-at2 .ensures i;
+      first = first .index-at .ensures i;
+      last = c .index-at2 .ensures i;
+    }
 
 pub edge-from-spec : {M : Type 1} → statement M
 edge-from-spec =

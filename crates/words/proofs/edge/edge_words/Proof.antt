@@ -1,5 +1,7 @@
 -- `words::edge::edge_words` meets its contract. Assumes nothing.
 use borrow.Author.Needs.{needs}
+use mathlib.Core.Path.{_∙_}
+use mathlib.Core.List.{[], _∷_}
 use Rattle.words.specs.Edge.{edgeWords}
 use mir.Syntax.{w16, w32}
 use Rattle.words.proofs.Fields.{kept}
@@ -46,29 +48,18 @@ returns c =
     let flags = dir .before in
     let fpos = flags .before in
     let start = fpos .before .before .before in
-    rw (
-      kept w32 (fpos .short-word .result) (fpos .short-word .ok),
-      kept w32 (flags .flags-word .result) (flags .flags-word .ok),
-      kept w32 (dir .direction-word .result) (dir .direction-word .ok),
-      kept w32 (present .present-word .result) (present .present-word .ok),
-      kept w32 (fitted .fitted-word .result) (fitted .fitted-word .ok),
-      kept w32 (link .link-word .result) (link .link-word .ok),
-      kept w32 (serif .link-word2 .result) (serif .link-word2 .ok),
-      kept w32 (first .index-word .result) (first .index-word .ok),
-      kept w32 (last .index-word2 .result) (last .index-word2 .ok),
-      kept w32 (start .args .edge .opos) (c .struct-told2 .given .1 .0 .1),
-      kept w32 (start .args .edge .pos) (c .struct-told2 .given .1 .1 .0 .1),
-      fpos .short-word .ensures,
-      flags .flags-word .ensures,
-      dir .direction-word .ensures,
-      present .present-word .ensures,
-      fitted .fitted-word .ensures,
-      link .link-word .ensures,
-      serif .link-word2 .ensures,
-      first .index-word .ensures,
-      last .index-word2 .ensures,
-      kept w16 (start .args .edge .fpos) (c .struct-told2 .given .0 .1),
-    )
+    λ i. (kept w32 (fpos .short-word .result) (fpos .short-word .ok) ∙ fpos .short-word .ensures ∙ kept w16 (start .args .edge .fpos) (c .struct-told2 .given .0 .1)) i
+    ∷ kept w32 (start .args .edge .opos) (c .struct-told2 .given .1 .0 .1) i
+    ∷ kept w32 (start .args .edge .pos) (c .struct-told2 .given .1 .1 .0 .1) i
+    ∷ (kept w32 (flags .flags-word .result) (flags .flags-word .ok) ∙ flags .flags-word .ensures) i
+    ∷ (kept w32 (dir .direction-word .result) (dir .direction-word .ok) ∙ dir .direction-word .ensures) i
+    ∷ (kept w32 (present .present-word .result) (present .present-word .ok) ∙ present .present-word .ensures) i
+    ∷ (kept w32 (fitted .fitted-word .result) (fitted .fitted-word .ok) ∙ fitted .fitted-word .ensures) i
+    ∷ (kept w32 (link .link-word .result) (link .link-word .ok) ∙ link .link-word .ensures) i
+    ∷ (kept w32 (serif .link-word2 .result) (serif .link-word2 .ok) ∙ serif .link-word2 .ensures) i
+    ∷ (kept w32 (first .index-word .result) (first .index-word .ok) ∙ first .index-word .ensures) i
+    ∷ (kept w32 (last .index-word2 .result) (last .index-word2 .ok) ∙ last .index-word2 .ensures) i
+    ∷ []
 
 pub edge-words-spec : {M : Type 1} → statement M
 edge-words-spec =

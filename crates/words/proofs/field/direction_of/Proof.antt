@@ -1,7 +1,7 @@
 -- `words::field::direction_of` meets its contract. Assumes nothing.
 use borrow.Author.Needs.{needs}
 use native.Mathlib.Omega.{arith}
-use mathlib.Core.Path.{_≡_, sym, ap}
+use mathlib.Core.Path.{_≡_, sym, ap, _∙_}
 use Prim.Native.Nat.{ℕ}
 use lib.ListN.{getD, List·getD-eq-default}
 use Rattle.axis.specs.declared.kinds.Direction.the-variants as Directions
@@ -13,7 +13,7 @@ use Rattle.words.proofs.field.direction_of.Tie as tie
 
 -- the number is the word's
 number : (c : tie.After-size-of) → c .size-of .result ≡ up (c .before .args .word)
-number c = cc (c .size-of .ensures, is (c .before .fits .word))
+number c = c .size-of .ensures ∙ ap up (is (c .before .fits .word))
 
 size-of-requires : tie.Need-size-of-requires
 size-of-requires c κs = search needs

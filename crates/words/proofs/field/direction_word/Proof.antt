@@ -1,5 +1,7 @@
 -- `words::field::direction_word` meets its contract. Assumes nothing.
 use borrow.Author.Needs.{needs}
+use mathlib.Core.Path.{sym, ap}
+use Rattle.words.specs.Field.{directionWord}
 use Rattle.words.proofs.field.direction_word.Statement.{statement}
 use Rattle.words.proofs.field.direction_word.Tie as tie
 
@@ -19,19 +21,19 @@ enum-told-5 : tie.Need-enum-told-5
 enum-told-5 c = search needs
 
 returns : tie.Need-returns
-returns c = rw (c .enum-told .given .1)
+returns c = sym (ap directionWord (c .enum-told .given .1))
 
 returns-2 : tie.Need-returns-2
-returns-2 c = rw (c .enum-told2 .given .1)
+returns-2 c = sym (ap directionWord (c .enum-told2 .given .1))
 
 returns-3 : tie.Need-returns-3
-returns-3 c = rw (c .enum-told3 .given .1)
+returns-3 c = sym (ap directionWord (c .enum-told3 .given .1))
 
 returns-4 : tie.Need-returns-4
-returns-4 c = rw (c .enum-told4 .given .1)
+returns-4 c = sym (ap directionWord (c .enum-told4 .given .1))
 
 returns-5 : tie.Need-returns-5
-returns-5 c = rw (c .enum-told5 .given .1)
+returns-5 c = sym (ap directionWord (c .enum-told5 .given .1))
 
 pub direction-word-spec : {M : Type 1} → statement M
 direction-word-spec =

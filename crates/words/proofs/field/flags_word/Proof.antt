@@ -2,6 +2,8 @@
 use borrow.Author.Needs.{needs}
 use Rattle.words.specs.Field.{flagsWord}
 use native.Mathlib.Omega.{arith}
+use mathlib.Core.Path.{_∙_}
+use lib.IntN.{pos}
 use mir.Syntax.{w32}
 use Rattle.signed.proofs.Signed.{read-low}
 use Prim.Native.Nat.{_+_}
@@ -34,7 +36,12 @@ cast-result c = search needs
 
 returns : tie.Need-returns
 unfolding flagsWord
-returns c = rw (read-low w32 (c .before .before .before .weight .result + c .before .before .weight2 .result + c .before .weight3 .result + c .weight4 .result) (omega arith)) (cc (c .weight4 .ensures .0))
+returns c =
+    let done = c .before in
+    let serif = done .before in
+    let round = serif .before in
+    read-low w32 (round .weight .result + serif .weight2 .result + done .weight3 .result + c .weight4 .result) (omega arith)
+    ∙ λ i. pos (round .weight .ensures .0 i + serif .weight2 .ensures .0 i + done .weight3 .ensures .0 i + c .weight4 .ensures .0 i)
 
 pub flags-word-spec : {M : Type 1} → statement M
 flags-word-spec =

@@ -1,7 +1,9 @@
 -- `words::field::link_dir_of` meets its contract. Assumes nothing.
 use borrow.Author.Needs.{needs}
-use mathlib.Core.Path.{_≡_, sym, _∙_}
+use mathlib.Core.Path.{_≡_, sym, ap, _∙_}
+use mathlib.Core.Bool.{Bool, cond}
 use Rattle.signed.proofs.Signed.{is}
+use Rattle.placing.specs.declared.adjust.LinkDir.the-variants.{Prev, Next}
 use Rattle.words.specs.Field.{choiceOf, linkDirOf}
 use Rattle.words.proofs.field.link_dir_of.Statement.{statement}
 use Rattle.words.proofs.field.link_dir_of.Tie as tie
@@ -10,16 +12,16 @@ choice-of-requires : tie.Need-choice-of-requires
 choice-of-requires c κs = search needs
 
 -- what the word chooses
-chosen : (c : tie.After-choice-of) → choiceOf (c .before .args .word) ≡ c .choice-of .result
-chosen c = cc (c .choice-of .ensures, is (c .before .fits .word))
+chosen : (c : tie.After-choice-of) → c .choice-of .result ≡ choiceOf (c .before .args .word)
+chosen c = c .choice-of .ensures ∙ ap choiceOf (is (c .before .fits .word))
 
 returns : tie.Need-returns
 unfolding linkDirOf
-returns c = rw (chosen (c .before) ∙ c .if1 .taken)
+returns c = ap (λ (b : Bool). cond b Next Prev) (sym (c .if1 .taken) ∙ chosen (c .before))
 
 returns-2 : tie.Need-returns-2
 unfolding linkDirOf
-returns-2 c = rw (chosen (c .before) ∙ c .if1 .left)
+returns-2 c = ap (λ (b : Bool). cond b Next Prev) (sym (c .if1 .left) ∙ chosen (c .before))
 
 pub link-dir-of-spec : {M : Type 1} → statement M
 link-dir-of-spec = tie.close (tie.spec choice-of-requires returns returns-2)

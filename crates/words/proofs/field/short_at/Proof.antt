@@ -28,7 +28,7 @@ cast-result c = let w = c .before .before .word-at in let k = got w32 (w .result
 returns-3 : tie.Need-returns-3
 returns-3 c = let w = c .before .before .word-at in
     let k = got w32 (w .result) (w .ok) in
-    cc (is (cast-result c), is k, short-is (w .result) (omega (arith, signed)) (omega (arith, signed)), w .ensures)
+    is (cast-result c) ∙ is k ∙ short-is (w .result) (omega (arith, signed)) (omega (arith, signed)) ∙ ap shortOf (w .ensures)
 
 pub short-at-spec : {M : Type 1} → statement M
 short-at-spec = tie.close (tie.spec word-at-requires returns returns-2 cast-result returns-3)

@@ -1,5 +1,6 @@
 -- `words::segment::segment_from` meets its contract. Assumes nothing.
 use borrow.Author.Needs.{needs}
+use mathlib.Core.Path.{_∙_}
 use mir.Syntax.{w16, w32}
 use Rattle.words.specs.Segment.{segmentFrom}
 use Rattle.words.proofs.Fields.{kept}
@@ -110,30 +111,23 @@ returns c =
     let pos = delta .before in
     let dir = pos .before in
     let flags = dir .before in
-    rw (
-      kept w16 (pos .short-at .result) (pos .short-at .ok),
-      kept w16 (delta .short-at2 .result) (delta .short-at2 .ok),
-      kept w16 (low .short-at3 .result) (low .short-at3 .ok),
-      kept w16 (high .short-at4 .result) (high .short-at4 .ok),
-      kept w16 (height .short-at5 .result) (height .short-at5 .ok),
-      kept w32 (score .word-at .result) (score .word-at .ok),
-      kept w32 (len .word-at2 .result) (len .word-at2 .ok),
-      flags .flags-at .ensures,
-      dir .direction-at .ensures,
-      pos .short-at .ensures,
-      delta .short-at2 .ensures,
-      low .short-at3 .ensures,
-      high .short-at4 .ensures,
-      height .short-at5 .ensures,
-      score .word-at .ensures,
-      len .word-at2 .ensures,
-      link .link-at .ensures,
-      serif .link-at2 .ensures,
-      first .index-at .ensures,
-      last .index-at2 .ensures,
-      edge .link-at3 .ensures,
-      c .link-at4 .ensures,
-    )
+    λ i. record {
+      flags = flags .flags-at .ensures i;
+      dir = dir .direction-at .ensures i;
+      pos = (kept w16 (pos .short-at .result) (pos .short-at .ok) ∙ pos .short-at .ensures) i;
+      delta = (kept w16 (delta .short-at2 .result) (delta .short-at2 .ok) ∙ delta .short-at2 .ensures) i;
+      «min_coord» = (kept w16 (low .short-at3 .result) (low .short-at3 .ok) ∙ low .short-at3 .ensures) i;
+      «max_coord» = (kept w16 (high .short-at4 .result) (high .short-at4 .ok) ∙ high .short-at4 .ensures) i;
+      height = (kept w16 (height .short-at5 .result) (height .short-at5 .ok) ∙ height .short-at5 .ensures) i;
+      score = (kept w32 (score .word-at .result) (score .word-at .ok) ∙ score .word-at .ensures) i;
+      len = (kept w32 (len .word-at2 .result) (len .word-at2 .ok) ∙ len .word-at2 .ensures) i;
+      link = link .link-at .ensures i;
+      serif = serif .link-at2 .ensures i;
+      first = first .index-at .ensures i;
+      last = last .index-at2 .ensures i;
+      edge = edge .link-at3 .ensures i;
+      next = c .link-at4 .ensures i;
+    }
 
 pub segment-from-spec : {M : Type 1} → statement M
 segment-from-spec =

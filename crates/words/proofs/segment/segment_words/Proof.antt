@@ -1,5 +1,7 @@
 -- `words::segment::segment_words` meets its contract. Assumes nothing.
 use borrow.Author.Needs.{needs}
+use mathlib.Core.Path.{_∙_}
+use mathlib.Core.List.{[], _∷_}
 use mir.Syntax.{w16, w32}
 use Rattle.words.specs.Segment.{segmentWords}
 use Rattle.words.proofs.Fields.{kept}
@@ -62,41 +64,22 @@ returns c =
     let dir = pos .before .before in
     let flags = dir .before in
     let start = flags .before .before in
-    rw (
-      kept w32 (flags .flags-word .result) (flags .flags-word .ok),
-      kept w32 (dir .direction-word .result) (dir .direction-word .ok),
-      kept w32 (pos .short-word .result) (pos .short-word .ok),
-      kept w32 (delta .short-word2 .result) (delta .short-word2 .ok),
-      kept w32 (low .short-word3 .result) (low .short-word3 .ok),
-      kept w32 (high .short-word4 .result) (high .short-word4 .ok),
-      kept w32 (height .short-word5 .result) (height .short-word5 .ok),
-      kept w32 (link .link-word .result) (link .link-word .ok),
-      kept w32 (serif .link-word2 .result) (serif .link-word2 .ok),
-      kept w32 (first .index-word .result) (first .index-word .ok),
-      kept w32 (last .index-word2 .result) (last .index-word2 .ok),
-      kept w32 (edge .link-word3 .result) (edge .link-word3 .ok),
-      kept w32 (next .link-word4 .result) (next .link-word4 .ok),
-      kept w32 (start .args .segment .score) (c .struct-told6 .given .1 .1 .1 .1 .1 .1 .1 .0 .1),
-      kept w32 (start .args .segment .len) (c .struct-told6 .given .1 .1 .1 .1 .1 .1 .1 .1 .0 .1),
-      flags .flags-word .ensures,
-      dir .direction-word .ensures,
-      pos .short-word .ensures,
-      delta .short-word2 .ensures,
-      low .short-word3 .ensures,
-      high .short-word4 .ensures,
-      height .short-word5 .ensures,
-      link .link-word .ensures,
-      serif .link-word2 .ensures,
-      first .index-word .ensures,
-      last .index-word2 .ensures,
-      edge .link-word3 .ensures,
-      next .link-word4 .ensures,
-      kept w16 (start .args .segment .pos) (c .struct-told6 .given .1 .1 .0 .1),
-      kept w16 (start .args .segment .delta) (c .struct-told6 .given .1 .1 .1 .0 .1),
-      kept w16 (start .args .segment .«min_coord») (c .struct-told6 .given .1 .1 .1 .1 .0 .1),
-      kept w16 (start .args .segment .«max_coord») (c .struct-told6 .given .1 .1 .1 .1 .1 .0 .1),
-      kept w16 (start .args .segment .height) (c .struct-told6 .given .1 .1 .1 .1 .1 .1 .0 .1),
-    )
+    λ i. (kept w32 (flags .flags-word .result) (flags .flags-word .ok) ∙ flags .flags-word .ensures) i
+    ∷ (kept w32 (dir .direction-word .result) (dir .direction-word .ok) ∙ dir .direction-word .ensures) i
+    ∷ (kept w32 (pos .short-word .result) (pos .short-word .ok) ∙ pos .short-word .ensures ∙ kept w16 (start .args .segment .pos) (c .struct-told6 .given .1 .1 .0 .1)) i
+    ∷ (kept w32 (delta .short-word2 .result) (delta .short-word2 .ok) ∙ delta .short-word2 .ensures ∙ kept w16 (start .args .segment .delta) (c .struct-told6 .given .1 .1 .1 .0 .1)) i
+    ∷ (kept w32 (low .short-word3 .result) (low .short-word3 .ok) ∙ low .short-word3 .ensures ∙ kept w16 (start .args .segment .«min_coord») (c .struct-told6 .given .1 .1 .1 .1 .0 .1)) i
+    ∷ (kept w32 (high .short-word4 .result) (high .short-word4 .ok) ∙ high .short-word4 .ensures ∙ kept w16 (start .args .segment .«max_coord») (c .struct-told6 .given .1 .1 .1 .1 .1 .0 .1)) i
+    ∷ (kept w32 (height .short-word5 .result) (height .short-word5 .ok) ∙ height .short-word5 .ensures ∙ kept w16 (start .args .segment .height) (c .struct-told6 .given .1 .1 .1 .1 .1 .1 .0 .1)) i
+    ∷ kept w32 (start .args .segment .score) (c .struct-told6 .given .1 .1 .1 .1 .1 .1 .1 .0 .1) i
+    ∷ kept w32 (start .args .segment .len) (c .struct-told6 .given .1 .1 .1 .1 .1 .1 .1 .1 .0 .1) i
+    ∷ (kept w32 (link .link-word .result) (link .link-word .ok) ∙ link .link-word .ensures) i
+    ∷ (kept w32 (serif .link-word2 .result) (serif .link-word2 .ok) ∙ serif .link-word2 .ensures) i
+    ∷ (kept w32 (first .index-word .result) (first .index-word .ok) ∙ first .index-word .ensures) i
+    ∷ (kept w32 (last .index-word2 .result) (last .index-word2 .ok) ∙ last .index-word2 .ensures) i
+    ∷ (kept w32 (edge .link-word3 .result) (edge .link-word3 .ok) ∙ edge .link-word3 .ensures) i
+    ∷ (kept w32 (next .link-word4 .result) (next .link-word4 .ok) ∙ next .link-word4 .ensures) i
+    ∷ []
 
 pub segment-words-spec : {M : Type 1} → statement M
 segment-words-spec =

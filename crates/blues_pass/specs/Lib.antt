@@ -1,0 +1,2 @@
+-- What the contract of the pass cites.
+pub mod Pass

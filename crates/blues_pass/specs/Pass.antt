@@ -1,0 +1,22 @@
+-- Every edge visited, and the anchor that the visits found.
+use mathlib.Core.List.{List}
+use Prim.Native.Nat.{ℕ}
+use lib.IntN.{ℤ}
+use Rattle.fixed.specs.declared.width.WidthRule.{WidthRule}
+use Rattle.axis.specs.declared.kinds.Link.{Link}
+use Rattle.axis.specs.declared.kinds.Link.the-variants as Links
+use Rattle.axis.specs.declared.edge.Axis.{Axis}
+use Rattle.zone.specs.Zones.{State, visit, visits}
+use Rattle.blues_pass.specs.declared.pass.Anchored.{Anchored}
+
+-- an answer, an anchor and an axis
+abbrev pub anchored : Axis → Link → ℕ → Anchored
+anchored axis anchor k = record { answer = k; anchor = anchor; axis = axis }
+
+-- answer 0 and what the visits came to
+abbrev pub done : State → Anchored
+done s = anchored (s .axis) (s .anchor) 0
+
+-- every edge visited, with no anchor at the start
+unfoldable pub bluesOf : WidthRule → List ℤ → Axis → Anchored
+bluesOf rule xs axis = done (visits (visit rule xs) (axis .len) 0 (record { axis = axis; anchor = Links.None }))

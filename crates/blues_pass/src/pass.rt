@@ -1,0 +1,68 @@
+// The pass over the edges.
+use axis::edge::Axis;
+use axis::kinds::Blue;
+use axis::kinds::Link;
+use fixed::width::WidthRule;
+use zone::zone::align_stem;
+use zone::zone::anchor_first;
+use zone::zone::choose;
+use zone::zone::fix_at;
+use zone::zone::has_blue;
+use zone::zone::link_or;
+use zone::zone::loses_link;
+use zone::zone::loses_own;
+use zone::zone::thin;
+use zone::zone::zone_of;
+ghost use mathlib.Core.Path.{_≡_};
+ghost use mathlib.Core.Bool.{true};
+ghost use Rattle.axis.specs.Limits.{mostPos};
+ghost use Rattle.axis.specs.Accepted.{AxisWithin};
+ghost use Rattle.fixed.specs.Width.{ruleHolds};
+ghost use Rattle.blues_pass.specs.Pass.{bluesOf};
+
+// An answer, 0 or the refusal, the anchor or its absence, and the axis.
+pub struct Anchored {
+    pub answer: u8,
+    pub anchor: Link,
+    pub axis: Axis,
+}
+
+// Puts edges on their zones and their linked edges behind them; the first edge whose visit found a zone is the anchor.
+pub fn align_to_zones(axis: Axis, rule: WidthRule, standards: &[i32]) -> Anchored
+    requires { ⌜ ruleHolds rule (now standards) ≡ true ⌝ }
+    requires { ⌜ AxisWithin mostPos axis ⌝ }
+    ensures { λ r. ⌜ r ≡ bluesOf rule (now (standards .entry)) axis ⌝ }
+{
+    let n = axis.len;
+    let mut aligned = axis;
+    let mut anchor = Link::None;
+    for i in 0..n {
+        let edge = aligned.edges[i];
+        if edge.flags.done {
+            continue;
+        }
+        let link = edge.link;
+        let k = link_or(link, i);
+        let edge2 = aligned.edges[k];
+        let own = loses_own(edge, edge2);
+        let other = loses_link(edge, edge2);
+        aligned.edges[i] = thin(own, edge);
+        aligned.edges[k] = thin(other, aligned.edges[k]);
+        let visited = aligned.edges[i];
+        let zone = zone_of(visited, aligned.edges[k]);
+        let Blue::Fitted(fitted) = zone else {
+            continue;
+        };
+        let on = has_blue(visited);
+        let one = choose(on, i, k);
+        let two = choose(on, k, i);
+        aligned.edges[one] = fix_at(aligned.edges[one], fitted);
+        aligned.edges[two] = align_stem(rule, standards, aligned.edges[one], aligned.edges[two]);
+        anchor = anchor_first(anchor, i);
+    }
+    Anchored {
+        answer: 0,
+        anchor,
+        axis: aligned,
+    }
+}

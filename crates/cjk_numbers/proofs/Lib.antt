@@ -1,0 +1,2 @@
+-- The laws, over plain variables.
+pub mod Moves

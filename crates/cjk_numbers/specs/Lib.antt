@@ -1,0 +1,2 @@
+-- What the contracts of `cjk_numbers` cite.
+pub mod Cjk

@@ -1,0 +1,60 @@
+// The alignment of one contour, on its stretch of the lists.
+use super::iup::iup_interpolate;
+use super::iup::iup_shift;
+ghost use mathlib.Core.Path.{_≡_};
+ghost use Prim.Native.Nat.{_+_, _≤_, _<_};
+ghost use lib.ListN.{length, getD};
+ghost use Rattle.contours.specs.Steps.{Coordinates, Next, Upto, Done};
+
+// The first touched point at or behind `from`, or the number of points.
+fn next_touched(touched: &[u8], from: usize) -> usize
+    requires { ⌜ from ≤ length (now touched) ⌝ }
+    ensures { λ r. ⌜ Next (now (touched .entry)) from r ⌝ }
+{
+    let mut i = from;
+    while i < touched.len() {
+        if touched[i] != 0 {
+            return i;
+        }
+        i += 1;
+    }
+    i
+}
+
+// Interpolates the points between touched ones, from the first touched one on, and returns the last touched one.
+fn align_gaps(originals: &[i32], currents: &mut [i32], touched: &[u8], first: usize) -> usize
+    requires { ⌜ (length (now currents) ≡ length (now originals)) × (length (now touched) ≡ length (now originals)) ⌝ }
+    requires { ⌜ (first < length (now originals)) × (0 < getD (now touched) first 0) ⌝ }
+    requires { ⌜ Coordinates (now originals) × Coordinates (now currents) ⌝ }
+    ensures { λ r. ⌜ Upto (now (originals .entry)) (now (currents .entry)) (now (touched .entry)) first r (now (currents .exit)) × Next (now (touched .entry)) (r + 1) (length (now (touched .entry))) ⌝ }
+{
+    let n = touched.len();
+    let mut last = first;
+    let mut next = next_touched(touched, last + 1);
+    while next < n {
+        iup_interpolate(originals, currents, last + 1, next, last, next);
+        last = next;
+        next = next_touched(touched, last + 1);
+    }
+    last
+}
+
+// Aligns the points of one contour: those between touched ones, then those around the contour's seam.
+pub fn align_contour(originals: &[i32], currents: &mut [i32], touched: &[u8])
+    requires { ⌜ (length (now currents) ≡ length (now originals)) × (length (now touched) ≡ length (now originals)) ⌝ }
+    requires { ⌜ Coordinates (now originals) × Coordinates (now currents) ⌝ }
+    ensures { λ _. ⌜ Done (now (originals .entry)) (now (currents .entry)) (now (touched .entry)) (now (currents .exit)) ⌝ }
+{
+    let n = touched.len();
+    let first = next_touched(touched, 0);
+    if n <= first {
+        return;
+    }
+    let last = align_gaps(originals, currents, touched, first);
+    if last == first {
+        iup_shift(originals, currents, first);
+        return;
+    }
+    iup_interpolate(originals, currents, last + 1, n, last, first);
+    iup_interpolate(originals, currents, 0, first, last, first);
+}

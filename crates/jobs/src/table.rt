@@ -1,0 +1,214 @@
+// The calls on a table, of segments (4 and 5) or of edges (6 to 13): from the words of their jobs to those of their answers.
+use super::list::list_at;
+use super::list::part;
+use super::list::put;
+use super::list::put_list;
+use super::list::tail;
+use khsaemudol::khs_adjust_link;
+use khsaemudol::khs_align_edges_to_blues;
+use khsaemudol::khs_align_linked_edge;
+use khsaemudol::khs_align_serif_edge;
+use khsaemudol::khs_align_stem_edges;
+use khsaemudol::khs_compute_edges;
+use khsaemudol::khs_hint_lowercase_m;
+use khsaemudol::khs_hint_normal_stem_cjk;
+use khsaemudol::khs_latin_remaining_bounds;
+use khsaemudol::khs_link_segments_cjk;
+use words::word::count_at;
+use words::word::count_word;
+use words::word::least;
+use words::word::word_at;
+ghost use Prim.Native.Nat.{_+_, _≤_};
+ghost use lib.ListN.{length};
+
+// The words of a call's table of so many records, at most as many as its limit and so many more.
+fn size(call: usize, count: usize, more: usize) -> usize
+    requires { ⌜ more ≤ 1 ⌝ }
+    ensures { λ r. ⌜ r ≤ 7695 ⌝ }
+{
+    if call < 6 {
+        return 15 * least(count, 512 + more);
+    }
+    11 * least(count, 128 + more)
+}
+
+// How many words stand in front of the table in a call's answer.
+fn words_before(call: usize) -> usize
+    ensures { λ r. ⌜ r ≤ 3 ⌝ }
+{
+    match call {
+        6 | 11 => 2,
+        10 | 12 => 3,
+        _ => 1,
+    }
+}
+
+// Builds edges: the old table, dimension, major direction, group, order, scale and thresholds. The room for edges and the place for their count are given the old ones,
+// which a refusal leaves there; an old table of more than 128 is refused here.
+fn ask_building(segments: &mut [i32], rest: &[i32], edges: &mut [i32], count: &mut i32) -> u8 {
+    let old = count_at(rest, 0);
+    let n = 11 * least(old, 128);
+    put(edges, 0, part(rest, 1, n));
+    *count = count_word(old);
+    if 128 < old {
+        return 1;
+    }
+    let behind = tail(rest, 1 + n);
+    khs_compute_edges(
+        segments,
+        edges,
+        word_at(behind, 0),
+        word_at(behind, 1),
+        word_at(behind, 2),
+        word_at(behind, 3),
+        word_at(behind, 4),
+        word_at(behind, 5),
+        word_at(behind, 6),
+        word_at(behind, 7),
+        count,
+    )
+}
+
+// Places a stem edge: the width rule, the base edge and the stem edge.
+fn ask_linked_edge(edges: &mut [i32], rest: &[i32]) -> u8 {
+    let standards = list_at(rest, 1);
+    let behind = tail(rest, 2 + standards.len());
+    khs_align_linked_edge(
+        edges,
+        word_at(rest, 0),
+        standards,
+        word_at(behind, 0),
+        word_at(behind, 1),
+    )
+}
+
+// Places a CJK stem: dimension, stem adjust, the width rule, the two edges and the delta.
+fn ask_stem(edges: &mut [i32], rest: &[i32], own_delta: &mut i32) -> u8 {
+    let standards = list_at(rest, 3);
+    let behind = tail(rest, 4 + standards.len());
+    khs_hint_normal_stem_cjk(
+        edges,
+        word_at(rest, 0),
+        word_at(rest, 1),
+        word_at(rest, 2),
+        standards,
+        word_at(behind, 0),
+        word_at(behind, 1),
+        word_at(behind, 2),
+        own_delta,
+    )
+}
+
+// Aligns stems: dimension, group, stem adjust, top to bottom, the anchor and the width rule.
+fn ask_stems(edges: &mut [i32], rest: &[i32], count: &mut i32, found: &mut i32) -> u8 {
+    khs_align_stem_edges(
+        edges,
+        word_at(rest, 0),
+        word_at(rest, 1),
+        word_at(rest, 2),
+        word_at(rest, 3),
+        word_at(rest, 4),
+        word_at(rest, 5),
+        list_at(rest, 6),
+        count,
+        found,
+    )
+}
+
+// The answer of a call on a table, whose other words are the rest, and what it hands back beside: a delta or a count first, else an index; edges that are built.
+fn ask(
+    call: usize,
+    table: &mut [i32],
+    rest: &[i32],
+    edges: &mut [i32],
+    first: &mut i32,
+    second: &mut i32,
+) -> u8 {
+    let a = word_at(rest, 0);
+    let b = word_at(rest, 1);
+    let c = word_at(rest, 2);
+    match call {
+        4 => khs_link_segments_cjk(table, a, b, c),
+        5 => ask_building(table, rest, edges, first),
+        6 => {
+            *first = -1;
+            khs_align_edges_to_blues(table, a, b, c, list_at(rest, 3), first)
+        }
+        7 => ask_linked_edge(table, rest),
+        8 => khs_align_serif_edge(table, a, b),
+        9 => khs_adjust_link(table, a, b, c),
+        10 => {
+            *first = -1;
+            khs_latin_remaining_bounds(table, a, first, second)
+        }
+        11 => ask_stem(table, rest, first),
+        12 => ask_stems(table, rest, first, second),
+        _ => khs_hint_lowercase_m(table, a),
+    }
+}
+
+// Writes what a call handed back: the first words of the head in front of its table, which ends at a place, and behind that the edges that it built.
+fn put_result(
+    call: usize,
+    out: &mut [i32],
+    before: usize,
+    end: usize,
+    head: &[i32],
+    edges: &[i32],
+) -> usize
+    requires { ⌜ end ≤ length (now out) ⌝ }
+    ensures { λ r. ⌜ r ≤ length (now (out .entry)) ⌝ }
+{
+    let at = put(out, 0, part(head, 0, before));
+    if call == 10 {
+        return at;
+    }
+    if call != 5 {
+        return end;
+    }
+    let built = count_at(head, 1);
+    put_list(out, end, built, part(edges, 0, 11 * least(built, 128)))
+}
+
+// Makes a call on the table of an answer, which stands behind the words in front of it and its count.
+fn answer_call(
+    call: usize,
+    rest: &[i32],
+    out: &mut [i32],
+    before: usize,
+    lent: usize,
+    end: usize,
+) -> usize
+    requires { ⌜ (before + 1 + lent ≤ length (now out)) × (end ≤ length (now out)) ⌝ }
+    ensures { λ r. ⌜ r ≤ length (now (out .entry)) ⌝ }
+{
+    let from = before + 1;
+    let to = from + lent;
+    let mut edges = [0i32; 1408];
+    let mut first = 0;
+    let mut second = -1;
+    let answer = ask(
+        call,
+        &mut out[from..to],
+        rest,
+        &mut edges,
+        &mut first,
+        &mut second,
+    );
+    let head = [answer as i32, first, second];
+    put_result(call, out, before, end, &head, &edges)
+}
+
+// The answer to a job of a call on a table; the call is lent the answer's table. Of more records than its limit it is lent one more than that, which is empty.
+pub fn answer_table(call: usize, words: &[i32], out: &mut [i32]) -> usize
+    requires { ⌜ 9091 ≤ length (now out) ⌝ }
+    ensures { λ r. ⌜ r ≤ length (now (out .entry)) ⌝ }
+{
+    let count = count_at(words, 1);
+    let n = size(call, count, 0);
+    let lent = size(call, count, 1);
+    let before = words_before(call);
+    let end = put_list(out, before, count, part(words, 2, n));
+    put(out, end, &[0; 15]);
+    answer_call(call, tail(words, 2 + n), out, before, lent, end)
+}

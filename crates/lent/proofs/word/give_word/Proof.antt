@@ -1,0 +1,16 @@
+-- `lent::word::give_word` meets its contract. Assumes nothing.
+use borrow.Author.Needs.{needs}
+use native.Mathlib.Omega.{arith}
+use Rattle.signed.proofs.Signed.{is}
+use Rattle.lent.proofs.Lents.{refused, done}
+use Rattle.lent.proofs.word.give_word.Statement.{statement}
+use Rattle.lent.proofs.word.give_word.Tie as tie
+
+returns : tie.Need-returns
+returns c = refused (c .if1 .taken)
+
+returns-2 : tie.Need-returns-2
+returns-2 c = search needs
+
+pub give-word-spec : {M : Type 1} → statement M
+give-word-spec = tie.close (tie.spec returns returns-2)

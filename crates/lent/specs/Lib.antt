@@ -1,0 +1,2 @@
+-- What every call over lent words promises.
+pub mod Lent

@@ -1,0 +1,10 @@
+-- The laws of the rounds by subject, each over plain variables.
+pub mod Reading
+pub mod Loops
+pub mod Kept
+pub mod Closed
+pub mod Turns
+pub mod Holding
+pub mod Handing
+pub mod Ranges
+pub mod Unchanged

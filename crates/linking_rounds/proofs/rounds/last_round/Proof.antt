@@ -1,0 +1,130 @@
+-- `linking_rounds::rounds::last_round` meets its contract: each turn settles one segment, and links stay in the table. Assumes nothing.
+use borrow.Author.Needs.{needs}
+use native.Mathlib.Omega.{arith}
+use native.Mathlib.Nat.{lt-of-lt-of-le}
+use mathlib.Core.Path.{_≡_}
+use Prim.Native.Nat.{_≤_, _<_, _-_}
+use Rattle.linking_rounds.specs.Loops.{turns}
+use Rattle.linking_rounds.specs.Rounds as R
+use Rattle.linking_rounds.proofs.Loops.{none, turn, end}
+use Rattle.linking_rounds.proofs.Closed.{last-closed, to-below}
+use Rattle.linking_rounds.proofs.Turns.{last-none, last-go}
+use Rattle.linking_rounds.proofs.rounds.last_round.Statement.{statement}
+use Rattle.linking_rounds.proofs.rounds.last_round.Tie as tie
+
+abbrev Inv-loop : tie.InvT-loop
+Inv-loop thresholds count table₀ ix1₀ table ix1 = (ix1 ≤ count) × (count ≤ 512) × (table ≡ turns (R.lastTurn thresholds) ix1 table₀)
+
+abbrev μ-loop : tie.MeasureT-loop
+μ-loop thresholds count table₀ ix1₀ table ix1 = count - ix1
+
+-- the link is to a segment of the table
+target : (c : tie.After-known-told Inv-loop μ-loop) → c .before .link .given .0 .0 < c .before .before .before .before .before .before .args .segments .len
+target c =
+    let in-outer = c .before .before .before .before in
+    let outer = in-outer .before in
+    let start = outer .before in
+    let o = outer .loop in
+    let closed = last-closed _ (start .args .thresholds) (o .ix1) (start .args .segments) (o .table) (start .pre .1) (o .inv .2) (o .inv .0) in
+    to-below _ (o .ix1) _ (o .table) closed (in-outer .loop-test .taken) (c .before .link .given .1)
+
+loop-holds : tie.Need-loop-holds Inv-loop μ-loop
+loop-holds c = (omega arith, c .pre .0, none _ _)
+
+mul-seg1 : tie.Need-mul-seg1 Inv-loop μ-loop
+mul-seg1 c = omega arith
+
+element-copy-out-seg1 : tie.Need-element-copy-out-seg1 Inv-loop μ-loop
+element-copy-out-seg1 c = omega arith
+
+enum-known-link : tie.Need-enum-known-link Inv-loop μ-loop
+enum-known-link c = search needs
+
+enum-told : tie.Need-enum-told Inv-loop μ-loop
+enum-told c = search needs
+
+add-ix1 : tie.Need-add-ix1 Inv-loop μ-loop
+add-ix1 c = omega arith
+
+loop-less : tie.Need-loop-less Inv-loop μ-loop
+loop-less c = omega arith
+
+loop-again : tie.Need-loop-again Inv-loop μ-loop
+loop-again c =
+    let outer = c .before .before .before .before in
+    let start = outer .before in (
+      omega arith,
+      outer .loop .inv .1,
+      turn (R.lastTurn (start .args .thresholds)) (outer .loop .ix1) _ _ _ (outer .loop .inv .2)
+          (last-none _ _ _ (c .enum-told .given .1)),
+    )
+
+cast-at2 : tie.Need-cast-at2 Inv-loop μ-loop
+cast-at2 c = omega arith
+
+mul-seg2 : tie.Need-mul-seg2 Inv-loop μ-loop
+mul-seg2 c = omega arith
+
+element-copy-out-seg2 : tie.Need-element-copy-out-seg2 Inv-loop μ-loop
+element-copy-out-seg2 c =
+    let start = c .before .before .before .before .before .before in
+    lt-of-lt-of-le (target c) (start .pre .0)
+
+cast-settled : tie.Need-cast-settled Inv-loop μ-loop
+cast-settled c = omega arith
+
+settled-requires : tie.Need-settled-requires Inv-loop μ-loop
+settled-requires c κs = search needs
+
+mul-t12 : tie.Need-mul-t12 Inv-loop μ-loop
+mul-t12 c = omega arith
+
+element-set-from-table : tie.Need-element-set-from-table Inv-loop μ-loop
+element-set-from-table c = omega arith
+
+add-ix1-2 : tie.Need-add-ix1-2 Inv-loop μ-loop
+add-ix1-2 c = omega arith
+
+loop-less-2 : tie.Need-loop-less-2 Inv-loop μ-loop
+loop-less-2 c = omega arith
+
+loop-again-2 : tie.Need-loop-again-2 Inv-loop μ-loop
+loop-again-2 c =
+    let link = c .before .before .before in
+    let outer = link .before .before .before .before in
+    let start = outer .before in (
+      omega arith,
+      outer .loop .inv .1,
+      turn (R.lastTurn (start .args .thresholds)) (outer .loop .ix1) _ _ _ (outer .loop .inv .2)
+          (last-go _ _ _ _ _ (link .link .given .1) (c .settled .ensures)),
+    )
+
+returns : tie.Need-returns Inv-loop μ-loop
+unfolding R.lastRound
+returns c = end _ _ _ _ _ (c .before .loop .inv .0) (c .loop-test .left) (c .before .loop .inv .2)
+
+pub last-round-spec : {M : Type 1} → statement M
+last-round-spec =
+    tie.close
+    (tie.spec
+    Inv-loop
+    μ-loop
+    loop-holds
+    mul-seg1
+    element-copy-out-seg1
+    enum-known-link
+    enum-told
+    add-ix1
+    loop-less
+    loop-again
+    cast-at2
+    mul-seg2
+    element-copy-out-seg2
+    cast-settled
+    settled-requires
+    mul-t12
+    element-set-from-table
+    add-ix1-2
+    loop-less-2
+    loop-again-2
+    returns)

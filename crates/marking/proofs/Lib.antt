@@ -1,0 +1,2 @@
+-- The laws of `marking`, over plain variables.
+pub mod Marking

@@ -1,0 +1,35 @@
+-- Values of the definitions, worked out by hand from document 01 at negatives and limits: one table, one statement.
+use mathlib.Core.Path.{_≡_, refl}
+use mathlib.Core.List.{List, [], _∷_, map}
+use Prim.Native.Nat.{ℕ}
+use lib.IntN.{ℤ, pos, negℤ}
+use Rattle.middle.specs.Middle.{residue, wrapZ, midPos, midDelta}
+
+-- what a definition gives, and what it should
+pub record Row : Type 0 where
+  pub gives : ℤ
+  pub value : ℤ
+
+infix 3 _is_
+abbrev _is_ : ℤ → ℤ → Row
+g is v = record { gives = g; value = v }
+
+abbrev minus : ℕ → ℤ
+minus n = negℤ (pos n)
+
+unfoldable pub rows : List Row
+rows =
+    (midPos (pos 10) (pos 21) is pos 15) ∷
+    (midPos (minus 1) (pos 0) is minus 1) ∷
+    (midPos (pos 2147483647) (pos 1) is pos 0) ∷
+    (midPos (pos 65536) (pos 0) is minus 32768) ∷
+    (midPos (minus 2147483648) (minus 2147483648) is pos 0) ∷
+    (midDelta (pos 10) (pos 21) is pos 5) ∷
+    (midDelta (pos 21) (pos 10) is minus 6) ∷
+    (midDelta (minus 2147483648) (pos 2147483647) is minus 1) ∷
+    []
+
+-- each row holds
+pub worked : map (λ (r : Row). r .gives) rows ≡ map (λ (r : Row). r .value) rows
+unfolding residue wrapZ midPos midDelta rows
+worked = refl

@@ -1,0 +1,3 @@
+-- The laws by subject, each over plain variables.
+pub mod Reach
+pub mod Neighbours

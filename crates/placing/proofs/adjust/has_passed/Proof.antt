@@ -1,0 +1,37 @@
+-- `placing::adjust::has_passed` meets its contract. Assumes nothing.
+use Rattle.signed.proofs.Signed.{is}
+use Rattle.placing.specs.Placing.{hasPassed}
+use borrow.Author.Needs.{needs}
+use Rattle.placing.proofs.adjust.has_passed.Statement.{statement}
+use Rattle.placing.proofs.adjust.has_passed.Tie as tie
+
+enum-told : tie.Need-enum-told
+enum-told c = search needs
+
+out-of-order-requires : tie.Need-out-of-order-requires
+out-of-order-requires c κs = search needs
+
+enum-told-2 : tie.Need-enum-told-2
+enum-told-2 c = search needs
+
+out-of-order-requires-2 : tie.Need-out-of-order-requires-2
+out-of-order-requires-2 c κs = search needs
+
+returns : tie.Need-returns
+unfolding hasPassed
+returns c = let s = c .before .before .before in rw (c .before .enum-told .given .1) (rw (is (s .fits .pos1), is (s .fits .pos2)) at (c .out-of-order .ensures))
+
+returns-2 : tie.Need-returns-2
+unfolding hasPassed
+returns-2 c = let s = c .before .before .before in rw (c .before .enum-told2 .given .1) (rw (is (s .fits .pos1), is (s .fits .pos2)) at (c .out-of-order2 .ensures))
+
+pub has-passed-spec : {M : Type 1} → statement M
+has-passed-spec =
+    tie.close
+    (tie.spec
+    enum-told
+    out-of-order-requires
+    enum-told-2
+    out-of-order-requires-2
+    returns
+    returns-2)

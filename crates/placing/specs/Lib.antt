@@ -1,0 +1,3 @@
+-- What the contracts of `placing` cite.
+pub mod Placing
+pub mod Steps

@@ -1,0 +1,169 @@
+// What the pass asks of two edges and does to one.
+use axis::edge::Edge;
+use axis::edge::with_done_flag;
+use axis::edge::with_pos;
+use axis::kinds::Blue;
+use axis::kinds::Link;
+use fixed::width::WidthRule;
+use placing::place::linked_edge;
+ghost use mathlib.Core.Path.{_≡_};
+ghost use mathlib.Core.Bool.{true, cond};
+ghost use Prim.Native.Nat.{_<_};
+ghost use Rattle.axis.specs.Edge.{placed, finished};
+ghost use Rattle.fixed.specs.Width.{ruleHolds};
+ghost use Rattle.placing.specs.Steps.{InReach};
+ghost use Rattle.zone.specs.Zones.{hasBlue, unzoned, anchorFirst};
+ghost use Rattle.zone.specs.Steps.{isLinked, linkOr, bothZoned, losesOwn, losesLink, thinned, zoneOf, linkedOrZoned};
+
+// Whether an edge has a blue zone.
+pub fn has_blue(edge: Edge) -> bool
+    ensures { λ r. ⌜ r ≡ hasBlue (edge .blue) ⌝ }
+{
+    let blue = edge.blue;
+    match blue {
+        Blue::None => false,
+        Blue::Fitted(z) => true,
+    }
+}
+
+// The edge without its zone, and no longer neutral.
+fn unzone(edge: Edge) -> Edge
+    ensures { λ r. ⌜ r ≡ unzoned edge ⌝ }
+{
+    let mut flags = edge.flags;
+    flags.neutral = false;
+    let dir = edge.dir;
+    let link = edge.link;
+    let serif = edge.serif;
+    Edge {
+        fpos: edge.fpos,
+        opos: edge.opos,
+        pos: edge.pos,
+        flags,
+        dir,
+        blue: Blue::None,
+        link,
+        serif,
+        first: edge.first,
+        last: edge.last,
+    }
+}
+
+// The edge, without its zone where that is skipped.
+pub fn thin(skipped: bool, edge: Edge) -> Edge
+    ensures { λ r. ⌜ r ≡ thinned skipped edge ⌝ }
+{
+    if skipped {
+        return unzone(edge);
+    }
+    edge
+}
+
+// Whether there is a link.
+fn is_linked(link: Link) -> bool
+    ensures { λ r. ⌜ r ≡ isLinked link ⌝ }
+{
+    match link {
+        Link::None => false,
+        Link::To(k) => true,
+    }
+}
+
+// The linked edge, or the edge itself where there is none.
+pub fn link_or(link: Link, edge: usize) -> usize
+    ensures { λ r. ⌜ r ≡ linkOr link edge ⌝ }
+{
+    match link {
+        Link::None => edge,
+        Link::To(k) => k as usize,
+    }
+}
+
+// Whether an edge and its link both have a zone.
+fn both_zoned(edge: Edge, edge2: Edge) -> bool
+    ensures { λ r. ⌜ r ≡ bothZoned edge edge2 ⌝ }
+{
+    let link = edge.link;
+    if is_linked(link) {
+        if has_blue(edge) {
+            return has_blue(edge2);
+        }
+    }
+    false
+}
+
+// Whether the link's zone is skipped: of two zones, where it is neutral.
+pub fn loses_link(edge: Edge, edge2: Edge) -> bool
+    ensures { λ r. ⌜ r ≡ losesLink edge edge2 ⌝ }
+{
+    if both_zoned(edge, edge2) {
+        return edge2.flags.neutral;
+    }
+    false
+}
+
+// Whether the edge's own zone is skipped: of two zones, where it is neutral and the link's is not.
+pub fn loses_own(edge: Edge, edge2: Edge) -> bool
+    ensures { λ r. ⌜ r ≡ losesOwn edge edge2 ⌝ }
+{
+    if both_zoned(edge, edge2) {
+        if edge2.flags.neutral {
+            return false;
+        }
+        return edge.flags.neutral;
+    }
+    false
+}
+
+// The edge's own zone, or else its link's.
+pub fn zone_of(edge: Edge, edge2: Edge) -> Blue
+    ensures { λ r. ⌜ r ≡ zoneOf (edge .blue) (edge2 .blue) ⌝ }
+{
+    let blue = edge.blue;
+    match blue {
+        Blue::None => edge2.blue,
+        Blue::Fitted(z) => Blue::Fitted(z),
+    }
+}
+
+// One of two places.
+pub fn choose(first: bool, a: usize, b: usize) -> usize
+    ensures { λ r. ⌜ r ≡ cond first a b ⌝ }
+{
+    if first {
+        return a;
+    }
+    b
+}
+
+// The edge at a position, done.
+pub fn fix_at(edge: Edge, pos: i32) -> Edge
+    ensures { λ r. ⌜ r ≡ finished (placed edge pos) ⌝ }
+{
+    let mut fixed = with_pos(edge, pos);
+    fixed.flags.done = true;
+    fixed
+}
+
+// The stem edge aligned to the base edge and done, where it has no zone of its own.
+pub fn align_stem(rule: WidthRule, standards: &[i32], base: Edge, stem: Edge) -> Edge
+    requires { ⌜ ruleHolds rule (now standards) ≡ true ⌝ }
+    requires { ⌜ InReach base × InReach stem ⌝ }
+    ensures { λ r. ⌜ r ≡ linkedOrZoned rule (now (standards .entry)) base stem ⌝ }
+{
+    if has_blue(stem) {
+        return stem;
+    }
+    with_done_flag(linked_edge(rule, standards, base, stem))
+}
+
+// The anchor, which the first edge whose visit found a zone becomes.
+pub fn anchor_first(anchor: Link, edge: usize) -> Link
+    requires { ⌜ edge < 128 ⌝ }
+    ensures { λ r. ⌜ r ≡ anchorFirst anchor edge ⌝ }
+{
+    match anchor {
+        Link::None => Link::To(edge as u16),
+        Link::To(k) => Link::To(k),
+    }
+}
