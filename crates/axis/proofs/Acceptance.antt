@@ -1,6 +1,6 @@
 -- From tests that hold to the facts that a call may use.
-use mathlib.Core.Path.{_≡_, sym, _∙_}
-use mathlib.Core.Bool.{Bool, true, _&&_}
+use mathlib.Core.Path.{_≡_}
+use mathlib.Core.Bool.{true}
 use Prim.Native.Nat.{ℕ, _<_, _≤_, min}
 use native.Mathlib.Omega.{arith}
 use borrow.Author.Tests.{ltb-true, leb-true}
@@ -20,9 +20,10 @@ use Rattle.axis.specs.declared.segment.Segments.{Segments}
 use Rattle.axis.specs.Edge.{edgeAt}
 use Rattle.axis.specs.Segment.{segmentAt}
 use Rattle.axis.specs.Limits.{mostSegments, mostEdges, mostUnits, mostPos, mostScore}
-use Rattle.axis.specs.Refusals.{inside, within, linkHolds, blueHolds, edgeIndices, edgeNumbers, edgesIndices, edgesNumbers, segmentIndices, segmentNext, segmentNumbers, segmentsIndices, segmentsNexts, segmentsNumbers, edgesRefusal, segmentsRefusal}
+use Rattle.axis.specs.Refusals.{inside, within, linkHolds, blueHolds, edgeIndices, edgeNumbers, edgesIndices, edgesNumbers, segmentIndices, segmentNext, segmentNumbers, segmentsIndices, segmentsNexts, segmentsNumbers}
 use Rattle.axis.specs.Accepted.{Below, InZone, EdgeWithin, AxisWithin, SegmentWithin, SegmentsWithin}
-use Rattle.axis.proofs.Tests.{and-first, and-second, every-at, all-hold}
+use Rattle.refusals.proofs.Tests.{and-first, and-second}
+use Rattle.axis.proofs.Tests.{every-at}
 
 -- ---- one number, one index
 pub within-between : (n : ℕ) (z : ℤ) → within n z ≡ true → Between n n z
@@ -67,7 +68,8 @@ edge-within n e h g =
 below-min : (i n most : ℕ) → n ≤ most → i < n → i < min n most
 below-min i n most h g = let m : min n most ≡ n = omega arith in rw m g
 
-axis-within : (axis : Axis) → leb (axis .len) mostEdges ≡ true → edgesIndices axis ≡ true → edgesNumbers axis ≡ true → AxisWithin mostPos axis
+-- what a call may use of edges whose tests hold
+pub axis-within : (axis : Axis) → leb (axis .len) mostEdges ≡ true → edgesIndices axis ≡ true → edgesNumbers axis ≡ true → AxisWithin mostPos axis
 unfolding edgesIndices edgesNumbers
 axis-within axis a h g =
     let few = leb-true (axis .len) mostEdges a in
@@ -76,25 +78,6 @@ axis-within axis a h g =
       edge = λ (i : ℕ) (q : i < axis .len).
           let b = below-min i (axis .len) mostEdges few q in
           edge-within (axis .len) (edgeAt axis i) (every-at _ i (min (axis .len) mostEdges) h b) (every-at _ i (min (axis .len) mostEdges) g b);
-    }
-
--- what an accepted call on edges may use
-pub record EdgesAccepted (axis : Axis) (right named passed : Bool) : Type 0 where
-  pub axis-holds : AxisWithin mostPos axis
-  pub right-holds : right ≡ true
-  pub named-holds : named ≡ true
-  pub passed-holds : passed ≡ true
-
-pub edges-accepted : (axis : Axis) (right named passed : Bool) (k : ℕ) → k ≡ edgesRefusal axis right named passed → k ≤ 0 → EdgesAccepted axis right named passed
-unfolding edgesRefusal
-edges-accepted axis right named passed k e h =
-    let z : k ≡ 0 = omega arith in
-    let f = all-hold (leb (axis .len) mostEdges) right (edgesIndices axis && named) (edgesNumbers axis && passed) (sym e ∙ z) in
-    record {
-      axis-holds = axis-within axis (f .short-is) (and-first _ _ (f .below-is)) (and-first _ _ (f .near-is));
-      right-holds = f .right-is;
-      named-holds = and-second (edgesIndices axis) _ (f .below-is);
-      passed-holds = and-second (edgesNumbers axis) _ (f .near-is);
     }
 
 -- ---- segments
@@ -107,7 +90,8 @@ segment-within n s h g = record {
   serif = link-below n (s .serif) (and-second (linkHolds n (s .link)) _ h);
 }
 
-segments-within : (t : Segments) → leb (t .len) mostSegments ≡ true → segmentsIndices t ≡ true → segmentsNumbers t ≡ true → SegmentsWithin t
+-- what a call may use of segments whose tests hold
+pub segments-within : (t : Segments) → leb (t .len) mostSegments ≡ true → segmentsIndices t ≡ true → segmentsNumbers t ≡ true → SegmentsWithin t
 unfolding segmentsIndices segmentsNumbers
 segments-within t a h g =
     let few = leb-true (t .len) mostSegments a in
@@ -122,24 +106,3 @@ segments-within t a h g =
 pub nexts-below : (t : Segments) (i : ℕ) → t .len ≤ mostSegments → segmentsNexts t ≡ true → i < t .len → Below (t .len) (segmentAt t i .next)
 unfolding segmentsNexts segmentNext
 nexts-below t i few h q = link-below (t .len) (segmentAt t i .next) (every-at _ i (min (t .len) mostSegments) h (below-min i (t .len) mostSegments few q))
-
--- what an accepted call on segments may use
-pub record SegmentsAccepted (t : Segments) (short right below near : Bool) : Type 0 where
-  pub segments-hold : SegmentsWithin t
-  pub short-holds : short ≡ true
-  pub right-holds : right ≡ true
-  pub below-holds : below ≡ true
-  pub near-holds : near ≡ true
-
-pub segments-accepted : (t : Segments) (short right below near : Bool) (k : ℕ) → k ≡ segmentsRefusal t short right below near → k ≤ 0 → SegmentsAccepted t short right below near
-unfolding segmentsRefusal
-segments-accepted t short right below near k e h =
-    let z : k ≡ 0 = omega arith in
-    let f = all-hold (leb (t .len) mostSegments && short) right (segmentsIndices t && below) (segmentsNumbers t && near) (sym e ∙ z) in
-    record {
-      segments-hold = segments-within t (and-first _ _ (f .short-is)) (and-first _ _ (f .below-is)) (and-first _ _ (f .near-is));
-      short-holds = and-second (leb (t .len) mostSegments) _ (f .short-is);
-      right-holds = f .right-is;
-      below-holds = and-second (segmentsIndices t) _ (f .below-is);
-      near-holds = and-second (segmentsNumbers t) _ (f .near-is);
-    }

@@ -1,5 +1,6 @@
--- The laws by subject, each over plain variables: `Tests`, tests of numbers, of every place and in their order; `Answers`, each refusal; `Acceptance`, from tests that hold to facts; `Rings`, walks along rings.
+-- The laws by subject, each over plain variables: `Tests`, tests of numbers and of every place; `Acceptance`, from tests that hold to facts; `Rings`, walks along rings; `Visits`,
+-- the visits of a pass.
 pub mod Tests
-pub mod Answers
 pub mod Acceptance
 pub mod Rings
+pub mod Visits

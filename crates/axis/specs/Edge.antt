@@ -7,13 +7,20 @@ use Rattle.axis.specs.declared.edge.Axis.{Axis}
 use Rattle.axis.specs.declared.kinds.Dimension.{Dimension}
 use Rattle.axis.specs.declared.kinds.Direction.{Direction}
 use Rattle.axis.specs.declared.kinds.Direction.the-variants as Directions
+use Rattle.axis.specs.declared.flags.Flags.{Flags}
+use Rattle.axis.specs.declared.kinds.Blue.{Blue}
 use Rattle.axis.specs.declared.kinds.Blue.the-variants as Blues
+use Rattle.axis.specs.declared.kinds.Link.{Link}
 use Rattle.axis.specs.declared.kinds.Link.the-variants as Links
 use Rattle.axis.specs.Flags.{normal, asDone}
 
+-- a new edge at a font position and a position in units, with a direction and its only segment: nothing special, without zone, link and serif
+abbrev pub freshEdge : ℤ → ℤ → Direction → ℕ → Edge
+freshEdge f o d i = record { fpos = f; opos = o; pos = o; flags = normal; dir = d; blue = Blues.None; link = Links.None; serif = Links.None; first = i; last = i }
+
 -- the edge of an unused place
 abbrev pub emptyEdge : Edge
-emptyEdge = record { fpos = pos 0; opos = pos 0; pos = pos 0; flags = normal; dir = Directions.None; blue = Blues.None; link = Links.None; serif = Links.None; first = 0; last = 0 }
+emptyEdge = freshEdge (pos 0) (pos 0) Directions.None 0
 
 -- an axis without edges
 abbrev pub emptyAxis : Dimension → Direction → Axis
@@ -27,10 +34,31 @@ edgeAt axis i = getD (axis .edges) i emptyEdge
 abbrev pub putEdge : Axis → ℕ → Edge → Axis
 putEdge axis i e = record { dim = axis .dim; «major_dir» = axis .«major_dir»; edges = set (axis .edges) i e; len = axis .len }
 
--- the edge at another position
-abbrev pub placed : Edge → ℤ → Edge
-placed e p = record { fpos = e .fpos; opos = e .opos; pos = p; flags = e .flags; dir = e .dir; blue = e .blue; link = e .link; serif = e .serif; first = e .first; last = e .last }
+-- ---- an edge of which something is changed
+-- the edge with this position, these flags, zone, link and serif, and this last segment; nothing else of an edge is ever changed
+abbrev pub changed : Edge → ℤ → Flags → Blue → Link → Link → ℕ → Edge
+changed e p f b k s l = record { fpos = e .fpos; opos = e .opos; pos = p; flags = f; dir = e .dir; blue = b; link = k; serif = s; first = e .first; last = l }
 
--- the edge, placed for good
+-- at another position
+abbrev pub placed : Edge → ℤ → Edge
+placed e p = changed e p (e .flags) (e .blue) (e .link) (e .serif) (e .last)
+
+-- with these flags
+abbrev pub flagged : Edge → Flags → Edge
+flagged e f = changed e (e .pos) f (e .blue) (e .link) (e .serif) (e .last)
+
+-- placed for good
 abbrev pub finished : Edge → Edge
-finished e = record { fpos = e .fpos; opos = e .opos; pos = e .pos; flags = asDone (e .flags); dir = e .dir; blue = e .blue; link = e .link; serif = e .serif; first = e .first; last = e .last }
+finished e = flagged e (asDone (e .flags))
+
+-- at a position, for good
+abbrev pub fixedAt : Edge → ℤ → Edge
+fixedAt e p = finished (placed e p)
+
+-- with this link and this serif
+abbrev pub joinedTo : Edge → Link → Link → Edge
+joinedTo e k s = changed e (e .pos) (e .flags) (e .blue) k s (e .last)
+
+-- with another last segment
+abbrev pub withLast : Edge → ℕ → Edge
+withLast e l = changed e (e .pos) (e .flags) (e .blue) (e .link) (e .serif) l

@@ -8,3 +8,4 @@ pub mod Segment
 pub mod Refusals
 pub mod Accepted
 pub mod Ring
+pub mod Visits

@@ -1,9 +1,10 @@
--- The refusals that calls over edges and segments share (document 01, "Five refusals, tested in this order").
-use mathlib.Core.Bool.{Bool, true, cond, _&&_}
+-- The tests that calls over edges and segments share (document 01, "Five refusals, tested in this order"); each call lists them in its order, with its own.
+use mathlib.Core.Bool.{Bool, true, _&&_}
 use Prim.Native.Nat.{ℕ, zero, suc, min}
 use lib.Dec.{ltb, leb}
 use lib.IntN.{ℤ, pos, negℤ}
 use lib.Signed.{leZ}
+use Rattle.refusals.specs.Refusal.{Test, _unless_, tooLong, badIndex, outOfRange}
 use Rattle.axis.specs.declared.kinds.Link.{Link}
 use Rattle.axis.specs.declared.kinds.Link.the-variants as Links
 use Rattle.axis.specs.declared.kinds.Blue.{Blue}
@@ -88,24 +89,25 @@ segmentsNexts t = everySegment (segmentNext (t .len)) t
 unfoldable pub segmentsNumbers : Segments → Bool
 segmentsNumbers t = everySegment segmentNumbers t
 
--- ---- the order
--- the first refusal that applies, or 0: 1 unless the lists are short enough, 2 unless what is passed beside them keeps its rule, 3 unless each index is below
--- its list's length, 4 unless each number is within the table
-abbrev pub firstRefusal : Bool → Bool → Bool → Bool → ℕ
-firstRefusal short right below near = cond short (cond right (cond below (cond near 0 4) 3) 2) 1
+-- ---- the tests of a table, each with the number of its refusal
+-- no more edges than their limit
+abbrev pub edgesShort : Axis → Test
+edgesShort axis = tooLong unless leb (axis .len) mostEdges
 
--- the refusal of a call on edges: beside them, whether what refusal 2 tests is right, whether the edges named in the call are below their count, and
--- whether the numbers passed are within the table
-unfoldable pub edgesRefusal : Axis → Bool → Bool → Bool → ℕ
-edgesRefusal axis right named passed = firstRefusal (leb (axis .len) mostEdges) right (edgesIndices axis && named) (edgesNumbers axis && passed)
+-- their indices, their numbers
+abbrev pub edgesIndexed : Axis → Test
+edgesIndexed axis = badIndex unless edgesIndices axis
 
--- the refusal of a call on segments: beside them, whether the other list of the call is short enough, whether what refusal 2 tests is right, whether the
--- other indices of the call are below their list's length, and whether its other numbers are within the table
-unfoldable pub segmentsRefusal : Segments → Bool → Bool → Bool → Bool → ℕ
-segmentsRefusal t short right below near = firstRefusal (leb (t .len) mostSegments && short) right (segmentsIndices t && below) (segmentsNumbers t && near)
+abbrev pub edgesInRange : Axis → Test
+edgesInRange axis = outOfRange unless edgesNumbers axis
 
--- ---- the outcome
--- what a call hands back: the result of its work beside 0, or what was given beside the refusal
-abbrev pub answered : {A : Type 0} → ℕ → (ℕ → A) → A → A
-answered zero refused done = done
-answered (suc k) refused done = refused (suc k)
+-- no more segments than their limit
+abbrev pub segmentsShort : Segments → Test
+segmentsShort t = tooLong unless leb (t .len) mostSegments
+
+-- their indices, their numbers
+abbrev pub segmentsIndexed : Segments → Test
+segmentsIndexed t = badIndex unless segmentsIndices t
+
+abbrev pub segmentsInRange : Segments → Test
+segmentsInRange t = outOfRange unless segmentsNumbers t

@@ -1,4 +1,4 @@
-// The refusals that calls over edges and segments share, in document 01's order.
+// The tests that calls over edges and segments share.
 use super::edge::Axis;
 use super::edge::Edge;
 use super::kinds::Blue;
@@ -14,7 +14,9 @@ use super::segment::Segment;
 use super::segment::Segments;
 ghost use mathlib.Core.Path.{_≡_};
 ghost use Prim.Native.Nat.{min};
-ghost use Rattle.axis.specs.Refusals.{inside, linkHolds, blueHolds, edgeIndices, edgeNumbers, edgesIndices, edgesNumbers, segmentIndices, segmentNext, segmentNumbers, segmentsIndices, segmentsNexts, segmentsNumbers, edgesRefusal, segmentsRefusal};
+ghost use lib.Dec.{leb};
+ghost use Rattle.axis.specs.Limits.{mostEdges, mostSegments};
+ghost use Rattle.axis.specs.Refusals.{inside, linkHolds, blueHolds, edgeIndices, edgeNumbers, edgesIndices, edgesNumbers, segmentIndices, segmentNext, segmentNumbers, segmentsIndices, segmentsNexts, segmentsNumbers};
 
 // Whether a number is from one limit to another.
 pub fn is_inside(x: i32, low: i32, high: i32) -> bool
@@ -101,6 +103,20 @@ fn segment_numbers(segment: Segment) -> bool
     false
 }
 
+// Whether there are no more edges than their limit.
+pub fn few_edges(count: usize) -> bool
+    ensures { λ r. ⌜ r ≡ leb count mostEdges ⌝ }
+{
+    count <= MOST_EDGES
+}
+
+// Whether there are no more segments than their limit.
+pub fn few_segments(count: usize) -> bool
+    ensures { λ r. ⌜ r ≡ leb count mostSegments ⌝ }
+{
+    count <= MOST_SEGMENTS
+}
+
 // The smaller of two counts.
 pub fn least(a: usize, b: usize) -> usize
     ensures { λ r. ⌜ r ≡ min a b ⌝ }
@@ -112,7 +128,7 @@ pub fn least(a: usize, b: usize) -> usize
 }
 
 // Whether link and serif of every edge are edges.
-fn edges_indices(axis: Axis) -> bool
+pub fn edges_indices(axis: Axis) -> bool
     ensures { λ r. ⌜ r ≡ edgesIndices axis ⌝ }
 {
     let n = least(axis.len, MOST_EDGES);
@@ -126,7 +142,7 @@ fn edges_indices(axis: Axis) -> bool
 }
 
 // Whether the positions of every edge are accepted.
-fn edges_numbers(axis: Axis) -> bool
+pub fn edges_numbers(axis: Axis) -> bool
     ensures { λ r. ⌜ r ≡ edgesNumbers axis ⌝ }
 {
     let n = least(axis.len, MOST_EDGES);
@@ -140,7 +156,7 @@ fn edges_numbers(axis: Axis) -> bool
 }
 
 // Whether link and serif of every segment are segments.
-fn segments_indices(table: Segments) -> bool
+pub fn segments_indices(table: Segments) -> bool
     ensures { λ r. ⌜ r ≡ segmentsIndices table ⌝ }
 {
     let n = least(table.len, MOST_SEGMENTS);
@@ -168,7 +184,7 @@ pub fn segments_nexts(table: Segments) -> bool
 }
 
 // Whether score and len of every segment are accepted.
-fn segments_numbers(table: Segments) -> bool
+pub fn segments_numbers(table: Segments) -> bool
     ensures { λ r. ⌜ r ≡ segmentsNumbers table ⌝ }
 {
     let n = least(table.len, MOST_SEGMENTS);
@@ -179,59 +195,4 @@ fn segments_numbers(table: Segments) -> bool
         }
     }
     true
-}
-
-// The refusal of a call on edges, or 0. Beside the edges: whether what refusal 2 tests is right, whether the edges named in the call are below
-// their count, and whether the numbers passed are accepted.
-pub fn edges_refusal(axis: Axis, right: bool, named: bool, passed: bool) -> u8
-    ensures { λ r. ⌜ r ≡ edgesRefusal axis right named passed ⌝ }
-{
-    if MOST_EDGES < axis.len {
-        return 1;
-    }
-    if !right {
-        return 2;
-    }
-    if !edges_indices(axis) {
-        return 3;
-    }
-    if !named {
-        return 3;
-    }
-    if !edges_numbers(axis) {
-        return 4;
-    }
-    if !passed {
-        return 4;
-    }
-    0
-}
-
-// The refusal of a call on segments, or 0. Beside the segments: whether the call's other list is short enough, whether what refusal 2 tests is
-// right, whether the other indices are below their list's length, and whether the other numbers are accepted.
-pub fn segments_refusal(table: Segments, short: bool, right: bool, below: bool, near: bool) -> u8
-    ensures { λ r. ⌜ r ≡ segmentsRefusal table short right below near ⌝ }
-{
-    if MOST_SEGMENTS < table.len {
-        return 1;
-    }
-    if !short {
-        return 1;
-    }
-    if !right {
-        return 2;
-    }
-    if !segments_indices(table) {
-        return 3;
-    }
-    if !below {
-        return 3;
-    }
-    if !segments_numbers(table) {
-        return 4;
-    }
-    if !near {
-        return 4;
-    }
-    0
 }

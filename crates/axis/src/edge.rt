@@ -6,8 +6,7 @@ use super::kinds::Dimension;
 use super::kinds::Direction;
 use super::kinds::Link;
 ghost use mathlib.Core.Path.{_≡_};
-ghost use Prim.Native.Nat.{_<_};
-ghost use Rattle.axis.specs.Edge.{emptyAxis, edgeAt, putEdge, placed, finished};
+ghost use Rattle.axis.specs.Edge.{emptyAxis, placed, finished, fixedAt};
 
 // Segments that share a position: the font position, the original and the fitted position in units, and the edges that it is linked to.
 pub struct Edge {
@@ -57,24 +56,6 @@ pub fn empty_axis(dim: Dimension, major_dir: Direction) -> Axis
     }
 }
 
-// An edge of an axis.
-pub fn edge_at(axis: Axis, i: usize) -> Edge
-    requires { ⌜ i < 128 ⌝ }
-    ensures { λ r. ⌜ r ≡ edgeAt axis i ⌝ }
-{
-    axis.edges[i]
-}
-
-// The axis with another edge in a place.
-pub fn put_edge(axis: Axis, i: usize, edge: Edge) -> Axis
-    requires { ⌜ i < 128 ⌝ }
-    ensures { λ r. ⌜ r ≡ putEdge axis i edge ⌝ }
-{
-    let mut changed = axis;
-    changed.edges[i] = edge;
-    changed
-}
-
 // The edge at another position.
 pub fn with_pos(edge: Edge, pos: i32) -> Edge
     ensures { λ r. ⌜ r ≡ placed edge pos ⌝ }
@@ -91,4 +72,14 @@ pub fn with_done_flag(edge: Edge) -> Edge
     let mut fixed = edge;
     fixed.flags.done = true;
     fixed
+}
+
+// The edge at a position, for good.
+pub fn fix_at(edge: Edge, pos: i32) -> Edge
+    ensures { λ r. ⌜ r ≡ fixedAt edge pos ⌝ }
+{
+    let mut placed = edge;
+    placed.pos = pos;
+    placed.flags.done = true;
+    placed
 }

@@ -1,7 +1,17 @@
 // Indices compared and read.
 use super::kinds::Link;
 ghost use mathlib.Core.Path.{_≡_};
-ghost use Rattle.axis.specs.Link.{linksTo, indexOr};
+ghost use Rattle.axis.specs.Link.{isLinked, linksTo, indexOr};
+
+// Whether there is a link.
+pub fn is_linked(link: Link) -> bool
+    ensures { λ r. ⌜ r ≡ isLinked link ⌝ }
+{
+    match link {
+        Link::None => false,
+        Link::To(k) => true,
+    }
+}
 
 // Whether a link is to an index.
 pub fn links_to(link: Link, ix: u16) -> bool

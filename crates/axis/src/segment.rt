@@ -4,8 +4,7 @@ use super::flags::NORMAL;
 use super::kinds::Direction;
 use super::kinds::Link;
 ghost use mathlib.Core.Path.{_≡_};
-ghost use Prim.Native.Nat.{_<_};
-ghost use Rattle.axis.specs.Segment.{emptySegments, segmentAt, putSegment};
+ghost use Rattle.axis.specs.Segment.{emptySegments};
 
 // Points in a row with one dominant direction: its position, how it is paired with others, its point indices, its edge and the next segment there.
 pub struct Segment {
@@ -59,22 +58,4 @@ pub fn empty_segments() -> Segments
         segments: [EMPTY_SEGMENT; 512],
         len: 0,
     }
-}
-
-// A segment of a table.
-pub fn segment_at(table: Segments, i: usize) -> Segment
-    requires { ⌜ i < 512 ⌝ }
-    ensures { λ r. ⌜ r ≡ segmentAt table i ⌝ }
-{
-    table.segments[i]
-}
-
-// The table with another segment in a place.
-pub fn put_segment(table: Segments, i: usize, segment: Segment) -> Segments
-    requires { ⌜ i < 512 ⌝ }
-    ensures { λ r. ⌜ r ≡ putSegment table i segment ⌝ }
-{
-    let mut changed = table;
-    changed.segments[i] = segment;
-    changed
 }

@@ -8,5 +8,6 @@ use Rattle.axis.specs.declared.edge.Axis.{Axis}
 use Rattle.blues_pass.specs.declared.pass.Anchored.{Anchored}
 use Rattle.blues.specs.Zones.{alignEdgesToBlues}
 
-pub determined : (axis : Axis) (group : Group) (rule : WidthRule) (xs : List ℤ) {r s : Anchored} → r ≡ alignEdgesToBlues axis group rule xs → s ≡ alignEdgesToBlues axis group rule xs → r ≡ s
+pub determined : (axis : Axis) (group : Group) (rule : WidthRule) (xs : List ℤ) {r s : Anchored}
+    → r ≡ alignEdgesToBlues axis group rule xs → s ≡ alignEdgesToBlues axis group rule xs → r ≡ s
 determined axis group rule xs p q = p ∙ sym q

@@ -1,7 +1,8 @@
 -- The call that puts edges on their blue zones (document 01, module 5): its refusal, then the visits of `blues_pass` where the group has blue zones.
 use mathlib.Core.Bool.{Bool, true, false, cond}
-use mathlib.Core.List.{List}
+use mathlib.Core.List.{List, [], _∷_}
 use lib.IntN.{ℤ}
+use Rattle.refusals.specs.Refusal.{Test, _unless_, badParameter, refusal, answered}
 use Rattle.fixed.specs.declared.width.WidthRule.{WidthRule}
 use Rattle.fixed.specs.Width.{ruleHolds}
 use Rattle.axis.specs.declared.kinds.Link.the-variants as Links
@@ -10,7 +11,7 @@ use Rattle.axis.specs.declared.kinds.Group.the-variants.{Default, Cjk}
 use Rattle.axis.specs.declared.kinds.Dimension.{Dimension}
 use Rattle.axis.specs.declared.kinds.Dimension.the-variants.{Horizontal, Vertical}
 use Rattle.axis.specs.declared.edge.Axis.{Axis}
-use Rattle.axis.specs.Refusals.{edgesRefusal, answered}
+use Rattle.axis.specs.Refusals.{edgesShort, edgesIndexed, edgesInRange}
 use Rattle.blues_pass.specs.declared.pass.Anchored.{Anchored}
 use Rattle.blues_pass.specs.Pass.{anchored, bluesOf}
 
@@ -24,8 +25,12 @@ unfoldable pub hasBlues : Group → Dimension → Bool
 hasBlues Default dim = isVertical dim
 hasBlues Cjk dim = true
 
+-- the tests of the call, in document 01's order
+abbrev pub bluesTests : Axis → WidthRule → List ℤ → List Test
+bluesTests axis rule xs = edgesShort axis ∷ badParameter unless ruleHolds rule xs ∷ edgesIndexed axis ∷ edgesInRange axis ∷ []
+
 -- `align_edges_to_blues`: the refusal, no anchor and the axis as it came, or 0, the anchor or its absence, and the axis
 unfoldable pub alignEdgesToBlues : Axis → Group → WidthRule → List ℤ → Anchored
 alignEdgesToBlues axis group rule xs =
-    answered (edgesRefusal axis (ruleHolds rule xs) true true) (anchored axis Links.None)
+    answered (refusal (bluesTests axis rule xs)) (anchored axis Links.None)
     (cond (hasBlues group (axis .dim)) (bluesOf rule xs axis) (anchored axis Links.None 0))

@@ -1,5 +1,7 @@
 // The call.
-use axis::accept::edges_refusal;
+use axis::accept::edges_indices;
+use axis::accept::edges_numbers;
+use axis::accept::few_edges;
 use axis::edge::Axis;
 use axis::kinds::Dimension;
 use axis::kinds::Group;
@@ -8,8 +10,14 @@ use blues_pass::pass::Anchored;
 use blues_pass::pass::align_to_zones;
 use fixed::width::WidthRule;
 use fixed::width::rule_holds;
+use refusals::order::BAD_INDEX;
+use refusals::order::BAD_PARAMETER;
+use refusals::order::OUT_OF_RANGE;
+use refusals::order::TOO_LONG;
+use refusals::order::or_refused;
 ghost use mathlib.Core.Path.{_≡_};
-ghost use Rattle.blues.specs.Zones.{isVertical, hasBlues, alignEdgesToBlues};
+ghost use Rattle.refusals.specs.Refusal.{refusal};
+ghost use Rattle.blues.specs.Zones.{isVertical, hasBlues, bluesTests, alignEdgesToBlues};
 
 // Whether an axis is vertical.
 fn is_vertical(dim: Dimension) -> bool
@@ -31,6 +39,16 @@ fn has_blues(group: Group, dim: Dimension) -> bool
     }
 }
 
+// The refusal of the call, or 0.
+fn blues_refusal(axis: Axis, rule: WidthRule, standards: &[i32]) -> u8
+    ensures { λ r. ⌜ r ≡ refusal (bluesTests axis rule (now (standards .entry))) ⌝ }
+{
+    let answer = or_refused(0, few_edges(axis.len), TOO_LONG);
+    let answer = or_refused(answer, rule_holds(rule, standards), BAD_PARAMETER);
+    let answer = or_refused(answer, edges_indices(axis), BAD_INDEX);
+    or_refused(answer, edges_numbers(axis), OUT_OF_RANGE)
+}
+
 // Aligns edges to their blue zones, and hands back the anchor.
 pub fn align_edges_to_blues(
     axis: Axis,
@@ -40,8 +58,7 @@ pub fn align_edges_to_blues(
 ) -> Anchored
     ensures { λ r. ⌜ r ≡ alignEdgesToBlues axis group rule (now (standards .entry)) ⌝ }
 {
-    let right = rule_holds(rule, standards);
-    let answer = edges_refusal(axis, right, true, true);
+    let answer = blues_refusal(axis, rule, standards);
     if 0 < answer {
         return Anchored {
             answer,

@@ -6,7 +6,8 @@ use Rattle.fixed.specs.declared.width.WidthRule.{WidthRule}
 use Rattle.axis.specs.declared.kinds.Link.{Link}
 use Rattle.axis.specs.declared.kinds.Link.the-variants as Links
 use Rattle.axis.specs.declared.edge.Axis.{Axis}
-use Rattle.zone.specs.Zones.{State, visit, visits}
+use Rattle.axis.specs.Visits.{visits}
+use Rattle.zone.specs.Zones.{State, visit}
 use Rattle.blues_pass.specs.declared.pass.Anchored.{Anchored}
 
 -- an answer, an anchor and an axis
@@ -14,9 +15,9 @@ abbrev pub anchored : Axis → Link → ℕ → Anchored
 anchored axis anchor k = record { answer = k; anchor = anchor; axis = axis }
 
 -- answer 0 and what the visits came to
-abbrev pub done : State → Anchored
-done s = anchored (s .axis) (s .anchor) 0
+abbrev pub outcome : State → Anchored
+outcome s = anchored (s .axis) (s .anchor) 0
 
 -- every edge visited, with no anchor at the start
 unfoldable pub bluesOf : WidthRule → List ℤ → Axis → Anchored
-bluesOf rule xs axis = done (visits (visit rule xs) (axis .len) 0 (record { axis = axis; anchor = Links.None }))
+bluesOf rule xs axis = outcome (visits (visit rule xs) (axis .len) 0 (record { axis = axis; anchor = Links.None }))

@@ -1,14 +1,14 @@
 // The pass over the edges.
 use axis::edge::Axis;
+use axis::edge::fix_at;
 use axis::kinds::Blue;
 use axis::kinds::Link;
+use axis::link::index_or;
 use fixed::width::WidthRule;
 use zone::zone::align_stem;
 use zone::zone::anchor_first;
 use zone::zone::choose;
-use zone::zone::fix_at;
 use zone::zone::has_blue;
-use zone::zone::link_or;
 use zone::zone::loses_link;
 use zone::zone::loses_own;
 use zone::zone::thin;
@@ -42,7 +42,7 @@ pub fn align_to_zones(axis: Axis, rule: WidthRule, standards: &[i32]) -> Anchore
             continue;
         }
         let link = edge.link;
-        let k = link_or(link, i);
+        let k = index_or(link, i);
         let edge2 = aligned.edges[k];
         let own = loses_own(edge, edge2);
         let other = loses_link(edge, edge2);

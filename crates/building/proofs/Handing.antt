@@ -11,18 +11,20 @@ use Rattle.axis.specs.declared.edge.Edge.{Edge}
 use Rattle.axis.specs.declared.segment.Segments.{Segments}
 use Rattle.axis.specs.Accepted.{SegmentsWithin}
 use Rattle.axis.specs.Edge.{edgeAt}
-use Rattle.axis.specs.Ring.{ends}
+use Rattle.axis.specs.Limits.{mostEdges, mostSegments}
+use Rattle.axis.specs.Ring.{walk, ends, nextOf, times}
 use Rattle.axis.proofs.Acceptance.{below-none}
 use Rattle.joining.specs.declared.join.Joined.{Joined}
 use Rattle.joining.specs.declared.rules.Rules.{Rules}
 use Rattle.joining.specs.Joining.{headOr, lastIn, edgeOf, State, group, shown}
-use Rattle.joining.specs.Walks.{walk}
-use Rattle.joining.proofs.Members.{times, Once, first-in, few}
+use Rattle.joining.specs.Walks.{nextIn}
+use Rattle.joining.proofs.Members.{Once, first-in, few}
 use Rattle.joining.proofs.Rings.{Chain}
 use Rattle.joining.proofs.Good.{Good, members-below, members-once, ring-walk}
-use Rattle.joining.proofs.Steps.{of-len, of-next, of-full, of-edge, of-first, of-last}
+use Rattle.joining.proofs.Steps.{of-len, of-next, of-edge, of-first, of-last}
 use Rattle.properties.specs.Steps.{EdgeBelow, Ready}
-use Rattle.marking.specs.Marks.{cleared, marked, Ended}
+use Rattle.marking.specs.Marks.{cleared}
+use Rattle.marking.specs.Steps.{marked, Ended}
 use Rattle.marking.proofs.Marking.{marked-is}
 use Rattle.building.specs.Building.{lastState, builtSegments}
 use Rattle.building.proofs.Joins.{last-good}
@@ -39,9 +41,6 @@ module _ (t : Segments) (r : Rules) (j : Joined) (J : j ≡ shown t r (lastState
 
   G : Good t r (not (r .cjk)) s (t .len)
   G = last-good t r (W .few)
-
-  pub full-is : j .full ≡ s .full
-  full-is = of-full t r s (j .full) (j .axis) (j .next) J
 
   count-is : j .axis .len ≡ s .count
   count-is = of-len t r s (j .full) (j .axis) (j .next) J
@@ -65,7 +64,7 @@ module _ (t : Segments) (r : Rules) (j : Joined) (J : j ≡ shown t r (lastState
   in-count k h = omega (arith, count-is)
 
   -- ---- the walks end
-  pub few-edges : j .axis .len ≤ 128
+  pub few-edges : j .axis .len ≤ mostEdges
   few-edges = omega (arith, count-is, G .room)
 
   pub ended : Ended (j .next) (j .axis)
@@ -74,7 +73,7 @@ module _ (t : Segments) (r : Rules) (j : Joined) (J : j ≡ shown t r (lastState
     stops = λ k h. rw (first-is k, last-is k, next-is) (ring-walk t r (not (r .cjk)) s (t .len) k (W .few) G (in-count k h) .1);
   }
 
-  walk-is : (k : ℕ) → k < s .count → walk (j .next) (edgeAt (j .axis) k .last) 512 (edgeAt (j .axis) k .first) ≡ group s k
+  walk-is : (k : ℕ) → k < s .count → walk (nextIn (j .next)) (edgeAt (j .axis) k .last) mostSegments (edgeAt (j .axis) k .first) ≡ group s k
   walk-is k h = rw (first-is k, last-is k, next-is) (ring-walk t r (not (r .cjk)) s (t .len) k (W .few) G h .0)
 
   -- and lead along the groups
@@ -87,15 +86,16 @@ module _ (t : Segments) (r : Rules) (j : Joined) (J : j ≡ shown t r (lastState
   unfolding builtSegments
   built-rows = rows t s inside
 
-  ring-ends : (k : ℕ) → k < s .count → ends (builtSegments t s) (lastIn (group s k)) 512 (headOr 0 (group s k)) ≡ true
+  ring-ends : (k : ℕ) → k < s .count → ends (nextOf (builtSegments t s) (lastIn (group s k))) (builtSegments t s .len) (lastIn (group s k)) mostSegments (headOr 0 (group s k)) ≡ true
   ring-ends k h = go (group s k) (G .used k h) (members-once t r (not (r .cjk)) s (t .len) k (W .few) G h) (λ x p. inside k x h p) (G .rings k (omega (arith, G .room)))
     where
-      go : (g : List ℕ) → 0 < length g → Once g → ((x : ℕ) → 0 < times x g → x < t .len) → Chain (s .next) (headOr 0 g) g → ends (builtSegments t s) (lastIn g) 512 (headOr 0 g) ≡ true
+      go : (g : List ℕ) → 0 < length g → Once g → ((x : ℕ) → 0 < times x g → x < t .len) → Chain (s .next) (headOr 0 g) g
+          → ends (nextOf (builtSegments t s) (lastIn g)) (builtSegments t s .len) (lastIn g) mostSegments (headOr 0 g) ≡ true
       go [] p o b c = absurd (omega arith)
       go (m ∷ ms) p o b c =
           let R = built-rows in
-          let f = few 512 (m ∷ ms) o (λ x q. lt-of-lt-of-le (b x q) (W .few)) in
-          ends-chain (builtSegments t s) (s .next) (λ i l. R .row i (rw (R .size) at l) .next-is) m m ms 512 o (λ x q. rw (R .size) (b x q)) (omega arith) c
+          let f = few mostSegments (m ∷ ms) o (λ x q. lt-of-lt-of-le (b x q) (W .few)) in
+          ends-chain (builtSegments t s) (s .next) (λ i l. R .row i (rw (R .size) at l) .next-is) m m ms mostSegments o (λ x q. rw (R .size) (b x q)) (omega arith) c
 
   pub ready : Ready (j .axis) (builtSegments t s)
   ready =

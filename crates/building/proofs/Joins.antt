@@ -4,11 +4,12 @@ use mathlib.Core.Bool.{Bool, true, false, not}
 use Prim.Native.Nat.{_≤_, _+_}
 use native.Mathlib.Omega.{arith}
 use Rattle.axis.specs.declared.segment.Segments.{Segments}
+use Rattle.axis.specs.Limits.{mostSegments}
 use Rattle.joining.specs.declared.join.Joined.{Joined}
 use Rattle.joining.specs.declared.rules.Rules.{Rules}
-use Rattle.joining.specs.Joining.{State, shown, after, begun, stateAt}
+use Rattle.joining.specs.Joining.{shown, after, begun, stateAt}
 use Rattle.joining.proofs.Good.{Good, good}
-use Rattle.joining.proofs.Steps.{after-stuck}
+use Rattle.joining.proofs.Steps.{of-full, after-stuck}
 use Rattle.building.specs.Building.{lastState}
 
 module _ (t : Segments) (r : Rules) where
@@ -24,24 +25,20 @@ module _ (t : Segments) (r : Rules) where
   unfolding begun
   second-begun j e = e
 
-  full-is : (j : Joined) (s : State) → j ≡ shown t r s → j .full ≡ s .full
-  unfolding shown
-  full-is j s e = ap (λ (x : Joined). x .full) e
-
   -- and changes nothing where a 129th edge was called for
   pub full-stays : (j : Joined) → j ≡ shown t r (stateAt t r false (t .len)) → r .cjk ≡ false → j .full ≡ true → j ≡ shown t r (lastState t r)
   unfolding after
   full-stays j e h f =
       let b = second-begun j e in
       let z : t .len + 0 ≡ t .len = omega arith in
-      let stuck : stateAt t r true (t .len) ≡ begun t r true = rw z at (after-stuck t r true (begun t r true) 0 (t .len) (sym (full-is j (begun t r true) b) ∙ f)) in
+      let stuck : stateAt t r true (t .len) ≡ begun t r true = rw z at (after-stuck t r true (begun t r true) 0 (t .len) (sym (of-full t r (begun t r true) (j .full) (j .axis) (j .next) b) ∙ f)) in
       b ∙ ap (shown t r) (sym stuck ∙ last-is true (ap not h))
 
   pub two-loops : (j : Joined) → j ≡ shown t r (stateAt t r true (t .len)) → r .cjk ≡ false → j ≡ shown t r (lastState t r)
   two-loops j e h = e ∙ ap (shown t r) (last-is true (ap not h))
 
   -- the last state is good
-  pub last-good : t .len ≤ 512 → Good t r (not (r .cjk)) (lastState t r) (t .len)
+  pub last-good : t .len ≤ mostSegments → Good t r (not (r .cjk)) (lastState t r) (t .len)
   last-good long = good t r (not (r .cjk)) (λ e. off (r .cjk) e) long (t .len) (omega arith)
     where
       off : (b : Bool) → not b ≡ true → b ≡ false

@@ -6,6 +6,8 @@ use Prim.Native.Nat.{ℕ, suc, _<_}
 use native.Mathlib.Omega.{arith}
 use lib.IntN.{ℤ, pos}
 use Rattle.signed.specs.Range.{Between}
+use Rattle.signed.proofs.Choices.{cond-false}
+use Rattle.refusals.specs.Refusal.{refusal}
 use Rattle.fixed.specs.Point.{mulFix}
 use Rattle.axis.specs.declared.edge.Axis.{Axis}
 use Rattle.axis.specs.declared.kinds.Blue.{Blue}
@@ -14,20 +16,21 @@ use Rattle.axis.specs.declared.kinds.Group.{Group}
 use Rattle.axis.specs.declared.segment.Segments.{Segments}
 use Rattle.axis.specs.Accepted.{InZone, EdgeWithin, AxisWithin, SegmentsWithin}
 use Rattle.axis.specs.Limits.{mostPos, mostUnits}
+use Rattle.axis.specs.Ring.{times}
 use Rattle.axis.specs.Segment.{segmentAt}
 use Rattle.axis.proofs.Acceptance.{below-none}
 use Rattle.joining.specs.declared.rules.Rules.{Rules}
 use Rattle.joining.specs.Joining.{edgeOf, group, shown}
 use Rattle.joining.specs.Walks.{Joinable}
 use Rattle.joining.proofs.Good.{members-below}
-use Rattle.joining.proofs.Members.{times, times-head}
+use Rattle.joining.proofs.Members.{times-head}
 use Rattle.joining.proofs.Steps.{of-edge, of-len}
 use Rattle.properties.specs.Properties.{edgeProperties}
 use Rattle.properties.proofs.Kept.{within-kept}
 use Rattle.building.specs.declared.build.Built.{Built}
 use Rattle.building.specs.declared.numbers.Thresholds.{Thresholds}
-use Rattle.building.specs.Building.{buildingRefusal, isCjk, rulesOf, lastState, builtSegments, builtEdges, beside, built, computeEdges}
-use Rattle.building.proofs.Calls.{accepted, joinable, off}
+use Rattle.building.specs.Building.{buildingTests, isCjk, rulesOf, lastState, builtSegments, builtEdges, beside, built, computeEdges}
+use Rattle.building.proofs.Calls.{accepted, joinable}
 use Rattle.building.proofs.Handing.{built-rows, few-edges, ready}
 use Rattle.building.proofs.Joins.{last-good}
 
@@ -74,12 +77,12 @@ module _ (t : Segments) (old : Axis) (group : Group) (down : Bool) (scale : ℤ)
   rules = rulesOf (old .dim) (old .«major_dir») (isCjk group) down scale by
 
   -- a refusal hands back its number, and segments and edges as they were
-  pub refused : (k : ℕ) → buildingRefusal t old scale by ≡ suc k → computeEdges t old group down scale by ≡ beside t old (suc k)
+  pub refused : (k : ℕ) → refusal (buildingTests t (old .len) scale by) ≡ suc k → computeEdges t old group down scale by ≡ beside t old (suc k)
   unfolding computeEdges
   refused k e = rw e
 
   -- an accepted call hands back what is built
-  pub done : buildingRefusal t old scale by ≡ 0 → computeEdges t old group down scale by ≡ built t old rules (lastState t rules)
+  pub done : refusal (buildingTests t (old .len) scale by) ≡ 0 → computeEdges t old group down scale by ≡ built t old rules (lastState t rules)
   unfolding computeEdges
   done e = rw e
 
@@ -88,13 +91,13 @@ module _ (t : Segments) (old : Axis) (group : Group) (down : Bool) (scale : ℤ)
   determined a b p q = p ∙ sym q
 
   -- what it hands on passes the tests of every later call: each link and serif is below its count, and each number within the table
-  module _ (e : buildingRefusal t old scale by ≡ 0) (room : lastState t rules .full ≡ false) where
+  module _ (e : refusal (buildingTests t (old .len) scale by) ≡ 0) (room : lastState t rules .full ≡ false) where
     A : SegmentsWithin t × Joinable t rules
-    A = let a = accepted t old scale by 0 (sym e) (omega arith) in (a .within, joinable t old scale by a _ _ _ _ rules refl)
+    A = let a = accepted t (old .len) scale by 0 (sym e) (omega arith) in (a .within, joinable t scale by a _ _ _ _ rules refl)
 
     outcome : computeEdges t old group down scale by ≡ beside (builtSegments t (lastState t rules)) (edgeProperties (builtEdges t rules (lastState t rules)) (builtSegments t (lastState t rules))) 0
     unfolding built
-    outcome = done e ∙ sym (off _ _ _ room)
+    outcome = done e ∙ cond-false _ _ _ room
 
     pub segments-handed-on : SegmentsWithin (computeEdges t old group down scale by .segments)
     segments-handed-on = rw outcome (segments-within t rules (A .0) (A .1))

@@ -1,6 +1,6 @@
 -- Every edge of a built axis is a sound ring: following it from its first segment visits each segment of that edge once and no other, and ends at the last,
 -- whose next is the first.
-use mathlib.Core.Path.{_≡_, refl, sym, ap, _∙_}
+use mathlib.Core.Path.{_≡_, refl, sym, ap, subst, _∙_}
 use mathlib.Core.Bool.{not, cond}
 use mathlib.Core.List.{List, [], _∷_}
 use mathlib.Core.Logic.{_⊎_, inl, inr, ⊎-elim}
@@ -12,35 +12,27 @@ use lib.Dec.{eqb}
 use lib.ListN.{length, getD, length-set}
 use lib.Seq.{getD-set-same, getD-set-other}
 use Rattle.signed.proofs.Signed.{lt-or-le}
-use Rattle.axis.specs.declared.edge.Axis.{Axis}
-use Rattle.axis.specs.declared.kinds.Link.{Link}
 use Rattle.axis.specs.declared.kinds.Link.the-variants as Links
 use Rattle.axis.specs.declared.segment.Segment.{Segment}
 use Rattle.axis.specs.declared.segment.Segments.{Segments}
 use Rattle.axis.specs.Accepted.{SegmentsWithin}
 use Rattle.axis.specs.Edge.{edgeAt}
-use Rattle.axis.specs.Ring.{walk, members}
+use Rattle.axis.specs.Limits.{mostSegments}
+use Rattle.axis.specs.Ring.{walk, nextOf, members, times, Sound}
 use Rattle.axis.specs.Segment.{emptySegment, segmentAt, putSegment}
 use Rattle.axis.proofs.Rings.{walk-at}
 use Rattle.joining.specs.declared.rules.Rules.{Rules}
 use Rattle.joining.specs.Joining.{headOr, lastOf, lastIn, State, group, shown}
-use Rattle.joining.proofs.Members.{times, times-nil, times-head, times-apart, times-more, Once, once-rest, head-last, last-in, few}
+use Rattle.joining.proofs.Members.{times-nil, times-head, times-apart, times-more, Once, once-rest, head-last, last-in, few}
 use Rattle.joining.proofs.Rings.{Chain}
 use Rattle.joining.proofs.Settling.{same?, total, total-two}
 use Rattle.joining.proofs.Good.{Good, members-below, members-once}
-use Rattle.joining.proofs.Steps.{of-first, of-last}
+use Rattle.joining.proofs.Steps.{of-len, of-first, of-last}
 use Rattle.marking.specs.Marks.{forgotten, clear, cleared, memberOf, marks, groupMarks}
 use Rattle.building.specs.Building.{lastState, builtSegments, builtEdges}
+use Rattle.building.proofs.Handing.{ready}
 use Rattle.building.proofs.Joins.{last-good}
 use Rattle.building.proofs.Sound.{clear-at, rows}
-
--- edge k, whose segments in joining order are ms
-pub record SoundRing (axis : Axis) (t : Segments) (k : ℕ) (ms : List ℕ) : Type 0 where
-  pub visited : members axis t k ≡ ms
-  pub once : (i : ℕ) → times i ms ≤ 1
-  pub own : (i : ℕ) → 0 < times i ms → segmentAt t i .edge ≡ Links.To k
-  pub no-other : (i : ℕ) → i < t .len → segmentAt t i .edge ≡ Links.To k → 0 < times i ms
-  pub closed : segmentAt t (edgeAt axis k .last) .next ≡ Links.To (edgeAt axis k .first)
 
 -- ---- the members of one edge
 marks-length : (next : List ℕ) (k : ℕ) (ms : List ℕ) (u : Segments) → length (marks next k ms u .segments) ≡ length (u .segments)
@@ -52,7 +44,8 @@ marks-length next k (m ∷ ms) u = marks-length next k ms _ ∙ length-set (u .s
 marks-out : (next : List ℕ) (k : ℕ) (ms : List ℕ) (u : Segments) (i : ℕ) → times i ms ≡ 0 → segmentAt (marks next k ms u) i ≡ segmentAt u i
 unfolding marks
 marks-out next k [] u i h = refl
-marks-out next k (m ∷ ms) u i h = let a = times-apart i m ms h in marks-out next k ms _ i (a .rest) ∙ getD-set-other (u .segments) m i (memberOf (segmentAt u m) k (getD next m 0)) emptySegment (a .head)
+marks-out next k (m ∷ ms) u i h =
+    let a = times-apart i m ms h in marks-out next k ms _ i (a .rest) ∙ getD-set-other (u .segments) m i (memberOf (segmentAt u m) k (getD next m 0)) emptySegment (a .head)
 
 -- a member of edge k
 pub record Member (next : List ℕ) (k i : ℕ) (u : Segments) : Type 0 where
@@ -82,19 +75,19 @@ marks-in next k (m ∷ ms) u i h l = ⊎-elim
     here e = let q = getD-set-same (u .segments) m (memberOf (segmentAt u m) k (getD next m 0)) emptySegment (rw e at l) in rw e (record { edge = rw q refl; behind = rw q refl })
 
 -- ---- all edges
-module _ (t : Segments) (s : State) (whole : length (t .segments) ≡ 512) where
-  clear-length : (n : ℕ) → length (clear n t .segments) ≡ 512
+module _ (t : Segments) (s : State) (whole : length (t .segments) ≡ mostSegments) where
+  clear-length : (n : ℕ) → length (clear n t .segments) ≡ mostSegments
   unfolding clear
   clear-length zero = whole
   clear-length (suc n) = length-set (clear n t .segments) n (forgotten (segmentAt (clear n t) n)) ∙ clear-length n
 
-  groups-length : (n : ℕ) → length (groupMarks s n (cleared t) .segments) ≡ 512
+  groups-length : (n : ℕ) → length (groupMarks s n (cleared t) .segments) ≡ mostSegments
   unfolding groupMarks cleared
   groups-length zero = clear-length (t .len)
   groups-length (suc n) = marks-length (s .next) n (group s n) _ ∙ groups-length n
 
   -- a member of edge k has it for its edge
-  groups-in : ((m : ℕ) → total m (s .groups) ≤ 1) → (k i : ℕ) → i < 512 → 0 < times i (group s k) → (n : ℕ) → k < n → Member (s .next) k i (groupMarks s n (cleared t))
+  groups-in : ((m : ℕ) → total m (s .groups) ≤ 1) → (k i : ℕ) → i < mostSegments → 0 < times i (group s k) → (n : ℕ) → k < n → Member (s .next) k i (groupMarks s n (cleared t))
   unfolding groupMarks
   groups-in o k i hi p zero h = absurd (omega arith)
   groups-in o k i hi p (suc n) h = ⊎-elim
@@ -103,7 +96,7 @@ module _ (t : Segments) (s : State) (whole : length (t .segments) ≡ 512) where
       (eq-or-lt-of-le (omega arith))
 
   -- and no other segment has
-  groups-own : (k i : ℕ) → i < 512 → i < t .len → (n : ℕ) → segmentAt (groupMarks s n (cleared t)) i .edge ≡ Links.To k → 0 < times i (group s k)
+  groups-own : (k i : ℕ) → i < mostSegments → i < t .len → (n : ℕ) → segmentAt (groupMarks s n (cleared t)) i .edge ≡ Links.To k → 0 < times i (group s k)
   unfolding groupMarks cleared
   groups-own k i hi hl zero e = absurd (none (ap (λ (x : Segment). x .edge) (sym (clear-at t (t .len) i hl)) ∙ e))
     where
@@ -121,9 +114,11 @@ module _ (t : Segments) (s : State) (whole : length (t .segments) ≡ 512) where
       to-same n k e = cc
 
 -- ---- the walk
-walk-chain : (u : Segments) (next : List ℕ) (f m : ℕ) (ms : List ℕ) (n : ℕ) → ((x : ℕ) → 0 < times x (m ∷ ms) → segmentAt u x .next ≡ Links.To (getD next x 0)) → Once (m ∷ ms) → length ms ≤ n → Chain next f (m ∷ ms) → walk u (lastOf m ms) n m ≡ m ∷ ms
+walk-chain : (u : Segments) (next : List ℕ) (f m : ℕ) (ms : List ℕ) (n : ℕ) → ((x : ℕ) → 0 < times x (m ∷ ms) → segmentAt u x .next ≡ Links.To (getD next x 0)) → Once (m ∷ ms) → length ms ≤ n
+    → Chain next f (m ∷ ms)
+    → walk (nextOf u (lastOf m ms)) (lastOf m ms) n m ≡ m ∷ ms
 unfolding Chain walk
-walk-chain u next f m [] n N o h r = walk-at u m n m refl
+walk-chain u next f m [] n N o h r = walk-at (nextOf u m) m n m refl
 walk-chain u next f m (x ∷ ms) zero N o h r = absurd (omega arith)
 walk-chain u next f m (x ∷ ms) (suc n) N o h r =
     rw (ne-eqb m (lastOf x ms) (head-last m x ms o), N m (omega (arith, times-head m (x ∷ ms))), r .0)
@@ -136,40 +131,69 @@ chain-last next f m [] r = r .0
 chain-last next f m (x ∷ ms) r = chain-last next f x ms (r .1)
 
 -- ---- the theorem
-module _ (t : Segments) (r : Rules) (W : SegmentsWithin t) (whole : length (t .segments) ≡ 512) where
+module _ (t : Segments) (r : Rules) (W : SegmentsWithin t) (whole : length (t .segments) ≡ mostSegments) where
   abbrev s : State
   s = lastState t r
 
   G : Good t r (not (r .cjk)) s (t .len)
   G = last-good t r (W .few)
 
+  below : (k : ℕ) → k < s .count → (x : ℕ) → 0 < times x (group s k) → x < t .len
+  below k h = members-below t r (not (r .cjk)) s (t .len) k (W .few) G h
+
   member : (k : ℕ) → k < s .count → (x : ℕ) → 0 < times x (group s k) → Member (s .next) k x (groupMarks s (s .count) (cleared t))
-  member k h x p = groups-in t s whole (G .once) k x (lt-of-lt-of-le (members-below t r (not (r .cjk)) s (t .len) k (W .few) G h x p) (W .few)) p (s .count) h
+  member k h x p = groups-in t s whole (G .once) k x (lt-of-lt-of-le (below k h x p) (W .few)) p (s .count) h
 
-  pub sound : (k : ℕ) → k < s .count → SoundRing (builtEdges t r s) (builtSegments t s) k (group s k)
+  first-is : (k : ℕ) → edgeAt (builtEdges t r s) k .first ≡ headOr 0 (group s k)
+  first-is k = of-first t r s (shown t r s .full) (shown t r s .axis) (shown t r s .next) refl k
+
+  last-is : (k : ℕ) → edgeAt (builtEdges t r s) k .last ≡ lastIn (group s k)
+  last-is k = of-last t r s (shown t r s .full) (shown t r s .axis) (shown t r s .next) refl k
+
+  -- the walk visits the segments of a group in the order in which they joined
+  pub visited : (k : ℕ) → k < s .count → members (builtEdges t r s) (builtSegments t s) k ≡ group s k
   unfolding builtSegments
-  sound k h =
-      let below = members-below t r (not (r .cjk)) s (t .len) k (W .few) G h in
-      let once = members-once t r (not (r .cjk)) s (t .len) k (W .few) G h in
-      let j = shown t r s in
-      let first = of-first t r s (j .full) (j .axis) (j .next) refl k in
-      let last = of-last t r s (j .full) (j .axis) (j .next) refl k in
-      let c = G .rings k (omega (arith, G .room)) in
-      record {
-        visited = rw (first, last) (all (group s k) (G .used k h) once (λ x p. lt-of-lt-of-le (below x p) (W .few)) (λ x p. member k h x p .behind) c);
-        once = once;
-        own = λ i p. member k h i p .edge;
-        no-other = λ i l e. groups-own t s whole k i (lt-of-lt-of-le (rw size at l) (W .few)) (rw size at l) (s .count) e;
-        closed = rw (first, last) (member k h (lastIn (group s k)) (omega (arith, last-in (group s k) (G .used k h))) .behind ∙ ap Links.To (turn (group s k) (G .used k h) c));
-      }
+  visited k h =
+      rw (first-is k, last-is k)
+      (all (group s k) (G .used k h) (members-once t r (not (r .cjk)) s (t .len) k (W .few) G h)
+      (λ x p. lt-of-lt-of-le (below k h x p) (W .few)) (λ x p. member k h x p .behind) (G .rings k (omega (arith, G .room))))
     where
-      all : (g : List ℕ) → 0 < length g → Once g → ((x : ℕ) → 0 < times x g → x < 512) → ((x : ℕ) → 0 < times x g → segmentAt (groupMarks s (s .count) (cleared t)) x .next ≡ Links.To (getD (s .next) x 0)) → Chain (s .next) (headOr 0 g) g → walk (groupMarks s (s .count) (cleared t)) (lastIn g) 512 (headOr 0 g) ≡ g
+      all : (g : List ℕ) → 0 < length g → Once g → ((x : ℕ) → 0 < times x g → x < mostSegments)
+          → ((x : ℕ) → 0 < times x g → segmentAt (groupMarks s (s .count) (cleared t)) x .next ≡ Links.To (getD (s .next) x 0))
+          → Chain (s .next) (headOr 0 g) g → walk (nextOf (groupMarks s (s .count) (cleared t)) (lastIn g)) (lastIn g) mostSegments (headOr 0 g) ≡ g
       all [] p o b N c = absurd (omega arith)
-      all (m ∷ ms) p o b N c = let f = few 512 (m ∷ ms) o b in walk-chain (groupMarks s (s .count) (cleared t)) (s .next) m m ms 512 N o (omega arith) c
+      all (m ∷ ms) p o b N c = let f = few mostSegments (m ∷ ms) o b in walk-chain (groupMarks s (s .count) (cleared t)) (s .next) m m ms mostSegments N o (omega arith) c
 
+  -- the next of the last is the first
+  closed : (k : ℕ) → k < s .count → segmentAt (builtSegments t s) (edgeAt (builtEdges t r s) k .last) .next ≡ Links.To (edgeAt (builtEdges t r s) k .first)
+  unfolding builtSegments
+  closed k h =
+      rw (first-is k, last-is k)
+      (member k h (lastIn (group s k)) (omega (arith, last-in (group s k) (G .used k h))) .behind ∙ ap Links.To (turn (group s k) (G .used k h) (G .rings k (omega (arith, G .room)))))
+    where
       turn : (g : List ℕ) → 0 < length g → Chain (s .next) (headOr 0 g) g → getD (s .next) (lastIn g) 0 ≡ headOr 0 g
       turn [] p c = absurd (omega arith)
       turn (m ∷ ms) p c = chain-last (s .next) m m ms c
 
-      size : groupMarks s (s .count) (cleared t) .len ≡ t .len
-      size = rows t s (λ k x h p. members-below t r (not (r .cjk)) s (t .len) k (W .few) G h x p) .size
+  -- the members have this edge
+  own : (k : ℕ) → k < s .count → (i : ℕ) → 0 < times i (group s k) → segmentAt (builtSegments t s) i .edge ≡ Links.To k
+  unfolding builtSegments
+  own k h i p = member k h i p .edge
+
+  -- and no others have
+  every-one : (k i : ℕ) → i < builtSegments t s .len → segmentAt (builtSegments t s) i .edge ≡ Links.To k → 0 < times i (group s k)
+  unfolding builtSegments
+  every-one k i l e = let size = rows t s (λ k x h p. below k h x p) .size in groups-own t s whole k i (lt-of-lt-of-le (rw size at l) (W .few)) (rw size at l) (s .count) e
+
+  -- every ring is sound
+  pub sound : (k : ℕ) → k < s .count → Sound (builtEdges t r s) (builtSegments t s) k
+  sound k h =
+      let v = visited k h in
+      let j = shown t r s in
+      record {
+        walked = ready t r j refl W .rings .ring k (rw (of-len t r s (j .full) (j .axis) (j .next) refl) h);
+        once = λ i. subst (λ (ms : List ℕ). times i ms ≤ 1) (sym v) (members-once t r (not (r .cjk)) s (t .len) k (W .few) G h i);
+        own = λ i p. own k h i (subst (λ (ms : List ℕ). 0 < times i ms) v p);
+        every-one = λ i l e. subst (λ (ms : List ℕ). 0 < times i ms) (sym v) (every-one k i l e);
+        closed = closed k h;
+      }

@@ -11,6 +11,7 @@ use Rattle.signed.specs.Range.{Between}
 use Rattle.signed.proofs.Signed.{signed, range, one-zero, natAbs-is}
 use Rattle.fixed.specs.Point.{near, mulFix, divFix}
 use Rattle.fixed.proofs.Rounding.{mul-fits, div-abs}
+use Rattle.refusals.proofs.Tests.{and-first, and-second}
 use Rattle.axis.specs.declared.kinds.Dimension.{Dimension}
 use Rattle.axis.specs.declared.kinds.Dimension.the-variants as Dimensions
 use Rattle.axis.specs.declared.segment.Segments.{Segments}
@@ -18,16 +19,16 @@ use Rattle.axis.specs.Limits.{mostSegments, mostUnits, mostScore, leastScale, m
 use Rattle.axis.specs.Refusals.{inside}
 use Rattle.axis.specs.Segment.{segmentAt}
 use Rattle.axis.proofs.Acceptance.{inside-between, within-between}
-use Rattle.axis.proofs.Tests.{and-first, and-second, every-at}
+use Rattle.axis.proofs.Tests.{every-at}
 use Rattle.building.specs.declared.numbers.Thresholds.{Thresholds}
-use Rattle.building.specs.Building.{numbersHold, scaledHolds, productsHold, goesDown, distanceThreshold}
+use Rattle.building.specs.Building.{numbersHold, scaledHolds, productsHold, goesDown, mostDistance, distanceThreshold}
 
 -- ---- what numbers that hold are
 pub record Right (scale : ℤ) (by : Thresholds) : Type 0 where
-  pub scale-within : Between 0 16777216 scale
+  pub scale-within : Between 0 mostScale scale
   pub scale-not-0 : 0 < natAbs scale
-  pub distance : Between 0 65535 (by .distance)
-  pub length : Between 0 65535 (by .length)
+  pub distance : Between 0 mostScore (by .distance)
+  pub length : Between 0 mostScore (by .length)
 
 pub right : (scale : ℤ) (by : Thresholds) → numbersHold scale by ≡ true → Right scale by
 unfolding numbersHold
@@ -53,9 +54,9 @@ products-within t scale few h i q = within-between mostUnits _ (every-at _ i (mi
 both : (n : ℕ) (z : ℤ) → Between 0 n z → Between n n z
 both n z h = omega arith
 
-pub scaled-fits : (first scale : ℤ) → Between 0 65535 first → Between 0 16777216 scale → SFits w32 (mulFix first scale)
+pub scaled-fits : (first scale : ℤ) → Between 0 mostScore first → Between 0 mostScale scale → SFits w32 (mulFix first scale)
 unfolding near
-scaled-fits first scale a b = mul-fits (both 65535 first a) (both 16777216 scale b) tt
+scaled-fits first scale a b = mul-fits (both mostScore first a) (both mostScale scale b) tt
 
 -- a quotient of 32-bit numbers is far from the ends of 64
 pub quotient-near : (a b : ℤ) → SFits w32 a → 0 < natAbs b → Between 4611686018427387904 4611686018427387904 (divFix a b)
@@ -64,16 +65,16 @@ quotient-near a b f h = omega (arith, signed, range f, div-abs a b h, natAbs-is 
 pub number-near : (z : ℤ) → SFits w32 z → Between 4611686018427387904 4611686018427387904 z
 number-near z f = omega (arith, signed, range f)
 
-pub over : (cjk : Bool) (first scale : ℤ) → ltZ (pos 16) (mulFix first scale) ≡ true → distanceThreshold cjk first scale ≡ divFix (pos 16) scale
+pub over : (cjk : Bool) (first scale : ℤ) → ltZ mostDistance (mulFix first scale) ≡ true → distanceThreshold cjk first scale ≡ divFix mostDistance scale
 unfolding distanceThreshold
 over true first scale h = rw h
 over false first scale h = rw h
 
-pub under-cjk : (cjk : Bool) (first scale : ℤ) → ltZ (pos 16) (mulFix first scale) ≡ false → cjk ≡ true → distanceThreshold cjk first scale ≡ first
+pub under-cjk : (cjk : Bool) (first scale : ℤ) → ltZ mostDistance (mulFix first scale) ≡ false → cjk ≡ true → distanceThreshold cjk first scale ≡ first
 unfolding distanceThreshold
 under-cjk cjk first scale h e = rw (e, h)
 
-pub under-latin : (cjk : Bool) (first scale : ℤ) → ltZ (pos 16) (mulFix first scale) ≡ false → cjk ≡ false → distanceThreshold cjk first scale ≡ divFix (mulFix first scale) scale
+pub under-latin : (cjk : Bool) (first scale : ℤ) → ltZ mostDistance (mulFix first scale) ≡ false → cjk ≡ false → distanceThreshold cjk first scale ≡ divFix (mulFix first scale) scale
 unfolding distanceThreshold
 under-latin cjk first scale h e = rw (e, h)
 

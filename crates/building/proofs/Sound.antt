@@ -16,12 +16,12 @@ use Rattle.axis.specs.declared.segment.Segment.{Segment}
 use Rattle.axis.specs.declared.segment.Segments.{Segments}
 use Rattle.axis.specs.Accepted.{Below}
 use Rattle.axis.specs.Link.{indexOr}
-use Rattle.axis.specs.Ring.{ends}
+use Rattle.axis.specs.Ring.{ends, nextOf, times}
 use Rattle.axis.specs.Segment.{emptySegment, segmentAt, putSegment}
 use Rattle.axis.proofs.Acceptance.{below-none, below-to}
 use Rattle.axis.proofs.Rings.{ends-at}
 use Rattle.joining.specs.Joining.{lastOf, State, group}
-use Rattle.joining.proofs.Members.{times, times-head, times-more, times-last, Once, once-rest, head-last}
+use Rattle.joining.proofs.Members.{times-head, times-more, times-last, Once, once-rest, head-last}
 use Rattle.joining.proofs.Rings.{Chain}
 use Rattle.marking.specs.Marks.{forgotten, clear, cleared, memberOf, marks, groupMarks}
 
@@ -84,7 +84,9 @@ module _ (t : Segments) (next : List ℕ) (n : ℕ) where
   unfolding cleared
   rows-cleared = record {
     size = clear-len t (t .len);
-    row = λ i h. rw (clear-at t (t .len) i h) (record { link = refl; serif = refl; score = refl; len = refl; edge = below-none n; next-is = record { at = λ k e. absurd (let z : _≡_ {A = ℕ} 0 1 = cc in omega arith) } });
+    row = λ i h.
+        let none : Behind next i Links.None = record { at = λ k e. absurd (let z : _≡_ {A = ℕ} 0 1 = cc in omega arith) } in
+        rw (clear-at t (t .len) i h) (record { link = refl; serif = refl; score = refl; len = refl; edge = below-none n; next-is = none });
   }
 
   row-member : (m k : ℕ) (s : Segment) → k < n → Row t next n m s → Row t next n m (memberOf s k (getD next m 0))
@@ -113,17 +115,20 @@ rows t s b = rows-groups t s b (s .count) (omega arith)
 -- ---- rings
 module _ (u : Segments) (next : List ℕ) (N : (i : ℕ) → i < u .len → Behind next i (segmentAt u i .next)) where
   -- the walk along a chain comes to its last
-  pub ends-chain : (f m : ℕ) (ms : List ℕ) (n : ℕ) → Once (m ∷ ms) → ((x : ℕ) → 0 < times x (m ∷ ms) → x < u .len) → length ms ≤ n → Chain next f (m ∷ ms) → ends u (lastOf m ms) n m ≡ true
+  pub ends-chain : (f m : ℕ) (ms : List ℕ) (n : ℕ) → Once (m ∷ ms) → ((x : ℕ) → 0 < times x (m ∷ ms) → x < u .len) → length ms ≤ n → Chain next f (m ∷ ms)
+      → ends (nextOf u (lastOf m ms)) (u .len) (lastOf m ms) n m ≡ true
   unfolding Chain ends
-  ends-chain f m [] n o b h r = ends-at u m n m refl
+  ends-chain f m [] n o b h r = ends-at (nextOf u m) (u .len) m n m refl
   ends-chain f m (x ∷ ms) zero o b h r = absurd (omega arith)
   ends-chain f m (x ∷ ms) (suc n) o b h r =
       rw (ne-eqb m (lastOf x ms) (head-last m x ms o))
-      (by (ends-chain f x ms n (once-rest m (x ∷ ms) o) (λ y p. b y (omega (arith, times-more y m (x ∷ ms)))) (omega arith) (r .1)) (segmentAt u m .next) (N m (b m (omega (arith, times-head m (x ∷ ms))))))
+      (by (ends-chain f x ms n (once-rest m (x ∷ ms) o) (λ y p. b y (omega (arith, times-more y m (x ∷ ms)))) (omega arith) (r .1))
+      (segmentAt u m .next) (N m (b m (omega (arith, times-head m (x ∷ ms))))))
     where
       last-below : lastOf x ms < u .len
       last-below = b (lastOf x ms) (omega (arith, times-last x ms, times-more (lastOf x ms) m (x ∷ ms)))
 
-      by : ends u (lastOf x ms) n x ≡ true → (l : Link) → Behind next m l → (ltb (indexOr (lastOf x ms) l) (u .len) && ends u (lastOf x ms) n (indexOr (lastOf x ms) l)) ≡ true
-      by rest Links.None B = rw (lt-ltb (lastOf x ms) (u .len) last-below) (ends-at u (lastOf x ms) n (lastOf x ms) refl)
+      by : ends (nextOf u (lastOf x ms)) (u .len) (lastOf x ms) n x ≡ true → (l : Link) → Behind next m l
+          → (ltb (indexOr (lastOf x ms) l) (u .len) && ends (nextOf u (lastOf x ms)) (u .len) (lastOf x ms) n (indexOr (lastOf x ms) l)) ≡ true
+      by rest Links.None B = rw (lt-ltb (lastOf x ms) (u .len) last-below) (ends-at (nextOf u (lastOf x ms)) (u .len) (lastOf x ms) n (lastOf x ms) refl)
       by rest (Links.To j) B = let e : j ≡ x = B .at j refl ∙ r .0 in rw (e, lt-ltb x (u .len) (b x (omega (arith, times-head x ms, times-more x m (x ∷ ms))))) rest

@@ -30,7 +30,23 @@ row-cjk = refl
 
 -- ---- groups of segments
 abbrev segment : ℕ → Direction → Link → Segment
-segment p dir link = record { flags = normal; dir = dir; pos = pos p; delta = pos 0; «min_coord» = pos 0; «max_coord» = pos 0; height = pos 100; score = pos 0; len = pos 0; link = link; serif = Links.None; first = 0; last = 0; edge = Links.None; next = Links.None }
+segment p dir link = record {
+  flags = normal;
+  dir = dir;
+  pos = pos p;
+  delta = pos 0;
+  «min_coord» = pos 0;
+  «max_coord» = pos 0;
+  height = pos 100;
+  score = pos 0;
+  len = pos 0;
+  link = link;
+  serif = Links.None;
+  first = 0;
+  last = 0;
+  edge = Links.None;
+  next = Links.None;
+}
 
 abbrev table : List Segment → Segments
 table ss = record { segments = ss; len = length ss }

@@ -1,9 +1,11 @@
 -- Building (document 01, module 4): the refusals, then edges from segments, in groups (`joining`), and their properties (`properties`).
 use mathlib.Core.Bool.{Bool, true, false, cond, not, _&&_}
+use mathlib.Core.List.{List, [], _∷_}
 use Prim.Native.Nat.{ℕ}
 use lib.Dec.{leb}
 use lib.IntN.{ℤ, pos, natAbs}
 use lib.Signed.{ltZ}
+use Rattle.refusals.specs.Refusal.{Test, _unless_, refusal, answered, tooLong, badParameter, outOfRange, noRoom}
 use Rattle.fixed.specs.Point.{mulFix, divFix}
 use Rattle.axis.specs.declared.edge.Axis.{Axis}
 use Rattle.axis.specs.declared.kinds.Dimension.{Dimension}
@@ -14,7 +16,7 @@ use Rattle.axis.specs.declared.kinds.Group.the-variants as Groups
 use Rattle.axis.specs.declared.segment.Segment.{Segment}
 use Rattle.axis.specs.declared.segment.Segments.{Segments}
 use Rattle.axis.specs.Limits.{mostEdges, mostUnits, mostScore, leastScale, mostScale}
-use Rattle.axis.specs.Refusals.{inside, within, everySegment, segmentsRefusal, answered}
+use Rattle.axis.specs.Refusals.{inside, within, everySegment, segmentsShort, segmentsIndexed, segmentsInRange}
 use Rattle.joining.specs.declared.rules.Rules.{Rules}
 use Rattle.joining.specs.Joining.{State, shown, stateAt}
 use Rattle.properties.specs.Properties.{edgeProperties}
@@ -39,9 +41,10 @@ scaledHolds scale s = within mostUnits (mulFix (s .pos) scale)
 unfoldable pub productsHold : Segments → ℤ → Bool
 productsHold t scale = everySegment (scaledHolds scale) t
 
--- refusals 1 to 4; of the old edges only the count is tested
-unfoldable pub buildingRefusal : Segments → Axis → ℤ → Thresholds → ℕ
-buildingRefusal t old scale by = segmentsRefusal t (leb (old .len) mostEdges) (numbersHold scale by) true (productsHold t scale)
+-- the tests of refusals 1 to 4 in document 01's order; of the old edges only the count is tested
+abbrev pub buildingTests : Segments → ℕ → ℤ → Thresholds → List Test
+buildingTests t edges scale by =
+    segmentsShort t ∷ tooLong unless leb edges mostEdges ∷ badParameter unless numbersHold scale by ∷ segmentsIndexed t ∷ segmentsInRange t ∷ outOfRange unless productsHold t scale ∷ []
 
 -- ---- the rules
 -- CJK's rules apply
@@ -54,14 +57,14 @@ abbrev pub goesDown : Dimension → Bool → Bool → Bool
 goesDown Dimensions.Horizontal cjk down = false
 goesDown Dimensions.Vertical cjk down = not cjk && down
 
--- the smaller of two numbers
-abbrev pub minZ : ℤ → ℤ → ℤ
-minZ a b = cond (ltZ b a) b a
+-- a quarter of a pixel, the most that the distance threshold comes to at the scale
+abbrev pub mostDistance : ℤ
+mostDistance = pos 16
 
 -- the distance threshold in font units, held to a quarter of a pixel: Latin takes it to the scale and back, CJK only where it is more than that
 unfoldable pub distanceThreshold : Bool → ℤ → ℤ → ℤ
-distanceThreshold false first scale = divFix (minZ (mulFix first scale) (pos 16)) scale
-distanceThreshold true first scale = cond (ltZ (pos 16) (mulFix first scale)) (divFix (pos 16) scale) first
+distanceThreshold false first scale = divFix (cond (ltZ mostDistance (mulFix first scale)) mostDistance (mulFix first scale)) scale
+distanceThreshold true first scale = cond (ltZ mostDistance (mulFix first scale)) (divFix mostDistance scale) first
 
 -- as a distance
 abbrev pub nearOf : Bool → ℤ → ℤ → ℕ
@@ -69,7 +72,16 @@ nearOf cjk first scale = natAbs (distanceThreshold cjk first scale)
 
 -- what joining is told
 abbrev pub rulesOf : Dimension → Direction → Bool → Bool → ℤ → Thresholds → Rules
-rulesOf dim major cjk down scale by = record { dim = dim; «major_dir» = major; cjk = cjk; «top_to_bottom» = goesDown dim cjk down; scale = scale; near = nearOf cjk (by .distance) scale; length = by .length; width = by .width }
+rulesOf dim major cjk down scale by = record {
+  dim = dim;
+  «major_dir» = major;
+  cjk = cjk;
+  «top_to_bottom» = goesDown dim cjk down;
+  scale = scale;
+  near = nearOf cjk (by .distance) scale;
+  length = by .length;
+  width = by .width;
+}
 
 -- ---- the work
 -- the state behind the last loop: CJK has one, Latin two
@@ -90,10 +102,10 @@ beside t axis k = record { answer = k; segments = t; axis = axis }
 
 -- refusal 5 where the rules called for a 129th edge, and else the segments and the edges with their properties
 unfoldable pub built : Segments → Axis → Rules → State → Built
-built t old r s = cond (s .full) (beside t old 5) (beside (builtSegments t s) (edgeProperties (builtEdges t r s) (builtSegments t s)) 0)
+built t old r s = cond (s .full) (beside t old noRoom) (beside (builtSegments t s) (edgeProperties (builtEdges t r s) (builtSegments t s)) 0)
 
 -- what the call hands back; beside a refusal segments and edges as they were
 unfoldable pub computeEdges : Segments → Axis → Group → Bool → ℤ → Thresholds → Built
 computeEdges t old group down scale by =
-    answered (buildingRefusal t old scale by) (beside t old)
+    answered (refusal (buildingTests t (old .len) scale by)) (beside t old)
     (built t old (rulesOf (old .dim) (old .«major_dir») (isCjk group) down scale by) (lastState t (rulesOf (old .dim) (old .«major_dir») (isCjk group) down scale by)))

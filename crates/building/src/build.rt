@@ -3,12 +3,14 @@ use super::numbers::Thresholds;
 use super::numbers::near_of;
 use super::numbers::numbers_hold;
 use super::numbers::products_hold;
-use axis::accept::segments_refusal;
+use axis::accept::few_edges;
+use axis::accept::few_segments;
+use axis::accept::segments_indices;
+use axis::accept::segments_numbers;
 use axis::edge::Axis;
 use axis::kinds::Dimension;
 use axis::kinds::Direction;
 use axis::kinds::Group;
-use axis::limits::MOST_EDGES;
 use axis::segment::Segments;
 use joining::join::Joined;
 use joining::join::join_segments;
@@ -17,12 +19,19 @@ use joining::ring::stems_of;
 use joining::rules::Rules;
 use marking::mark::link_segments_to_edges;
 use properties::properties::compute_edge_properties;
+use refusals::order::BAD_INDEX;
+use refusals::order::BAD_PARAMETER;
+use refusals::order::NO_ROOM;
+use refusals::order::OUT_OF_RANGE;
+use refusals::order::TOO_LONG;
+use refusals::order::or_refused;
 ghost use mathlib.Core.Path.{_≡_};
 ghost use mathlib.Core.Bool.{true};
+ghost use Rattle.refusals.specs.Refusal.{refusal};
 ghost use Rattle.axis.specs.Accepted.{SegmentsWithin};
 ghost use Rattle.joining.specs.Joining.{shown};
 ghost use Rattle.joining.specs.Walks.{Joinable};
-ghost use Rattle.building.specs.Building.{isCjk, goesDown, numbersHold, rulesOf, lastState, computeEdges};
+ghost use Rattle.building.specs.Building.{isCjk, buildingTests, goesDown, numbersHold, rulesOf, lastState, computeEdges};
 
 // The answer, 0 or document 01's number of the refusal, the segments and the edges.
 pub struct Built {
@@ -101,6 +110,18 @@ fn join_all(segments: Segments, rules: Rules) -> Joined
     join_segments(segments, &stems, rules, true, joined)
 }
 
+// The refusal of the call, 1 to 4, or 0.
+fn building_refusal(segments: Segments, edges: usize, scale: i32, thresholds: Thresholds) -> u8
+    ensures { λ r. ⌜ r ≡ refusal (buildingTests segments edges scale thresholds) ⌝ }
+{
+    let answer = or_refused(0, few_segments(segments.len), TOO_LONG);
+    let answer = or_refused(answer, few_edges(edges), TOO_LONG);
+    let answer = or_refused(answer, numbers_hold(scale, thresholds), BAD_PARAMETER);
+    let answer = or_refused(answer, segments_indices(segments), BAD_INDEX);
+    let answer = or_refused(answer, segments_numbers(segments), OUT_OF_RANGE);
+    or_refused(answer, products_hold(segments, scale), OUT_OF_RANGE)
+}
+
 // Builds the edges of an axis from its segments. A refusal, 1 to 5, hands segments and edges back as they were.
 pub fn compute_edges(
     segments: Segments,
@@ -112,10 +133,7 @@ pub fn compute_edges(
 ) -> Built
     ensures { λ r. ⌜ r ≡ computeEdges segments old group «top_to_bottom» scale thresholds ⌝ }
 {
-    let short = old.len <= MOST_EDGES;
-    let right = numbers_hold(scale, thresholds);
-    let near = products_hold(segments, scale);
-    let answer = segments_refusal(segments, short, right, true, near);
+    let answer = building_refusal(segments, old.len, scale, thresholds);
     if 0 < answer {
         return Built {
             answer,
@@ -130,7 +148,7 @@ pub fn compute_edges(
     let joined = join_all(segments, rules);
     if joined.full {
         return Built {
-            answer: 5,
+            answer: NO_ROOM,
             segments,
             axis: old,
         };

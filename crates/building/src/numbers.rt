@@ -2,9 +2,11 @@
 use axis::accept::is_inside;
 use axis::accept::least;
 use axis::limits::LEAST_SCALE;
+use axis::limits::LEAST_UNITS;
 use axis::limits::MOST_SCALE;
 use axis::limits::MOST_SCORE;
 use axis::limits::MOST_SEGMENTS;
+use axis::limits::MOST_UNITS;
 use axis::segment::Segment;
 use axis::segment::Segments;
 use fixed::point::fixed_mul;
@@ -15,6 +17,7 @@ ghost use mathlib.Core.Path.{_≡_};
 ghost use Prim.Native.Nat.{_<_};
 ghost use lib.IntN.{natAbs};
 ghost use Rattle.signed.specs.Range.{Between};
+ghost use Rattle.axis.specs.Limits.{mostScore, mostScale};
 ghost use Rattle.building.specs.Building.{numbersHold, nearOf, scaledHolds, productsHold};
 
 // A quarter of a pixel, the most that the distance threshold comes to at the scale.
@@ -45,7 +48,7 @@ pub fn numbers_hold(scale: i32, thresholds: Thresholds) -> bool
 
 // The distance below which a segment joins an edge, in font units: the threshold, or less where that is more than a quarter of a pixel.
 pub fn near_of(distance: i32, scale: i32, cjk: bool) -> u64
-    requires { ⌜ (Between 0 65535 distance) × (Between 0 16777216 scale) × (0 < natAbs scale) ⌝ }
+    requires { ⌜ (Between 0 mostScore distance) × (Between 0 mostScale scale) × (0 < natAbs scale) ⌝ }
     ensures { λ r. ⌜ r ≡ nearOf cjk distance scale ⌝ }
 {
     let scaled = fixed_mul(distance, scale);
@@ -63,8 +66,8 @@ fn scaled_holds(segment: Segment, scale: i32) -> bool
     ensures { λ r. ⌜ r ≡ scaledHolds scale segment ⌝ }
 {
     let scaled = wide_mul(segment.pos as i32, scale);
-    if -16383 <= scaled {
-        return scaled <= 16383;
+    if (LEAST_UNITS as i64) <= scaled {
+        return scaled <= (MOST_UNITS as i64);
     }
     false
 }

@@ -1,8 +1,8 @@
 -- How far a stem can be moved, and where it can start.
 use mathlib.Core.Path.{_≡_}
-use mathlib.Core.Bool.{Bool, true, false, cond, _||_}
+use mathlib.Core.Bool.{Bool, _||_}
 use mathlib.Core.List.{List}
-use Prim.Native.Nat.{_%_}
+use Prim.Native.Nat.{ℕ, _%_}
 use native.Mathlib.Omega.{arith}
 use lib.Dec.{leb}
 use lib.IntN.{ℤ, pos, negℤ, natAbs, _+ℤ_, _-ℤ_}
@@ -14,6 +14,7 @@ use Rattle.signed.specs.Equality.{eqZ}
 use Rattle.signed.specs.Range.{Between}
 use Rattle.signed.proofs.Operations.{quot-up, quot-dn, rem-up, rem-dn}
 use Rattle.signed.proofs.Signed.{add-law, sub-law, up-neg, dn-neg, one-zero, fits-in, is}
+use Rattle.signed.proofs.Choices.{either-way}
 use Rattle.fixed.specs.Pixel.{pixFloor}
 use Rattle.fixed.proofs.Pixels.{floor-law}
 use Rattle.fixed.specs.declared.width.WidthRule.{WidthRule}
@@ -24,12 +25,8 @@ use Rattle.axis.specs.declared.kinds.Dimension.the-variants.{Horizontal, Vertic
 use Rattle.axis.specs.declared.edge.Edge.{Edge}
 use Rattle.placing.specs.Steps.{InReach}
 use Rattle.placing.proofs.Reach.{width-range}
-use Rattle.cjk_numbers.specs.Cjk.{maxGap, gapOf, bothRound, mostWidth, mostMove, mostStart, pixelOffset, narrowDelta, isBlocked, downOrUp, smallerOf, shortestMove, wideDelta, offsetsDelta, startOf, clamped, deltaOf, stemAt, stemOf}
-
--- what holds of both choices holds of the chosen one
-either-way : (P : ℤ → Type 0) (t : Bool) (a b : ℤ) → P a → P b → P (cond t a b)
-either-way P true a b h g = h
-either-way P false a b h g = g
+use Rattle.cjk_numbers.specs.Cjk.{mostWidth, mostMove, mostStart, maxGap, gapOf, bothRound, pixelOffset, narrowDelta, isBlocked, downOrUp, smallerOf, shortestMove, wideDelta, offsetsDelta}
+use Rattle.cjk_numbers.specs.Cjk.{startOf, clamped, deltaOf, stemAt, stemOf}
 
 -- a move, up or down
 abbrev Move : ℤ → Type 0
@@ -94,8 +91,12 @@ pub delta-range : (adjust : Bool) (p w t : ℤ) → Between 0 64 t → Between m
 unfolding deltaOf
 delta-range adjust p w t l = clamp-range adjust _ (offsets-range (pixelOffset p) (pixelOffset (p +ℤ w)) w t (offset-range p) (offset-range (p +ℤ w)) l)
 
--- what the start of a stem can be before it is moved
-pub start-range : (o1 o2 w d : ℤ) → Between mostUnits mostUnits o1 → Between mostUnits mostUnits o2 → Between mostWidth mostWidth w → Between mostUnits mostUnits d → Between 49157 49157 (startOf o1 o2 w d)
+-- what the start of a stem can be before it is moved: a position, a passed delta and half a width
+abbrev pub mostUnmoved : ℕ
+mostUnmoved = 49157
+
+pub start-range : (o1 o2 w d : ℤ) → Between mostUnits mostUnits o1 → Between mostUnits mostUnits o2 → Between mostWidth mostWidth w → Between mostUnits mostUnits d
+    → Between mostUnmoved mostUnmoved (startOf o1 o2 w d)
 unfolding startOf
 start-range o1 o2 w d h g k l =
     let c = quotZ (o1 +ℤ o2) (pos 2) in
@@ -112,7 +113,8 @@ threshold-range : (adjust : Bool) (dim : Dimension) (round : Bool) → Between 0
 threshold-range adjust dim round = omega (arith, gap-range adjust dim round, sub-law (pos 64) (gapOf adjust dim round))
 
 -- the place of a stem's lower edge, its width, and what it is moved by
-pub stem-pos-range : (dim : Dimension) (adjust : Bool) (rule : WidthRule) (xs : List ℤ) (e e2 : Edge) (d : ℤ) → InReach e → InReach e2 → Between mostUnits mostUnits d → Between mostStart mostStart (stemOf dim adjust rule xs e e2 d .pos)
+pub stem-pos-range : (dim : Dimension) (adjust : Bool) (rule : WidthRule) (xs : List ℤ) (e e2 : Edge) (d : ℤ) → InReach e → InReach e2 → Between mostUnits mostUnits d
+    → Between mostStart mostStart (stemOf dim adjust rule xs e e2 d .pos)
 unfolding stemOf stemAt
 stem-pos-range dim adjust rule xs e e2 d h g k =
     let w = width-range rule xs (e .opos) (e2 .opos) (h .opos) (g .opos) in
@@ -121,7 +123,8 @@ stem-pos-range dim adjust rule xs e e2 d h g k =
     let m = delta-range adjust s (fittedWidth rule xs (e2 .opos -ℤ e .opos)) _ (threshold-range adjust dim (bothRound e e2)) in
     omega (arith, p, m, add-law s (deltaOf adjust s (fittedWidth rule xs (e2 .opos -ℤ e .opos)) (pos 64 -ℤ gapOf adjust dim (bothRound e e2))))
 
-pub stem-width-range : (dim : Dimension) (adjust : Bool) (rule : WidthRule) (xs : List ℤ) (e e2 : Edge) (d : ℤ) → InReach e → InReach e2 → Between mostWidth mostWidth (stemOf dim adjust rule xs e e2 d .width)
+pub stem-width-range : (dim : Dimension) (adjust : Bool) (rule : WidthRule) (xs : List ℤ) (e e2 : Edge) (d : ℤ) → InReach e → InReach e2
+    → Between mostWidth mostWidth (stemOf dim adjust rule xs e e2 d .width)
 unfolding stemOf stemAt
 stem-width-range dim adjust rule xs e e2 d h g = width-range rule xs (e .opos) (e2 .opos) (h .opos) (g .opos)
 

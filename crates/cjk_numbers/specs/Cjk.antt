@@ -14,6 +14,7 @@ use Rattle.axis.specs.declared.kinds.Dimension.the-variants.{Horizontal, Vertic
 use Rattle.axis.specs.declared.edge.Edge.{Edge}
 use Rattle.axis.specs.declared.edge.Axis.{Axis}
 use Rattle.axis.specs.Edge.{edgeAt, putEdge, placed}
+pub use Rattle.placing.specs.Steps.{mostWidth}
 use Rattle.cjk_numbers.specs.declared.stem.Stem.{Stem}
 
 -- ---- the gap
@@ -27,10 +28,7 @@ unfoldable pub gapOf : Bool → Dimension → Bool → ℤ
 gapOf adjust dim round = cond adjust (pos 0) (cond round (maxGap dim) (quotZ (maxGap dim) (pos 3)))
 
 -- ---- the move, by how far the stem's edges are above a pixel edge, d1 and d2, its width w, and the threshold t, which is 64 less the gap
--- what a fitted width and a move can be
-abbrev pub mostWidth : ℕ
-mostWidth = 32782
-
+-- what a move can be
 abbrev pub mostMove : ℕ
 mostMove = 128
 

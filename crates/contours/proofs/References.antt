@@ -1,6 +1,5 @@
 -- The references of a point: which they are in each place of a contour, and how they say how many of its points are touched.
 use mathlib.Core.Path.{_≡_, refl, sym, _∙_, ap, subst}
-use mathlib.Core.Bool.{true}
 use mathlib.Core.List.{List}
 use mathlib.Core.Logic.{_⊎_, inl, inr, ⊎-elim}
 use mathlib.Core.Option.{Option, some, none}
@@ -9,9 +8,9 @@ use native.Mathlib.Nat.{eq-or-lt-of-le}
 use native.Mathlib.Omega.{arith}
 use lib.ListN.{getD}
 use Rattle.signed.proofs.Signed.{lt-or-le}
-use Rattle.contours.specs.Contour.{isTouched, firstTouched, lastTouched, Contour, touchedBefore, touchedBehind, References, refs, paired, references}
+use Rattle.contours.specs.Contour.{firstTouched, lastTouched, Contour, touchedBefore, touchedBehind, References, refs, paired, references}
 use Rattle.contours.specs.Steps.{Clear}
-use Rattle.contours.proofs.Searches.{marked, Last, last-some, last-none, last-is, last-clear, First, first-some, first-none, first-is, first-clear, found-by, not-found}
+use Rattle.contours.proofs.Searches.{Last, last-some, last-none, last-is, last-clear, First, first-some, first-none, first-is, first-clear, found-by}
 
 -- ---- the references of a point in each place of a contour
 module _ (t : List ℕ) (k : Contour) (i : ℕ) (inside : k .start ≤ i) (below : i < k .end) where
@@ -87,15 +86,6 @@ module _ (t : List ℕ) (k : Contour) (i : ℕ) (inside : k .start ≤ i) (below
       (λ a. inr (rw from-on at (first-clear t (suc i) (k .end - suc i) (a .0)), rw all at (first-is t (k .start) (k .end - k .start) p (a .1))))
       (found-by (firstTouched t (suc i) (k .end - suc i)) (firstTouched t (k .start) (k .end - k .start)) p e)
 
-  -- where none was found, no point of the contour is touched
-  before-none : touchedBefore t k i ≡ none → Clear t (k .start) (k .end)
-  unfolding touchedBefore
-  before-none e = rw all at (last-clear t (k .start) (k .end - k .start) (not-found (lastTouched t (k .start) (i - k .start)) (lastTouched t (k .start) (k .end - k .start)) e))
-
-  behind-none : touchedBehind t k i ≡ none → Clear t (k .start) (k .end)
-  unfolding touchedBehind
-  behind-none e = rw all at (first-clear t (k .start) (k .end - k .start) (not-found (firstTouched t (suc i) (k .end - suc i)) (firstTouched t (k .start) (k .end - k .start)) e))
-
   -- i itself is untouched, and z is a touched point of the contour
   module _ (free : getD t i 0 ≡ 0) (z : ℕ) (start : k .start ≤ z) (end : z < k .end) (mark : 0 < getD t z 0) where
     -- a point in front of i and a point behind it are the cases of z
@@ -112,16 +102,6 @@ module _ (t : List ℕ) (k : Contour) (i : ℕ) (inside : k .start ≤ i) (below
         by (inr l) (inl g) = pinch t z p mark (λ y. beside (λ x. l .0 z x start) (λ x. g .clear z y x)) (λ y. l .1 .clear z end y)
         by (inr l) (inr g) = absurd (omega (arith, beside (λ x. l .0 z x start) (λ x. g .0 z end x)))
 
-  -- where there are no references, no point is touched
-  pub refs-missing : references t k i ≡ none → Clear t (k .start) (k .end)
-  unfolding references
-  refs-missing e = by (touchedBefore t k i) (touchedBehind t k i) refl refl e
-    where
-      by : (x y : Option ℕ) → touchedBefore t k i ≡ x → touchedBehind t k i ≡ y → paired x y ≡ none → Clear t (k .start) (k .end)
-      by none y ex ey q = before-none ex
-      by (some p) none ex ey q = behind-none ey
-      by (some p) (some u) ex ey q = let z : _≡_ {A = ℕ} 0 1 = cc in absurd (omega arith)
-
   -- where they are the same point, no other is touched
   pub refs-same : (p : ℕ) → getD t i 0 ≡ 0 → references t k i ≡ some (refs p p) → (z : ℕ) → k .start ≤ z → z < k .end → 0 < getD t z 0 → z ≡ p
   unfolding references
@@ -133,7 +113,3 @@ module _ (t : List ℕ) (k : Contour) (i : ℕ) (inside : k .start ≤ i) (below
       by (some a) (some b) ex ey q =
           let g : refs a b ≡ refs p p = cc in
           only free z start end mark p (ex ∙ ap (λ (r : References). some (r .before)) g) (ey ∙ ap (λ (r : References). some (r .behind)) g)
-
-  -- and wherever a point z is touched, there are references
-  pub refs-there : (z : ℕ) → k .start ≤ z → z < k .end → isTouched t z ≡ true → references t k i ≡ none → ⊥
-  refs-there z start end mark e = omega (arith, refs-missing e z end start, marked t z mark)

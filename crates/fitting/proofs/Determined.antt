@@ -11,7 +11,8 @@ use Rattle.fitting.specs.declared.place.Fitted.{Fitted}
 use Rattle.fitting.specs.declared.bounds.Bounds.{Bounds}
 use Rattle.fitting.specs.Fitting.{alignLinkedEdge, alignSerifEdge, latinRemainingBounds, adjustLink}
 
-pub align-linked-edge : (axis : Axis) (rule : WidthRule) (xs : List ℤ) (base stem : ℕ) {r s : Fitted} → r ≡ alignLinkedEdge axis rule xs base stem → s ≡ alignLinkedEdge axis rule xs base stem → r ≡ s
+pub align-linked-edge : (axis : Axis) (rule : WidthRule) (xs : List ℤ) (base stem : ℕ) {r s : Fitted}
+    → r ≡ alignLinkedEdge axis rule xs base stem → s ≡ alignLinkedEdge axis rule xs base stem → r ≡ s
 align-linked-edge axis rule xs base stem p q = p ∙ sym q
 
 pub align-serif-edge : (axis : Axis) (base serif : ℕ) {r s : Fitted} → r ≡ alignSerifEdge axis base serif → s ≡ alignSerifEdge axis base serif → r ≡ s

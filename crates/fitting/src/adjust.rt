@@ -1,6 +1,6 @@
 // An edge that passed its neighbour, put back to it.
 use super::place::Fitted;
-use axis::accept::edges_refusal;
+use super::refusal::edge_refusal;
 use axis::edge::Axis;
 use placing::adjust::LinkDir;
 use placing::adjust::adjust;
@@ -11,7 +11,7 @@ ghost use Rattle.fitting.specs.Fitting.{adjustLink};
 pub fn adjust_link(axis: Axis, edge: usize, dir: LinkDir, top_to_bottom: bool) -> Fitted
     ensures { λ r. ⌜ r ≡ adjustLink axis edge dir «top_to_bottom» ⌝ }
 {
-    let answer = edges_refusal(axis, true, edge < axis.len, true);
+    let answer = edge_refusal(axis, edge);
     if 0 < answer {
         return Fitted { answer, axis };
     }

@@ -1,5 +1,5 @@
 // The edges that bound an edge.
-use axis::accept::edges_refusal;
+use super::refusal::edge_refusal;
 use axis::edge::Axis;
 use axis::kinds::Link;
 use placing::bounds::lower_bound;
@@ -18,7 +18,7 @@ pub struct Bounds {
 pub fn latin_remaining_bounds(axis: Axis, edge: usize) -> Bounds
     ensures { λ r. ⌜ r ≡ latinRemainingBounds axis edge ⌝ }
 {
-    let answer = edges_refusal(axis, true, edge < axis.len, true);
+    let answer = edge_refusal(axis, edge);
     if 0 < answer {
         return Bounds {
             answer,

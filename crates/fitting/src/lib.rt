@@ -2,3 +2,4 @@
 pub mod adjust;
 pub mod bounds;
 pub mod place;
+pub mod refusal;

@@ -1,9 +1,8 @@
 // An edge placed by another one: the linked edge by its width, the serif edge by its distance.
-use axis::accept::edges_refusal;
+use super::refusal::linked_refusal;
+use super::refusal::serif_refusal;
 use axis::edge::Axis;
 use fixed::width::WidthRule;
-use fixed::width::rule_holds;
-use placing::named::both_below;
 use placing::place::linked_edge;
 use placing::place::serif_edge;
 ghost use mathlib.Core.Path.{_≡_};
@@ -25,9 +24,7 @@ pub fn align_linked_edge(
 ) -> Fitted
     ensures { λ r. ⌜ r ≡ alignLinkedEdge axis rule (now (standards .entry)) base stem ⌝ }
 {
-    let right = rule_holds(rule, standards);
-    let named = both_below(base, stem, axis.len);
-    let answer = edges_refusal(axis, right, named, true);
+    let answer = linked_refusal(axis, rule, standards, base, stem);
     if 0 < answer {
         return Fitted { answer, axis };
     }
@@ -43,8 +40,7 @@ pub fn align_linked_edge(
 pub fn align_serif_edge(axis: Axis, base: usize, serif: usize) -> Fitted
     ensures { λ r. ⌜ r ≡ alignSerifEdge axis base serif ⌝ }
 {
-    let named = both_below(base, serif, axis.len);
-    let answer = edges_refusal(axis, true, named, true);
+    let answer = serif_refusal(axis, base, serif);
     if 0 < answer {
         return Fitted { answer, axis };
     }

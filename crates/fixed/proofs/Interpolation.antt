@@ -86,7 +86,9 @@ module _ (k d s : ℕ) (small : 2 * d + 131072 < k * 65536) (positive : 0 < s) w
       )
     where
       -- what remains of the two parts, of which one is 0
-      by : (c : ℤ) → (4 * s * interp d (up c) s + 4 * d * dn c < 4 * s * interp d (dn c) s + 4 * d * up c + k * s) × (4 * s * interp d (dn c) s + 4 * d * up c < 4 * s * interp d (up c) s + 4 * d * dn c + k * s)
+      by :
+          (c : ℤ)
+          → (4 * s * interp d (up c) s + 4 * d * dn c < 4 * s * interp d (dn c) s + 4 * d * up c + k * s) × (4 * s * interp d (dn c) s + 4 * d * up c < 4 * s * interp d (up c) s + 4 * d * dn c + k * s)
       by (pos n) = rw interp-zero (omega (arith, close-above n, close-below n))
       by (negsuc n) = rw interp-zero (omega (arith, close-above (suc n), close-below (suc n)))
 
@@ -124,7 +126,9 @@ interpolation (pos d) c (negsuc s) h k l b = absurd (omega arith)
 interpolation (negsuc d) c s h k l b = absurd (omega arith)
 
 -- 0 ≤ d ≤ e and 0 < s: r grows with d where c is above zero, and falls where it is below
-pub interpolation-grows : (d e c s : ℤ) → dn d ≤ up d → up d + dn e ≤ up e + dn d → dn s < up s → (up (mulFix d (divFix c s)) ≤ up (mulFix e (divFix c s))) × (dn (mulFix d (divFix c s)) ≤ dn (mulFix e (divFix c s)))
+pub interpolation-grows :
+    (d e c s : ℤ) → dn d ≤ up d → up d + dn e ≤ up e + dn d → dn s < up s
+    → (up (mulFix d (divFix c s)) ≤ up (mulFix e (divFix c s))) × (dn (mulFix d (divFix c s)) ≤ dn (mulFix e (divFix c s)))
 interpolation-grows (pos d) (pos e) c (pos s) h k l =
     omega (
       arith,

@@ -1,11 +1,10 @@
 -- Pixel floor and round: what they are, and how far from the number they lie. Facts to list: `omega (arith, signed, floor-law x)`.
 use mathlib.Core.Path.{_≡_}
-use Prim.Native.Nat.{ℕ, _+_, _%_, _≤_, _<_}
+use Prim.Native.Nat.{_+_, _%_, _≤_, _<_}
 use native.Mathlib.Omega.{arith}
 use lib.IntN.{ℤ, pos, _+ℤ_}
 use lib.Signed.{shrZ}
 use Rattle.signed.specs.Parts.{up, dn}
-use Rattle.signed.specs.Range.{Between}
 use Rattle.signed.proofs.Signed.{add-law, mul-up, mul-dn, shr-law}
 use Rattle.fixed.specs.Pixel.{pixFloor, pixRound}
 
@@ -41,10 +40,3 @@ round-law z =
     let l = floor-law (z +ℤ pos 32) in
     let a = add-law z (pos 32) in
     record { at-most-half-above = omega arith; less-than-half-below = omega arith; whole-up = l .whole-up; whole-dn = l .whole-dn }
-
--- the ranges of the two
-pub floor-range : {lo hi : ℕ} {z : ℤ} → Between lo hi z → Between (lo + 63) hi (pixFloor z)
-floor-range {lo} {hi} {z} h = omega (arith, h, floor-law z)
-
-pub round-range : {lo hi : ℕ} {z : ℤ} → Between lo hi z → Between (lo + 31) (hi + 32) (pixRound z)
-round-range {lo} {hi} {z} h = omega (arith, h, round-law z)

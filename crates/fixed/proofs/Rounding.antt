@@ -41,28 +41,28 @@ pub near-zero : (d : ℕ) → 0 < d → near 0 d ≡ 0
 near-zero d h = omega (arith, near-at-most 0 d h)
 
 -- ---- by the signs of the two
-pub near-pp : (n d : ℤ) → dn n ≤ up n → dn d ≤ up d → nearZ n d ≡ pos (near (natAbs n) (natAbs d))
+near-pp : (n d : ℤ) → dn n ≤ up n → dn d ≤ up d → nearZ n d ≡ pos (near (natAbs n) (natAbs d))
 unfolding nearZ
 near-pp (pos n) (pos d) h k = refl
 near-pp (pos n) (negsuc d) h k = absurd (omega arith)
 near-pp (negsuc n) (pos d) h k = absurd (omega arith)
 near-pp (negsuc n) (negsuc d) h k = absurd (omega arith)
 
-pub near-pn : (n d : ℤ) → dn n ≤ up n → up d < dn d → nearZ n d ≡ negℤ (pos (near (natAbs n) (natAbs d)))
+near-pn : (n d : ℤ) → dn n ≤ up n → up d < dn d → nearZ n d ≡ negℤ (pos (near (natAbs n) (natAbs d)))
 unfolding nearZ
 near-pn (pos n) (pos d) h k = absurd (omega arith)
 near-pn (pos n) (negsuc d) h k = refl
 near-pn (negsuc n) (pos d) h k = absurd (omega arith)
 near-pn (negsuc n) (negsuc d) h k = absurd (omega arith)
 
-pub near-np : (n d : ℤ) → up n < dn n → dn d ≤ up d → nearZ n d ≡ negℤ (pos (near (natAbs n) (natAbs d)))
+near-np : (n d : ℤ) → up n < dn n → dn d ≤ up d → nearZ n d ≡ negℤ (pos (near (natAbs n) (natAbs d)))
 unfolding nearZ
 near-np (pos n) (pos d) h k = absurd (omega arith)
 near-np (pos n) (negsuc d) h k = absurd (omega arith)
 near-np (negsuc n) (pos d) h k = refl
 near-np (negsuc n) (negsuc d) h k = absurd (omega arith)
 
-pub near-nn : (n d : ℤ) → up n < dn n → up d < dn d → nearZ n d ≡ pos (near (natAbs n) (natAbs d))
+near-nn : (n d : ℤ) → up n < dn n → up d < dn d → nearZ n d ≡ pos (near (natAbs n) (natAbs d))
 unfolding nearZ
 near-nn (pos n) (pos d) h k = absurd (omega arith)
 near-nn (pos n) (negsuc d) h k = absurd (omega arith)
@@ -74,7 +74,7 @@ natAbs-pos-neg : (n : ℕ) → natAbs (negℤ (pos n)) ≡ n
 natAbs-pos-neg zero = refl
 natAbs-pos-neg (suc n) = refl
 
-pub near-abs : (n d : ℤ) → natAbs (nearZ n d) ≡ near (natAbs n) (natAbs d)
+near-abs : (n d : ℤ) → natAbs (nearZ n d) ≡ near (natAbs n) (natAbs d)
 unfolding nearZ
 near-abs (pos n) (pos d) = refl
 near-abs (pos n) (negsuc d) = natAbs-pos-neg (near n (suc d))
@@ -82,12 +82,12 @@ near-abs (negsuc n) (pos d) = natAbs-pos-neg (near (suc n) d)
 near-abs (negsuc n) (negsuc d) = refl
 
 -- by a positive divisor each part is rounded by itself
-pub nearZ-up : (n : ℤ) (d : ℕ) → 0 < d → up (nearZ n (pos d)) ≡ near (up n) d
+nearZ-up : (n : ℤ) (d : ℕ) → 0 < d → up (nearZ n (pos d)) ≡ near (up n) d
 unfolding nearZ
 nearZ-up (pos n) d h = refl
 nearZ-up (negsuc n) d h = omega (arith, up-neg (pos (near (suc n) d)), near-zero d h)
 
-pub nearZ-dn : (n : ℤ) (d : ℕ) → 0 < d → dn (nearZ n (pos d)) ≡ near (dn n) d
+nearZ-dn : (n : ℤ) (d : ℕ) → 0 < d → dn (nearZ n (pos d)) ≡ near (dn n) d
 unfolding nearZ
 nearZ-dn (pos n) d h = omega (arith, near-zero d h)
 nearZ-dn (negsuc n) d h = omega (arith, dn-neg (pos (near (suc n) d)))
@@ -109,7 +109,7 @@ mul-shift-neg p h =
     (omega (arith, r, one-zero p, add-law p (pos 32767), nearZ-up p 65536 (omega arith), nearZ-dn p 65536 (omega arith)))
 
 -- the magnitude of a product, from bounds on the magnitudes of its factors
-pub mul-abs : (a b : ℤ) {A B : ℕ} → natAbs a ≤ A → natAbs b ≤ B → natAbs (mulFix a b) ≤ near (A * B) 65536
+mul-abs : (a b : ℤ) {A B : ℕ} → natAbs a ≤ A → natAbs b ≤ B → natAbs (mulFix a b) ≤ near (A * B) 65536
 unfolding mulFix
 mul-abs a b {A} {B} h k =
     rw (near-abs (a *ℤ b) (pos 65536), natAbs-mul a b) (near-grows (natAbs a * natAbs b) (A * B) 65536 (omega arith) (mul-le-mul h k))

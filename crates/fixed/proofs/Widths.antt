@@ -15,7 +15,8 @@ use lib.IntN.{ℤ, pos, negsuc, negℤ, natAbs, _-ℤ_}
 use lib.Signed.{ltZ, leZ, _≤ℤ_, _<ℤ_}
 use Rattle.signed.specs.Parts.{up, dn}
 use Rattle.signed.proofs.Signed.{signed, natAbs-is, sub-law, up-neg, dn-neg, is-≤ℤ, is-<ℤ, to-≤ℤ, to-≡, to-lt-true, to-lt-false, to-le-true, to-le-false, lt-or-le}
-use Rattle.fixed.specs.Width.{risesFrom, standardsHold, Standards, away, noBetter, isNearest, standardThat, nearest, Nearest, withSign, settled, snapped, fittedWidth}
+use Rattle.fixed.specs.Width.{mostStandards, mostStandard, mostAway, risesFrom, standardsHold, Standards}
+use Rattle.fixed.specs.Width.{away, noBetter, isNearest, standardThat, nearest, Nearest, withSign, settled, snapped, fittedWidth}
 use Rattle.fixed.specs.declared.width.WidthRule.{WidthRule}
 use Rattle.fixed.specs.declared.width.WidthRule.the-variants.{Keep, Snap}
 
@@ -37,15 +38,15 @@ at xs i = getD xs i (pos 0)
 -- ---- the list's own rule, as facts
 record Rises (b x : ℤ) (xs : List ℤ) : Type 0 where
   above : b <ℤ x
-  most : x ≤ℤ pos 16383
+  most : x ≤ℤ pos mostStandard
   rest : risesFrom x xs ≡ true
 
 rises-cons : (b x : ℤ) (xs : List ℤ) → risesFrom b (x ∷ xs) ≡ true → Rises b x xs
 unfolding risesFrom
 rises-cons b x xs e =
-    let l = and-both (ltZ b x) (leZ x (pos 16383) && risesFrom x xs) e in
-    let k = and-both (leZ x (pos 16383)) (risesFrom x xs) (l .1) in
-    record { above = is-<ℤ b x (l .0); most = is-≤ℤ x (pos 16383) (k .0); rest = k .1 }
+    let l = and-both (ltZ b x) (leZ x (pos mostStandard) && risesFrom x xs) e in
+    let k = and-both (leZ x (pos mostStandard)) (risesFrom x xs) (l .1) in
+    record { above = is-<ℤ b x (l .0); most = is-≤ℤ x (pos mostStandard) (k .0); rest = k .1 }
 
 rises-above : (b : ℤ) (xs : List ℤ) → risesFrom b xs ≡ true → (i : ℕ) → i < length xs → b <ℤ at xs i
 rises-above b [] e i h = absurd (omega arith)
@@ -55,7 +56,7 @@ rises-above b (x ∷ xs) e (suc i) h =
     let k = rises-above x xs (r .rest) i (le-of-suc-le-suc h) in
     omega (arith, signed)
 
-rises-most : (b : ℤ) (xs : List ℤ) → risesFrom b xs ≡ true → (i : ℕ) → i < length xs → at xs i ≤ℤ pos 16383
+rises-most : (b : ℤ) (xs : List ℤ) → risesFrom b xs ≡ true → (i : ℕ) → i < length xs → at xs i ≤ℤ pos mostStandard
 rises-most b [] e i h = absurd (omega arith)
 rises-most b (x ∷ xs) e zero h = rises-cons b x xs e .most
 rises-most b (x ∷ xs) e (suc i) h = rises-most x xs (rises-cons b x xs e .rest) i (le-of-suc-le-suc h)
@@ -70,22 +71,24 @@ rises-pairs b (x ∷ xs) e (suc i) (suc j) l h = rises-pairs x xs (rises-cons b 
 pub holds-is : (xs : List ℤ) → standardsHold xs ≡ true → Standards xs
 unfolding standardsHold
 holds-is xs e =
-    let l = and-both (leb (length xs) 16) (risesFrom (pos 0) xs) e in
+    let l = and-both (leb (length xs) mostStandards) (risesFrom (pos 0) xs) e in
     record {
-      few = leb-true (length xs) 16 (l .0);
+      few = leb-true (length xs) mostStandards (l .0);
       least = λ i h. let k = rises-above (pos 0) xs (l .1) i h in omega (arith, signed);
       most = rises-most (pos 0) xs (l .1);
       rising = rises-pairs (pos 0) xs (l .1);
     }
 
-rises-from : (b : ℤ) (xs : List ℤ) → ((i : ℕ) → i < length xs → b <ℤ at xs i) → ((i : ℕ) → i < length xs → at xs i ≤ℤ pos 16383) → ((i j : ℕ) → i < j → j < length xs → at xs i <ℤ at xs j) → risesFrom b xs ≡ true
+rises-from :
+    (b : ℤ) (xs : List ℤ) → ((i : ℕ) → i < length xs → b <ℤ at xs i) → ((i : ℕ) → i < length xs → at xs i ≤ℤ pos mostStandard)
+    → ((i j : ℕ) → i < j → j < length xs → at xs i <ℤ at xs j) → risesFrom b xs ≡ true
 unfolding risesFrom
 rises-from b [] l m r = refl
 rises-from b (x ∷ xs) l m r =
     let p = l 0 (omega arith) in
     let q = m 0 (omega arith) in
-    and-of (ltZ b x) (leZ x (pos 16383) && risesFrom x xs) (to-lt-true b x (omega (arith, signed)))
-    (and-of (leZ x (pos 16383)) (risesFrom x xs) (to-le-true x (pos 16383) (omega (arith, signed)))
+    and-of (ltZ b x) (leZ x (pos mostStandard) && risesFrom x xs) (to-lt-true b x (omega (arith, signed)))
+    (and-of (leZ x (pos mostStandard)) (risesFrom x xs) (to-le-true x (pos mostStandard) (omega (arith, signed)))
     (rises-from x xs (λ i h. r 0 (suc i) (omega arith) (omega (arith, h))) (λ i h. m (suc i) (omega (arith, h)))
     (λ i j h k. r (suc i) (suc j) (omega (arith, h)) (omega (arith, k)))))
 
@@ -93,31 +96,31 @@ rises-from b (x ∷ xs) l m r =
 pub is-holds : (xs : List ℤ) → Standards xs → standardsHold xs ≡ true
 unfolding standardsHold
 is-holds xs s =
-    and-of (leb (length xs) 16) (risesFrom (pos 0) xs) (le-leb (length xs) 16 (s .few))
+    and-of (leb (length xs) mostStandards) (risesFrom (pos 0) xs) (le-leb (length xs) mostStandards (s .few))
     (rises-from (pos 0) xs (λ i h. let k = s .least i h in omega (arith, signed)) (s .most) (s .rising))
 
 -- ---- the test, standard by standard
-pub holds-long : (xs : List ℤ) → 16 < length xs → standardsHold xs ≡ false
+pub holds-long : (xs : List ℤ) → mostStandards < length xs → standardsHold xs ≡ false
 unfolding standardsHold
-holds-long xs h = rw (lt-leb (length xs) 16 h)
+holds-long xs h = rw (lt-leb (length xs) mostStandards h)
 
-pub holds-start : (xs : List ℤ) → length xs ≤ 16 → standardsHold xs ≡ risesFrom (pos 0) xs
+pub holds-start : (xs : List ℤ) → length xs ≤ mostStandards → standardsHold xs ≡ risesFrom (pos 0) xs
 unfolding standardsHold
-holds-start xs h = rw (le-leb (length xs) 16 h)
+holds-start xs h = rw (le-leb (length xs) mostStandards h)
 
 module _ (b : ℤ) (xs : List ℤ) (i : ℕ) (inside : i < length xs) where
-  step : risesFrom b (drop i xs) ≡ (ltZ b (at xs i) && (leZ (at xs i) (pos 16383) && risesFrom (at xs i) (drop (i + 1) xs)))
+  step : risesFrom b (drop i xs) ≡ (ltZ b (at xs i) && (leZ (at xs i) (pos mostStandard) && risesFrom (at xs i) (drop (i + 1) xs)))
   unfolding risesFrom
   step = rw (add-one, drop-cons xs i (pos 0) inside)
 
   pub rises-not-above : up (at xs i) + dn b ≤ up b + dn (at xs i) → risesFrom b (drop i xs) ≡ false
   rises-not-above h = rw (step, to-lt-false b (at xs i) h)
 
-  pub rises-too-large : 16383 + dn (at xs i) < up (at xs i) → risesFrom b (drop i xs) ≡ false
-  rises-too-large h = rw (step, to-le-false (at xs i) (pos 16383) (omega arith), and-false)
+  pub rises-too-large : mostStandard + dn (at xs i) < up (at xs i) → risesFrom b (drop i xs) ≡ false
+  rises-too-large h = rw (step, to-le-false (at xs i) (pos mostStandard) (omega arith), and-false)
 
-  pub rises-on : up b + dn (at xs i) < up (at xs i) + dn b → up (at xs i) ≤ 16383 + dn (at xs i) → risesFrom b (drop i xs) ≡ risesFrom (at xs i) (drop (i + 1) xs)
-  rises-on h l = rw (step, to-lt-true b (at xs i) h, to-le-true (at xs i) (pos 16383) (omega arith))
+  pub rises-on : up b + dn (at xs i) < up (at xs i) + dn b → up (at xs i) ≤ mostStandard + dn (at xs i) → risesFrom b (drop i xs) ≡ risesFrom (at xs i) (drop (i + 1) xs)
+  rises-on h l = rw (step, to-lt-true b (at xs i) h, to-le-true (at xs i) (pos mostStandard) (omega arith))
 
 pub rises-end : (b : ℤ) (xs : List ℤ) (i : ℕ) → length xs ≤ i → risesFrom b (drop i xs) ≡ true
 unfolding risesFrom
@@ -152,7 +155,9 @@ pub nearest-new : (i : ℕ) (xs : List ℤ) (m place : ℕ) → NearestOf i xs m
 nearest-new i xs m place n l = record {
   inside = omega arith;
   none-nearer = λ k h. ⊎-elim (λ b. omega (arith, n .none-nearer k b)) (λ b. subst (λ (j : ℕ). away m (at xs i) ≤ away m (at xs j)) (is-last i k h b) (omega arith)) (lt-or-le k i);
-  smaller-on-a-tie = λ k h e. ⊎-elim (λ b. absurd (omega (arith, n .none-nearer k b))) (λ b. subst (λ (j : ℕ). at xs i ≤ℤ at xs j) (is-last i k h b) (to-≤ℤ (at xs i) (at xs i) (omega arith))) (lt-or-le k i);
+  smaller-on-a-tie =
+      λ k h e. ⊎-elim (λ b. absurd (omega (arith, n .none-nearer k b)))
+      (λ b. subst (λ (j : ℕ). at xs i ≤ℤ at xs j) (is-last i k h b) (to-≤ℤ (at xs i) (at xs i) (omega arith))) (lt-or-le k i);
 }
 
 -- one standard more, no nearer: it is larger, since the list rises
@@ -309,33 +314,33 @@ pub settled-zero : (w s : ℤ) → natAbs w ≡ 0 → settled w s ≡ w
 unfolding settled
 settled-zero w s e = rw (eq-eqb (natAbs w) 0 e)
 
-pub settled-far : (w s : ℤ) → (natAbs w ≡ 0 → ⊥) → 16 < away (natAbs w) s → settled w s ≡ w
+pub settled-far : (w s : ℤ) → (natAbs w ≡ 0 → ⊥) → mostAway < away (natAbs w) s → settled w s ≡ w
 unfolding settled
-settled-far w s h l = rw (ne-eqb (natAbs w) 0 h, lt-leb (away (natAbs w) s) 16 l)
+settled-far w s h l = rw (ne-eqb (natAbs w) 0 h, lt-leb (away (natAbs w) s) mostAway l)
 
-settled-near : (w s : ℤ) → (natAbs w ≡ 0 → ⊥) → away (natAbs w) s ≤ 16 → settled w s ≡ withSign w s
+settled-near : (w s : ℤ) → (natAbs w ≡ 0 → ⊥) → away (natAbs w) s ≤ mostAway → settled w s ≡ withSign w s
 unfolding settled
-settled-near w s h l = rw (ne-eqb (natAbs w) 0 h, le-leb (away (natAbs w) s) 16 l)
+settled-near w s h l = rw (ne-eqb (natAbs w) 0 h, le-leb (away (natAbs w) s) mostAway l)
 
-pub settled-pos : (w s : ℤ) → (natAbs w ≡ 0 → ⊥) → away (natAbs w) s ≤ 16 → dn w ≤ up w → settled w s ≡ s
+pub settled-pos : (w s : ℤ) → (natAbs w ≡ 0 → ⊥) → away (natAbs w) s ≤ mostAway → dn w ≤ up w → settled w s ≡ s
 unfolding withSign
 settled-pos (pos n) s h l k = settled-near (pos n) s h l
 settled-pos (negsuc n) s h l k = absurd (omega arith)
 
-pub settled-neg : (w s : ℤ) → (natAbs w ≡ 0 → ⊥) → away (natAbs w) s ≤ 16 → up w < dn w → settled w s ≡ negℤ s
+pub settled-neg : (w s : ℤ) → (natAbs w ≡ 0 → ⊥) → away (natAbs w) s ≤ mostAway → up w < dn w → settled w s ≡ negℤ s
 unfolding withSign
 settled-neg (pos n) s h l k = absurd (omega arith)
 settled-neg (negsuc n) s h l k = settled-near (negsuc n) s h l
 
 -- ---- a fitted width is within 16 of the width, whatever the list
 pub record Within16 (w r : ℤ) : Type 0 where
-  pub not-above : up r + dn w ≤ up w + dn r + 16
-  pub not-below : up w + dn r ≤ up r + dn w + 16
+  pub not-above : up r + dn w ≤ up w + dn r + mostAway
+  pub not-below : up w + dn r ≤ up r + dn w + mostAway
 
 within-itself : (w : ℤ) → Within16 w w
 within-itself w = record { not-above = omega arith; not-below = omega arith }
 
-with-sign-within : (w s : ℤ) → away (natAbs w) s ≤ 16 → Within16 w (withSign w s)
+with-sign-within : (w s : ℤ) → away (natAbs w) s ≤ mostAway → Within16 w (withSign w s)
 unfolding withSign
 with-sign-within (pos n) s l =
     let z = s -ℤ pos n in
@@ -349,12 +354,12 @@ with-sign-within (negsuc n) s l =
 
 settled-within : (w s : ℤ) → Within16 w (settled w s)
 unfolding settled
-settled-within w s = by (eqb (natAbs w) 0) (leb (away (natAbs w) s) 16) refl
+settled-within w s = by (eqb (natAbs w) 0) (leb (away (natAbs w) s) mostAway) refl
   where
-    by : (a b : Bool) → leb (away (natAbs w) s) 16 ≡ b → Within16 w (cond a w (cond b (withSign w s) w))
+    by : (a b : Bool) → leb (away (natAbs w) s) mostAway ≡ b → Within16 w (cond a w (cond b (withSign w s) w))
     by true b e = within-itself w
     by false false e = within-itself w
-    by false true e = with-sign-within w s (leb-true (away (natAbs w) s) 16 e)
+    by false true e = with-sign-within w s (leb-true (away (natAbs w) s) mostAway e)
 
 pub fitted-within : (rule : WidthRule) (xs : List ℤ) (w : ℤ) → Within16 w (fittedWidth rule xs w)
 unfolding fittedWidth snapped

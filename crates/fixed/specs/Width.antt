@@ -10,15 +10,28 @@ use lib.Signed.{ltZ, leZ, _≤ℤ_, _<ℤ_}
 use Rattle.fixed.specs.declared.width.WidthRule.{WidthRule}
 use Rattle.fixed.specs.declared.width.WidthRule.the-variants.{Keep, Snap}
 
+-- ---- limits
+-- standards of a list: 0 to 16
+abbrev pub mostStandards : ℕ
+mostStandards = 16
+
+-- a standard: 1 to 16,383 units
+abbrev pub mostStandard : ℕ
+mostStandard = 16383
+
+-- how far from a width the standard may be that it snaps to: 0 to 16 units
+abbrev pub mostAway : ℕ
+mostAway = 16
+
 -- ---- the list's own rule
--- strictly rising from above b, each at most 16,383
+-- strictly rising from above b, each at most its limit
 unfoldable pub risesFrom : ℤ → List ℤ → Bool
 risesFrom b [] = true
-risesFrom b (x ∷ xs) = ltZ b x && (leZ x (pos 16383) && risesFrom x xs)
+risesFrom b (x ∷ xs) = ltZ b x && (leZ x (pos mostStandard) && risesFrom x xs)
 
--- 0 to 16 standards, strictly rising, each 1 to 16,383
+-- no more than their limit, strictly rising, each 1 to its limit
 unfoldable pub standardsHold : List ℤ → Bool
-standardsHold xs = leb (length xs) 16 && risesFrom (pos 0) xs
+standardsHold xs = leb (length xs) mostStandards && risesFrom (pos 0) xs
 
 -- Keep has no list to break
 unfoldable pub ruleHolds : WidthRule → List ℤ → Bool
@@ -27,9 +40,9 @@ ruleHolds Snap xs = standardsHold xs
 
 -- what `standardsHold` says, as facts: `holds-is` and `is-holds` show that it is the same
 pub record Standards (xs : List ℤ) : Type 0 where
-  pub few : length xs ≤ 16
+  pub few : length xs ≤ mostStandards
   pub least : (i : ℕ) → i < length xs → pos 1 ≤ℤ getD xs i (pos 0)
-  pub most : (i : ℕ) → i < length xs → getD xs i (pos 0) ≤ℤ pos 16383
+  pub most : (i : ℕ) → i < length xs → getD xs i (pos 0) ≤ℤ pos mostStandard
   pub rising : (i j : ℕ) → i < j → j < length xs → getD xs i (pos 0) <ℤ getD xs j (pos 0)
 
 -- ---- the nearest standard
@@ -70,9 +83,9 @@ unfoldable pub withSign : ℤ → ℤ → ℤ
 withSign (pos n) s = s
 withSign (negsuc n) s = negℤ s
 
--- the standard s where it is at most 16 away from the width's magnitude, else the width itself; width 0 stays 0
+-- the standard s where it is near enough to the width's magnitude, else the width itself; width 0 stays 0
 unfoldable pub settled : ℤ → ℤ → ℤ
-settled w s = cond (eqb (natAbs w) 0) w (cond (leb (away (natAbs w) s) 16) (withSign w s) w)
+settled w s = cond (eqb (natAbs w) 0) w (cond (leb (away (natAbs w) s) mostAway) (withSign w s) w)
 
 -- an empty list changes no width
 unfoldable pub snapped : List ℤ → ℤ → ℤ

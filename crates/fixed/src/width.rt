@@ -7,17 +7,24 @@ ghost use lib.ListN.{length, getD};
 ghost use lib.IntN.{pos};
 ghost use Rattle.fixed.specs.Width.{standardsHold, ruleHolds, Standards, away, Nearest, snapped, fittedWidth};
 
+// Document 01's limits of standards: how many there are, how large one is, and how far from a width the one may be that it snaps to.
+const MOST_STANDARDS: usize = 16;
+
+const MOST_STANDARD: i32 = 16383;
+
+const MOST_AWAY: u64 = 16;
+
 // What becomes of a stem's width: it is kept, or it snaps to the nearest of a list of standards.
 pub enum WidthRule {
     Keep,
     Snap,
 }
 
-// Whether a list of standards keeps its rule: 0 to 16 of them, strictly rising, each 1 to 16,383.
-pub fn standards_hold(standards: &[i32]) -> bool
+// Whether a list of standards keeps its rule: no more than their limit, strictly rising, each 1 to its limit.
+fn standards_hold(standards: &[i32]) -> bool
     ensures { λ r. ⌜ r ≡ standardsHold (now (standards .entry)) ⌝ }
 {
-    if 16 < standards.len() {
+    if MOST_STANDARDS < standards.len() {
         return false;
     }
     let mut last: i32 = 0;
@@ -27,7 +34,7 @@ pub fn standards_hold(standards: &[i32]) -> bool
         if standard <= last {
             return false;
         }
-        if 16383 < standard {
+        if MOST_STANDARD < standard {
             return false;
         }
         last = standard;
@@ -73,7 +80,7 @@ fn nearest_place(standards: &[i32], width: u64) -> usize
     best
 }
 
-// The nearest standard with the width's sign where it is at most 16 away, else the width itself.
+// The nearest standard with the width's sign where it is near enough, else the width itself.
 fn snap(standards: &[i32], width: i32) -> i32
     requires { ⌜ Standards (now standards) ⌝ }
     ensures { λ r. ⌜ r ≡ snapped (now (standards .entry)) width ⌝ }
@@ -87,7 +94,7 @@ fn snap(standards: &[i32], width: i32) -> i32
     }
     let place = nearest_place(standards, size);
     let standard = standards[place];
-    if 16 < distance(size, standard) {
+    if MOST_AWAY < distance(size, standard) {
         return width;
     }
     if width < 0 {

@@ -9,12 +9,12 @@ use Rattle.fitting.specs.declared.place.Fitted.{Fitted}
 use Rattle.fitting.specs.Fitting.{alignLinkedEdge, alignSerifEdge, adjustLink, latinRemainingBounds}
 use Rattle.words.specs.Field.{choiceOf, ruleOf, linkDirOf, linkWord}
 use Rattle.words.specs.Edge.{edgesOver}
-use Rattle.shape.specs.Shape.{within, index, choice, edgesShown}
+use Rattle.shape.specs.Shape.{isIn, index, choice, edgesShown}
 use Rattle.lent.specs.Lent.{Lent, bothIn, edgesOf}
 
 -- ---- the linked edge: edges, the width rule with its standards, the base edge and the stem edge
 abbrev pub linkedShown : List ℤ → ℤ → ℤ → ℤ → Bool
-linkedShown ws rule base stem = edgesShown ws && (within choice rule && bothIn index base stem)
+linkedShown ws rule base stem = edgesShown ws && (isIn choice rule && bothIn index base stem)
 
 abbrev pub linkedFitted : List ℤ → ℤ → List ℤ → ℤ → ℤ → Fitted
 linkedFitted ws rule standards base stem = alignLinkedEdge (edgesOf ws) (ruleOf rule) standards (up base) (up stem)
@@ -35,7 +35,7 @@ SerifLent ws base serif = Lent (serifShown ws base serif) (serifFitted ws base s
 
 -- ---- the adjustment: edges, the edge, its neighbour and the order
 abbrev pub adjustShown : List ℤ → ℤ → ℤ → ℤ → Bool
-adjustShown ws edge dir ttb = edgesShown ws && (within index edge && bothIn choice dir ttb)
+adjustShown ws edge dir ttb = edgesShown ws && (isIn index edge && bothIn choice dir ttb)
 
 abbrev pub adjustFitted : List ℤ → ℤ → ℤ → ℤ → Fitted
 adjustFitted ws edge dir ttb = adjustLink (edgesOf ws) (up edge) (linkDirOf dir) (choiceOf ttb)
@@ -45,7 +45,7 @@ AdjustLent ws edge dir ttb = Lent (adjustShown ws edge dir ttb) (adjustFitted ws
 
 -- ---- the bounds: edges, which are not written, and the edge; two places are lent for the bounds
 abbrev pub boundsShown : List ℤ → ℤ → Bool
-boundsShown ws edge = edgesShown ws && within index edge
+boundsShown ws edge = edgesShown ws && isIn index edge
 
 abbrev pub boundsFound : List ℤ → ℤ → Bounds
 boundsFound ws edge = latinRemainingBounds (edgesOf ws) (up edge)

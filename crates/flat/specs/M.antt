@@ -7,12 +7,12 @@ use Rattle.lowercase_m.specs.declared.hint.Hinted.{Hinted}
 use Rattle.lowercase_m.specs.M.{hintLowercaseM}
 use Rattle.words.specs.Field.{groupOf}
 use Rattle.words.specs.Edge.{edgesOver}
-use Rattle.shape.specs.Shape.{within, choice, edgesShown}
+use Rattle.shape.specs.Shape.{isIn, choice, edgesShown}
 use Rattle.lent.specs.Lent.{Lent, edgesOf}
 
 -- every word is one of its field
 abbrev pub mShown : List ℤ → ℤ → Bool
-mShown ws group = edgesShown ws && within choice group
+mShown ws group = edgesShown ws && isIn choice group
 
 -- what the call hands back
 abbrev pub mHinted : List ℤ → ℤ → Hinted

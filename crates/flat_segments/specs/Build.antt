@@ -11,18 +11,14 @@ use Rattle.building.specs.declared.build.Built.{Built}
 use Rattle.building.specs.declared.numbers.Thresholds.{Thresholds}
 use Rattle.building.specs.Building.{computeEdges}
 use Rattle.words.specs.Field.{choiceOf, dimensionOf, directionOf, groupOf}
-use Rattle.words.specs.Edge.{edgesOver}
+use Rattle.words.specs.Edge.{tableSize, edgesOver}
 use Rattle.words.specs.Segment.{flatSegments, segmentsOver}
-use Rattle.shape.specs.Shape.{within, direction, segmentsShown}
+use Rattle.shape.specs.Shape.{isIn, direction, segmentsShown}
 use Rattle.lent.specs.Lent.{Lent, choices}
-
--- the words of the working table's 128 places
-abbrev pub tableWords : ℕ
-tableWords = 1408
 
 -- the room for the edges has the table's length; what it holds is not read
 abbrev pub buildShown : List ℤ → List ℤ → ℤ → ℤ → ℤ → ℤ → Bool
-buildShown ws room dim major group ttb = segmentsShown ws && (eqb (length room) tableWords && (within direction major && choices dim group ttb))
+buildShown ws room dim major group ttb = segmentsShown ws && (eqb (length room) tableSize && (isIn direction major && choices dim group ttb))
 
 -- the three thresholds: edge distance, segment length, segment width
 abbrev pub thresholdsOf : ℤ → ℤ → ℤ → Thresholds

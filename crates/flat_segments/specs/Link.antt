@@ -7,11 +7,11 @@ use Rattle.linking.specs.declared.link.Linked.{Linked}
 use Rattle.linking.specs.Linking.{linkSegmentsCjk}
 use Rattle.words.specs.Field.{directionOf}
 use Rattle.words.specs.Segment.{flatSegments, segmentsOver}
-use Rattle.shape.specs.Shape.{within, direction, segmentsShown}
+use Rattle.shape.specs.Shape.{isIn, direction, segmentsShown}
 use Rattle.lent.specs.Lent.{Lent}
 
 abbrev pub linkingShown : List ℤ → ℤ → Bool
-linkingShown ws major = segmentsShown ws && within direction major
+linkingShown ws major = segmentsShown ws && isIn direction major
 
 -- what the call hands back
 abbrev pub linkingLinked : List ℤ → ℤ → ℤ → ℤ → Linked

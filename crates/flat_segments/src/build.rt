@@ -11,6 +11,7 @@ use lent::word::give_word;
 use shape::element::is_segments;
 use shape::field::DIRECTION;
 use shape::field::is_in;
+use words::edge::TABLE_WORDS;
 use words::field::choice_of;
 use words::field::dimension_of;
 use words::field::direction_of;
@@ -33,7 +34,7 @@ pub fn lend_building(
 ) -> u8
     ensures { λ r. ⌜ BuiltLent (now (segments .entry)) (now (edges .entry)) dim «major_dir» group «top_to_bottom» scale thresholds (now (count .entry)) r (now (segments .exit), (now (edges .exit), now (count .exit))) ⌝ }
 {
-    let room = edges.len() == 1408;
+    let room = edges.len() == TABLE_WORDS;
     let words = both(
         is_in(major_dir, DIRECTION),
         are_choices(dim, group, top_to_bottom),

@@ -26,4 +26,5 @@ stemWords ws s = (edgesOver ws (s .axis), s .delta)
 
 abbrev pub StemLent : List ℤ → ℤ → ℤ → ℤ → List ℤ → ℤ → ℤ → ℤ → ℤ → ℕ → List ℤ × ℤ → Type 0
 StemLent ws dim adjust rule standards edge edge2 delta own =
-    Lent (stemShown ws dim adjust rule edge edge2) (stemHinted ws dim adjust rule standards edge edge2 delta .answer) (stemWords ws (stemHinted ws dim adjust rule standards edge edge2 delta)) (ws, own)
+    Lent (stemShown ws dim adjust rule edge edge2) (stemHinted ws dim adjust rule standards edge edge2 delta .answer)
+    (stemWords ws (stemHinted ws dim adjust rule standards edge edge2 delta)) (ws, own)

@@ -9,11 +9,11 @@ use Rattle.stems.specs.declared.pass.Stems.{Stems}
 use Rattle.stems.specs.Stems.{alignStemEdges}
 use Rattle.words.specs.Field.{choiceOf, dimensionOf, groupOf, linkOf, ruleOf, linkWord}
 use Rattle.words.specs.Edge.{flatAxis, edgesOver}
-use Rattle.shape.specs.Shape.{within, link, choice, edgesShown}
+use Rattle.shape.specs.Shape.{isIn, link, choice, edgesShown}
 use Rattle.lent.specs.Lent.{Lent, bothIn, choices}
 
 abbrev pub stemsShown : List ℤ → ℤ → ℤ → ℤ → ℤ → ℤ → ℤ → Bool
-stemsShown ws dim group adjust ttb anchor rule = edgesShown ws && (choices dim group adjust && (bothIn choice ttb rule && within link anchor))
+stemsShown ws dim group adjust ttb anchor rule = edgesShown ws && (choices dim group adjust && (bothIn choice ttb rule && isIn link anchor))
 
 -- what the call hands back; it does not read the major direction of the axis
 abbrev pub stemsAligned : List ℤ → ℤ → ℤ → ℤ → ℤ → ℤ → ℤ → List ℤ → Stems
@@ -26,4 +26,5 @@ stemsWords ws s = (edgesOver ws (s .axis), (pos (s .count % 65536), linkWord (s 
 
 abbrev pub StemsLent : List ℤ → ℤ → ℤ → ℤ → ℤ → ℤ → ℤ → List ℤ → ℤ → ℤ → ℕ → List ℤ × (ℤ × ℤ) → Type 0
 StemsLent ws dim group adjust ttb anchor rule standards count found =
-    Lent (stemsShown ws dim group adjust ttb anchor rule) (stemsAligned ws dim group adjust ttb anchor rule standards .answer) (stemsWords ws (stemsAligned ws dim group adjust ttb anchor rule standards)) (ws, (count, found))
+    Lent (stemsShown ws dim group adjust ttb anchor rule) (stemsAligned ws dim group adjust ttb anchor rule standards .answer)
+    (stemsWords ws (stemsAligned ws dim group adjust ttb anchor rule standards)) (ws, (count, found))

@@ -4,15 +4,18 @@ use super::lent::answer_lent;
 use super::list::put;
 use super::table::answer_table;
 use super::weak::answer_weak;
+use axis::limits::MOST_SEGMENTS;
 use khsaemudol::khs_compute_mid_delta;
 use khsaemudol::khs_compute_mid_pos;
+use words::edge::TABLE_WORDS;
 use words::field::short_word;
+use words::segment::SEGMENT_WORDS;
 use words::word::word_at;
 ghost use Prim.Native.Nat.{_≤_};
 ghost use lib.ListN.{length};
 
-// The words of the longest answer, that of building.
-const LONGEST: usize = 9091;
+// The words of the longest answer, that of building: the answer, a count and the segments, a count and the edges.
+pub const LONGEST: usize = 3 + SEGMENT_WORDS * MOST_SEGMENTS + TABLE_WORDS;
 
 // The middle of two coordinates, or half their difference.
 fn middle(call: usize, min: i32, max: i32) -> i32 {

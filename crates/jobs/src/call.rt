@@ -1,4 +1,7 @@
 // Which call a word list is a job of.
+use axis::accept::least;
+use axis::limits::MOST_EDGES;
+use axis::limits::MOST_SEGMENTS;
 use shape::element::Element;
 use shape::element::skip_elements;
 use shape::field::BYTE;
@@ -11,7 +14,6 @@ use shape::field::Range;
 use shape::field::WORD;
 use shape::field::skip_field;
 use words::word::count_at;
-use words::word::least;
 
 // The items of each call's job behind the call's word, by the digits of `skip_item`, the first item in the last digit. No item has digit 15, so nothing is a job of call 0.
 const FORMATS: [u64; 15] = [
@@ -52,8 +54,8 @@ fn skip_item(words: &[i32], at: usize, item: u64) -> Place {
         6 => skip_list(words, at, Element::Number(WORD), 8191, 8191),
         7 => skip_list(words, at, Element::Number(BYTE), 8191, 8191),
         8 => skip_list(words, at, Element::Number(INDEX), 8191, 8191),
-        9 => skip_list(words, at, Element::Segment, 65535, 512),
-        10 => skip_list(words, at, Element::Edge, 65535, 128),
+        9 => skip_list(words, at, Element::Segment, 65535, MOST_SEGMENTS),
+        10 => skip_list(words, at, Element::Edge, 65535, MOST_EDGES),
         11 => skip_list(words, at, Element::LentEdge, 160, 160),
         _ => Place::Nowhere,
     }

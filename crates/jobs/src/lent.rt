@@ -1,14 +1,15 @@
 // The lowercase m rule on a lent list, call 14: from the words of its job to those of its answer.
 use super::list::put;
+use axis::accept::least;
 use axis::edge::EMPTY_EDGE;
 use axis::edge::Edge;
 use lowercase_m_list::first::hint_first;
+use words::edge::EDGE_WORDS;
 use words::edge::edge_from;
 use words::edge::edge_words;
 use words::field::group_of;
 use words::word::count_at;
 use words::word::count_word;
-use words::word::least;
 use words::word::word_at;
 ghost use Prim.Native.Nat.{_≤_};
 ghost use lib.ListN.{length};
@@ -20,7 +21,7 @@ fn edges_from(words: &[i32], n: usize) -> [Edge; 160]
     let mut edges = [EMPTY_EDGE; 160];
     let mut i = 0;
     while i < n {
-        let edge = edge_from(words, 2 + 11 * i);
+        let edge = edge_from(words, 2 + EDGE_WORDS * i);
         edges[i] = edge;
         i += 1;
     }
@@ -48,7 +49,7 @@ pub fn answer_lent(words: &[i32], out: &mut [i32]) -> usize
     ensures { λ r. ⌜ r ≤ length (now (out .entry)) ⌝ }
 {
     let n = least(count_at(words, 1), 160);
-    let group = group_of(word_at(words, 2 + 11 * n));
+    let group = group_of(word_at(words, 2 + EDGE_WORDS * n));
     let edges = edges_from(words, n);
     let hinted = hint_first(edges, n, group);
     let moved = hinted.edges;

@@ -1,7 +1,7 @@
 // Parts of word lists, read and written. Where there is no room nothing is, so that these ask nothing of who calls them.
+use axis::accept::least;
 use words::word::count_at;
 use words::word::count_word;
-use words::word::least;
 use words::word::write_words;
 ghost use Prim.Native.Nat.{_≤_};
 ghost use lib.ListN.{length};

@@ -4,6 +4,9 @@ use super::list::part;
 use super::list::put;
 use super::list::put_list;
 use super::list::tail;
+use axis::accept::least;
+use axis::limits::MOST_EDGES;
+use axis::limits::MOST_SEGMENTS;
 use khsaemudol::khs_adjust_link;
 use khsaemudol::khs_align_edges_to_blues;
 use khsaemudol::khs_align_linked_edge;
@@ -14,22 +17,26 @@ use khsaemudol::khs_hint_lowercase_m;
 use khsaemudol::khs_hint_normal_stem_cjk;
 use khsaemudol::khs_latin_remaining_bounds;
 use khsaemudol::khs_link_segments_cjk;
+use words::edge::EDGE_WORDS;
+use words::edge::TABLE_WORDS;
+use words::segment::SEGMENT_WORDS;
 use words::word::count_at;
 use words::word::count_word;
-use words::word::least;
 use words::word::word_at;
-ghost use Prim.Native.Nat.{_+_, _≤_};
+ghost use Prim.Native.Nat.{_+_, _*_, _≤_};
 ghost use lib.ListN.{length};
+ghost use Rattle.axis.specs.Limits.{mostSegments};
+ghost use Rattle.words.specs.Segment.{segmentSize};
 
 // The words of a call's table of so many records, at most as many as its limit and so many more.
 fn size(call: usize, count: usize, more: usize) -> usize
     requires { ⌜ more ≤ 1 ⌝ }
-    ensures { λ r. ⌜ r ≤ 7695 ⌝ }
+    ensures { λ r. ⌜ r ≤ segmentSize * (mostSegments + 1) ⌝ }
 {
     if call < 6 {
-        return 15 * least(count, 512 + more);
+        return SEGMENT_WORDS * least(count, MOST_SEGMENTS + more);
     }
-    11 * least(count, 128 + more)
+    EDGE_WORDS * least(count, MOST_EDGES + more)
 }
 
 // How many words stand in front of the table in a call's answer.
@@ -44,13 +51,13 @@ fn words_before(call: usize) -> usize
 }
 
 // Builds edges: the old table, dimension, major direction, group, order, scale and thresholds. The room for edges and the place for their count are given the old ones,
-// which a refusal leaves there; an old table of more than 128 is refused here.
+// which a refusal leaves there; an old table of more than its limit is refused here.
 fn ask_building(segments: &mut [i32], rest: &[i32], edges: &mut [i32], count: &mut i32) -> u8 {
     let old = count_at(rest, 0);
-    let n = 11 * least(old, 128);
+    let n = EDGE_WORDS * least(old, MOST_EDGES);
     put(edges, 0, part(rest, 1, n));
     *count = count_word(old);
-    if 128 < old {
+    if MOST_EDGES < old {
         return 1;
     }
     let behind = tail(rest, 1 + n);
@@ -167,7 +174,12 @@ fn put_result(
         return end;
     }
     let built = count_at(head, 1);
-    put_list(out, end, built, part(edges, 0, 11 * least(built, 128)))
+    put_list(
+        out,
+        end,
+        built,
+        part(edges, 0, EDGE_WORDS * least(built, MOST_EDGES)),
+    )
 }
 
 // Makes a call on the table of an answer, which stands behind the words in front of it and its count.
@@ -184,7 +196,7 @@ fn answer_call(
 {
     let from = before + 1;
     let to = from + lent;
-    let mut edges = [0i32; 1408];
+    let mut edges = [0i32; TABLE_WORDS];
     let mut first = 0;
     let mut second = -1;
     let answer = ask(
@@ -209,6 +221,6 @@ pub fn answer_table(call: usize, words: &[i32], out: &mut [i32]) -> usize
     let lent = size(call, count, 1);
     let before = words_before(call);
     let end = put_list(out, before, count, part(words, 2, n));
-    put(out, end, &[0; 15]);
+    put(out, end, &[0; SEGMENT_WORDS]);
     answer_call(call, tail(words, 2 + n), out, before, lent, end)
 }

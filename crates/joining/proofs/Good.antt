@@ -1,6 +1,6 @@
 -- What every state of both loops has: the groups are disjoint, each is a ring by `next`, and every member is a segment of the table.
 use mathlib.Core.Path.{_≡_, refl, _∙_}
-use mathlib.Core.Bool.{Bool, true, false, cond, not, _||_}
+use mathlib.Core.Bool.{Bool, true, false, not, _||_}
 use mathlib.Core.Logic.{⊎-elim}
 use mathlib.Core.List.{List, [], _∷_, _++_}
 use Prim.Native.Nat.{ℕ, zero, suc, _+_, _≤_, _<_}
@@ -12,39 +12,35 @@ use lib.ListN.{length, getD, set, replicate, length-set, length-append, length-r
 use lib.Seq.{getD-set-other}
 use lib.Dec.{ltb}
 use lib.Signed.{ltZ}
+use Rattle.signed.proofs.Choices.{cond-cases, either-way, clash}
 use Rattle.axis.specs.declared.kinds.Direction.the-variants as Directions
 use Rattle.axis.specs.declared.segment.Segment.{Segment}
 use Rattle.axis.specs.declared.segment.Segments.{Segments}
 use Rattle.axis.specs.Direction.{same}
+use Rattle.axis.specs.Limits.{mostEdges, mostSegments}
+use Rattle.axis.specs.Ring.{walk, ends, times}
 use Rattle.axis.specs.Segment.{segmentAt}
 use Rattle.joining.specs.declared.rules.Rules.{Rules}
 use Rattle.joining.specs.Joining.{stopsBehind, settle, passedOver, skips, headOr, lastIn, edgeOf, State, group, start, join, overfull, create, placeOf, placed, visit, after, begun, stateAt}
-use Rattle.joining.specs.Walks.{walk, ends, Latin}
-use Rattle.joining.proofs.Members.{times, times-nil, Once, last-in, times-snoc, times-one, times-self, few}
+use Rattle.joining.specs.Walks.{nextIn, Latin}
+use Rattle.joining.proofs.Members.{times-nil, Once, last-in, times-snoc, times-one, times-self, few}
 use Rattle.joining.proofs.Rings.{Chain, chain-none, chain-other, ring-one, ring-more, ring-apart, walk-ring, ends-ring}
-use Rattle.joining.proofs.Settling.{same?, cond-both, settle-all, set-all, settle-above, length-settle, total, total-set, total-at, total-two, total-settle}
+use Rattle.joining.proofs.Settling.{same?, settle-all, set-all, settle-above, length-settle, total, total-set, total-at, total-two, total-settle}
 
 -- the state s of a loop before segment i
 pub record Good (t : Segments) (r : Rules) (second : Bool) (s : State) (i : ℕ) : Type 0 where
-  pub places : length (s .groups) ≡ 128
-  pub nexts : length (s .next) ≡ 512
-  pub room : s .count ≤ 128
-  pub rings : (k : ℕ) → k < 128 → Chain (s .next) (headOr 0 (group s k)) (group s k)
+  pub places : length (s .groups) ≡ mostEdges
+  pub nexts : length (s .next) ≡ mostSegments
+  pub room : s .count ≤ mostEdges
+  pub rings : (k : ℕ) → k < mostEdges → Chain (s .next) (headOr 0 (group s k)) (group s k)
   pub once : (m : ℕ) → total m (s .groups) ≤ 1
   pub below : (m : ℕ) → 0 < total m (s .groups) → m < t .len
   pub fresh : (m : ℕ) → i ≤ m → skips r second (segmentAt t m) ≡ false → total m (s .groups) ≡ 0
   pub kept : second ≡ false → (m : ℕ) → skips r false (segmentAt t m) ≡ true → total m (s .groups) ≡ 0
   pub used : (k : ℕ) → k < s .count → 0 < length (group s k)
-  pub unused : (k : ℕ) → s .count ≤ k → k < 128 → group s k ≡ []
+  pub unused : (k : ℕ) → s .count ≤ k → k < mostEdges → group s k ≡ []
 
-cond-cases : {A : Type 0} (P : A → Type 0) (b : Bool) (x y : A) → (b ≡ true → P x) → (b ≡ false → P y) → P (cond b x y)
-cond-cases P true x y p q = p refl
-cond-cases P false x y p q = q refl
-
-clash : (b : Bool) → b ≡ false → b ≡ true → ⊥
-clash b p q = let z : _≡_ {A = ℕ} 0 1 = cc in omega arith
-
-module _ (t : Segments) (r : Rules) (second : Bool) (s : State) (i : ℕ) (long : t .len ≤ 512) (hi : i < t .len) (G : Good t r second s i) where
+module _ (t : Segments) (r : Rules) (second : Bool) (s : State) (i : ℕ) (long : t .len ≤ mostSegments) (hi : i < t .len) (G : Good t r second s i) where
   pub last-below : (k : ℕ) → k < s .count → lastIn (group s k) < t .len
   last-below k hk = G .below (lastIn (group s k)) (omega (arith, last-in (group s k) (G .used k hk), total-at (lastIn (group s k)) (s .groups) k))
 
@@ -83,8 +79,8 @@ module _ (t : Segments) (r : Rules) (second : Bool) (s : State) (i : ℕ) (long 
     by-other : (P : ℕ → Type 0) (x : ℕ) → (x ≡ i → P x) → ((x ≡ i → ⊥) → P x) → P x
     by-other P x f g = ⊎-elim f g (same? x i)
 
-    rings-join : (j : ℕ) → j < 128 → Chain (join s k i .next) (headOr 0 (group (join s k i) j)) (group (join s k i) j)
-    rings-join = set-all (λ (g : List ℕ). Chain (join s k i .next) (headOr 0 g) g) [] (s .groups) k 128 new (rw (G .places) (omega (arith, G .room)))
+    rings-join : (j : ℕ) → j < mostEdges → Chain (join s k i .next) (headOr 0 (group (join s k i) j)) (group (join s k i) j)
+    rings-join = set-all (λ (g : List ℕ). Chain (join s k i .next) (headOr 0 g) g) [] (s .groups) k mostEdges new (rw (G .places) (omega (arith, G .room)))
         (ring-more (s .next) (group s k) i (G .used k hk) (λ x. omega (arith, G .once x, total-at x (s .groups) k)) (omega (arith, none, total-at i (s .groups) k)) (rw (G .nexts) (omega arith)) (rw (G .nexts) (omega (arith, last-below k hk))) (G .rings k (omega (arith, G .room))))
         (λ j hj e. ring-apart (s .next) (headOr 0 (group s j)) (headOr 0 (group s k)) (lastIn (group s k)) i (group s j) (omega (arith, none, total-at i (s .groups) j)) (omega (arith, G .once (lastIn (group s k)), last-in (group s k) (G .used k hk), total-two (lastIn (group s k)) (s .groups) j k e)) (G .rings j hj))
 
@@ -103,7 +99,7 @@ module _ (t : Segments) (r : Rules) (second : Bool) (s : State) (i : ℕ) (long 
     }
 
   -- Segment i makes a group.
-  module _ (free : skips r second (segmentAt t i) ≡ false) (st : List ℕ → Bool) (room : s .count < 128) where
+  module _ (free : skips r second (segmentAt t i) ≡ false) (st : List ℕ → Bool) (room : s .count < mostEdges) where
     abbrev made : State
     made = record { groups = settle st [] (i ∷ []) (s .groups) (s .count); count = s .count + 1; next = set (s .next) i i; full = s .full }
 
@@ -132,7 +128,7 @@ module _ (t : Segments) (r : Rules) (second : Bool) (s : State) (i : ℕ) (long 
       places = length-settle st [] (i ∷ []) (s .groups) (s .count) ∙ G .places;
       nexts = length-set (s .next) i i ∙ G .nexts;
       room = omega arith;
-      rings = settle-all (λ (g : List ℕ). Chain (set (s .next) i i) (headOr 0 g) g) st [] (i ∷ []) 128 (ring-one (s .next) i (rw (G .nexts) (omega arith))) (s .groups) (s .count) in-places room
+      rings = settle-all (λ (g : List ℕ). Chain (set (s .next) i i) (headOr 0 g) g) st [] (i ∷ []) mostEdges (ring-one (s .next) i (rw (G .nexts) (omega arith))) (s .groups) (s .count) in-places room
           (λ j hj e. chain-other (s .next) (headOr 0 (group s j)) (group s j) i i (omega (arith, none′, total-at i (s .groups) j)) (G .rings j hj));
       once = λ x. by-other′ (λ (y : ℕ). total y (made .groups) ≤ 1) x (λ e. rw e (omega (arith, self′))) (λ e. omega (arith, other′ x e, G .once x));
       below = λ x h. by-other′ (λ (y : ℕ). y < t .len) x (λ e. rw e hi) (λ e. G .below x (omega (arith, other′ x e)));
@@ -163,13 +159,13 @@ module _ (t : Segments) (r : Rules) (second : Bool) (s : State) (i : ℕ) (long 
   good-visit : Good t r second (visit t r second s i) (i + 1)
   unfolding visit placed create
   good-visit =
-      cond-both P (s .full) _ _ good-same
+      either-way P (s .full) _ _ good-same
       (cond-cases P (skips r second (segmentAt t i)) _ _
       (λ e. good-same)
       (λ free. cond-cases P (ltb (placeOf t r second s i) (s .count)) _ _
       (λ e. good-join free (placeOf t r second s i) (ltb-true _ _ e))
-      (λ e. cond-both P second _ _ good-same
-      (cond-cases P (ltb (s .count) 128) _ _
+      (λ e. either-way P second _ _ good-same
+      (cond-cases P (ltb (s .count) mostEdges) _ _
       (λ h. good-made free (λ (g : List ℕ). stopsBehind r (edgeOf t (r .scale) (i ∷ [])) (edgeOf t (r .scale) g)) (ltb-true _ _ h))
       (λ h. good-full)))))
 
@@ -187,16 +183,16 @@ group-empty (suc n) (suc k) = group-empty n k
 good-start : (t : Segments) (r : Rules) → Good t r false start 0
 unfolding start
 good-start t r = record {
-  places = length-replicate {A = List ℕ} 128 [];
-  nexts = length-replicate {A = ℕ} 512 0;
+  places = length-replicate {A = List ℕ} mostEdges [];
+  nexts = length-replicate {A = ℕ} mostSegments 0;
   room = omega arith;
-  rings = λ k h. chain-none _ _ (group-empty 128 k);
-  once = λ x. omega (arith, total-empty x 128);
-  below = λ x h. absurd (omega (arith, total-empty x 128));
-  fresh = λ x h e. total-empty x 128;
-  kept = λ b x e. total-empty x 128;
+  rings = λ k h. chain-none _ _ (group-empty mostEdges k);
+  once = λ x. omega (arith, total-empty x mostEdges);
+  below = λ x h. absurd (omega (arith, total-empty x mostEdges));
+  fresh = λ x h e. total-empty x mostEdges;
+  kept = λ b x e. total-empty x mostEdges;
   used = λ k h. absurd (omega arith);
-  unused = λ k h h′. group-empty 128 k;
+  unused = λ k h h′. group-empty mostEdges k;
 }
 
 -- Latin's first loop skips what the second one does not
@@ -222,23 +218,23 @@ good-second t r s l G = record {
   unused = G .unused;
 }
 
-good-after : (t : Segments) (r : Rules) (second : Bool) (s : State) → t .len ≤ 512 → Good t r second s 0 → (i : ℕ) → i ≤ t .len → Good t r second (after t r second s i) i
+good-after : (t : Segments) (r : Rules) (second : Bool) (s : State) → t .len ≤ mostSegments → Good t r second s 0 → (i : ℕ) → i ≤ t .len → Good t r second (after t r second s i) i
 unfolding after
 good-after t r second s long G zero h = G
 good-after t r second s long G (suc i) h =
     rw (add-one i) at (good-visit t r second (after t r second s i) i long (omega arith) (good-after t r second s long G i (omega arith)))
 
-good-begun : (t : Segments) (r : Rules) (second : Bool) → Latin r second → t .len ≤ 512 → Good t r second (begun t r second) 0
+good-begun : (t : Segments) (r : Rules) (second : Bool) → Latin r second → t .len ≤ mostSegments → Good t r second (begun t r second) 0
 unfolding begun
 good-begun t r false l long = good-start t r
 good-begun t r true l long = good-second t r _ (l refl) (good-after t r false start long (good-start t r) (t .len) (omega arith))
 
 -- every state of both loops is good
-pub good : (t : Segments) (r : Rules) (second : Bool) → Latin r second → t .len ≤ 512 → (i : ℕ) → i ≤ t .len → Good t r second (stateAt t r second i) i
+pub good : (t : Segments) (r : Rules) (second : Bool) → Latin r second → t .len ≤ mostSegments → (i : ℕ) → i ≤ t .len → Good t r second (stateAt t r second i) i
 good t r second l long i h = good-after t r second (begun t r second) long (good-begun t r second l long) i h
 
 -- ---- the ring of an edge
-module _ (t : Segments) (r : Rules) (second : Bool) (s : State) (i k : ℕ) (long : t .len ≤ 512) (G : Good t r second s i) (hk : k < s .count) where
+module _ (t : Segments) (r : Rules) (second : Bool) (s : State) (i k : ℕ) (long : t .len ≤ mostSegments) (G : Good t r second s i) (hk : k < s .count) where
   -- its members are segments of the table
   pub members-below : (x : ℕ) → 0 < times x (group s k) → x < t .len
   members-below x h = G .below x (omega (arith, total-at x (s .groups) k))
@@ -248,9 +244,10 @@ module _ (t : Segments) (r : Rules) (second : Bool) (s : State) (i k : ℕ) (lon
   members-once x = omega (arith, G .once x, total-at x (s .groups) k)
 
   -- and the walk from the first to the last visits them in joining order, and ends
-  pub ring-walk : (walk (s .next) (lastIn (group s k)) 512 (headOr 0 (group s k)) ≡ group s k) × (ends (s .next) (lastIn (group s k)) 512 (headOr 0 (group s k)) ≡ true)
+  pub ring-walk : (walk (nextIn (s .next)) (lastIn (group s k)) mostSegments (headOr 0 (group s k)) ≡ group s k) × (ends (nextIn (s .next)) mostSegments (lastIn (group s k)) mostSegments (headOr 0 (group s k)) ≡ true)
   ring-walk = go (group s k) (G .used k hk) members-once (λ x h. lt-of-lt-of-le (members-below x h) long) (G .rings k (omega (arith, G .room)))
     where
-      go : (g : List ℕ) → 0 < length g → Once g → ((x : ℕ) → 0 < times x g → x < 512) → Chain (s .next) (headOr 0 g) g → (walk (s .next) (lastIn g) 512 (headOr 0 g) ≡ g) × (ends (s .next) (lastIn g) 512 (headOr 0 g) ≡ true)
+      go : (g : List ℕ) → 0 < length g → Once g → ((x : ℕ) → 0 < times x g → x < mostSegments) → Chain (s .next) (headOr 0 g) g
+          → (walk (nextIn (s .next)) (lastIn g) mostSegments (headOr 0 g) ≡ g) × (ends (nextIn (s .next)) mostSegments (lastIn g) mostSegments (headOr 0 g) ≡ true)
       go [] h o b c = absurd (omega arith)
-      go (m ∷ ms) h o b c = let f = few 512 (m ∷ ms) o b in (walk-ring (s .next) m m ms 512 o (omega arith) c, ends-ring (s .next) m m ms 512 o b (omega arith) c)
+      go (m ∷ ms) h o b c = let f = few mostSegments (m ∷ ms) o b in (walk-ring (s .next) m m ms mostSegments o (omega arith) c, ends-ring (s .next) m m ms mostSegments o b (omega arith) c)

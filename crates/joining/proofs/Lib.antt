@@ -1,5 +1,4 @@
 -- The laws by subject, each over plain variables.
-pub mod Reading
 pub mod Passing
 pub mod Members
 pub mod Rings

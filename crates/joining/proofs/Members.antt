@@ -7,12 +7,8 @@ use native.Mathlib.Omega.{arith}
 use borrow.Author.Tests.{eq-eqb, ne-eqb, eqb-true, eqb-false, lt-ltb, le-ltb, ltb-true, ltb-false}
 use lib.ListN.{length}
 use lib.Dec.{eqb, ltb}
+use Rattle.axis.specs.Ring.{times}
 use Rattle.joining.specs.Joining.{lastOf, lastIn, headOr}
-
--- how often m is in a list
-unfoldable pub times : ℕ → List ℕ → ℕ
-times m [] = 0
-times m (x ∷ ms) = cond (eqb m x) 1 0 + times m ms
 
 pub times-nil : (x : ℕ) → times x [] ≡ 0
 unfolding times

@@ -6,8 +6,9 @@ use lib.Signed.{ltZ}
 use Rattle.axis.specs.declared.kinds.Direction.the-variants as Directions
 use Rattle.axis.specs.declared.segment.Segment.{Segment}
 use Rattle.axis.specs.Direction.{same}
+use Rattle.axis.specs.Link.{isLinked}
 use Rattle.joining.specs.declared.rules.Rules.{Rules}
-use Rattle.joining.specs.Joining.{isLinked, passedOver, skips}
+use Rattle.joining.specs.Joining.{passedOver, skips}
 
 module _ (r : Rules) (s : Segment) where
   pub too-short : ltZ (s .height) (r .length) ≡ true → true ≡ passedOver r s

@@ -1,17 +1,18 @@
 -- Rings while they are built: each member's next is the member behind it, and the last one's is the first.
 use mathlib.Core.Path.{_≡_, refl, sym, ap, _∙_}
-use mathlib.Core.Bool.{Bool, true, false, cond, _&&_}
+use mathlib.Core.Bool.{true}
 use mathlib.Core.List.{List, [], _∷_, _++_}
 use Prim.Native.Nat.{ℕ, zero, suc, _≤_, _<_}
 use native.Mathlib.Omega.{arith}
-use borrow.Author.Tests.{eq-eqb, ne-eqb, eqb-true, lt-ltb, ltb-true}
+use borrow.Author.Tests.{eq-eqb, ne-eqb, lt-ltb}
 use lib.ListN.{length, getD, set, length-set}
 use lib.Seq.{getD-set-same, getD-set-other}
-use lib.Dec.{eqb, ltb}
-use Rattle.axis.proofs.Tests.{and-first, and-second}
+use Rattle.axis.specs.Limits.{mostSegments}
+use Rattle.axis.specs.Ring.{walk, ends, times}
+use Rattle.axis.proofs.Rings.{Passes, shorter}
 use Rattle.joining.specs.Joining.{headOr, lastOf, lastIn, appended}
-use Rattle.joining.specs.Walks.{walk, ends}
-use Rattle.joining.proofs.Members.{times, times-head, times-apart, times-more, times-last, Once, once-rest, head-last}
+use Rattle.joining.specs.Walks.{nextIn}
+use Rattle.joining.proofs.Members.{times-head, times-apart, times-more, times-last, Once, once-rest, head-last}
 
 -- ---- chains
 -- each member's next is the member behind it, and the last one's is f
@@ -54,13 +55,15 @@ unfolding Chain
 ring-one next i h = (getD-set-same next i i 0 h, tt)
 
 -- appending keeps the ring, with one member more
-ring-append : (next : List ℕ) (f m i : ℕ) (ms : List ℕ) → Once (m ∷ ms) → times i (m ∷ ms) ≡ 0 → i < length next → lastOf m ms < length next → Chain next f (m ∷ ms) → Chain (appended next f (lastOf m ms) i) f ((m ∷ ms) ++ i ∷ [])
+ring-append : (next : List ℕ) (f m i : ℕ) (ms : List ℕ) → Once (m ∷ ms) → times i (m ∷ ms) ≡ 0 → i < length next → lastOf m ms < length next → Chain next f (m ∷ ms)
+    → Chain (appended next f (lastOf m ms) i) f ((m ∷ ms) ++ i ∷ [])
 ring-append next f m i ms o h hi hl r =
     chain-snoc (appended next f (lastOf m ms) i) f i (m ∷ ms)
     (chain-retarget (set next i f) f i m ms o (rw length-set hl) (chain-other next f (m ∷ ms) i f h r))
     (getD-set-other (set next i f) (lastOf m ms) i i 0 (λ e. let z : times (lastOf m ms) (m ∷ ms) ≡ 0 = rw e at h in omega (arith, times-last m ms)) ∙ getD-set-same next i f 0 hi)
 
-pub ring-more : (next g : List ℕ) (i : ℕ) → 0 < length g → Once g → times i g ≡ 0 → i < length next → lastIn g < length next → Chain next (headOr 0 g) g → Chain (appended next (headOr 0 g) (lastIn g) i) (headOr 0 (g ++ i ∷ [])) (g ++ i ∷ [])
+pub ring-more : (next g : List ℕ) (i : ℕ) → 0 < length g → Once g → times i g ≡ 0 → i < length next → lastIn g < length next → Chain next (headOr 0 g) g
+    → Chain (appended next (headOr 0 g) (lastIn g) i) (headOr 0 (g ++ i ∷ [])) (g ++ i ∷ [])
 ring-more next [] i h o f hi hl r = absurd (omega arith)
 ring-more next (m ∷ ms) i h o f hi hl r = ring-append next m m i ms o f hi hl r
 
@@ -70,7 +73,7 @@ ring-apart next g f last i ms hi hl r = chain-other (set next i f) g ms last i h
 
 -- ---- walks
 -- the walk of a ring from its first to its last passes the members in order
-pub walk-ring : (next : List ℕ) (f m : ℕ) (ms : List ℕ) (n : ℕ) → Once (m ∷ ms) → length ms ≤ n → Chain next f (m ∷ ms) → walk next (lastOf m ms) n m ≡ m ∷ ms
+pub walk-ring : (next : List ℕ) (f m : ℕ) (ms : List ℕ) (n : ℕ) → Once (m ∷ ms) → length ms ≤ n → Chain next f (m ∷ ms) → walk (nextIn next) (lastOf m ms) n m ≡ m ∷ ms
 unfolding walk Chain
 walk-ring next f m [] zero o h r = refl
 walk-ring next f m [] (suc n) o h r = rw (eq-eqb m m refl)
@@ -80,60 +83,16 @@ walk-ring next f m (x ∷ ms) (suc n) o h r =
     (ap (λ (l : List ℕ). m ∷ l) (walk-ring next f x ms n (once-rest m (x ∷ ms) o) (omega arith) (r .1)))
 
 -- and ends
-pub ends-ring : (next : List ℕ) (f m : ℕ) (ms : List ℕ) (n : ℕ) → Once (m ∷ ms) → ((x : ℕ) → 0 < times x (m ∷ ms) → x < 512) → length ms ≤ n → Chain next f (m ∷ ms) → ends next (lastOf m ms) n m ≡ true
+pub ends-ring : (next : List ℕ) (f m : ℕ) (ms : List ℕ) (n : ℕ) → Once (m ∷ ms) → ((x : ℕ) → 0 < times x (m ∷ ms) → x < mostSegments) → length ms ≤ n → Chain next f (m ∷ ms)
+    → ends (nextIn next) mostSegments (lastOf m ms) n m ≡ true
 unfolding ends Chain
 ends-ring next f m [] zero o b h r = eq-eqb m m refl
 ends-ring next f m [] (suc n) o b h r = rw (eq-eqb m m refl)
 ends-ring next f m (x ∷ ms) zero o b h r = absurd (omega arith)
 ends-ring next f m (x ∷ ms) (suc n) o b h r =
-    rw (ne-eqb m (lastOf x ms) (head-last m x ms o), r .0, lt-ltb x 512 (b x (omega (arith, times-head x ms, times-more x m (x ∷ ms)))))
+    rw (ne-eqb m (lastOf x ms) (head-last m x ms o), r .0, lt-ltb x mostSegments (b x (omega (arith, times-head x ms, times-more x m (x ∷ ms)))))
     (ends-ring next f x ms n (once-rest m (x ∷ ms) o) (λ y p. b y (omega (arith, times-more y m (x ∷ ms)))) (omega arith) (r .1))
 
--- at the last the walk is over
-pub walk-at : (next : List ℕ) (last n ix : ℕ) → ix ≡ last → walk next last n ix ≡ ix ∷ []
-unfolding walk
-walk-at next last zero ix e = refl
-walk-at next last (suc n) ix e = rw (eq-eqb ix last e)
-
--- how many steps are allowed does not matter once the walk ends
-ends-more : (next : List ℕ) (last n ix : ℕ) → ends next last n ix ≡ true → ends next last (suc n) ix ≡ true
-unfolding ends
-ends-more next last zero ix e = rw e
-ends-more next last (suc n) ix e = go (eqb ix last) (ltb (getD next ix 0) 512) (ends-more next last n (getD next ix 0)) e
-  where
-    go : (a b : Bool) → (ends next last n (getD next ix 0) ≡ true → ends next last (suc n) (getD next ix 0) ≡ true) → cond a true (b && ends next last n (getD next ix 0)) ≡ true → cond a true (b && ends next last (suc n) (getD next ix 0)) ≡ true
-    go true b f h = refl
-    go false true f h = f h
-    go false false f h = h
-
-walk-more : (next : List ℕ) (last n ix : ℕ) → ends next last n ix ≡ true → walk next last (suc n) ix ≡ walk next last n ix
-unfolding ends walk
-walk-more next last zero ix e = rw e
-walk-more next last (suc n) ix e = go (eqb ix last) (ltb (getD next ix 0) 512) (walk-more next last n (getD next ix 0)) e
-  where
-    go : (a b : Bool) → (ends next last n (getD next ix 0) ≡ true → walk next last (suc n) (getD next ix 0) ≡ walk next last n (getD next ix 0)) → cond a true (b && ends next last n (getD next ix 0)) ≡ true → cond a (ix ∷ []) (ix ∷ walk next last (suc n) (getD next ix 0)) ≡ cond a (ix ∷ []) (ix ∷ walk next last n (getD next ix 0))
-    go true b f h = refl
-    go false true f h = ap (λ (l : List ℕ). ix ∷ l) (f h)
-    go false false f h = absurd (let z : _≡_ {A = ℕ} 0 1 = cc in omega arith)
-
--- one step of a walk that ends, under the same bound
-pub record Passes (next : List ℕ) (last n ix : ℕ) : Type 0 where
-  pub below : getD next ix 0 < 512
-  pub on : ends next last n (getD next ix 0) ≡ true
-  pub step : walk next last n ix ≡ ix ∷ walk next last n (getD next ix 0)
-
-pub walk-passes : (next : List ℕ) (last n ix : ℕ) → (ix ≡ last → ⊥) → ends next last n ix ≡ true → Passes next last n ix
-unfolding walk ends
-walk-passes next last zero ix h e = absurd (h (eqb-true ix last e))
-walk-passes next last (suc n) ix h e =
-    let p = rw (ne-eqb ix last h) at e in
-    let o = and-second (ltb (getD next ix 0) 512) _ p in
-    record {
-      below = ltb-true (getD next ix 0) 512 (and-first _ _ p);
-      on = ends-more next last n (getD next ix 0) o;
-      step = rw (ne-eqb ix last h) (ap (λ (l : List ℕ). ix ∷ l) (sym (walk-more next last n (getD next ix 0) o)));
-    }
-
--- what is left of a walk is shorter behind a step
-pub shorter : (next : List ℕ) (last n ix : ℕ) → Passes next last n ix → length (walk next last n (getD next ix 0)) < length (walk next last n ix)
-shorter next last n ix p = omega (arith, ap (length {A = ℕ}) (p .step))
+-- what is left of a walk is less behind a step
+pub fewer : (next : ℕ → ℕ) (most last n ix : ℕ) → Passes next most last n ix → length (walk next last n (next ix)) < length (walk next last n ix)
+fewer next most last n ix p = omega (arith, shorter next most last n ix p)

@@ -1,6 +1,6 @@
 -- Adding to a table, and how often a segment is in the groups.
 use mathlib.Core.Path.{_≡_, refl, ap, _∙_}
-use mathlib.Core.Bool.{Bool, true, false, cond}
+use mathlib.Core.Bool.{Bool, true, false}
 use mathlib.Core.Logic.{_⊎_, inl, inr, ⊎-elim}
 use mathlib.Core.List.{List, [], _∷_, map}
 use Prim.Native.Nat.{ℕ, zero, suc, _+_, _-_, _≤_, _<_}
@@ -10,8 +10,10 @@ use borrow.Author.Tests.{eqb-true, eqb-false}
 use lib.ListN.{length, getD, set, length-set, List·getD-map}
 use lib.Seq.{getD-set-same, getD-set-other}
 use lib.Dec.{eqb}
+use Rattle.signed.proofs.Choices.{either-way, cond-map}
+use Rattle.axis.specs.Ring.{times}
 use Rattle.joining.specs.Joining.{settle}
-use Rattle.joining.proofs.Members.{times, times-nil}
+use Rattle.joining.proofs.Members.{times-nil}
 
 pub same? : (a b : ℕ) → (a ≡ b) ⊎ (a ≡ b → ⊥)
 same? a b = go (eqb a b) refl
@@ -26,35 +28,27 @@ map-set f [] i y = refl
 map-set f (x ∷ xs) zero y = refl
 map-set {A} {B} f (x ∷ xs) (suc i) y = ap (λ (zs : List B). f x ∷ zs) (map-set f xs i y)
 
--- A choice has what both have.
-pub cond-both : {A : Type 0} (P : A → Type 0) (t : Bool) (a b : A) → P a → P b → P (cond t a b)
-cond-both P true a b p q = p
-cond-both P false a b p q = q
-
--- Two choices by the same test.
-pub cond-map : {A B : Type 0} (f : A → B) (t : Bool) (a b : A) (x y : B) → f a ≡ x → f b ≡ y → f (cond t a b) ≡ cond t x y
-cond-map f true a b x y p q = p
-cond-map f false a b x y p q = q
-
 -- ---- places
 pub length-settle : {A : Type 0} (st : A → Bool) (d x : A) (xs : List A) (i : ℕ) → length (settle st d x xs i) ≡ length xs
 unfolding settle
 length-settle st d x xs zero = length-set xs 0 x
-length-settle {A} st d x xs (suc i) = cond-both (λ (l : List A). length l ≡ length xs) (st (getD xs i d)) _ _
+length-settle {A} st d x xs (suc i) = either-way (λ (l : List A). length l ≡ length xs) (st (getD xs i d)) _ _
     (length-set xs (suc i) x)
     (length-settle st d x (set xs (suc i) (getD xs i d)) i ∙ length-set xs (suc i) (getD xs i d))
 
 -- After a store: what holds of the others and of the stored holds of all.
-pub set-all : {A : Type 0} (Q : A → Type 0) (d : A) (xs : List A) (i b : ℕ) (y : A) → i < length xs → Q y → ((k : ℕ) → k < b → (k ≡ i → ⊥) → Q (getD xs k d)) → (k : ℕ) → k < b → Q (getD (set xs i y) k d)
+pub set-all : {A : Type 0} (Q : A → Type 0) (d : A) (xs : List A) (i b : ℕ) (y : A) → i < length xs → Q y → ((k : ℕ) → k < b → (k ≡ i → ⊥) → Q (getD xs k d)) → (k : ℕ) → k < b
+    → Q (getD (set xs i y) k d)
 set-all Q d xs i b y hi q h k hk = ⊎-elim
     (λ e. rw e (rw (getD-set-same xs i y d hi) q))
     (λ e. rw (getD-set-other xs i k y d e) (h k hk e))
     (same? k i)
 
-pub settle-all : {A : Type 0} (Q : A → Type 0) (st : A → Bool) (d x : A) (b : ℕ) → Q x → (xs : List A) (i : ℕ) → i < length xs → i < b → ((k : ℕ) → k < b → (k ≡ i → ⊥) → Q (getD xs k d)) → (k : ℕ) → k < b → Q (getD (settle st d x xs i) k d)
+pub settle-all : {A : Type 0} (Q : A → Type 0) (st : A → Bool) (d x : A) (b : ℕ) → Q x → (xs : List A) (i : ℕ) → i < length xs → i < b → ((k : ℕ) → k < b → (k ≡ i → ⊥) → Q (getD xs k d))
+    → (k : ℕ) → k < b → Q (getD (settle st d x xs i) k d)
 unfolding settle
 settle-all Q st d x b q xs zero hi hb h = set-all Q d xs 0 b x hi q h
-settle-all {A} Q st d x b q xs (suc i) hi hb h = cond-both (λ (l : List A). (k : ℕ) → k < b → Q (getD l k d)) (st (getD xs i d)) _ _
+settle-all {A} Q st d x b q xs (suc i) hi hb h = either-way (λ (l : List A). (k : ℕ) → k < b → Q (getD l k d)) (st (getD xs i d)) _ _
     (set-all Q d xs (suc i) b x hi q h)
     (settle-all Q st d x b q (set xs (suc i) (getD xs i d)) i (rw length-set (omega arith)) (omega arith)
     (λ k hk e. set-all Q d xs (suc i) b (getD xs i d) hi (h i (omega arith) (λ (e : i ≡ suc i). omega arith)) h k hk))
@@ -62,7 +56,7 @@ settle-all {A} Q st d x b q xs (suc i) hi hb h = cond-both (λ (l : List A). (k 
 pub settle-above : {A : Type 0} (st : A → Bool) (d x : A) (xs : List A) (i k : ℕ) → i < k → getD (settle st d x xs i) k d ≡ getD xs k d
 unfolding settle
 settle-above st d x xs zero k h = getD-set-other xs 0 k x d (λ (e : k ≡ 0). omega arith)
-settle-above {A} st d x xs (suc i) k h = cond-both (λ (l : List A). getD l k d ≡ getD xs k d) (st (getD xs i d)) _ _
+settle-above {A} st d x xs (suc i) k h = either-way (λ (l : List A). getD l k d ≡ getD xs k d) (st (getD xs i d)) _ _
     (getD-set-other xs (suc i) k x d (λ (e : k ≡ suc i). omega arith))
     (settle-above st d x (set xs (suc i) (getD xs i d)) i k (omega arith) ∙ getD-set-other xs (suc i) k (getD xs i d) d (λ (e : k ≡ suc i). omega arith))
 
@@ -94,7 +88,7 @@ total-two x (y ∷ gs) (suc k) (suc j) h = omega (arith, total-two x gs k j (λ 
 pub total-settle : (x : ℕ) (st : List ℕ → Bool) (g : List ℕ) (gs : List (List ℕ)) (i : ℕ) → i < length gs → total x (settle st [] g gs i) + times x (getD gs i []) ≡ total x gs + times x g
 unfolding settle
 total-settle x st g gs zero h = total-set x gs 0 g h
-total-settle x st g gs (suc i) h = cond-both (λ (l : List (List ℕ)). total x l + times x (getD gs (suc i) []) ≡ total x gs + times x g) (st (getD gs i [])) _ _
+total-settle x st g gs (suc i) h = either-way (λ (l : List (List ℕ)). total x l + times x (getD gs (suc i) []) ≡ total x gs + times x g) (st (getD gs i [])) _ _
     (total-set x gs (suc i) g h)
     (let gs′ = set gs (suc i) (getD gs i []) in
     let a : total x (settle st [] g gs′ i) + times x (getD gs′ i []) ≡ total x gs′ + times x g = total-settle x st g gs′ i (rw length-set (omega arith)) in

@@ -17,21 +17,23 @@ use Rattle.signed.proofs.Signed.{signed, range, to-le-false}
 use Rattle.axis.specs.declared.kinds.Link.{Link}
 use Rattle.axis.specs.declared.kinds.Link.the-variants as Links
 use Rattle.axis.specs.declared.segment.Segments.{Segments}
+use Rattle.axis.specs.Limits.{mostSegments}
+use Rattle.axis.specs.Ring.{walk, times}
 use Rattle.axis.specs.Segment.{segmentAt}
+use Rattle.axis.proofs.Rings.{Passes, walk-at}
 use Rattle.joining.specs.Joining.{linksNear, agrees}
-use Rattle.joining.specs.Walks.{walk, StemAt, StemsOf, stemNear, stemsAgree}
-use Rattle.joining.proofs.Members.{times, times-head, times-more}
-use Rattle.joining.proofs.Rings.{Passes, walk-at}
+use Rattle.joining.specs.Walks.{noStem, StemAt, StemsOf, stemNear, stemsAgree, stemsGo}
+use Rattle.joining.proofs.Members.{times-head, times-more}
 
 -- ---- along a walk
-module _ (stems : List ℤ) (near : ℕ) (z : ℤ) (next : List ℕ) (last ix : ℕ) where
+module _ (stems : List ℤ) (near : ℕ) (z : ℤ) (next : ℕ → ℕ) (last ix : ℕ) where
   -- one that is too far
   pub disagrees : (n : ℕ) → stemNear near z (getD stems ix (pos 0)) ≡ false → false ≡ stemsAgree stems near z (walk next last n ix)
   unfolding walk stemsAgree
   disagrees zero h = rw h
   disagrees (suc n) h = go (eqb ix last)
     where
-      go : (b : Bool) → false ≡ stemsAgree stems near z (cond b (ix ∷ []) (ix ∷ walk next last n (getD next ix 0)))
+      go : (b : Bool) → false ≡ stemsAgree stems near z (cond b (ix ∷ []) (ix ∷ walk next last n (next ix)))
       go true = rw h
       go false = rw h
 
@@ -41,16 +43,16 @@ module _ (stems : List ℤ) (near : ℕ) (z : ℤ) (next : List ℕ) (last ix : 
     unfolding stemsAgree
     agrees-last n e = rw (walk-at next last n ix e, h)
 
-    pub agrees-on : (n : ℕ) → Passes next last n ix → stemsAgree stems near z (walk next last n (getD next ix 0)) ≡ stemsAgree stems near z (walk next last n ix)
+    pub agrees-on : (most n : ℕ) → Passes next most last n ix → stemsAgree stems near z (walk next last n (next ix)) ≡ stemsAgree stems near z (walk next last n ix)
     unfolding stemsAgree
-    agrees-on n p = rw (p .step, h)
+    agrees-on most n p = rw (p .step, h)
 
 -- ---- what the numbers stand for
-far : (z : ℤ) → z ≡ pos 65536 → leZ (pos 65536) z ≡ true
+far : (z : ℤ) → z ≡ noStem → leZ noStem z ≡ true
 far z e = rw e
 
-near-by : (z : ℤ) → SFits w16 z → leZ (pos 65536) z ≡ false
-near-by z f = to-le-false (pos 65536) z (omega (arith, signed, range f))
+near-by : (z : ℤ) → SFits w16 z → leZ noStem z ≡ false
+near-by z f = to-le-false noStem z (omega (arith, signed, range f))
 
 -- the test of two numbers is the test of the two links
 stem-near : (t : Segments) (near j : ℕ) (k : Link) (a b : ℤ) → a ≡ segmentAt t j .pos → StemAt t k b → stemNear near a b ≡ linksNear t near (Links.To j) k
@@ -58,7 +60,8 @@ unfolding stemNear linksNear
 stem-near t near j Links.None a b p q = rw (far b (q .none refl))
 stem-near t near j (Links.To m) a b p q = rw (near-by b (q .short m refl), p, q .to m refl)
 
-all-near : (t : Segments) (stems : List ℤ) (near j : ℕ) (a : ℤ) (ms : List ℕ) → ((x : ℕ) → x < t .len → StemAt t (segmentAt t x .link) (getD stems x (pos 0))) → a ≡ segmentAt t j .pos → ((x : ℕ) → 0 < times x ms → x < t .len) → stemsAgree stems near a ms ≡ agrees t near (Links.To j) ms
+all-near : (t : Segments) (stems : List ℤ) (near j : ℕ) (a : ℤ) (ms : List ℕ) → ((x : ℕ) → x < t .len → StemAt t (segmentAt t x .link) (getD stems x (pos 0))) → a ≡ segmentAt t j .pos
+    → ((x : ℕ) → 0 < times x ms → x < t .len) → stemsAgree stems near a ms ≡ agrees t near (Links.To j) ms
 unfolding stemsAgree agrees
 all-near t stems near j a [] S e h = refl
 all-near t stems near j a (m ∷ ms) S e h =
@@ -70,11 +73,13 @@ agrees-none t near [] = refl
 agrees-none t near (m ∷ ms) = agrees-none t near ms
 
 -- a stem and all members of a group, by their numbers and by their links
-by-link : (t : Segments) (stems : List ℤ) (near : ℕ) (l : Link) (z : ℤ) (ms : List ℕ) → ((x : ℕ) → x < t .len → StemAt t (segmentAt t x .link) (getD stems x (pos 0))) → StemAt t l z → ((x : ℕ) → 0 < times x ms → x < t .len) → (leZ (pos 65536) z || stemsAgree stems near z ms) ≡ agrees t near l ms
+by-link : (t : Segments) (stems : List ℤ) (near : ℕ) (l : Link) (z : ℤ) (ms : List ℕ) → ((x : ℕ) → x < t .len → StemAt t (segmentAt t x .link) (getD stems x (pos 0))) → StemAt t l z
+    → ((x : ℕ) → 0 < times x ms → x < t .len) → (leZ noStem z || stemsAgree stems near z ms) ≡ agrees t near l ms
 by-link t stems near Links.None z ms S A h = rw (far z (A .none refl)) (sym (agrees-none t near ms))
 by-link t stems near (Links.To j) z ms S A h = rw (near-by z (A .short j refl)) (all-near t stems near j z ms S (A .to j refl) h)
 
-pub stems-agree : (t : Segments) (cjk : Bool) (stems : List ℤ) (near i : ℕ) (ms : List ℕ) → StemsOf t cjk stems → i < t .len → ((x : ℕ) → 0 < times x ms → x < t .len) → (leZ (pos 65536) (getD stems i (pos 0)) || stemsAgree stems near (getD stems i (pos 0)) ms) ≡ (not cjk || agrees t near (segmentAt t i .link) ms)
+pub stems-agree : (t : Segments) (cjk : Bool) (stems : List ℤ) (near i : ℕ) (ms : List ℕ) → StemsOf t cjk stems → i < t .len → ((x : ℕ) → 0 < times x ms → x < t .len)
+    → stemsGo stems near i ms ≡ (not cjk || agrees t near (segmentAt t i .link) ms)
 stems-agree t true stems near i ms S hi h = by-link t stems near (segmentAt t i .link) (getD stems i (pos 0)) ms (S .at refl) (S .at refl i hi) h
 stems-agree t false stems near i ms S hi h = rw (far (getD stems i (pos 0)) (S .none refl i hi))
 
@@ -88,19 +93,19 @@ to-same j k e = cc
 -- ---- filling them in
 -- the first i are filled in, the others hold the number for none
 pub record Filled (t : Segments) (stems : List ℤ) (i : ℕ) : Type 0 where
-  pub size : length stems ≡ 512
+  pub size : length stems ≡ mostSegments
   pub done : (k : ℕ) → k < i → StemAt t (segmentAt t k .link) (getD stems k (pos 0))
-  pub rest : (k : ℕ) → i ≤ k → k < 512 → getD stems k (pos 0) ≡ pos 65536
+  pub rest : (k : ℕ) → i ≤ k → k < mostSegments → getD stems k (pos 0) ≡ noStem
 
 replicate-at : (z d : ℤ) (n k : ℕ) → k < n → getD (replicate n z) k d ≡ z
 replicate-at z d zero k h = absurd (omega arith)
 replicate-at z d (suc n) zero h = refl
 replicate-at z d (suc n) (suc k) h = replicate-at z d n k (omega arith)
 
-pub filled-none : (t : Segments) → Filled t (replicate 512 (pos 65536)) 0
-filled-none t = record { size = refl; done = λ k h. absurd (omega arith); rest = λ k h g. replicate-at (pos 65536) (pos 0) 512 k g }
+pub filled-none : (t : Segments) → Filled t (replicate mostSegments noStem) 0
+filled-none t = record { size = refl; done = λ k h. absurd (omega arith); rest = λ k h g. replicate-at noStem (pos 0) mostSegments k g }
 
-module _ (t : Segments) (stems : List ℤ) (i : ℕ) (hi : i < 512) (F : Filled t stems i) where
+module _ (t : Segments) (stems : List ℤ) (i : ℕ) (hi : i < mostSegments) (F : Filled t stems i) where
   none-at : segmentAt t i .link ≡ Links.None → StemAt t (segmentAt t i .link) (getD stems i (pos 0))
   none-at e = record { none = λ q. F .rest i (omega arith) hi; to = λ k q. absurd (none-to k (sym e ∙ q)); short = λ k q. absurd (none-to k (sym e ∙ q)) }
 
@@ -124,8 +129,8 @@ module _ (t : Segments) (stems : List ℤ) (i : ℕ) (hi : i < 512) (F : Filled 
       here = record { none = λ q. absurd (none-to j (sym q ∙ e)); to = λ k q. p ∙ ap (λ (m : ℕ). segmentAt t m .pos) (to-same j k (sym e ∙ q)); short = λ k q. f }
 
 -- ---- all of them
-pub stems-none : (t : Segments) (cjk : Bool) → cjk ≡ false → t .len ≤ 512 → StemsOf t cjk (replicate 512 (pos 65536))
-stems-none t cjk e h = record { at = λ q. absurd (let z : _≡_ {A = ℕ} 0 1 = cc in omega arith); none = λ q i l. replicate-at (pos 65536) (pos 0) 512 i (omega arith) }
+pub stems-none : (t : Segments) (cjk : Bool) → cjk ≡ false → t .len ≤ mostSegments → StemsOf t cjk (replicate mostSegments noStem)
+stems-none t cjk e h = record { at = λ q. absurd (let z : _≡_ {A = ℕ} 0 1 = cc in omega arith); none = λ q i l. replicate-at noStem (pos 0) mostSegments i (omega arith) }
 
 pub stems-all : (t : Segments) (cjk : Bool) (stems : List ℤ) (i : ℕ) → cjk ≡ true → t .len ≤ i → Filled t stems i → StemsOf t cjk stems
 stems-all t cjk stems i e h F = record { at = λ q k l. F .done k (omega arith); none = λ q. absurd (let z : _≡_ {A = ℕ} 0 1 = cc in omega arith) }

@@ -14,11 +14,12 @@ use Rattle.axis.specs.declared.edge.Edge.{Edge}
 use Rattle.axis.specs.declared.kinds.Dimension.{Dimension}
 use Rattle.axis.specs.declared.kinds.Direction.{Direction}
 use Rattle.axis.specs.declared.segment.Segments.{Segments}
-use Rattle.axis.specs.Edge.{edgeAt, emptyEdge}
+use Rattle.axis.specs.Edge.{edgeAt, emptyEdge, withLast}
+use Rattle.axis.specs.Limits.{mostEdges}
 use Rattle.axis.specs.Segment.{segmentAt}
 use Rattle.joining.specs.declared.join.Joined.{Joined}
 use Rattle.joining.specs.declared.rules.Rules.{Rules}
-use Rattle.joining.specs.Joining.{withLast, stopsBehind, settle, skips, headOr, lastOf, lastIn, edgeOf, appended, State, group, join, overfull, shown, create, placeOf, placed, visit, after}
+use Rattle.joining.specs.Joining.{stopsBehind, settle, skips, headOr, lastOf, lastIn, edgeOf, appended, State, group, join, overfull, shown, create, placeOf, placed, visit, after}
 use Rattle.joining.proofs.Settling.{map-set, settle-map}
 
 -- the state with a new group for segment i
@@ -33,7 +34,8 @@ made t r s i = record {
 abbrev pub tables : Dimension → Direction → Bool → List Edge → ℕ → List ℕ → Joined
 tables dim major full es n next = record { full = full; axis = record { dim = dim; «major_dir» = major; edges = es; len = n }; next = next }
 
-same-tables : (d d′ : Dimension) (m m′ : Direction) (a b : Bool) (es fs : List Edge) (n k : ℕ) (x y : List ℕ) → d ≡ d′ → m ≡ m′ → a ≡ b → es ≡ fs → n ≡ k → x ≡ y → tables d m a es n x ≡ tables d′ m′ b fs k y
+same-tables : (d d′ : Dimension) (m m′ : Direction) (a b : Bool) (es fs : List Edge) (n k : ℕ) (x y : List ℕ) → d ≡ d′ → m ≡ m′ → a ≡ b → es ≡ fs → n ≡ k → x ≡ y
+    → tables d m a es n x ≡ tables d′ m′ b fs k y
 same-tables d d′ m m′ a b es fs n k x y o w p q u v = cc
 
 module _ (t : Segments) (r : Rules) (second : Bool) (s : State) (i : ℕ) (go : s .full ≡ false) where
@@ -56,13 +58,13 @@ module _ (t : Segments) (r : Rules) (second : Bool) (s : State) (i : ℕ) (go : 
   pub visit-none : skips r second (segmentAt t i) ≡ false → (k : ℕ) → placeOf t r second s i ≡ k → s .count ≤ k → second ≡ true → visit t r second s i ≡ s
   visit-none h k e l b = visit-off h k e l ∙ rw b
 
-  pub visit-full : skips r second (segmentAt t i) ≡ false → (k : ℕ) → placeOf t r second s i ≡ k → s .count ≤ k → second ≡ false → 128 ≤ s .count → visit t r second s i ≡ overfull s
+  pub visit-full : skips r second (segmentAt t i) ≡ false → (k : ℕ) → placeOf t r second s i ≡ k → s .count ≤ k → second ≡ false → mostEdges ≤ s .count → visit t r second s i ≡ overfull s
   unfolding create
-  visit-full h k e l b f = visit-off h k e l ∙ rw (b, le-ltb (s .count) 128 f)
+  visit-full h k e l b f = visit-off h k e l ∙ rw (b, le-ltb (s .count) mostEdges f)
 
-  pub visit-made : skips r second (segmentAt t i) ≡ false → (k : ℕ) → placeOf t r second s i ≡ k → s .count ≤ k → second ≡ false → s .count < 128 → visit t r second s i ≡ made t r s i
+  pub visit-made : skips r second (segmentAt t i) ≡ false → (k : ℕ) → placeOf t r second s i ≡ k → s .count ≤ k → second ≡ false → s .count < mostEdges → visit t r second s i ≡ made t r s i
   unfolding create
-  visit-made h k e l b f = visit-off h k e l ∙ rw (b, lt-ltb (s .count) 128 f)
+  visit-made h k e l b f = visit-off h k e l ∙ rw (b, lt-ltb (s .count) mostEdges f)
 
 -- ---- the edge of a group
 first-of : (t : Segments) (scale : ℤ) (g : List ℕ) → edgeOf t scale g .first ≡ headOr 0 g
@@ -83,7 +85,7 @@ edge-snoc t scale (m ∷ ms) i h = rw (last-snoc m i ms)
 
 -- ---- the tables of a state
 module _ (t : Segments) (r : Rules) (s : State) (full : Bool) (axis : Axis) (next : List ℕ) (J : _≡_ {A = Joined} (record { full = full; axis = axis; next = next }) (shown t r s)) where
-  pub of-edges : axis .edges ≡ map (edgeOf t (r .scale)) (s .groups)
+  of-edges : axis .edges ≡ map (edgeOf t (r .scale)) (s .groups)
   unfolding shown
   of-edges = ap (λ (j : Joined). j .axis .edges) J
 
@@ -116,14 +118,16 @@ module _ (t : Segments) (r : Rules) (s : State) (full : Bool) (axis : Axis) (nex
   pub of-last : (k : ℕ) → edgeAt axis k .last ≡ lastIn (group s k)
   of-last k = ap (λ (e : Edge). e .last) (of-edge k) ∙ last-of t (r .scale) (group s k)
 
-  pub again-join : (k i : ℕ) (e : Edge) (next′ : List ℕ) → 0 < length (group s k) → e ≡ withLast (edgeAt axis k) i → next′ ≡ appended next (edgeAt axis k .first) (edgeAt axis k .last) i → tables (axis .dim) (axis .«major_dir») full (set (axis .edges) k e) (axis .len) next′ ≡ shown t r (join s k i)
+  pub again-join : (k i : ℕ) (e : Edge) (next′ : List ℕ) → 0 < length (group s k) → e ≡ withLast (edgeAt axis k) i → next′ ≡ appended next (edgeAt axis k .first) (edgeAt axis k .last) i
+      → tables (axis .dim) (axis .«major_dir») full (set (axis .edges) k e) (axis .len) next′ ≡ shown t r (join s k i)
   unfolding shown
   again-join k i e next′ u a b = same-tables _ _ _ _ _ _ _ _ _ _ _ _ of-dim of-major of-full
       (rw (a, of-edge k, of-edges, ← edge-snoc t (r .scale) (group s k) i u) (sym (map-set (edgeOf t (r .scale)) (s .groups) k (group s k ++ i ∷ []))))
       of-len
       (rw (b, of-first k, of-last k, of-next))
 
-  pub again-made : (i : ℕ) (e : Edge) (es : List Edge) (next′ : List ℕ) → e ≡ edgeOf t (r .scale) (i ∷ []) → es ≡ settle (stopsBehind r e) emptyEdge e (axis .edges) (axis .len) → next′ ≡ set next i i → tables (axis .dim) (axis .«major_dir») full es (axis .len + 1) next′ ≡ shown t r (made t r s i)
+  pub again-made : (i : ℕ) (e : Edge) (es : List Edge) (next′ : List ℕ) → e ≡ edgeOf t (r .scale) (i ∷ []) → es ≡ settle (stopsBehind r e) emptyEdge e (axis .edges) (axis .len)
+      → next′ ≡ set next i i → tables (axis .dim) (axis .«major_dir») full es (axis .len + 1) next′ ≡ shown t r (made t r s i)
   unfolding shown
   again-made i e es next′ p q u = same-tables _ _ _ _ _ _ _ _ _ _ _ _ of-dim of-major of-full
       (rw (q, p, of-edges, of-len) (sym (settle-map (edgeOf t (r .scale)) (stopsBehind r (edgeOf t (r .scale) (i ∷ []))) [] (i ∷ []) (s .groups) (s .count))))

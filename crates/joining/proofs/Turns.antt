@@ -1,24 +1,25 @@
 -- One turn of a loop, as a function's loop takes it.
 use mathlib.Core.Path.{_≡_, refl, sym, ap, _∙_}
-use mathlib.Core.Bool.{Bool, true, false, _&&_, _||_}
+use mathlib.Core.Bool.{Bool, true, false, _&&_}
 use mathlib.Core.List.{List, [], _∷_, map}
 use Prim.Native.Nat.{ℕ, zero, suc, _+_, _-_, _≤_, _<_}
 use native.Mathlib.Nat.{sub-zero}
 use native.Mathlib.Omega.{arith}
 use borrow.Author.Tests.{le-ltb}
-use lib.IntN.{ℤ, pos}
-use lib.ListN.{getD, set, replicate}
-use lib.Signed.{leZ}
+use lib.IntN.{ℤ}
+use lib.ListN.{set, replicate}
 use Rattle.axis.specs.declared.edge.Axis.{Axis}
 use Rattle.axis.specs.declared.edge.Edge.{Edge}
 use Rattle.axis.specs.declared.segment.Segment.{Segment}
 use Rattle.axis.specs.declared.segment.Segments.{Segments}
-use Rattle.axis.specs.Edge.{edgeAt, emptyEdge}
+use Rattle.axis.specs.Edge.{edgeAt, emptyEdge, withLast}
+use Rattle.axis.specs.Limits.{mostEdges, mostSegments}
+use Rattle.axis.specs.Ring.{walk, ends}
 use Rattle.axis.specs.Segment.{segmentAt}
 use Rattle.joining.specs.declared.join.Joined.{Joined}
 use Rattle.joining.specs.declared.rules.Rules.{Rules}
-use Rattle.joining.specs.Joining.{gap, fits, fitsIn, withLast, stopsBehind, settle, skips, edgeOf, appended, State, group, overfull, start, unjoined, shown, limitBehind, seek, mayJoin, behind, placeOf, visit, after, begun, stateAt}
-use Rattle.joining.specs.Walks.{walk, ends, Latin, StemsOf, stemsAgree}
+use Rattle.joining.specs.Joining.{gap, fits, fitsIn, stopsBehind, settle, skips, edgeOf, appended, State, group, overfull, start, unjoined, shown, limitBehind, seek, mayJoin, behind, placeOf, visit, after, begun, stateAt}
+use Rattle.joining.specs.Walks.{nextIn, Latin, StemsOf, stemsGo}
 use Rattle.signed.proofs.By.{by₂}
 use Rattle.joining.proofs.Members.{first-in}
 use Rattle.joining.proofs.Stems.{stems-agree}
@@ -45,7 +46,8 @@ map-replicate {A} {B} f (suc n) a = ap (λ (l : List B). f a ∷ l) (map-replica
 
 pub none-begun : (t : Segments) (r : Rules) (j : Joined) → j ≡ unjoined (r .dim) (r .«major_dir») → j ≡ shown t r (begun t r false)
 unfolding begun start shown
-none-begun t r j e = e ∙ ap (λ (es : List Edge). record { full = false; axis = record { dim = r .dim; «major_dir» = r .«major_dir»; edges = es; len = 0 }; next = replicate 512 0 }) (sym (map-replicate (edgeOf t (r .scale)) 128 []))
+none-begun t r j e =
+    e ∙ ap (λ (es : List Edge). record { full = false; axis = record { dim = r .dim; «major_dir» = r .«major_dir»; edges = es; len = 0 }; next = replicate mostSegments 0 }) (sym (map-replicate (edgeOf t (r .scale)) mostEdges []))
 
 -- the first loop is everyone's
 pub latin-first : (r : Rules) → Latin r false
@@ -62,7 +64,7 @@ unfolding fitsIn fits
 never-0 false s e = rw (le-ltb (gap (s .pos) (e .fpos)) 0 (omega arith))
 never-0 true s e = le-ltb (gap (s .pos) (e .fpos)) 0 (omega arith)
 
-module _ (t : Segments) (r : Rules) (second : Bool) (i : ℕ) (axis : Axis) (next : List ℕ) (long : t .len ≤ 512) (latin : Latin r second) (J : Stands t r second i false axis next) where
+module _ (t : Segments) (r : Rules) (second : Bool) (i : ℕ) (axis : Axis) (next : List ℕ) (long : t .len ≤ mostSegments) (latin : Latin r second) (J : Stands t r second i false axis next) where
   abbrev s : State
   s = stateAt t r second i
 
@@ -78,7 +80,7 @@ module _ (t : Segments) (r : Rules) (second : Bool) (i : ℕ) (axis : Axis) (nex
   one : stateAt t r second (i + 1) ≡ visit t r second s i
   one = after-next t r second (begun t r second) i
 
-  pub turn-room : i ≤ t .len → axis .len ≤ 128
+  pub turn-room : i ≤ t .len → axis .len ≤ mostEdges
   turn-room h = omega (arith, count-is, good t r second latin long i h .room)
 
   pub turn-skip : skips r second (segmentAt t i) ≡ true → Stands t r second (i + 1) false axis next
@@ -93,7 +95,7 @@ module _ (t : Segments) (r : Rules) (second : Bool) (i : ℕ) (axis : Axis) (nex
     G : Good t r second s i
     G = good t r second latin long i (omega arith)
 
-    pub turn-last : (k : ℕ) → k < axis .len → edgeAt axis k .last < 512
+    pub turn-last : (k : ℕ) → k < axis .len → edgeAt axis k .last < mostSegments
     turn-last k hk = omega (arith, last-below t r second s i long hi G k (omega (arith, count-is)), of-last t r s false axis next J k)
 
     module _ (k : ℕ) (hk : k < axis .len) where
@@ -101,25 +103,27 @@ module _ (t : Segments) (r : Rules) (second : Bool) (i : ℕ) (axis : Axis) (nex
       in-count = omega (arith, count-is)
 
       -- the ring of edge k
-      pub turn-ring : (edgeAt axis k .first < 512) × (ends next (edgeAt axis k .last) 512 (edgeAt axis k .first) ≡ true)
+      pub turn-ring : (edgeAt axis k .first < mostSegments) × (ends (nextIn next) mostSegments (edgeAt axis k .last) mostSegments (edgeAt axis k .first) ≡ true)
       turn-ring =
           let w = ring-walk t r second s i k long G in-count in
-          let f : edgeAt axis k .first < 512 = omega (arith, of-first t r s false axis next J k, members-below t r second s i k long G in-count _ (first-in (group s k) (G .used k in-count))) in
+          let f : edgeAt axis k .first < mostSegments = omega (arith, of-first t r s false axis next J k, members-below t r second s i k long G in-count _ (first-in (group s k) (G .used k in-count))) in
           (f, rw (of-first t r s false axis next J k, of-last t r s false axis next J k, of-next t r s false axis next J) (w .1))
 
-      ring-is : walk next (edgeAt axis k .last) 512 (edgeAt axis k .first) ≡ group s k
+      ring-is : walk (nextIn next) (edgeAt axis k .last) mostSegments (edgeAt axis k .first) ≡ group s k
       ring-is = rw (of-first t r s false axis next J k, of-last t r s false axis next J k, of-next t r s false axis next J) (ring-walk t r second s i k long G in-count .0)
 
       edge-is : edgeAt axis k ≡ edgeOf t (r .scale) (group s k)
       edge-is = of-edge t r s false axis next J k
 
       -- what the test of the edge said
-      pub may-said : (stems : List ℤ) (limit : ℕ) (v : Bool) → StemsOf t (r .cjk) stems → v ≡ (fitsIn second limit (segmentAt t i) (edgeAt axis k) && (leZ (pos 65536) (getD stems i (pos 0)) || stemsAgree stems (r .near) (getD stems i (pos 0)) (walk next (edgeAt axis k .last) 512 (edgeAt axis k .first)))) → v ≡ mayJoin t r second s i k limit
+      pub may-said : (stems : List ℤ) (limit : ℕ) (v : Bool) → StemsOf t (r .cjk) stems
+          → v ≡ (fitsIn second limit (segmentAt t i) (edgeAt axis k) && stemsGo stems (r .near) i (walk (nextIn next) (edgeAt axis k .last) mostSegments (edgeAt axis k .first)))
+          → v ≡ mayJoin t r second s i k limit
       unfolding mayJoin
       may-said stems limit v S e =
           by₂ _&&_ e
           (ap (fitsIn second limit (segmentAt t i)) edge-is)
-          (ap (λ (l : List ℕ). leZ (pos 65536) (getD stems i (pos 0)) || stemsAgree stems (r .near) (getD stems i (pos 0)) l) ring-is ∙ stems-agree t (r .cjk) stems (r .near) i (group s k) S hi (λ x h. members-below t r second s i k long G in-count x h))
+          (ap (stemsGo stems (r .near) i) ring-is ∙ stems-agree t (r .cjk) stems (r .near) i (group s k) S hi (λ x h. members-below t r second s i k long G in-count x h))
 
       module _ (best limit x : ℕ) (p : left t r second i (axis .len) k best limit ≡ x) (v : Bool) (said : v ≡ mayJoin t r second s i k limit) where
         pub search-no : v ≡ false → left t r second i (axis .len) (k + 1) best limit ≡ x
@@ -138,7 +142,8 @@ module _ (t : Segments) (r : Rules) (second : Bool) (i : ℕ) (axis : Axis) (nex
 
     -- ---- the place is known
     module _ (free : skips r second (segmentAt t i) ≡ false) (k : ℕ) (found : place t r second i ≡ k) where
-      pub turn-join : (e : Edge) (next′ : List ℕ) → k < axis .len → e ≡ withLast (edgeAt axis k) i → next′ ≡ appended next (edgeAt axis k .first) (edgeAt axis k .last) i → tables (axis .dim) (axis .«major_dir») false (set (axis .edges) k e) (axis .len) next′ ≡ shown t r (stateAt t r second (i + 1))
+      pub turn-join : (e : Edge) (next′ : List ℕ) → k < axis .len → e ≡ withLast (edgeAt axis k) i → next′ ≡ appended next (edgeAt axis k .first) (edgeAt axis k .last) i
+          → tables (axis .dim) (axis .«major_dir») false (set (axis .edges) k e) (axis .len) next′ ≡ shown t r (stateAt t r second (i + 1))
       turn-join e next′ hk a b =
           let h : k < s .count = omega (arith, count-is) in
           onward _ _ (again-join t r s false axis next J k i e next′ (G .used k h) a b) (one ∙ visit-join t r second s i going free k found h)
@@ -146,10 +151,13 @@ module _ (t : Segments) (r : Rules) (second : Bool) (i : ℕ) (axis : Axis) (nex
       pub turn-none : axis .len ≤ k → second ≡ true → Stands t r second (i + 1) false axis next
       turn-none hk b = onward s _ J (one ∙ visit-none t r second s i going free k found (omega (arith, count-is)) b)
 
-      pub turn-made : axis .len ≤ k → second ≡ false → axis .len < 128 → (e : Edge) (es : List Edge) (next′ : List ℕ) → e ≡ edgeOf t (r .scale) (i ∷ []) → es ≡ settle (stopsBehind r e) emptyEdge e (axis .edges) (axis .len) → next′ ≡ set next i i → tables (axis .dim) (axis .«major_dir») false es (axis .len + 1) next′ ≡ shown t r (stateAt t r second (i + 1))
-      turn-made hk b room e es next′ p q u = onward _ _ (again-made t r s false axis next J i e es next′ p q u) (one ∙ visit-made t r second s i going free k found (omega (arith, count-is)) b (omega (arith, count-is)))
+      pub turn-made : axis .len ≤ k → second ≡ false → axis .len < mostEdges → (e : Edge) (es : List Edge) (next′ : List ℕ) → e ≡ edgeOf t (r .scale) (i ∷ [])
+          → es ≡ settle (stopsBehind r e) emptyEdge e (axis .edges) (axis .len) → next′ ≡ set next i i
+          → tables (axis .dim) (axis .«major_dir») false es (axis .len + 1) next′ ≡ shown t r (stateAt t r second (i + 1))
+      turn-made hk b room e es next′ p q u =
+          onward _ _ (again-made t r s false axis next J i e es next′ p q u) (one ∙ visit-made t r second s i going free k found (omega (arith, count-is)) b (omega (arith, count-is)))
 
-      pub turn-full : axis .len ≤ k → second ≡ false → axis .len ≡ 128 → Stands t r second (t .len) true axis next
+      pub turn-full : axis .len ≤ k → second ≡ false → axis .len ≡ mostEdges → Stands t r second (t .len) true axis next
       turn-full hk b room =
           let h : stateAt t r second (i + 1) ≡ overfull s = one ∙ visit-full t r second s i going free k found (omega (arith, count-is)) b (omega (arith, count-is)) in
           let e : t .len - (i + 1) + (i + 1) ≡ t .len = omega arith in

@@ -9,7 +9,6 @@ use lib.ListN.{getD, set, replicate}
 use lib.Signed.{ltZ}
 use Rattle.fixed.specs.Point.{mulFix}
 use Rattle.axis.specs.declared.edge.Edge.{Edge}
-use Rattle.axis.specs.declared.kinds.Blue.the-variants as Blues
 use Rattle.axis.specs.declared.kinds.Dimension.{Dimension}
 use Rattle.axis.specs.declared.kinds.Direction.{Direction}
 use Rattle.axis.specs.declared.kinds.Direction.the-variants as Directions
@@ -18,9 +17,9 @@ use Rattle.axis.specs.declared.kinds.Link.the-variants as Links
 use Rattle.axis.specs.declared.segment.Segment.{Segment}
 use Rattle.axis.specs.declared.segment.Segments.{Segments}
 use Rattle.axis.specs.Direction.{same}
-use Rattle.axis.specs.Edge.{emptyEdge, emptyAxis}
-use Rattle.axis.specs.Flags.{normal}
-use Rattle.axis.specs.Limits.{mostEdges}
+use Rattle.axis.specs.Edge.{freshEdge, emptyEdge, emptyAxis, withLast}
+use Rattle.axis.specs.Limits.{mostEdges, mostSegments}
+use Rattle.axis.specs.Link.{isLinked}
 use Rattle.axis.specs.Segment.{segmentAt}
 use Rattle.joining.specs.declared.join.Joined.{Joined}
 use Rattle.joining.specs.declared.rules.Rules.{Rules}
@@ -29,11 +28,6 @@ use Rattle.joining.specs.declared.rules.Rules.{Rules}
 -- how far two positions are apart
 abbrev pub gap : ℤ → ℤ → ℕ
 gap a b = natAbs (a -ℤ b)
-
--- there is a link
-abbrev pub isLinked : Link → Bool
-isLinked Links.None = false
-isLinked (Links.To k) = true
 
 -- Latin passes a segment over: too short, too wide, without direction, or a serif shorter than one and a half times the length threshold
 unfoldable pub passedOver : Rules → Segment → Bool
@@ -60,11 +54,7 @@ fitsIn true limit s e = ltb (gap (s .pos) (e .fpos)) limit
 
 -- the edge of segment i alone
 abbrev pub newEdge : Segment → ℤ → ℕ → Edge
-newEdge s scale i = record { fpos = s .pos; opos = mulFix (s .pos) scale; pos = mulFix (s .pos) scale; flags = normal; dir = s .dir; blue = Blues.None; link = Links.None; serif = Links.None; first = i; last = i }
-
--- the edge with another last segment
-abbrev pub withLast : Edge → ℕ → Edge
-withLast e i = record { fpos = e .fpos; opos = e .opos; pos = e .pos; flags = e .flags; dir = e .dir; blue = e .blue; link = e .link; serif = e .serif; first = e .first; last = i }
+newEdge s scale i = freshEdge (s .pos) (mulFix (s .pos) scale) (s .dir) i
 
 -- ---- the links of two segments
 -- where both have one, their positions are nearer than a limit
@@ -125,7 +115,7 @@ group s k = getD (s .groups) k []
 
 -- no edge yet
 unfoldable pub start : State
-start = record { groups = replicate 128 []; count = 0; next = replicate 512 0; full = false }
+start = record { groups = replicate mostEdges []; count = 0; next = replicate mostSegments 0; full = false }
 
 -- segment i joins edge k
 abbrev pub join : State → ℕ → ℕ → State
@@ -137,7 +127,7 @@ overfull s = record { groups = s .groups; count = s .count; next = s .next; full
 
 -- the tables of no edge
 abbrev pub unjoined : Dimension → Direction → Joined
-unjoined dim major = record { full = false; axis = emptyAxis dim major; next = replicate 512 0 }
+unjoined dim major = record { full = false; axis = emptyAxis dim major; next = replicate mostSegments 0 }
 
 -- the tables that a state stands for
 unfoldable pub shown : Segments → Rules → State → Joined

@@ -18,14 +18,13 @@ use axis::limits::MOST_EDGES;
 use axis::segment::Segment;
 use axis::segment::Segments;
 ghost use mathlib.Core.Path.{_≡_};
-ghost use mathlib.Core.Bool.{true, false, _&&_, _||_};
+ghost use mathlib.Core.Bool.{true, false, _&&_};
 ghost use Prim.Native.Nat.{_<_};
-ghost use lib.IntN.{pos};
-ghost use lib.ListN.{getD};
-ghost use lib.Signed.{leZ};
 ghost use Rattle.signed.specs.Range.{Between};
+ghost use Rattle.axis.specs.Limits.{mostSegments, mostScore};
+ghost use Rattle.axis.specs.Ring.{walk, ends};
 ghost use Rattle.joining.specs.Joining.{gap, skips as skipped, fitsIn, limitBehind, unjoined, shown, begun, stateAt};
-ghost use Rattle.joining.specs.Walks.{walk, ends, stemsAgree, Latin, Joinable, StemsOf};
+ghost use Rattle.joining.specs.Walks.{nextIn, stemsGo, Latin, Joinable, StemsOf};
 
 // Whether a 129th edge was called for, the edges, and the next of each segment that has joined one.
 pub struct Joined {
@@ -49,7 +48,7 @@ pub fn none_joined(dim: Dimension, major_dir: Direction) -> Joined
 
 // Whether a loop leaves a segment out: the first one those that Latin passes over, the second one all with a direction.
 fn skips(segment: Segment, rules: Rules, second: bool) -> bool
-    requires { ⌜ Between 0 65535 (rules .length) ⌝ }
+    requires { ⌜ Between 0 mostScore (rules .length) ⌝ }
     ensures { λ r. ⌜ r ≡ skipped rules second segment ⌝ }
 {
     if second {
@@ -73,8 +72,8 @@ fn may_join(
     near: u64,
     second: bool,
 ) -> bool
-    requires { ⌜ (i < 512) × (edge .first < 512) × (ends (now next) (edge .last) 512 (edge .first) ≡ true) ⌝ }
-    ensures { λ r. ⌜ r ≡ (fitsIn second limit segment edge && (leZ (pos 65536) (getD (now (stems .entry)) i (pos 0)) || stemsAgree (now (stems .entry)) near (getD (now (stems .entry)) i (pos 0)) (walk (now (next .entry)) (edge .last) 512 (edge .first)))) ⌝ }
+    requires { ⌜ (i < mostSegments) × (edge .first < mostSegments) × (ends (nextIn (now next)) mostSegments (edge .last) mostSegments (edge .first) ≡ true) ⌝ }
+    ensures { λ r. ⌜ r ≡ (fitsIn second limit segment edge && stemsGo (now (stems .entry)) near i (walk (nextIn (now (next .entry))) (edge .last) mostSegments (edge .first))) ⌝ }
 {
     if !fits(segment, edge, limit, second) {
         return false;

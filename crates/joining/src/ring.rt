@@ -5,18 +5,19 @@ use axis::segment::Segments;
 ghost use mathlib.Core.Path.{_≡_};
 ghost use mathlib.Core.Bool.{true, _||_};
 ghost use Prim.Native.Nat.{_<_};
-ghost use lib.IntN.{pos};
 ghost use lib.Signed.{leZ};
 ghost use Rattle.axis.specs.Accepted.{SegmentsWithin};
+ghost use Rattle.axis.specs.Limits.{mostSegments};
+ghost use Rattle.axis.specs.Ring.{walk, ends};
 ghost use Rattle.joining.specs.Joining.{appended};
-ghost use Rattle.joining.specs.Walks.{walk, ends, stemNear, stemsAgree, StemsOf};
+ghost use Rattle.joining.specs.Walks.{nextIn, noStem, stemNear, stemsAgree, StemsOf};
 
 // Stands in the place of a link's position where there is no link: positions are below it.
 const NO_STEM: i32 = 65536;
 
 // Segment i behind the last of the ring from first to last.
 pub fn append(next: &mut [u16; 512], first: u16, last: u16, i: u16)
-    requires { ⌜ (i < 512) × (last < 512) ⌝ }
+    requires { ⌜ (i < mostSegments) × (last < mostSegments) ⌝ }
     ensures { λ r. ⌜ now (next .exit) ≡ appended (now (next .entry)) first last i ⌝ }
 {
     let at = i as usize;
@@ -67,8 +68,8 @@ pub fn ring_agrees(
     stem: i32,
     near: u64,
 ) -> bool
-    requires { ⌜ (first < 512) × (ends (now next) last 512 first ≡ true) ⌝ }
-    ensures { λ r. ⌜ r ≡ (leZ (pos 65536) stem || stemsAgree (now (stems .entry)) near stem (walk (now (next .entry)) last 512 first)) ⌝ }
+    requires { ⌜ (first < mostSegments) × (ends (nextIn (now next)) mostSegments last mostSegments first ≡ true) ⌝ }
+    ensures { λ r. ⌜ r ≡ (leZ noStem stem || stemsAgree (now (stems .entry)) near stem (walk (nextIn (now (next .entry))) last mostSegments first)) ⌝ }
 {
     if NO_STEM <= stem {
         return true;

@@ -4,7 +4,7 @@ use axis::edge::EMPTY_EDGE;
 use axis::edge::Edge;
 use axis::kinds::Dimension;
 use axis::kinds::Direction;
-use axis::kinds::Link;
+use axis::link::is_linked;
 use axis::segment::Segment;
 use fixed::point::fixed_mul;
 use fixed::point::magnitude;
@@ -15,7 +15,9 @@ ghost use lib.IntN.{pos, _*ℤ_};
 ghost use lib.Signed.{ltZ};
 ghost use Rattle.fixed.specs.Point.{mulFix};
 ghost use Rattle.signed.specs.Range.{Between};
-ghost use Rattle.joining.specs.Joining.{gap, isLinked, passedOver, fitsIn, stopsBehind, newEdge, withLast};
+ghost use Rattle.axis.specs.Edge.{withLast};
+ghost use Rattle.axis.specs.Limits.{mostScore};
+ghost use Rattle.joining.specs.Joining.{gap, passedOver, fitsIn, stopsBehind, newEdge};
 
 // What building is told beside the segments. `near` is the distance below which a segment joins an edge, `length` and `width` are Latin's thresholds.
 pub struct Rules {
@@ -43,20 +45,10 @@ pub fn distance_to(segment: Segment, edge: Edge) -> u64
     distance(segment.pos as i32, edge.fpos as i32)
 }
 
-// Whether there is a link.
-fn is_linked(link: Link) -> bool
-    ensures { λ r. ⌜ r ≡ isLinked link ⌝ }
-{
-    match link {
-        Link::None => false,
-        Link::To(_) => true,
-    }
-}
-
 // Whether a serif is shorter than one and a half times the length threshold.
 fn is_short_serif(height: i32, length: i32) -> bool
     requires { ⌜ Between 32768 32767 height ⌝ }
-    requires { ⌜ Between 0 65535 length ⌝ }
+    requires { ⌜ Between 0 mostScore length ⌝ }
     ensures { λ r. ⌜ r ≡ ltZ (height *ℤ pos 2) (length *ℤ pos 3) ⌝ }
 {
     height * 2 < length * 3
@@ -64,7 +56,7 @@ fn is_short_serif(height: i32, length: i32) -> bool
 
 // Whether Latin's first loop passes a segment over: too short, too wide, without direction, or a serif shorter than 1.5 times the threshold.
 pub fn is_passed_over(segment: Segment, rules: Rules) -> bool
-    requires { ⌜ Between 0 65535 (rules .length) ⌝ }
+    requires { ⌜ Between 0 mostScore (rules .length) ⌝ }
     ensures { λ r. ⌜ r ≡ passedOver rules segment ⌝ }
 {
     let height = segment.height as i32;

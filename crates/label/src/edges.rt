@@ -1,19 +1,22 @@
 // Edges that a step placed or moved, for a person to look at.
 use super::print::show;
 use super::print::text;
+use axis::accept::least;
+use axis::limits::MOST_EDGES;
 use middle::bits::bits_of;
 use middle::bits::signed_of;
+use words::edge::EDGE_WORDS;
 use words::field::index_of;
 use words::word::count_word;
-use words::word::least;
 use words::word::size_of;
 use words::word::word_at;
-ghost use Prim.Native.Nat.{_≤_};
+ghost use Prim.Native.Nat.{_≤_, _<_};
+ghost use Rattle.axis.specs.Limits.{mostEdges};
 
-// Where the fields of an edge stand among its 11 words.
-pub const FPOS: usize = 0;
+// Where the fields of an edge stand among its words.
+const FPOS: usize = 0;
 
-pub const OPOS: usize = 1;
+const OPOS: usize = 1;
 
 pub const POS: usize = 2;
 
@@ -32,7 +35,7 @@ pub const NONE: usize = 65535;
 pub fn field(edges: &[i32], i: usize, k: usize) -> i32
     requires { ⌜ (i ≤ 65535) × (k ≤ 10) ⌝ }
 {
-    word_at(edges, 11 * i + k)
+    word_at(edges, EDGE_WORDS * i + k)
 }
 
 // The place that a word names.
@@ -54,7 +57,7 @@ pub fn done(edges: &[i32], i: usize) -> bool
 
 // Whether a step left an edge as it was.
 fn stayed(before: &[i32], edges: &[i32], i: usize) -> bool
-    requires { ⌜ i ≤ 127 ⌝ }
+    requires { ⌜ i < mostEdges ⌝ }
 {
     if field(before, i, POS) != field(edges, i, POS) {
         return false;
@@ -73,7 +76,7 @@ fn distance(edges: &[i32], i: usize, other: usize, k: usize) -> i32
 
 // Writes the stem that an edge is a side of, with its width before and after at the first side once both are placed.
 fn stem(edges: &[i32], i: usize)
-    requires { ⌜ i ≤ 127 ⌝ }
+    requires { ⌜ i < mostEdges ⌝ }
 {
     let link = field(edges, i, LINK);
     let other = place_of(link);
@@ -92,7 +95,7 @@ fn stem(edges: &[i32], i: usize)
 
 // Writes that an edge is on its zone, where it is.
 fn zone(edges: &[i32], i: usize)
-    requires { ⌜ i ≤ 127 ⌝ }
+    requires { ⌜ i < mostEdges ⌝ }
 {
     if field(edges, i, BLUE) == 0 {
         return;
@@ -104,7 +107,7 @@ fn zone(edges: &[i32], i: usize)
 
 // Writes an edge that a step changed: its font position, where it was and where it is, its stem and its zone. Where there were no edges before, its font position alone.
 fn row(before: &[i32], edges: &[i32], i: usize)
-    requires { ⌜ i ≤ 127 ⌝ }
+    requires { ⌜ i < mostEdges ⌝ }
 {
     if before.len() == 0 {
         show(b" ^", &[field(edges, i, FPOS)]);
@@ -127,7 +130,7 @@ fn row(before: &[i32], edges: &[i32], i: usize)
 
 // Writes the edges that a step changed.
 pub fn changes(before: &[i32], edges: &[i32], count: usize) {
-    let n = least(count, 128);
+    let n = least(count, MOST_EDGES);
     let mut i = 0;
     while i < n {
         row(before, edges, i);

@@ -11,22 +11,25 @@ use super::print::refused;
 use super::print::show;
 use super::print::text;
 use super::topo::tail;
+use axis::accept::least;
+use axis::limits::MOST_EDGES;
 use khsaemudol::khs_align_edges_to_blues;
 use khsaemudol::khs_align_stem_edges;
 use khsaemudol::khs_hint_lowercase_m;
-use words::word::least;
+use words::edge::EDGE_WORDS;
+use words::edge::TABLE_WORDS;
 use words::word::size_of;
 use words::word::word_at;
 
 // The edges of a glyph with the blues of a job's edges, one by one.
-fn with_zones(words: &[i32], glyph: Glyph) -> [i32; 1408] {
+fn with_zones(words: &[i32], glyph: Glyph) -> [i32; TABLE_WORDS] {
     let zones = tail(words, 2);
     let mut edges = glyph.edges;
-    let n = least(glyph.count, 128);
+    let n = least(glyph.count, MOST_EDGES);
     let mut i = 0;
     while i < n {
-        edges[11 * i + 5] = field(zones, i, BLUE);
-        edges[11 * i + 6] = field(zones, i, FITTED);
+        edges[EDGE_WORDS * i + BLUE] = field(zones, i, BLUE);
+        edges[EDGE_WORDS * i + FITTED] = field(zones, i, FITTED);
         i += 1;
     }
     edges
@@ -42,7 +45,7 @@ fn anchored(anchor: i32) {
 }
 
 // The glyph with what a step made of its edges and its anchor, and what it changed is written.
-fn fitted(glyph: Glyph, edges: [i32; 1408], anchor: i32) -> Glyph {
+fn fitted(glyph: Glyph, edges: [i32; TABLE_WORDS], anchor: i32) -> Glyph {
     let before = glyph.edges;
     changes(&before, &edges, glyph.count);
     let topo = glyph.topo;
@@ -57,7 +60,10 @@ fn fitted(glyph: Glyph, edges: [i32; 1408], anchor: i32) -> Glyph {
 
 // Puts the edges on the zones that a job gives them.
 pub fn zones(words: &[i32], glyph: Glyph) -> Glyph {
-    let numbers = tail(words, 2 + 11 * least(size_of(word_at(words, 1)), 128));
+    let numbers = tail(
+        words,
+        2 + EDGE_WORDS * least(size_of(word_at(words, 1)), MOST_EDGES),
+    );
     let mut edges = with_zones(words, glyph);
     let n = edge_words(glyph);
     let mut anchor = -1;

@@ -9,10 +9,11 @@ use super::print::refused;
 use super::print::show;
 use super::print::text;
 use super::topo::tail;
+use axis::accept::least;
 use khsaemudol::khs_align_weak_points;
 use words::field::index_of;
+use words::segment::SEGMENT_WORDS;
 use words::word::count_word;
-use words::word::least;
 use words::word::size_of;
 use words::word::word_at;
 ghost use Prim.Native.Nat.{_≤_};
@@ -32,7 +33,7 @@ fn point_of(words: &[i32], n: usize, i: usize, glyph: Glyph) -> Point
     let topo = glyph.topo;
     let edges = glyph.edges;
     let segment = least(size_of(word_at(words, 4 + 2 * n + i)), 255);
-    let edge = place_of(word_at(&topo, 15 * segment));
+    let edge = place_of(word_at(&topo, SEGMENT_WORDS * segment));
     let end = index_of(word_at(words, 5 + 3 * n + i));
     if 0 < segment {
         if done(&edges, edge) {

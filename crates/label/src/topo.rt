@@ -5,13 +5,20 @@ use super::glyph::stopped;
 use super::print::refused;
 use super::print::show;
 use super::print::text;
+use axis::accept::least;
+use axis::limits::MOST_SEGMENTS;
 use khsaemudol::khs_compute_edges;
 use khsaemudol::khs_link_segments_cjk;
+use words::edge::TABLE_WORDS;
+use words::segment::SEGMENT_WORDS;
 use words::word::count_word;
-use words::word::least;
 use words::word::size_of;
 use words::word::word_at;
-ghost use Prim.Native.Nat.{_≤_};
+ghost use Prim.Native.Nat.{_+_, _≤_};
+ghost use Rattle.axis.specs.Limits.{mostSegments};
+
+// One segment more than a call takes.
+const TOO_MANY: usize = MOST_SEGMENTS + 1;
 
 // The words from a place on.
 pub fn tail(words: &[i32], at: usize) -> &[i32] {
@@ -23,16 +30,16 @@ pub fn tail(words: &[i32], at: usize) -> &[i32] {
 
 // How many segments a job has: at most one more than a call takes.
 fn segments(words: &[i32]) -> usize
-    ensures { λ r. ⌜ r ≤ 513 ⌝ }
+    ensures { λ r. ⌜ r ≤ mostSegments + 1 ⌝ }
 {
-    least(size_of(word_at(words, 1)), 513)
+    least(size_of(word_at(words, 1)), TOO_MANY)
 }
 
 // Writes the stem that a segment is linked to, at the first of its two sides.
 fn pair(words: &[i32], i: usize)
-    requires { ⌜ i ≤ 512 ⌝ }
+    requires { ⌜ i ≤ mostSegments ⌝ }
 {
-    let link = word_at(words, 2 + 15 * i + 9);
+    let link = word_at(words, 2 + SEGMENT_WORDS * i + 9);
     let n = count_word(i);
     if n < link {
         show(b", # with #", &[n, link]);
@@ -56,7 +63,7 @@ fn paired(topo: [i32; 32769]) -> Glyph {
     text(b"\n");
     Glyph {
         topo,
-        edges: [0; 1408],
+        edges: [0; TABLE_WORDS],
         count: 0,
         anchor: -1,
         refused: false,
@@ -66,7 +73,7 @@ fn paired(topo: [i32; 32769]) -> Glyph {
 // Links the segments of a job.
 pub fn link(words: [i32; 32769], glyph: Glyph) -> Glyph {
     let mut topo = words;
-    let end = 2 + 15 * segments(&words);
+    let end = 2 + SEGMENT_WORDS * segments(&words);
     let numbers = tail(&words, end);
     let answer = khs_link_segments_cjk(
         &mut topo[2..end],
@@ -90,7 +97,7 @@ fn topo_of(words: [i32; 32769], glyph: Glyph) -> [i32; 32769] {
 }
 
 // The glyph of the edges that were built, which are written.
-fn built(topo: [i32; 32769], edges: [i32; 1408], count: i32) -> Glyph {
+fn built(topo: [i32; 32769], edges: [i32; TABLE_WORDS], count: i32) -> Glyph {
     show(b"# segments make # edges, at", &[word_at(&topo, 1), count]);
     let n = size_of(count);
     changes(&[], &edges, n);
@@ -107,9 +114,9 @@ fn built(topo: [i32; 32769], edges: [i32; 1408], count: i32) -> Glyph {
 // Builds the edges of a glyph. The job has no old edges.
 pub fn build(words: [i32; 32769], glyph: Glyph) -> Glyph {
     let mut topo = topo_of(words, glyph);
-    let end = 2 + 15 * segments(&topo);
-    let numbers = tail(&words, 3 + 15 * segments(&words));
-    let mut edges = [0i32; 1408];
+    let end = 2 + SEGMENT_WORDS * segments(&topo);
+    let numbers = tail(&words, 3 + SEGMENT_WORDS * segments(&words));
+    let mut edges = [0i32; TABLE_WORDS];
     let mut count = 0;
     let answer = khs_compute_edges(
         &mut topo[2..end],

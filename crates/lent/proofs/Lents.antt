@@ -15,9 +15,9 @@ not-shown e = record { number = rw e; held = refl }
 pub refused : {A : Type 0} {answer : ℕ} {new old : A} → 0 < answer → Lent true answer new old answer old
 refused {A} {answer} {new} {old} h = record { number = refl; held = rw (ne-eqb answer 0 (λ e. omega arith)) }
 
--- the call is done
-pub done : {A : Type 0} {answer : ℕ} {new old now : A} → answer ≡ 0 → now ≡ new → Lent true answer new old 0 now
-done e h = record { number = sym e; held = h }
+-- the call hands something back
+pub handed-back : {A : Type 0} {answer : ℕ} {new old now : A} → answer ≡ 0 → now ≡ new → Lent true answer new old 0 now
+handed-back e h = record { number = sym e; held = h }
 
 -- every word is one of its field, and what is handed back is what the call hands back
 pub shown-by :

@@ -11,8 +11,8 @@ use Rattle.axis.specs.declared.edge.Axis.{Axis}
 use Rattle.axis.specs.declared.segment.Segments.{Segments}
 use Rattle.axis.specs.Limits.{mostEdges, mostSegments}
 use Rattle.words.specs.Word.{written, joined}
-use Rattle.words.specs.Edge.{edgesIn, edgeWordsAt, edgesOver}
-use Rattle.words.specs.Segment.{segmentsIn, segmentWordsAt, segmentsOver}
+use Rattle.words.specs.Edge.{edgeSize, edgesIn, edgeWordsAt, edgesOver}
+use Rattle.words.specs.Segment.{segmentSize, segmentsIn, segmentWordsAt, segmentsOver}
 use Rattle.words.proofs.Writing.{written-front}
 use Rattle.words.proofs.Tables.{joined-length}
 use Rattle.words.proofs.Edges.{edge-lengths}
@@ -22,12 +22,12 @@ use Rattle.shape.specs.declared.field.Place.the-variants.{Nowhere, At}
 use Rattle.shape.specs.declared.element.Record.the-variants as Records
 use Rattle.shape.specs.declared.element.Element.{Element}
 use Rattle.shape.specs.declared.element.Element.the-variants as Elements
-use Rattle.shape.specs.Shape.{andThen, isAt, fields, rangesOf, blueHolds, edge, element, elements, isRun, edgesShown, segmentsShown}
+use Rattle.shape.specs.Shape.{andThen, isAt, fields, rangesOf, blueShown, edge, element, elements, isRun, edgesShown, segmentsShown}
 use Rattle.shape.proofs.Shapes.{fields-place}
 
 -- ---- the length of a run
--- an edge that is there is 11 words
-edge-place : (ws : List ℤ) (at n : ℕ) → edge ws at ≡ At n → n ≡ at + 11
+-- an edge that is there is its words
+edge-place : (ws : List ℤ) (at n : ℕ) → edge ws at ≡ At n → n ≡ at + edgeSize
 unfolding edge andThen
 edge-place ws at n e = by (fields (rangesOf Records.Edge) ws at) refl e
   where
@@ -35,9 +35,9 @@ edge-place ws at n e = by (fields (rangesOf Records.Edge) ws at) refl e
     tested true m e = cc
     tested false m e = let z : _≡_ {A = ℕ} 0 1 = cc in absurd (omega arith)
 
-    by : (p : Place) → fields (rangesOf Records.Edge) ws at ≡ p → andThen p (λ next. cond (blueHolds ws at) (At next) Nowhere) ≡ At n → n ≡ at + 11
+    by : (p : Place) → fields (rangesOf Records.Edge) ws at ≡ p → andThen p (λ next. cond (blueShown ws at) (At next) Nowhere) ≡ At n → n ≡ at + edgeSize
     by Nowhere f e = let z : _≡_ {A = ℕ} 0 1 = cc in absurd (omega arith)
-    by (At m) f e = omega (arith, fields-place (rangesOf Records.Edge) ws at m f, tested (blueHolds ws at) m e)
+    by (At m) f e = omega (arith, fields-place (rangesOf Records.Edge) ws at m f, tested (blueShown ws at) m e)
 
 -- elements of k words each
 module _ (e : Element) (k : ℕ) (ws : List ℤ) (place : (at n : ℕ) → element e ws at ≡ At n → n ≡ at + k) where
@@ -69,7 +69,7 @@ edges-whole ws axis h few =
     let n : min (edgesIn ws) mostEdges ≡ edgesIn ws = omega arith in
     ap (λ (k : ℕ). written ws 0 (joined (edgeWordsAt axis) k)) n
     ∙ over-whole ws (joined (edgeWordsAt axis) (edgesIn ws))
-    (run-length Elements.Edge 11 ws (edge-place ws) (edgesIn ws) h ∙ sym (joined-length (edgeWordsAt axis) 11 (edge-lengths axis) (edgesIn ws)))
+    (run-length Elements.Edge edgeSize ws (edge-place ws) (edgesIn ws) h ∙ sym (joined-length (edgeWordsAt axis) edgeSize (edge-lengths axis) (edgesIn ws)))
 
 pub segments-whole : (ws : List ℤ) (t : Segments) → segmentsShown ws ≡ true → segmentsIn ws ≤ mostSegments → segmentsOver ws t ≡ joined (segmentWordsAt t) (segmentsIn ws)
 unfolding segmentsShown segmentsOver element
@@ -77,4 +77,4 @@ segments-whole ws t h few =
     let n : min (segmentsIn ws) mostSegments ≡ segmentsIn ws = omega arith in
     ap (λ (k : ℕ). written ws 0 (joined (segmentWordsAt t) k)) n
     ∙ over-whole ws (joined (segmentWordsAt t) (segmentsIn ws))
-    (run-length Elements.Segment 15 ws (fields-place (rangesOf Records.Segment) ws) (segmentsIn ws) h ∙ sym (joined-length (segmentWordsAt t) 15 (segment-lengths t) (segmentsIn ws)))
+    (run-length Elements.Segment segmentSize ws (fields-place (rangesOf Records.Segment) ws) (segmentsIn ws) h ∙ sym (joined-length (segmentWordsAt t) segmentSize (segment-lengths t) (segmentsIn ws)))

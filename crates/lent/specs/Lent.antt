@@ -10,7 +10,7 @@ use Rattle.axis.specs.declared.kinds.Dimension.the-variants as Dimensions
 use Rattle.axis.specs.declared.kinds.Direction.the-variants as Directions
 use Rattle.words.specs.Edge.{flatAxis}
 use Rattle.shape.specs.declared.field.Range.{Range}
-use Rattle.shape.specs.Shape.{within, choice}
+use Rattle.shape.specs.Shape.{isIn, choice}
 
 -- the answer to words that are not those of their fields
 abbrev pub notWords : ℕ
@@ -23,11 +23,11 @@ pub record Lent {A : Type 0} (shown : Bool) (answer : ℕ) (new old : A) (r : �
 
 -- two words within one field's values
 abbrev pub bothIn : Range → ℤ → ℤ → Bool
-bothIn r a b = within r a && within r b
+bothIn r a b = isIn r a && isIn r b
 
 -- three choices
 abbrev pub choices : ℤ → ℤ → ℤ → Bool
-choices a b c = within choice a && bothIn choice b c
+choices a b c = isIn choice a && bothIn choice b c
 
 -- the axis of lent edges, for a call that reads neither its dimension nor its major direction
 abbrev pub edgesOf : List ℤ → Axis

@@ -1,10 +1,12 @@
 -- A table within document 01's limits is no reason for a refusal: from the facts back to the tests.
 use mathlib.Core.Path.{_≡_, refl}
 use mathlib.Core.Bool.{Bool, true}
+use mathlib.Core.List.{List, [], _∷_}
 use Prim.Native.Nat.{ℕ, zero, suc, _<_, min}
 use native.Mathlib.Omega.{arith}
 use borrow.Author.Tests.{lt-ltb, le-leb}
 use lib.IntN.{ℤ, pos}
+use Rattle.refusals.specs.Refusal.{Test, _unless_, refusal, tooLong, badParameter, outOfRange}
 use Rattle.signed.specs.Range.{Between}
 use Rattle.signed.proofs.Signed.{to-le-true}
 use Rattle.axis.specs.declared.kinds.Link.{Link}
@@ -13,7 +15,7 @@ use Rattle.axis.specs.declared.segment.Segment.{Segment}
 use Rattle.axis.specs.declared.segment.Segments.{Segments}
 use Rattle.axis.specs.Accepted.{Below, SegmentWithin, SegmentsWithin}
 use Rattle.axis.specs.Limits.{mostSegments, mostScore}
-use Rattle.axis.specs.Refusals.{inside, linkHolds, every, segmentIndices, segmentNumbers, segmentsIndices, segmentsNumbers, firstRefusal, segmentsRefusal}
+use Rattle.axis.specs.Refusals.{inside, linkHolds, every, segmentIndices, segmentNumbers, segmentsIndices, segmentsNumbers, segmentsShort, segmentsIndexed, segmentsInRange}
 use Rattle.axis.specs.Segment.{segmentAt}
 
 -- ---- one index, one number, every place
@@ -39,6 +41,15 @@ numbers-hold : (n : ℕ) (s : Segment) → SegmentWithin n s → segmentNumbers 
 unfolding segmentNumbers
 numbers-hold n s w = rw (number-holds mostScore (s .score) (w .score)) (number-holds mostScore (s .len) (w .len))
 
+-- ---- a call on segments, as building is
+-- the tests of its segments, in their places among those of its other parts
+abbrev pub amongTests : Segments → Bool → Bool → Bool → List Test
+amongTests t short right near = segmentsShort t ∷ tooLong unless short ∷ badParameter unless right ∷ segmentsIndexed t ∷ segmentsInRange t ∷ outOfRange unless near ∷ []
+
+-- those of its other parts alone
+abbrev pub otherTests : Bool → Bool → Bool → List Test
+otherTests short right near = tooLong unless short ∷ badParameter unless right ∷ outOfRange unless near ∷ []
+
 module _ (t : Segments) (w : SegmentsWithin t) where
   all-indices : segmentsIndices t ≡ true
   unfolding segmentsIndices
@@ -48,7 +59,7 @@ module _ (t : Segments) (w : SegmentsWithin t) where
   unfolding segmentsNumbers
   all-numbers = every-holds _ (min (t .len) mostSegments) (λ i l. numbers-hold (t .len) (segmentAt t i) (w .segment i (omega arith)))
 
-  -- what is left is the other parts of the call
-  pub no-reason : (short right below near : Bool) → segmentsRefusal t short right below near ≡ firstRefusal short right below near
-  unfolding segmentsRefusal
-  no-reason short right below near = rw (le-leb (t .len) mostSegments (w .few), all-indices, all-numbers)
+  -- what is left are the tests of the other parts of the call
+  pub no-reason : (short right near : Bool) → refusal (amongTests t short right near) ≡ refusal (otherTests short right near)
+  unfolding refusal
+  no-reason short right near = rw (le-leb (t .len) mostSegments (w .few), all-indices, all-numbers)

@@ -12,9 +12,9 @@ use Rattle.signed.specs.Range.{Between}
 use Rattle.signed.proofs.Signed.{signed, fits-abs, natAbs-is, times-up, times-dn}
 use Rattle.fixed.specs.Point.{divFix, derived}
 use Rattle.fixed.proofs.Rounding.{div-abs}
-use Rattle.axis.specs.Limits.{leastUnitsPerEm, mostUnitsPerEm, leastScale}
+use Rattle.axis.specs.Limits.{leastUnitsPerEm, mostUnitsPerEm, leastScale, mostScore}
 use Rattle.axis.specs.Refusals.{inside}
-use Rattle.axis.proofs.Tests.{and-first, and-second}
+use Rattle.refusals.proofs.Tests.{and-first, and-second}
 use Rattle.linking.specs.Linking.{numbersHold, thresholdsOf}
 
 -- a quotient of what is not negative is not
@@ -23,7 +23,7 @@ quot-not-below-0 (pos n) h = zero-le
 quot-not-below-0 (negsuc n) h = absurd (omega arith)
 
 -- the constant 8 is within the bounds of one
-pub eight : Between 0 65535 (pos 8)
+pub eight : Between 0 mostScore (pos 8)
 eight = omega arith
 
 module _ (upem scale : ℤ) (h : numbersHold upem scale ≡ true) where

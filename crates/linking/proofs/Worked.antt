@@ -4,6 +4,7 @@ use mathlib.Core.List.{List, [], _∷_, _++_, map}
 use Prim.Native.Nat.{ℕ, _-_}
 use lib.IntN.{pos}
 use lib.ListN.{length, replicate}
+use Rattle.refusals.specs.Refusal.{refusal}
 use Rattle.fixed.specs.Point.{near, nearZ, divFix, derived}
 use Rattle.axis.specs.declared.kinds.Direction.{Direction}
 use Rattle.axis.specs.declared.kinds.Direction.the-variants.{Right, Up, Down}
@@ -34,7 +35,23 @@ g is v = record { gives = g; value = v }
 
 -- a segment of a direction at a position, wide from 0 to a coordinate, with this score, len, link and serif
 abbrev at : Direction → ℕ → ℕ → ℕ → ℕ → Link → Link → Segment
-at dir p wide score len link serif = record { flags = normal; dir = dir; pos = pos p; delta = pos 0; «min_coord» = pos 0; «max_coord» = pos wide; height = pos 0; score = pos score; len = pos len; link = link; serif = serif; first = 0; last = 0; edge = None; next = None }
+at dir p wide score len link serif = record {
+  flags = normal;
+  dir = dir;
+  pos = pos p;
+  delta = pos 0;
+  «min_coord» = pos 0;
+  «max_coord» = pos wide;
+  height = pos 0;
+  score = pos score;
+  len = pos len;
+  link = link;
+  serif = serif;
+  first = 0;
+  last = 0;
+  edge = None;
+  next = None;
+}
 
 -- the table of a few segments
 abbrev table : List Segment → Segments
@@ -115,5 +132,5 @@ rows =
 
 -- each row holds
 pub worked : map (λ (r : Row). r .gives) rows ≡ map (λ (r : Row). r .value) rows
-unfolding near nearZ divFix derived D.same D.opposite linksTo R.linkHolds R.every R.segmentIndices R.segmentNext R.segmentNumbers R.segmentsIndices R.segmentsNexts R.segmentsNumbers R.segmentsRefusal turns till P.maxZ P.minZ P.gapOf P.facing P.checkSeg P.improvedBy P.nearStem P.encloses P.muchLonger P.rewritten P.staysSerif P.settled Q.improvePair Q.pairTurn Q.majorTurn Q.pairRound Q.rewriteTurn Q.rewriteAll Q.unlink Q.heldTo Q.givenUpTo Q.holdTurn Q.givenUp Q.hold Q.serifTo Q.serifTurn Q.serifRound Q.lastTo Q.lastTurn Q.lastRound Q.linked L.thresholdsOf L.numbersHold L.linkingRefusal L.linkSegmentsCjk rows
+unfolding near nearZ divFix derived D.same D.opposite linksTo R.linkHolds R.every R.segmentIndices R.segmentNext R.segmentNumbers R.segmentsIndices R.segmentsNexts R.segmentsNumbers refusal turns till P.maxZ P.minZ P.gapOf P.facing P.checkSeg P.improvedBy P.nearStem P.encloses P.muchLonger P.rewritten P.staysSerif P.settled Q.improvePair Q.pairTurn Q.majorTurn Q.pairRound Q.rewriteTurn Q.rewriteAll Q.unlink Q.heldTo Q.givenUpTo Q.holdTurn Q.givenUp Q.hold Q.serifTo Q.serifTurn Q.serifRound Q.lastTo Q.lastTurn Q.lastRound Q.linked L.thresholdsOf L.numbersHold L.linkSegmentsCjk rows
 worked = refl

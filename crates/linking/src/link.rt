@@ -1,20 +1,39 @@
 // The public call (the Rust's `link_segments_cjk`).
 use super::thresholds::numbers_hold;
 use super::thresholds::thresholds_of;
+use axis::accept::few_segments;
+use axis::accept::segments_indices;
 use axis::accept::segments_nexts;
-use axis::accept::segments_refusal;
+use axis::accept::segments_numbers;
 use axis::kinds::Direction;
 use axis::segment::Segments;
 use linking_rounds::rounds::last_round;
 use linking_rounds::rounds::pair_round;
 use linking_rounds::rounds::serif_round;
+use refusals::order::BAD_INDEX;
+use refusals::order::BAD_PARAMETER;
+use refusals::order::OUT_OF_RANGE;
+use refusals::order::TOO_LONG;
+use refusals::order::or_refused;
 ghost use mathlib.Core.Path.{_≡_};
-ghost use Rattle.linking.specs.Linking.{linkSegmentsCjk};
+ghost use Rattle.refusals.specs.Refusal.{refusal};
+ghost use Rattle.linking.specs.Linking.{linkingTests, linkSegmentsCjk};
 
 // The answer, 0 or document 01's number of the refusal, and the segments.
 pub struct Linked {
     pub answer: u8,
     pub segments: Segments,
+}
+
+// The refusal of the call, or 0.
+fn linking_refusal(segments: Segments, units_per_em: i32, scale: i32) -> u8
+    ensures { λ r. ⌜ r ≡ refusal (linkingTests segments «units_per_em» scale) ⌝ }
+{
+    let answer = or_refused(0, few_segments(segments.len), TOO_LONG);
+    let answer = or_refused(answer, numbers_hold(units_per_em, scale), BAD_PARAMETER);
+    let answer = or_refused(answer, segments_indices(segments), BAD_INDEX);
+    let answer = or_refused(answer, segments_nexts(segments), BAD_INDEX);
+    or_refused(answer, segments_numbers(segments), OUT_OF_RANGE)
 }
 
 // Links the segments of an axis into stems and serifs. A refusal, 1 to 4, hands the segments back as they were.
@@ -26,9 +45,7 @@ pub fn link_segments_cjk(
 ) -> Linked
     ensures { λ r. ⌜ r ≡ linkSegmentsCjk segments «major_dir» «units_per_em» scale ⌝ }
 {
-    let right = numbers_hold(units_per_em, scale);
-    let below = segments_nexts(segments);
-    let answer = segments_refusal(segments, true, right, below, true);
+    let answer = linking_refusal(segments, units_per_em, scale);
     if 0 < answer {
         return Linked { answer, segments };
     }

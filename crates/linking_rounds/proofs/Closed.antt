@@ -32,7 +32,8 @@ module _ (n : ℕ) where
   joined i k s g y p = record { link = below-to n k y; serif = p .serif }
 
   module _ (by : Thresholds) where
-    pair : (before seg1 seg2 : Segment) (i j : ℕ) → i < n → j < n → Inside n i before → Inside n i seg1 → Inside n j seg2 → facing by seg1 seg2 i j (gapOf before seg1 seg2) ≡ true → Inside n i (joinedTo seg1 (gapOf before seg1 seg2) j) × Inside n j (joinedTo seg2 (gapOf before seg1 seg2) i)
+    pair : (before seg1 seg2 : Segment) (i j : ℕ) → i < n → j < n → Inside n i before → Inside n i seg1 → Inside n j seg2 → facing by seg1 seg2 i j (gapOf before seg1 seg2) ≡ true
+        → Inside n i (joinedTo seg1 (gapOf before seg1 seg2) j) × Inside n j (joinedTo seg2 (gapOf before seg1 seg2) i)
     pair before seg1 seg2 i j x y p q r e = (joined i j seg1 (gapOf before seg1 seg2) y q, joined j i seg2 (gapOf before seg1 seg2) x r)
 
     -- ---- the rounds and their turns

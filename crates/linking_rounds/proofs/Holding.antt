@@ -30,11 +30,13 @@ module _ (a b : Segment) (i k : ℕ) where
   unfolding heldTo givenUpTo
   made-skip j m l t e h = record { table = rw (e, h); ends = rw (e, h) }
 
-  made-serifs : (j m : ℕ) (l : Link) (t v : Segments) → l ≡ Links.To m → encloses a b (segmentAt t j) (segmentAt t m) i j ≡ true → muchLonger a (segmentAt t j) ≡ true → v ≡ rewriteAll j k m i t → Made j l t v false
+  made-serifs : (j m : ℕ) (l : Link) (t v : Segments) → l ≡ Links.To m → encloses a b (segmentAt t j) (segmentAt t m) i j ≡ true → muchLonger a (segmentAt t j) ≡ true
+      → v ≡ rewriteAll j k m i t → Made j l t v false
   unfolding heldTo givenUpTo
   made-serifs j m l t v e h g p = record { table = rw (e, h, g) p; ends = rw (e, h, g) }
 
-  made-last : (j m : ℕ) (l : Link) (t v : Segments) → l ≡ Links.To m → encloses a b (segmentAt t j) (segmentAt t m) i j ≡ true → muchLonger a (segmentAt t j) ≡ false → v ≡ unlink k (unlink i t) → Made j l t v true
+  made-last : (j m : ℕ) (l : Link) (t v : Segments) → l ≡ Links.To m → encloses a b (segmentAt t j) (segmentAt t m) i j ≡ true → muchLonger a (segmentAt t j) ≡ false
+      → v ≡ unlink k (unlink i t) → Made j l t v true
   unfolding heldTo givenUpTo
   made-last j m l t v e h g p = record { table = rw (e, h, g) p; ends = rw (e, h, g) }
 
@@ -66,7 +68,8 @@ module _ (by : Thresholds) (n : ℕ) (a b : Segment) (i k : ℕ) (x : i < n) (y 
     pub step-serifs : (v : Segments) → encloses a b (segmentAt u j) (segmentAt u m) i j ≡ true → muchLonger a (segmentAt u j) ≡ true → v ≡ rewriteAll j k m i u → Held n a b i k t (j + 1) v
     step-serifs v c w q = step j u v h p (made-serifs a b i k j m (segmentAt u j .link) u v e c w q)
 
-    pub last-turn : (c d : Segment) → encloses a b (segmentAt u j) (segmentAt u m) i j ≡ true → muchLonger a (segmentAt u j) ≡ false → c ≡ unlinked (segmentAt u i) → d ≡ unlinked (segmentAt (putSegment u i c) k) → putSegment (putSegment u i c) k d ≡ hold a b i k n t
+    pub last-turn : (c d : Segment) → encloses a b (segmentAt u j) (segmentAt u m) i j ≡ true → muchLonger a (segmentAt u j) ≡ false → c ≡ unlinked (segmentAt u i)
+        → d ≡ unlinked (segmentAt (putSegment u i c) k) → putSegment (putSegment u i c) k d ≡ hold a b i k n t
     unfolding holdTurn givenUp unlink
     last-turn c d f w q r =
         let z = made-last a b i k j m (segmentAt u j .link) u (putSegment (putSegment u i c) k d) e f w (rw (r, q)) in

@@ -9,6 +9,7 @@ use lib.Dec.{eqb}
 use lib.ListN.{length}
 use lib.Seq.{getD-set-same, getD-set-other, set-out}
 use Rattle.signed.proofs.Signed.{lt-or-le}
+use Rattle.signed.proofs.Choices.{cond-cases, either-way}
 use Rattle.axis.specs.declared.kinds.Direction.{Direction}
 use Rattle.axis.specs.declared.kinds.Link.{Link}
 use Rattle.axis.specs.declared.kinds.Link.the-variants as Links
@@ -24,7 +25,7 @@ use Rattle.linking_rounds.specs.Loops.{turns}
 use Rattle.linking_rounds.specs.Pairs.{gapOf, facing, checkSeg, joinedTo, improvedBy, serifOf, unlinked, nearStem, encloses, muchLonger, rewritten, staysSerif, settled}
 use Rattle.linking_rounds.specs.Rounds.{improvePair, pairTurn, majorTurn, pairRound, rewriteTurn, rewriteAll, unlink, heldTo, holdTurn, givenUp, hold, serifTo, serifTurn, serifRound, lastTo, lastTurn, lastRound, linked}
 use Rattle.linking_rounds.specs.Steps.{Every, Inside}
-use Rattle.linking_rounds.proofs.Loops.{cond-when, cond-both, keeps, till-keeps}
+use Rattle.linking_rounds.proofs.Loops.{keeps, till-keeps}
 
 -- ---- a place that is written
 same-place : (t : Segments) (i : ℕ) (s : Segment) → (segmentAt (putSegment t i s) i ≡ s) ⊎ (segmentAt (putSegment t i s) i ≡ segmentAt t i)
@@ -52,12 +53,13 @@ module _ (n : ℕ) (by : Thresholds) (P : ℕ → Segment → Type 0)
       by-place k l false e = subst (P k) (sym (getD-set-other (t .segments) i k s emptySegment (eqb-false k i e))) (h .each k l)
 
   -- ---- the pair round
-  improved : (before seg1 seg2 : Segment) (i j : ℕ) → i < n → j < n → P i before → P i seg1 → P j seg2 → facing by seg1 seg2 i j (gapOf before seg1 seg2) ≡ true → P i (improvedBy seg1 (gapOf before seg1 seg2) j) × P j (improvedBy seg2 (gapOf before seg1 seg2) i)
+  improved : (before seg1 seg2 : Segment) (i j : ℕ) → i < n → j < n → P i before → P i seg1 → P j seg2 → facing by seg1 seg2 i j (gapOf before seg1 seg2) ≡ true
+      → P i (improvedBy seg1 (gapOf before seg1 seg2) j) × P j (improvedBy seg2 (gapOf before seg1 seg2) i)
   unfolding improvedBy
   improved before seg1 seg2 i j x y p q r e =
       let g = gapOf before seg1 seg2 in
       let z = joined before seg1 seg2 i j x y p q r e in
-      (cond-both (P i) (checkSeg seg1 g) (joinedTo seg1 g j) seg1 (z .0) q, cond-both (P j) (checkSeg seg2 g) (joinedTo seg2 g i) seg2 (z .1) r)
+      (either-way (P i) (checkSeg seg1 g) (joinedTo seg1 g j) seg1 (z .0) q, either-way (P j) (checkSeg seg2 g) (joinedTo seg2 g i) seg2 (z .1) r)
 
   pair : (before : Segment) (i j : ℕ) (t : Segments) → i < n → j < n → P i before → Every n P t → Every n P (pairTurn by before i j t)
   unfolding pairTurn improvePair
@@ -65,16 +67,16 @@ module _ (n : ℕ) (by : Thresholds) (P : ℕ → Segment → Type 0)
       let seg1 = segmentAt t i in
       let seg2 = segmentAt t j in
       let g = gapOf before seg1 seg2 in
-      cond-when (Every n P) (facing by seg1 seg2 i j g) (putSegment (putSegment t i (improvedBy seg1 g j)) j (improvedBy seg2 g i)) t
+      cond-cases (Every n P) (facing by seg1 seg2 i j g) (putSegment (putSegment t i (improvedBy seg1 g j)) j (improvedBy seg2 g i)) t
       (λ (e : facing by seg1 seg2 i j g ≡ true).
       let z = improved before seg1 seg2 i j x y p (h .each i x) (h .each j y) e in
       put j (putSegment t i (improvedBy seg1 g j)) (improvedBy seg2 g i) (put i t (improvedBy seg1 g j) h (z .0)) (z .1))
-      h
+      (λ (e : facing by seg1 seg2 i j g ≡ false). h)
 
   major : (dir : Direction) (i : ℕ) (t : Segments) → i < n → Every n P t → Every n P (majorTurn dir by n i t)
   unfolding majorTurn
   major dir i t x h =
-      cond-both (Every n P) (same (segmentAt t i .dir) dir) (turns (pairTurn by (segmentAt t i) i) n t) t
+      either-way (Every n P) (same (segmentAt t i .dir) dir) (turns (pairTurn by (segmentAt t i) i) n t) t
       (keeps (Every n P) (pairTurn by (segmentAt t i) i) n n t (λ j u y g. pair (segmentAt t i) i j u x y (h .each i x) g) (omega arith) h) h
 
   pub pairs-kept : (dir : Direction) (t : Segments) → Every n P t → Every n P (pairRound dir by t)
@@ -88,12 +90,13 @@ module _ (n : ℕ) (by : Thresholds) (P : ℕ → Segment → Type 0)
       let s = segmentAt t x in
       let k = h .each x p in
       put x t (cond (linksTo (s .link) j) (serifOf s (Links.To l)) (cond (linksTo (s .link) m) (serifOf s (Links.To i)) s)) h
-      (cond-both (P x) (linksTo (s .link) j) (serifOf s (Links.To l)) (cond (linksTo (s .link) m) (serifOf s (Links.To i)) s) (loosed x s (Links.To l) p (below-to n l q) k)
-      (cond-both (P x) (linksTo (s .link) m) (serifOf s (Links.To i)) s (loosed x s (Links.To i) p (below-to n i r) k) k))
+      (either-way (P x) (linksTo (s .link) j) (serifOf s (Links.To l)) (cond (linksTo (s .link) m) (serifOf s (Links.To i)) s) (loosed x s (Links.To l) p (below-to n l q) k)
+      (either-way (P x) (linksTo (s .link) m) (serifOf s (Links.To i)) s (loosed x s (Links.To i) p (below-to n i r) k) k))
 
   rewrites : (j l m i : ℕ) (t : Segments) → l < n → i < n → Every n P t → Every n P (rewriteAll j l m i t)
   unfolding rewriteAll
-  rewrites j l m i t q r h = subst (λ (d : ℕ). Every n P (turns (rewriteTurn j l m i) d t)) (sym (h .size)) (keeps (Every n P) (rewriteTurn j l m i) n n t (λ x u p g. rewrite j l m i x u q r p g) (omega arith) h)
+  rewrites j l m i t q r h =
+      subst (λ (d : ℕ). Every n P (turns (rewriteTurn j l m i) d t)) (sym (h .size)) (keeps (Every n P) (rewriteTurn j l m i) n n t (λ x u p g. rewrite j l m i x u q r p g) (omega arith) h)
 
   loose : (i : ℕ) (t : Segments) → i < n → Every n P t → Every n P (unlink i t)
   unfolding unlink
@@ -106,8 +109,8 @@ module _ (n : ℕ) (by : Thresholds) (P : ℕ → Segment → Type 0)
   unfolding heldTo
   held seg1 link1 i l j Links.None t p q h = h
   held seg1 link1 i l j (Links.To m) t p q h =
-      cond-both (Every n P) (encloses seg1 link1 (segmentAt t j) (segmentAt t m) i j) (cond (muchLonger seg1 (segmentAt t j)) (rewriteAll j l m i t) (unlink l (unlink i t))) t
-      (cond-both (Every n P) (muchLonger seg1 (segmentAt t j)) (rewriteAll j l m i t) (unlink l (unlink i t)) (rewrites j l m i t q p h) (loose l (unlink i t) q (loose i t p h)))
+      either-way (Every n P) (encloses seg1 link1 (segmentAt t j) (segmentAt t m) i j) (cond (muchLonger seg1 (segmentAt t j)) (rewriteAll j l m i t) (unlink l (unlink i t))) t
+      (either-way (Every n P) (muchLonger seg1 (segmentAt t j)) (rewriteAll j l m i t) (unlink l (unlink i t)) (rewrites j l m i t q p h) (loose l (unlink i t) q (loose i t p h)))
       h
 
   pub hold-kept : (seg1 link1 : Segment) (i l j : ℕ) (t : Segments) → i < n → l < n → Every n P t → Every n P (holdTurn seg1 link1 i l j t)
@@ -122,7 +125,7 @@ module _ (n : ℕ) (by : Thresholds) (P : ℕ → Segment → Type 0)
   unfolding serifTo
   serif-to i Links.None t b p h = h
   serif-to i (Links.To l) t b p h =
-      cond-both (Every n P) (nearStem by (segmentAt t i) (segmentAt t l) i) (hold (segmentAt t i) (segmentAt t l) i l n t) t
+      either-way (Every n P) (nearStem by (segmentAt t i) (segmentAt t l) i) (hold (segmentAt t i) (segmentAt t l) i l n t) t
       (holds (segmentAt t i) (segmentAt t l) i l t p (b .at l refl) h) h
 
   pub serif-kept : (i : ℕ) (t : Segments) → i < n → Every n P t → Every n P (serifTurn by n i t)
@@ -143,8 +146,8 @@ module _ (n : ℕ) (by : Thresholds) (P : ℕ → Segment → Type 0)
       let x = b .at m refl in
       let k = h .each i p in
       put i t (cond (linksTo (seg2 .link) i) seg1 (cond (staysSerif by seg1 seg2) (serifOf seg1 (seg2 .link)) (unlinked seg1))) h
-      (cond-both (P i) (linksTo (seg2 .link) i) seg1 (cond (staysSerif by seg1 seg2) (serifOf seg1 (seg2 .link)) (unlinked seg1)) k
-      (cond-both (P i) (staysSerif by seg1 seg2) (serifOf seg1 (seg2 .link)) (unlinked seg1)
+      (either-way (P i) (linksTo (seg2 .link) i) seg1 (cond (staysSerif by seg1 seg2) (serifOf seg1 (seg2 .link)) (unlinked seg1)) k
+      (either-way (P i) (staysSerif by seg1 seg2) (serifOf seg1 (seg2 .link)) (unlinked seg1)
       (loosed i seg1 (seg2 .link) p (inside m seg2 x (h .each m x) .link) k)
       (loosed i seg1 (seg1 .serif) p (inside i seg1 p k .serif) k)))
 

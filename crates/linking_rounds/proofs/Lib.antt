@@ -1,5 +1,4 @@
 -- The laws of the rounds by subject, each over plain variables.
-pub mod Reading
 pub mod Loops
 pub mod Kept
 pub mod Closed

@@ -5,16 +5,8 @@ use Prim.Native.Nat.{ℕ, zero, suc, _+_, _-_, _<_, _≤_}
 use native.Mathlib.Nat.{sub-zero}
 use native.Mathlib.Numerals.{add-one}
 use native.Mathlib.Omega.{arith}
+use Rattle.signed.proofs.Choices.{either-way}
 use Rattle.linking_rounds.specs.Loops.{turns, till}
-
--- ---- a choice
--- what both sides have, the first one where it is chosen
-pub cond-when : {A : Type 0} (P : A → Type 0) (b : Bool) (x y : A) → (b ≡ true → P x) → P y → P (cond b x y)
-cond-when P true x y p q = p refl
-cond-when P false x y p q = q
-
-pub cond-both : {A : Type 0} (P : A → Type 0) (b : Bool) (x y : A) → P x → P y → P (cond b x y)
-cond-both P b x y p q = cond-when P b x y (λ (e : b ≡ true). p) q
 
 -- ---- turns
 pub none : {S : Type 0} (f : ℕ → S → S) (s : S) → s ≡ turns f 0 s
@@ -46,7 +38,7 @@ module _ {S : Type 0} (last : ℕ → S → Bool) (f : ℕ → S → S) where
   till-keeps P n zero i s h l p = p
   till-keeps P n (suc m) i s h l p =
       let q = h i s (omega arith) p in
-      cond-both P (last i s) (f i s) (till last f m (i + 1) (f i s)) q (till-keeps P n m (i + 1) (f i s) h (omega arith) q)
+      either-way P (last i s) (f i s) (till last f m (i + 1) (f i s)) q (till-keeps P n m (i + 1) (f i s) h (omega arith) q)
 
   till-step : (m k i : ℕ) (s : S) → m ≡ suc k → till last f m i s ≡ cond (last i s) (f i s) (till last f k (i + 1) (f i s))
   unfolding till

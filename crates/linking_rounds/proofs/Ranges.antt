@@ -11,6 +11,7 @@ use mir.Val.{SFits}
 use Rattle.signed.specs.Parts.{up, dn}
 use Rattle.signed.specs.Range.{Between}
 use Rattle.signed.proofs.Signed.{signed, sub-law, fits-prod}
+use Rattle.signed.proofs.Choices.{either-way}
 use Rattle.axis.specs.declared.kinds.Direction.{Direction}
 use Rattle.axis.specs.declared.kinds.Link.{Link}
 use Rattle.axis.specs.declared.segment.Segment.{Segment}
@@ -19,7 +20,7 @@ use Rattle.axis.specs.Accepted.{Below, SegmentWithin, SegmentsWithin}
 use Rattle.axis.specs.Direction.{opposite}
 use Rattle.axis.specs.Limits.{mostScore}
 use Rattle.axis.specs.Segment.{segmentAt}
-use Rattle.axis.proofs.Tests.{and-first, and-second}
+use Rattle.refusals.proofs.Tests.{and-first, and-second}
 use Rattle.linking_rounds.specs.declared.gap.Gap.{Gap}
 use Rattle.linking_rounds.specs.declared.thresholds.Thresholds.{Thresholds}
 use Rattle.linking_rounds.specs.Pairs.{maxZ, minZ, gapOf, facing, joinedTo, serifOf}
@@ -27,7 +28,6 @@ use Rattle.linking_rounds.specs.Rounds.{linked}
 use Rattle.linking_rounds.specs.Steps.{Inside}
 use Rattle.linking_rounds.proofs.Closed as Closed
 use Rattle.linking_rounds.proofs.Kept.{linked-kept}
-use Rattle.linking_rounds.proofs.Loops.{cond-both}
 
 -- ---- coordinates of 16 bits
 -- a number of 16 bits
@@ -42,11 +42,11 @@ pub record Shorts (s : Segment) : Type 0 where
 
 larger-short : (x y : ℤ) → Short x → Short y → Short (maxZ x y)
 unfolding maxZ
-larger-short x y f g = cond-both Short (ltZ x y) y x g f
+larger-short x y f g = either-way Short (ltZ x y) y x g f
 
 smaller-short : (x y : ℤ) → Short x → Short y → Short (minZ x y)
 unfolding minZ
-smaller-short x y f g = cond-both Short (ltZ x y) x y f g
+smaller-short x y f g = either-way Short (ltZ x y) x y f g
 
 -- the difference of two
 apart : (x y : ℤ) → Short x → Short y → Between mostScore mostScore (x -ℤ y)
@@ -112,7 +112,8 @@ module _ (n : ℕ) where
       }
 
 -- accepted segments stay within the table, where the overlap asked for is not negative
-pub linked-within : (dir : Direction) (by : Thresholds) (t : Segments) → dn (by .len) ≤ up (by .len) → ((i : ℕ) → i < t .len → Shorts (segmentAt t i)) → SegmentsWithin t → SegmentsWithin (linked dir by t)
+pub linked-within : (dir : Direction) (by : Thresholds) (t : Segments) → dn (by .len) ≤ up (by .len) → ((i : ℕ) → i < t .len → Shorts (segmentAt t i)) → SegmentsWithin t
+    → SegmentsWithin (linked dir by t)
 linked-within dir by t o c w =
     let n = t .len in
     let e = linked-kept n by (Sized n) (inside n) (loosed n)

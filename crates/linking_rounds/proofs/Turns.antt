@@ -21,7 +21,8 @@ module _ (by : Thresholds) (before : Segment) (i j : ℕ) (t : Segments) (g : Ga
   unfolding pairTurn
   pair-skip h = let k = rw e at h in rw k
 
-  pub pair-go : (a b : Segment) → facing by (segmentAt t i) (segmentAt t j) i j g ≡ true → a ≡ improvedBy (segmentAt t i) g j → b ≡ improvedBy (segmentAt t j) g i → putSegment (putSegment t i a) j b ≡ pairTurn by before i j t
+  pub pair-go : (a b : Segment) → facing by (segmentAt t i) (segmentAt t j) i j g ≡ true → a ≡ improvedBy (segmentAt t i) g j → b ≡ improvedBy (segmentAt t j) g i
+      → putSegment (putSegment t i a) j b ≡ pairTurn by before i j t
   unfolding pairTurn improvePair
   pair-go a b h x y = let k = rw e at h in rw (k, x, y, e)
 
@@ -60,7 +61,8 @@ module _ (by : Thresholds) (n i : ℕ) where
   unfolding serifTurn
   serif-skip k t e h = to-skip k (segmentAt t i .link) t e h
 
-  pub serif-go : (k : ℕ) (t u : Segments) → segmentAt t i .link ≡ Links.To k → nearStem by (segmentAt t i) (segmentAt t k) i ≡ true → u ≡ hold (segmentAt t i) (segmentAt t k) i k n t → u ≡ serifTurn by n i t
+  pub serif-go : (k : ℕ) (t u : Segments) → segmentAt t i .link ≡ Links.To k → nearStem by (segmentAt t i) (segmentAt t k) i ≡ true → u ≡ hold (segmentAt t i) (segmentAt t k) i k n t
+      → u ≡ serifTurn by n i t
   unfolding serifTurn
   serif-go k t u e h p = to-go k (segmentAt t i .link) t u e h p
 

@@ -23,7 +23,23 @@ minZ a b = cond (ltZ a b) a b
 
 -- the segment with another score, len, link and serif; the rounds change nothing else
 abbrev pub changed : Segment → ℤ → ℤ → Link → Link → Segment
-changed s score len link serif = record { flags = s .flags; dir = s .dir; pos = s .pos; delta = s .delta; «min_coord» = s .«min_coord»; «max_coord» = s .«max_coord»; height = s .height; score = score; len = len; link = link; serif = serif; first = s .first; last = s .last; edge = s .edge; next = s .next }
+changed s score len link serif = record {
+  flags = s .flags;
+  dir = s .dir;
+  pos = s .pos;
+  delta = s .delta;
+  «min_coord» = s .«min_coord»;
+  «max_coord» = s .«max_coord»;
+  height = s .height;
+  score = score;
+  len = len;
+  link = link;
+  serif = serif;
+  first = s .first;
+  last = s .last;
+  edge = s .edge;
+  next = s .next;
+}
 
 -- ---- the pair round
 -- the distance of the second segment from where the first was before the inner loop, and the overlap of the two

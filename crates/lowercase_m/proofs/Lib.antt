@@ -1,4 +1,3 @@
 -- The laws by subject, each over plain variables; then `Determined`, that the promise determines the outcome.
-pub mod Choices
 pub mod Places
 pub mod Determined

@@ -1,17 +1,16 @@
 -- How far the moves take the positions.
 use mathlib.Core.Path.{_≡_, refl, sym, subst}
 use mathlib.Core.Bool.{Bool, true, false}
-use mathlib.Core.List.{List, [], _∷_}
-use Prim.Native.Nat.{ℕ, zero, suc, _+_, _<_, _≤_}
+use Prim.Native.Nat.{ℕ, _+_, _<_, _≤_}
 use native.Mathlib.Omega.{arith}
 use borrow.Author.Tests.{eqb-true}
 use lib.Dec.{eqb}
-use lib.ListN.{getD, set}
 use mir.Syntax.{w32}
 use mir.Val.{toZ, ofZ}
 use lib.IntN.{ℤ, _-ℤ_}
 use Rattle.signed.specs.Range.{Between, I32}
 use Rattle.signed.proofs.Signed.{sub-law, fits-in, is, signed}
+use Rattle.signed.proofs.Choices.{at-set}
 use Rattle.axis.specs.declared.edge.Edge.{Edge}
 use Rattle.axis.specs.declared.edge.Axis.{Axis}
 use Rattle.axis.specs.Edge.{emptyEdge, edgeAt, putEdge}
@@ -19,14 +18,6 @@ use Rattle.axis.specs.Limits.{mostEdges, mostUnits}
 use Rattle.axis.specs.Accepted.{AxisWithin}
 use Rattle.lowercase_m.specs.M.{stemsOf, countHolds, mostDelta, moveDone, moveOnly}
 use Rattle.lowercase_m.specs.Steps.{Places, StemsOf, unmoved, thriceMoved}
-
--- what holds of an element and of what is stored holds of the element after the store
-pub at-set : {A : Type 0} (P : A → Type 0) (l : List A) (i k : ℕ) (v d : A) → P (getD l k d) → P v → P (getD (set l i v) k d)
-at-set P [] i k v d h g = h
-at-set P (x ∷ l) zero zero v d h g = g
-at-set P (x ∷ l) zero (suc k) v d h g = h
-at-set P (x ∷ l) (suc i) zero v d h g = h
-at-set P (x ∷ l) (suc i) (suc k) v d h g = at-set P l i k v d h g
 
 wider : (m n : ℕ) (z : ℤ) → m ≤ n → Between m m z → Between n n z
 wider m n z e h = omega arith
@@ -60,10 +51,10 @@ pub places-of : (axis : Axis) → AxisWithin unmoved axis → Places unmoved axi
 places-of axis h = record { few = h .few; at = λ (k : ℕ) (q : k < axis .len). h .edge k q .pos }
 
 -- an edge whose position is within n is put into places within m
-pub put-places : (m n i : ℕ) (axis : Axis) (e : Edge) → m ≤ n → Places m axis → Between n n (e .pos) → Places n (putEdge axis i e)
+put-places : (m n i : ℕ) (axis : Axis) (e : Edge) → m ≤ n → Places m axis → Between n n (e .pos) → Places n (putEdge axis i e)
 put-places m n i axis e w h g = record {
   few = h .few;
-  at = λ (k : ℕ) (q : k < axis .len). at-set (λ (x : Edge). Between n n (x .pos)) (axis .edges) i k e emptyEdge (wider m n _ w (h .at k q)) g;
+  at = λ (k : ℕ) (q : k < axis .len). at-set (λ (x : Edge). Between n n (x .pos)) (axis .edges) i k e emptyEdge g (wider m n _ w (h .at k q));
 }
 
 pub done-places : (m i : ℕ) (axis : Axis) (d : ℤ) → Places m axis → i < axis .len → Between mostDelta mostDelta d → Places (m + mostDelta) (moveDone axis i d)

@@ -1,8 +1,10 @@
 -- The lowercase m rule (document 01, module 6): which edges it is given to, and which of them it moves.
 use mathlib.Core.Bool.{Bool, true, cond, _&&_, _||_}
+use mathlib.Core.List.{List, [], _∷_}
 use Prim.Native.Nat.{ℕ, _+_}
 use lib.Dec.{ltb, eqb}
 use lib.IntN.{ℤ, pos, natAbs, _-ℤ_, _*ℤ_}
+use Rattle.refusals.specs.Refusal.{Test, _unless_, refusal, answered, badParameter}
 use Rattle.axis.specs.declared.kinds.Link.{Link}
 use Rattle.axis.specs.declared.kinds.Link.the-variants as Links
 use Rattle.axis.specs.declared.kinds.Group.{Group}
@@ -11,7 +13,7 @@ use Rattle.axis.specs.declared.edge.Edge.{Edge}
 use Rattle.axis.specs.declared.edge.Axis.{Axis}
 use Rattle.axis.specs.Edge.{edgeAt, putEdge, placed, finished}
 use Rattle.axis.specs.Link.{linksTo}
-use Rattle.axis.specs.Refusals.{edgesRefusal, answered}
+use Rattle.axis.specs.Refusals.{edgesShort, edgesIndexed, edgesInRange}
 use Rattle.lowercase_m.specs.declared.stems.Stems.{Stems}
 use Rattle.lowercase_m.specs.declared.hint.Hinted.{Hinted}
 
@@ -85,9 +87,9 @@ aligned group axis s =
 abbrev pub countHolds : ℕ → Bool
 countHolds n = eqb n 6 || eqb n 12
 
--- the refusal of the call, or 0
-abbrev pub refusal : Axis → ℕ
-refusal axis = edgesRefusal axis (countHolds (axis .len)) true true
+-- the tests of `hint_lowercase_m`, in document 01's order
+abbrev pub mTests : Axis → List Test
+mTests axis = edgesShort axis ∷ badParameter unless countHolds (axis .len) ∷ edgesIndexed axis ∷ edgesInRange axis ∷ []
 
 -- an answer and an axis
 abbrev pub hinted : Axis → ℕ → Hinted
@@ -95,4 +97,4 @@ hinted axis k = record { answer = k; axis = axis }
 
 -- the refusal and the axis as it came, or 0 and the axis after the rule
 unfoldable pub hintLowercaseM : Axis → Group → Hinted
-hintLowercaseM axis group = answered (refusal axis) (hinted axis) (hinted (aligned group axis (stemsOf (axis .len))) 0)
+hintLowercaseM axis group = answered (refusal (mTests axis)) (hinted axis) (hinted (aligned group axis (stemsOf (axis .len))) 0)

@@ -5,13 +5,21 @@ use super::stems::delta_of;
 use super::stems::is_even;
 use super::stems::links_on;
 use super::stems::stems_of;
-use axis::accept::edges_refusal;
+use axis::accept::edges_indices;
+use axis::accept::edges_numbers;
+use axis::accept::few_edges;
 use axis::edge::Axis;
 use axis::kinds::Group;
+use refusals::order::BAD_INDEX;
+use refusals::order::BAD_PARAMETER;
+use refusals::order::OUT_OF_RANGE;
+use refusals::order::TOO_LONG;
+use refusals::order::or_refused;
 ghost use mathlib.Core.Path.{_≡_};
+ghost use Rattle.refusals.specs.Refusal.{refusal};
 ghost use Rattle.axis.specs.Limits.{mostPos};
 ghost use Rattle.axis.specs.Accepted.{AxisWithin};
-ghost use Rattle.lowercase_m.specs.M.{linkedOn, groupHolds, aligned, countHolds, hintLowercaseM};
+ghost use Rattle.lowercase_m.specs.M.{linkedOn, groupHolds, aligned, countHolds, mTests, hintLowercaseM};
 ghost use Rattle.lowercase_m.specs.Steps.{StemsOf};
 
 // An answer, 0 or the refusal, and the axis.
@@ -79,11 +87,21 @@ fn count_holds(count: usize) -> bool
     count == 12
 }
 
+// The refusal of the call, or 0.
+fn m_refusal(axis: Axis) -> u8
+    ensures { λ r. ⌜ r ≡ refusal (mTests axis) ⌝ }
+{
+    let answer = or_refused(0, few_edges(axis.len), TOO_LONG);
+    let answer = or_refused(answer, count_holds(axis.len), BAD_PARAMETER);
+    let answer = or_refused(answer, edges_indices(axis), BAD_INDEX);
+    or_refused(answer, edges_numbers(axis), OUT_OF_RANGE)
+}
+
 // Makes sure that a lowercase m stays symmetric: its third stem comes to the same distance as its second.
 pub fn hint_lowercase_m(axis: Axis, group: Group) -> Hinted
     ensures { λ r. ⌜ r ≡ hintLowercaseM axis group ⌝ }
 {
-    let answer = edges_refusal(axis, count_holds(axis.len), true, true);
+    let answer = m_refusal(axis);
     if 0 < answer {
         return Hinted { answer, axis };
     }

@@ -5,7 +5,7 @@ use fixed::point::magnitude;
 ghost use mathlib.Core.Path.{_≡_};
 ghost use Prim.Native.Nat.{_≤_, _+_};
 ghost use Rattle.signed.specs.Range.{Between, I32};
-ghost use Rattle.axis.specs.Limits.{mostUnits, mostPos};
+ghost use Rattle.axis.specs.Limits.{mostEdges, mostUnits, mostPos};
 ghost use Rattle.axis.specs.Link.{linksTo};
 ghost use Rattle.lowercase_m.specs.M.{stemsOf, even, delta, mostDelta};
 
@@ -55,7 +55,7 @@ pub fn delta_of(first: i32, second: i32, third: i32) -> i32
 
 // Whether an edge is linked to the one behind it.
 pub fn links_on(edge: Edge, ix: usize) -> bool
-    requires { ⌜ ix ≤ 128 ⌝ }
+    requires { ⌜ ix ≤ mostEdges ⌝ }
     ensures { λ r. ⌜ r ≡ linksTo (edge .link) (ix + 1) ⌝ }
 {
     let link = edge.link;

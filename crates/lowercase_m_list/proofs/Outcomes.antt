@@ -1,20 +1,20 @@
 -- What is put back is what the promise says.
-use mathlib.Core.Path.{_≡_, refl, ap, _∙_}
+use mathlib.Core.Path.{_≡_, refl, sym, ap, _∙_}
 use mathlib.Core.List.{List, [], _∷_, _++_, append-nil}
 use Prim.Native.Nat.{ℕ, zero, suc, _≤_, _<_, min}
 use native.Mathlib.Omega.{arith}
+use borrow.Author.Tests.{leb-true}
 use lib.ListN.{length, take, drop, replicate}
 use lib.Seq.{drop-length}
+use Rattle.refusals.specs.Refusal.{refusal, answered}
+use Rattle.refusals.proofs.Tests.{all-hold, answered-no, answered-yes}
 use Rattle.axis.specs.declared.kinds.Group.{Group}
 use Rattle.axis.specs.declared.edge.Edge.{Edge}
 use Rattle.axis.specs.declared.edge.Axis.{Axis}
 use Rattle.axis.specs.Edge.{emptyEdge}
 use Rattle.axis.specs.Limits.{mostEdges}
-use Rattle.axis.specs.Refusals.{answered}
-use Rattle.axis.proofs.Tests.{answered-no, answered-yes}
-use Rattle.axis.proofs.Acceptance.{edges-accepted}
 use Rattle.lowercase_m.specs.declared.hint.Hinted.{Hinted}
-use Rattle.lowercase_m.specs.M.{hintLowercaseM, refusal, hinted}
+use Rattle.lowercase_m.specs.M.{mTests, hintLowercaseM, hinted}
 use Rattle.lowercase_m_list.specs.declared.hint.Table.{Table}
 use Rattle.lowercase_m_list.specs.Table.{emptyTable, copied, axisWith, tableOf, hintTable}
 use Rattle.lowercase_m_list.specs.M.{axisOf, hintLowercaseMList, Outcome}
@@ -54,13 +54,17 @@ unfolding copied emptyTable
 loaded l = padded l 128 128 (omega arith)
 
 -- ---- how many edges are put back
-pub answer-is : (axis : Axis) (group : Group) → hintLowercaseM axis group .answer ≡ refusal axis
+answer-is : (axis : Axis) (group : Group) → hintLowercaseM axis group .answer ≡ refusal (mTests axis)
 unfolding hintLowercaseM
-answer-is axis group = go (refusal axis) _
+answer-is axis group = go (refusal (mTests axis)) _
   where
     go : (k : ℕ) (done : Axis) → answered k (hinted axis) (hinted done 0) .answer ≡ k
     go zero done = refl
     go (suc k) done = refl
+
+-- what is not refused has few edges
+pub few-edges : (axis : Axis) (group : Group) → hintLowercaseM axis group .answer ≡ 0 → axis .len ≤ mostEdges
+few-edges axis group z = leb-true (axis .len) mostEdges (all-hold (mTests axis) refl (sym (answer-is axis group) ∙ z) .0)
 
 at-most : (k len most : ℕ) → (k ≡ 0 → len ≤ most) → (answered k (λ (j : ℕ). 0) len ≤ len) × (answered k (λ (j : ℕ). 0) len ≤ most)
 at-most zero len most h = (omega arith, h refl)
@@ -69,7 +73,7 @@ at-most (suc k) len most h = (omega arith, omega arith)
 -- no more than the list has, nor than the table
 pub few-back : (edges : List Edge) (len : ℕ) (group : Group) → (hintTable edges len group .count ≤ len) × (hintTable edges len group .count ≤ 128)
 unfolding hintTable
-few-back edges len group = at-most (hintLowercaseM (axisWith edges len) group .answer) len 128 (λ z. edges-accepted _ _ _ _ _ (answer-is (axisWith edges len) group) (omega (arith, z)) .axis-holds .few)
+few-back edges len group = at-most (hintLowercaseM (axisWith edges len) group .answer) len mostEdges (few-edges (axisWith edges len) group)
 
 -- ---- the outcome
 all-back : (k : ℕ) (l es : List Edge) → copied (answered k (λ (j : ℕ). 0) (length l)) es l ≡ answered k (List.hinted l) (List.hinted (take (length l) es) 0) .edges
@@ -82,11 +86,13 @@ same-answer zero l es = refl
 same-answer (suc k) l es = refl
 
 -- the table form on what is loaded is the promise, where its edges are put back
-pub outcome : (l : List Edge) (group : Group) (t : Table) {m : List Edge} → t ≡ hintTable (copied (min (length l) 128) l emptyTable) (length l) group → m ≡ copied (t .count) (t .edges) l → Outcome l group (t .answer) m
+pub outcome : (l : List Edge) (group : Group) (t : Table) {m : List Edge}
+    → t ≡ hintTable (copied (min (length l) 128) l emptyTable) (length l) group → m ≡ copied (t .count) (t .edges) l → Outcome l group (t .answer) m
 unfolding hintTable hintLowercaseMList axisOf
 outcome l group t p e =
     let q : t ≡ tableOf (hintLowercaseM (axisOf l) group) (length l) = p ∙ ap (λ (es : List Edge). hintTable es (length l) group) (loaded l) in
+    let h = hintLowercaseM (axisOf l) group in
     record {
-      answer = ap (λ (u : Table). u .answer) q ∙ same-answer (hintLowercaseM (axisOf l) group .answer) l (take (length l) (hintLowercaseM (axisOf l) group .axis .edges));
-      edges = e ∙ ap (λ (u : Table). copied (u .count) (u .edges) l) q ∙ all-back (hintLowercaseM (axisOf l) group .answer) l (hintLowercaseM (axisOf l) group .axis .edges);
+      answer = ap (λ (u : Table). u .answer) q ∙ same-answer (h .answer) l (take (length l) (h .axis .edges));
+      edges = e ∙ ap (λ (u : Table). copied (u .count) (u .edges) l) q ∙ all-back (h .answer) l (h .axis .edges);
     }

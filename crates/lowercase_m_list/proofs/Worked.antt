@@ -4,15 +4,14 @@ use mathlib.Core.List.{List, [], _∷_}
 use Prim.Native.Nat.{ℕ}
 use lib.IntN.{pos}
 use lib.ListN.{replicate}
+use Rattle.refusals.specs.Refusal.{refusal}
 use Rattle.axis.specs.declared.kinds.Link.{Link}
 use Rattle.axis.specs.declared.kinds.Link.the-variants.{None, To}
 use Rattle.axis.specs.declared.kinds.Direction.the-variants as Directions
-use Rattle.axis.specs.declared.kinds.Blue.the-variants as Blues
 use Rattle.axis.specs.declared.kinds.Group.{Group}
 use Rattle.axis.specs.declared.kinds.Group.the-variants.{Default, Cjk}
 use Rattle.axis.specs.declared.edge.Edge.{Edge}
-use Rattle.axis.specs.Edge.{emptyEdge, finished}
-use Rattle.axis.specs.Flags.{normal}
+use Rattle.axis.specs.Edge.{freshEdge, emptyEdge, placed, finished, joinedTo}
 use Rattle.axis.specs.Link.{linksTo}
 use Rattle.axis.specs.Refusals as R
 use Rattle.lowercase_m.specs.M as M
@@ -26,7 +25,7 @@ pub record Row : Type 0 where
 
 -- an edge by opos, pos and link
 abbrev edge : ℕ → ℕ → Link → Edge
-edge o p link = record { fpos = pos 0; opos = pos o; pos = pos p; flags = normal; dir = Directions.None; blue = Blues.None; link = link; serif = None; first = 0; last = 0 }
+edge o p link = joinedTo (placed (freshEdge (pos 0) (pos o) Directions.None 0) (pos p)) link None
 
 -- six edges by the first one's link and the third stem
 abbrev six : Link → Edge → List Edge
@@ -62,5 +61,5 @@ All [] = Unit {0}
 All (r ∷ rs) = (hintLowercaseMList (r .list) (r .group) ≡ r .value) × All rs
 
 pub all-worked : All worked
-unfolding hintLowercaseMList axisOf M.hintLowercaseM M.aligned M.applies M.groupHolds M.linkedOn M.moveStem M.moveSerifs M.moveLink M.moveDone M.moveOnly linksTo R.edgesRefusal R.edgesIndices R.edgesNumbers R.edgeIndices R.edgeNumbers R.linkHolds R.blueHolds R.every
+unfolding hintLowercaseMList axisOf M.hintLowercaseM M.aligned M.applies M.groupHolds M.linkedOn M.moveStem M.moveSerifs M.moveLink M.moveDone M.moveOnly linksTo refusal R.edgesIndices R.edgesNumbers R.edgeIndices R.edgeNumbers R.linkHolds R.blueHolds R.every
 all-worked = (refl, (refl, (refl, (refl, (refl, (refl, (refl, (refl, (refl, tt)))))))))

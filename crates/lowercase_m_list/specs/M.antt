@@ -3,12 +3,12 @@ use mathlib.Core.Path.{_≡_}
 use mathlib.Core.List.{List, _++_}
 use Prim.Native.Nat.{ℕ}
 use lib.ListN.{length, take, replicate}
+use Rattle.refusals.specs.Refusal.{answered}
 use Rattle.axis.specs.declared.kinds.Group.{Group}
 use Rattle.axis.specs.declared.edge.Edge.{Edge}
 use Rattle.axis.specs.declared.edge.Axis.{Axis}
 use Rattle.axis.specs.Edge.{emptyEdge}
 use Rattle.axis.specs.Limits.{mostEdges}
-use Rattle.axis.specs.Refusals.{answered}
 use Rattle.lowercase_m.specs.M.{hintLowercaseM}
 use Rattle.lowercase_m_list.specs.Table.{axisWith}
 

@@ -2,6 +2,7 @@
 use mathlib.Core.List.{List, _++_}
 use Prim.Native.Nat.{ℕ}
 use lib.ListN.{take, drop, replicate}
+use Rattle.refusals.specs.Refusal.{answered}
 use Rattle.axis.specs.declared.kinds.Group.{Group}
 use Rattle.axis.specs.declared.kinds.Dimension.the-variants as Dimensions
 use Rattle.axis.specs.declared.kinds.Direction.the-variants as Directions
@@ -9,7 +10,6 @@ use Rattle.axis.specs.declared.edge.Edge.{Edge}
 use Rattle.axis.specs.declared.edge.Axis.{Axis}
 use Rattle.axis.specs.Edge.{emptyEdge}
 use Rattle.axis.specs.Limits.{mostEdges}
-use Rattle.axis.specs.Refusals.{answered}
 use Rattle.lowercase_m.specs.declared.hint.Hinted.{Hinted}
 use Rattle.lowercase_m.specs.M.{hintLowercaseM}
 use Rattle.lowercase_m_list.specs.declared.hint.Table.{Table}

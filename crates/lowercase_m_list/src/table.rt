@@ -6,6 +6,7 @@ use axis::limits::MOST_EDGES;
 ghost use mathlib.Core.Path.{_≡_};
 ghost use Prim.Native.Nat.{min, _≤_};
 ghost use lib.ListN.{length};
+ghost use Rattle.axis.specs.Limits.{mostEdges};
 ghost use Rattle.lowercase_m_list.specs.Table.{emptyTable, copied};
 
 // A table of empty edges.
@@ -17,7 +18,7 @@ pub fn empty_table() -> [Edge; 128]
 
 // The table with the first edges of a list in it, as many as it has places.
 pub fn load(edges: &[Edge]) -> [Edge; 128]
-    ensures { λ r. ⌜ r ≡ copied (min (length (now (edges .entry))) 128) (now (edges .entry)) emptyTable ⌝ }
+    ensures { λ r. ⌜ r ≡ copied (min (length (now (edges .entry))) mostEdges) (now (edges .entry)) emptyTable ⌝ }
 {
     let n = least(edges.len(), MOST_EDGES);
     let mut table = empty_table();
@@ -31,7 +32,7 @@ pub fn load(edges: &[Edge]) -> [Edge; 128]
 
 // Puts the first n edges of a table into a list.
 pub fn store(edges: &mut [Edge], table: [Edge; 128], n: usize)
-    requires { ⌜ (n ≤ length (now edges)) × (n ≤ 128) ⌝ }
+    requires { ⌜ (n ≤ length (now edges)) × (n ≤ mostEdges) ⌝ }
     ensures { λ _. ⌜ now (edges .exit) ≡ copied n table (now (edges .entry)) ⌝ }
 {
     let mut i: usize = 0;

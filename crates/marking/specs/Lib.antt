@@ -1,2 +1,3 @@
--- What the contracts of `marking` cite: how segments learn their edges.
+-- What the contracts of `marking` cite: how segments learn their edges, and what the steps promise each other.
 pub mod Marks
+pub mod Steps

@@ -1,22 +1,33 @@
 -- Segments learn their edges: old ones are forgotten, then each member of an edge gets the edge's index and its next.
-use mathlib.Core.Path.{_≡_}
-use mathlib.Core.Bool.{true}
 use mathlib.Core.List.{List, [], _∷_}
-use Prim.Native.Nat.{ℕ, zero, suc, _<_}
+use Prim.Native.Nat.{ℕ, zero, suc}
 use lib.ListN.{getD}
-use Rattle.axis.specs.declared.edge.Axis.{Axis}
 use Rattle.axis.specs.declared.kinds.Link.{Link}
 use Rattle.axis.specs.declared.kinds.Link.the-variants as Links
 use Rattle.axis.specs.declared.segment.Segment.{Segment}
 use Rattle.axis.specs.declared.segment.Segments.{Segments}
-use Rattle.axis.specs.Edge.{edgeAt}
 use Rattle.axis.specs.Segment.{segmentAt, putSegment}
 use Rattle.joining.specs.Joining.{State, group}
-use Rattle.joining.specs.Walks.{walk, ends}
 
 -- the segment with this edge and this next
 abbrev pub ringed : Segment → Link → Link → Segment
-ringed s edge next = record { flags = s .flags; dir = s .dir; pos = s .pos; delta = s .delta; «min_coord» = s .«min_coord»; «max_coord» = s .«max_coord»; height = s .height; score = s .score; len = s .len; link = s .link; serif = s .serif; first = s .first; last = s .last; edge = edge; next = next }
+ringed s edge next = record {
+  flags = s .flags;
+  dir = s .dir;
+  pos = s .pos;
+  delta = s .delta;
+  «min_coord» = s .«min_coord»;
+  «max_coord» = s .«max_coord»;
+  height = s .height;
+  score = s .score;
+  len = s .len;
+  link = s .link;
+  serif = s .serif;
+  first = s .first;
+  last = s .last;
+  edge = edge;
+  next = next;
+}
 
 -- the segment without them
 abbrev pub forgotten : Segment → Segment
@@ -44,13 +55,3 @@ marks next k (m ∷ ms) t = marks next k ms (putSegment t m (memberOf (segmentAt
 unfoldable pub groupMarks : State → ℕ → Segments → Segments
 groupMarks s zero t = t
 groupMarks s (suc k) t = marks (s .next) k (group s k) (groupMarks s k t)
-
--- the same by walks along `next`
-unfoldable pub marked : List ℕ → Axis → ℕ → Segments → Segments
-marked next axis zero t = t
-marked next axis (suc k) t = marks next k (walk next (edgeAt axis k .last) 512 (edgeAt axis k .first)) (marked next axis k t)
-
--- each of these walks ends
-pub record Ended (next : List ℕ) (axis : Axis) : Type 0 where
-  pub starts : (k : ℕ) → k < axis .len → edgeAt axis k .first < 512
-  pub stops : (k : ℕ) → k < axis .len → ends next (edgeAt axis k .last) 512 (edgeAt axis k .first) ≡ true

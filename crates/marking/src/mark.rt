@@ -5,7 +5,9 @@ use axis::segment::Segment;
 use axis::segment::Segments;
 ghost use mathlib.Core.Path.{_≡_};
 ghost use Prim.Native.Nat.{_≤_};
-ghost use Rattle.marking.specs.Marks.{forgotten, cleared, memberOf, marked, Ended};
+ghost use Rattle.axis.specs.Limits.{mostEdges, mostSegments};
+ghost use Rattle.marking.specs.Marks.{forgotten, cleared, memberOf};
+ghost use Rattle.marking.specs.Steps.{marked, Ended};
 
 // The segment without edge and next.
 fn forget(segment: Segment) -> Segment
@@ -20,7 +22,7 @@ fn forget(segment: Segment) -> Segment
 
 // The segments without edges and nexts.
 fn forget_all(segments: Segments) -> Segments
-    requires { ⌜ segments .len ≤ 512 ⌝ }
+    requires { ⌜ segments .len ≤ mostSegments ⌝ }
     ensures { λ r. ⌜ r ≡ cleared segments ⌝ }
 {
     let count = segments.len;
@@ -45,7 +47,7 @@ fn member_of(segment: Segment, edge: u16, next: u16) -> Segment
 
 // Each segment of an edge's ring gets the edge's index and its next; the others have neither.
 pub fn link_segments_to_edges(segments: Segments, edges: Axis, next: [u16; 512]) -> Segments
-    requires { ⌜ (segments .len ≤ 512) × (edges .len ≤ 128) × Ended next edges ⌝ }
+    requires { ⌜ (segments .len ≤ mostSegments) × (edges .len ≤ mostEdges) × Ended next edges ⌝ }
     ensures { λ r. ⌜ r ≡ marked next edges (edges .len) (cleared segments) ⌝ }
 {
     let count = edges.len;

@@ -17,7 +17,8 @@ use Rattle.contours.specs.Contour.{at, Contour, weakAt}
 use Rattle.outline.specs.Weak.{endsHold, contourOf, onContour, alignedAt}
 use Rattle.contours.specs.Steps.{Coordinate, Coordinates, Done}
 use Rattle.outline.specs.Steps.{AllDone}
-use Rattle.outline.proofs.Refusals.{drop-one, both, EndAt, end-at}
+use Rattle.refusals.proofs.Tests.{and-first, and-second}
+use Rattle.outline.proofs.Refusals.{drop-one, EndAt, end-at}
 use Rattle.outline.proofs.Parts.{stretch, weak-part}
 
 -- ---- the parts that are lent
@@ -52,12 +53,12 @@ module _ (s e : ℕ) (xs ys : List ℤ) (order : s ≤ e) (fits : e ≤ length x
 -- ---- the search for a point's contour
 module _ (s : ℕ) (es : List ℕ) (k i : ℕ) (more : k < length es) where
   -- a point that is not behind the end k is on the contour that ends there
-  pub contour-here : i ≤ getD es k 0 → contourOf s (drop k es) i ≡ some (record { start = s; end = suc (getD es k 0) })
+  contour-here : i ≤ getD es k 0 → contourOf s (drop k es) i ≡ some (record { start = s; end = suc (getD es k 0) })
   unfolding contourOf
   contour-here h = rw (drop-one es k 0 more, le-leb i (getD es k 0) h)
 
   -- a point behind it is on a later one
-  pub contour-later : getD es k 0 < i → contourOf s (drop k es) i ≡ contourOf (suc (getD es k 0)) (drop (k + 1) es) i
+  contour-later : getD es k 0 < i → contourOf s (drop k es) i ≡ contourOf (suc (getD es k 0)) (drop (k + 1) es) i
   unfolding contourOf
   contour-later h = rw (drop-one es k 0 more, lt-leb i (getD es k 0) h)
 
@@ -71,9 +72,8 @@ pub contour-holds : (s n i : ℕ) (es : List ℕ) (k : Contour) → s ≤ i → 
 unfolding endsHold contourOf
 contour-holds s n i [] k l h e = let z : _≡_ {A = ℕ} 0 1 = cc in absurd (omega arith)
 contour-holds s n i (x ∷ es) k l h e =
-    let a = both (leb s x) (ltb x n && endsHold (suc x) n es) h in
-    let b = both (ltb x n) (endsHold (suc x) n es) (a .1) in
-    by (leb i x) refl (ltb-true x n (b .0)) (λ g. contour-holds (suc x) n i es k g (b .1))
+    let a = and-second (leb s x) (ltb x n && endsHold (suc x) n es) h in
+    by (leb i x) refl (ltb-true x n (and-first (ltb x n) (endsHold (suc x) n es) a)) (λ g. contour-holds (suc x) n i es k g (and-second (ltb x n) (endsHold (suc x) n es) a))
   where
     by : (t : Bool) → leb i x ≡ t → x < n → (suc x ≤ i → contourOf (suc x) es i ≡ some k → Holds n i k) → Holds n i k
     by true q m rec =

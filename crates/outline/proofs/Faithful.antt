@@ -28,20 +28,24 @@ module _ (o c d : List ℤ) (t es : List ℕ) (outcome : Outcome o c t es 0 d) w
   good = accepted o c t es (sym (outcome .answer))
 
   -- an untouched point that has two references
-  result-between : (i : ℕ) (k : Contour) (r : References) → contourOf 0 es i ≡ some k → isTouched t i ≡ false → references t k i ≡ some r → (r .before ≡ r .behind → ⊥) → at d i ≡ betweenAt o c r i
+  result-between : (i : ℕ) (k : Contour) (r : References) → contourOf 0 es i ≡ some k → isTouched t i ≡ false → references t k i ≡ some r → (r .before ≡ r .behind → ⊥)
+      → at d i ≡ betweenAt o c r i
   unfolding alignedAt onContour
   result-between i k r on un by two =
       let h = contour-holds 0 (length o) i es k (omega arith) (good .ends) on in
-      ap (λ (l : List ℤ). at l i) (outcome .currents) ∙ result-at o c t es (sym (outcome .answer)) i (omega (arith, h, good .currents-length)) ∙ rw on (weak-two o c t k i (r .before) (r .behind) (unmarked t i un) by two)
+      ap (λ (l : List ℤ). at l i) (outcome .currents) ∙ result-at o c t es (sym (outcome .answer)) i (omega (arith, h, good .currents-length))
+      ∙ rw on (weak-two o c t k i (r .before) (r .behind) (unmarked t i un) by two)
 
   -- (a) an untouched point, on a contour with two or more touched points, whose original lies strictly between its references' originals
-  pub faithful : (i : ℕ) (r : References) → Follows t es i r → at o (firstOf o r) <ℤ at o i → at o i <ℤ at o (secondOf o r) → Faithful (at o i) (at o (firstOf o r)) (at c (firstOf o r)) (at o (secondOf o r)) (at c (secondOf o r)) (at d i)
+  pub faithful : (i : ℕ) (r : References) → Follows t es i r → at o (firstOf o r) <ℤ at o i → at o i <ℤ at o (secondOf o r)
+      → Faithful (at o i) (at o (firstOf o r)) (at c (firstOf o r)) (at o (secondOf o r)) (at c (secondOf o r)) (at d i)
   unfolding betweenAt
   faithful i r f low high =
       let h = contour-holds 0 (length o) i es (f .contour) (omega arith) (good .ends) (f .on) in
       let two = refs-differ t (f .contour) i (h .low) (h .high) (unmarked t i (f .untouched)) (f .more) r (f .by) in
+      let ordered = refs-ordered o c r (good .originals) (good .currents) in
       rw (result-between i (f .contour) r (f .on) (f .untouched) (f .by) two)
-      (faithful-at (at o i) (at o (firstOf o r)) (at c (firstOf o r)) (at o (secondOf o r)) (at c (secondOf o r)) (refs-ordered o c r (good .originals) (good .currents)) (omega (arith, signed)) (omega (arith, signed)))
+      (faithful-at (at o i) (at o (firstOf o r)) (at c (firstOf o r)) (at o (secondOf o r)) (at c (secondOf o r)) ordered (omega (arith, signed)) (omega (arith, signed)))
 
   -- (b) untouched points between two neighbouring touched points whose originals differ and whose currents are not in opposite order
   module _ (p q : ℕ) (ordered : InOrder o c p q) where
@@ -56,8 +60,10 @@ module _ (o c d : List ℤ) (t es : List ℕ) (outcome : Outcome o c t es 0 d) w
     -- none ends above one of higher original, since what is not higher ends not higher
     pub in-order : (i j : ℕ) → Amid t es p q i → Amid t es p q j → at o i ≤ℤ at o j → at d i ≤ℤ at d j
     in-order i j a b le =
+        let refs-in-order = refs-ordered o c (refs p q) (good .originals) (good .currents) in
         rw (comes-to i a, comes-to j b)
-        (grows (at o i) (at o j) (at o (low o p q)) (at c (low o p q)) (at o (high o p q)) (at c (high o p q)) (refs-ordered o c (refs p q) (good .originals) (good .currents)) (spanned o c p q ordered) (omega (arith, signed, rising o c p q ordered)) (omega (arith, signed)))
+        (grows (at o i) (at o j) (at o (low o p q)) (at c (low o p q)) (at o (high o p q)) (at c (high o p q)) refs-in-order (spanned o c p q ordered)
+        (omega (arith, signed, rising o c p q ordered)) (omega (arith, signed)))
 
     -- and equal originals end equal
     pub equal : (i j : ℕ) → Amid t es p q i → Amid t es p q j → at o i ≡ at o j → at d i ≡ at d j

@@ -23,7 +23,7 @@ pub data Place (v v1 v2 : ℤ) : Type 0 where
   high : up v1 + dn v < up v + dn v1 → up v2 + dn v ≤ up v + dn v2 → Place v v1 v2
 
 -- every original has one
-pub place-of : (v v1 v2 : ℤ) → Place v v1 v2
+place-of : (v v1 v2 : ℤ) → Place v v1 v2
 place-of v v1 v2 =
     ⊎-elim (λ a. ⊎-elim (λ b. mid a b) (λ b. high a b) (lt-or-le (up v + dn v2) (up v2 + dn v))) (λ a. low a) (lt-or-le (up v1 + dn v) (up v + dn v1))
 

@@ -4,12 +4,13 @@ use mathlib.Core.List.{List}
 use Prim.Native.Nat.{ℕ, zero, suc, _+_, _<_}
 use native.Mathlib.Nat.{add-zero, lt-irrefl}
 use native.Mathlib.Omega.{arith}
-use borrow.Author.Tests.{eq-eqb, ne-eqb}
 use lib.ListN.{length}
 use lib.Seq.{ext-getD}
 use lib.IntN.{ℤ, pos}
 use Rattle.contours.specs.Contour.{at}
-use Rattle.outline.specs.Weak.{refusal, alignedAt, listOf, result, Outcome}
+use Rattle.refusals.specs.Refusal.{refusal, answered}
+use Rattle.refusals.proofs.Tests.{answered-no}
+use Rattle.outline.specs.Weak.{weakTests, alignedAt, listOf, result, Outcome}
 use Rattle.outline.specs.Steps.{AllDone}
 
 -- ---- `listOf`
@@ -28,23 +29,26 @@ at-listOf f i (suc n) (suc k) h = at-listOf f (suc i) n k (omega arith) ∙ ap f
 
 -- ---- the result
 module _ (o c : List ℤ) (t es : List ℕ) where
-  -- a refusal writes nothing
-  pub result-refused : (refusal o c t es ≡ 0 → ⊥) → result o c t es ≡ c
+  -- a refusal k writes nothing
+  pub result-refused : (k : ℕ) → k ≡ refusal (weakTests o c t es) → 0 < k → c ≡ result o c t es
   unfolding result
-  result-refused n = rw (ne-eqb (refusal o c t es) 0 n)
+  result-refused k e h = answered-no k (refusal (weakTests o c t es)) (λ _. c) (listOf (alignedAt o c t es) 0 (length c)) e h
+
+  -- the places of an accepted outline
+  result-is : refusal (weakTests o c t es) ≡ 0 → result o c t es ≡ listOf (alignedAt o c t es) 0 (length c)
+  unfolding result
+  result-is e = ap (λ (k : ℕ). answered k (λ _. c) (listOf (alignedAt o c t es) 0 (length c))) e
 
   -- an accepted outline keeps its length
-  pub result-length : refusal o c t es ≡ 0 → length (result o c t es) ≡ length c
-  unfolding result
-  result-length e = rw (eq-eqb (refusal o c t es) 0 e) (length-listOf (alignedAt o c t es) 0 (length c))
+  result-length : refusal (weakTests o c t es) ≡ 0 → length (result o c t es) ≡ length c
+  result-length e = ap length (result-is e) ∙ length-listOf (alignedAt o c t es) 0 (length c)
 
   -- each of its points comes to its place
-  pub result-at : refusal o c t es ≡ 0 → (i : ℕ) → i < length c → at (result o c t es) i ≡ alignedAt o c t es i
-  unfolding result
-  result-at e i h = rw (eq-eqb (refusal o c t es) 0 e) (at-listOf (alignedAt o c t es) 0 (length c) i h ∙ ap (alignedAt o c t es) (omega arith))
+  pub result-at : refusal (weakTests o c t es) ≡ 0 → (i : ℕ) → i < length c → at (result o c t es) i ≡ alignedAt o c t es i
+  result-at e i h = ap (λ (l : List ℤ). at l i) (result-is e) ∙ at-listOf (alignedAt o c t es) 0 (length c) i h ∙ ap (alignedAt o c t es) (omega arith)
 
   -- and lists with these places are the result
-  pub result-done : (d : List ℤ) → refusal o c t es ≡ 0 → AllDone o c t es d → d ≡ result o c t es
+  pub result-done : (d : List ℤ) → refusal (weakTests o c t es) ≡ 0 → AllDone o c t es d → d ≡ result o c t es
   result-done d e a =
       ext-getD (pos 0) d (result o c t es) (a .len ∙ sym (result-length e)) (λ i h. a .each i (omega (arith, a .len)) ∙ sym (result-at e i (omega (arith, a .len))))
 

@@ -12,7 +12,8 @@ use lib.ListN.{getD, take, drop}
 use lib.Seq.{getD-take, getD-drop}
 use lib.IntN.{ℤ, pos}
 use lib.Signed.{ltZ}
-use Rattle.contours.specs.Contour.{at, isTouched, firstTouched, lastTouched, orElse, Contour, touchedBefore, touchedBehind, References, refs, paired, references, firstOf, secondOf, betweenAt, shiftedAt, followed, weakAt}
+use Rattle.contours.specs.Contour.{at, isTouched, firstTouched, lastTouched, orElse, Contour, touchedBefore, touchedBehind}
+use Rattle.contours.specs.Contour.{References, refs, paired, references, firstOf, secondOf, betweenAt, shiftedAt, followed, weakAt}
 use Rattle.contours.proofs.Searches.{last-is, first-is, found-by}
 
 -- the stretch of a list
@@ -99,7 +100,8 @@ module _ (s n : ℕ) (t : List ℕ) where
       same : isTouched t b ≡ isTouched (part s n t) a
       same = rw e (touched-part s n t a (omega arith))
 
-      by : (y : Bool) → isTouched (part s n t) a ≡ y → firstTouched t (suc b) m ≡ moved s (firstTouched (part s n t) (suc a) m) → firstTouched t b (suc m) ≡ moved s (firstTouched (part s n t) a (suc m))
+      by : (y : Bool) → isTouched (part s n t) a ≡ y → firstTouched t (suc b) m ≡ moved s (firstTouched (part s n t) (suc a) m)
+          → firstTouched t b (suc m) ≡ moved s (firstTouched (part s n t) a (suc m))
       by true q rec = rw (same, q) (ap some e)
       by false q rec = rw (same, q) rec
 
@@ -156,7 +158,8 @@ module _ (s n : ℕ) (o c : List ℤ) where
       by true e = rw (at-part s n o p hp, at-part s n o q hq, e, at-part s n o p hp, at-part s n c p hp, at-part s n o q hq, at-part s n c q hq, at-part s n o j hj)
       by false e = rw (at-part s n o p hp, at-part s n o q hq, e, at-part s n o p hp, at-part s n c p hp, at-part s n o q hq, at-part s n c q hq, at-part s n o j hj)
 
-  followed-part : (r : Option References) (j : ℕ) → ((x : References) → r ≡ some x → (x .before < n) × (x .behind < n)) → j < n → followed o c (moved-refs s r) (s + j) ≡ followed (part s n o) (part s n c) r j
+  followed-part : (r : Option References) (j : ℕ) → ((x : References) → r ≡ some x → (x .before < n) × (x .behind < n)) → j < n
+      → followed o c (moved-refs s r) (s + j) ≡ followed (part s n o) (part s n c) r j
   unfolding followed
   followed-part none j h hj = sym (at-part s n c j hj)
   followed-part (some r) j h hj = by (eqb (r .before) (r .behind)) refl

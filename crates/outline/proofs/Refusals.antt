@@ -1,36 +1,29 @@
 -- The refusals: each test one element at a time, the answers in their order, and what an accepted outline is.
-use mathlib.Core.Path.{_≡_, refl}
-use mathlib.Core.Bool.{Bool, true, false, not, cond, _&&_, _||_}
+use mathlib.Core.Path.{_≡_, refl, _∙_}
+use mathlib.Core.Bool.{Bool, true, false, _&&_}
 use mathlib.Core.List.{List, [], _∷_}
 use Prim.Native.Nat.{ℕ, zero, suc, _+_, _≤_, _<_}
 use native.Mathlib.Numerals.{add-one}
 use native.Mathlib.Omega.{arith}
-use borrow.Author.Tests.{ltb-true, ltb-false, leb-true, eqb-true, lt-ltb, le-ltb, le-leb, lt-leb, eq-eqb, ne-eqb, not-false}
-use lib.Dec.{leb, ltb, eqb}
+use borrow.Author.Tests.{ltb-true, ltb-false, leb-true, eqb-true, lt-ltb, le-ltb, le-leb, lt-leb, eq-eqb, ne-eqb}
+use lib.Dec.{leb, ltb}
 use lib.ListN.{length, getD, drop, drop-of-length-le}
 use lib.Seq.{drop-cons}
 use lib.IntN.{ℤ, pos, negsuc, negℤ, natAbs}
 use lib.Signed.{ltZ, leZ}
 use Rattle.signed.proofs.Signed.{natAbs-is}
+use Rattle.signed.proofs.Choices.{cond-true, cond-false}
+use Rattle.refusals.specs.Refusal.{Test, _unless_, refusal, badIndex, outOfRange}
+use Rattle.refusals.proofs.Tests.{and-first, and-second, all-hold, no-refusal}
 use Rattle.contours.specs.Limits.{mostPoints, mostCoordinate}
 use Rattle.contours.specs.Contour.{at}
-use Rattle.outline.specs.Weak.{endsHold, coordinateHolds, coordinatesHold, refusal}
+use Rattle.outline.specs.Weak.{endsHold, coordinateHolds, coordinatesHold, weakTests}
 use Rattle.contours.specs.Steps.{Coordinate, Coordinates}
 use Rattle.outline.specs.Steps.{Accepted}
 
 -- a list from its element i on
 pub drop-one {ℓ} : {A : Type ℓ} (l : List A) (i : ℕ) (d : A) → i < length l → drop i l ≡ getD l i d ∷ drop (i + 1) l
 drop-one l i d h = rw (add-one, drop-cons l i d)
-
--- both parts of a conjunction that holds
-pub both : (a b : Bool) → a && b ≡ true → (a ≡ true) × (b ≡ true)
-both true b e = (refl, e)
-both false b e = (e, cc)
-
--- no part of a disjunction that fails
-neither : (a b : Bool) → a || b ≡ false → (a ≡ false) × (b ≡ false)
-neither true b e = (e, cc)
-neither false b e = (refl, e)
 
 -- ---- coordinates
 -- a number below the range
@@ -51,7 +44,8 @@ unfolding coordinateHolds
 coordinate-of x e = omega (arith, natAbs-is x, leb-true (natAbs x) mostCoordinate e)
 
 -- a test's answer, gathered with those before it
-pub coordinates-next : (l : List ℤ) (i : ℕ) (before here : Bool) → i < length l → here ≡ coordinateHolds (at l i) → (before && coordinatesHold (drop i l)) ≡ ((before && here) && coordinatesHold (drop (i + 1) l))
+pub coordinates-next : (l : List ℤ) (i : ℕ) (before here : Bool) → i < length l → here ≡ coordinateHolds (at l i)
+    → (before && coordinatesHold (drop i l)) ≡ ((before && here) && coordinatesHold (drop (i + 1) l))
 unfolding coordinatesHold
 coordinates-next l i true here h e = rw (drop-one l i (pos 0) h, e)
 coordinates-next l i false here h e = refl
@@ -66,8 +60,8 @@ coordinates-end l i false h = refl
 coordinates-of : (l : List ℤ) → coordinatesHold l ≡ true → Coordinates l
 unfolding coordinatesHold
 coordinates-of [] e i = omega arith
-coordinates-of (x ∷ l) e zero = coordinate-of x (both (coordinateHolds x) (coordinatesHold l) e .0)
-coordinates-of (x ∷ l) e (suc i) = coordinates-of l (both (coordinateHolds x) (coordinatesHold l) e .1) i
+coordinates-of (x ∷ l) e zero = coordinate-of x (and-first (coordinateHolds x) (coordinatesHold l) e)
+coordinates-of (x ∷ l) e (suc i) = coordinates-of l (and-second (coordinateHolds x) (coordinatesHold l) e) i
 
 -- ---- contour ends
 -- the test from the end k on, where the contour starts at s: an end in front of its start
@@ -103,71 +97,66 @@ end-at s n es k h r =
     let e = getD es k 0 in
     let rest = endsHold (suc e) n (drop (k + 1) es) in
     let r1 : leb s e && (ltb e n && rest) ≡ true = rw (drop-one es k 0 h) at r in
-    let p = both (leb s e) (ltb e n && rest) r1 in
-    let q = both (ltb e n) rest (p .1) in
-    record { low = leb-true s e (p .0); high = ltb-true e n (q .0); rest = rw add-one (q .1) }
+    let r2 = and-second (leb s e) (ltb e n && rest) r1 in
+    record { low = leb-true s e (and-first (leb s e) (ltb e n && rest) r1); high = ltb-true e n (and-first (ltb e n) rest r2); rest = rw add-one (and-second (ltb e n) rest r2) }
 
 -- ---- the answers, in their order
+-- the first test that fails decides, and one that holds leaves it to the rest
+test-fails : (n : ℕ) (h : Bool) (ts : List Test) → h ≡ false → refusal (n unless h ∷ ts) ≡ n
+unfolding refusal
+test-fails n h ts e = cond-false h (refusal ts) n e
+
+test-holds : (n : ℕ) (h : Bool) (ts : List Test) → h ≡ true → refusal (n unless h ∷ ts) ≡ refusal ts
+unfolding refusal
+test-holds n h ts e = cond-true h (refusal ts) n e
+
 module _ (o c : List ℤ) (t es : List ℕ) where
   -- too many points
-  pub refused-long : mostPoints < length o → refusal o c t es ≡ 1
-  unfolding refusal
-  refused-long h = rw (lt-ltb mostPoints (length o) h)
+  pub refused-long : mostPoints < length o → refusal (weakTests o c t es) ≡ 1
+  refused-long h = test-fails _ _ _ (lt-leb (length o) mostPoints h)
 
-  -- currents of another length
-  pub refused-currents : length o ≤ mostPoints → (length c ≡ length o → ⊥) → refusal o c t es ≡ 1
-  unfolding refusal
-  refused-currents h n = rw (le-ltb mostPoints (length o) h, ne-eqb (length c) (length o) n)
+  module _ (h : length o ≤ mostPoints) where
+    -- currents of another length
+    pub refused-currents : (length c ≡ length o → ⊥) → refusal (weakTests o c t es) ≡ 1
+    refused-currents n = test-holds _ _ _ (le-leb (length o) mostPoints h) ∙ test-fails _ _ _ (ne-eqb (length c) (length o) n)
 
-  -- marks of another length
-  pub refused-marks : length o ≤ mostPoints → length c ≡ length o → (length t ≡ length o → ⊥) → refusal o c t es ≡ 1
-  unfolding refusal
-  refused-marks h e n = rw (le-ltb mostPoints (length o) h, eq-eqb (length c) (length o) e, ne-eqb (length t) (length o) n)
+    -- marks of another length
+    pub refused-marks : length c ≡ length o → (length t ≡ length o → ⊥) → refusal (weakTests o c t es) ≡ 1
+    refused-marks e n = test-holds _ _ _ (le-leb (length o) mostPoints h) ∙ test-holds _ _ _ (eq-eqb (length c) (length o) e) ∙ test-fails _ _ _ (ne-eqb (length t) (length o) n)
 
   module _ (h : length o ≤ mostPoints) (ec : length c ≡ length o) (et : length t ≡ length o) where
+    -- lists of one length leave it to the other tests
+    past-lengths : refusal (weakTests o c t es) ≡ refusal (badIndex unless endsHold 0 (length o) es ∷ outOfRange unless coordinatesHold o ∷ outOfRange unless coordinatesHold c ∷ [])
+    past-lengths = test-holds _ _ _ (le-leb (length o) mostPoints h) ∙ test-holds _ _ _ (eq-eqb (length c) (length o) ec) ∙ test-holds _ _ _ (eq-eqb (length t) (length o) et)
+
     -- a contour end that breaks the rule
-    pub refused-ends : endsHold 0 (length o) es ≡ false → refusal o c t es ≡ 3
-    unfolding refusal
-    refused-ends r = rw (le-ltb mostPoints (length o) h, eq-eqb (length c) (length o) ec, eq-eqb (length t) (length o) et, r)
+    pub refused-ends : endsHold 0 (length o) es ≡ false → refusal (weakTests o c t es) ≡ 3
+    refused-ends r = past-lengths ∙ test-fails _ _ _ r
 
     -- an original outside the table
-    pub refused-originals : endsHold 0 (length o) es ≡ true → coordinatesHold o ≡ false → refusal o c t es ≡ 4
-    unfolding refusal
-    refused-originals r a = rw (le-ltb mostPoints (length o) h, eq-eqb (length c) (length o) ec, eq-eqb (length t) (length o) et, r, a)
+    pub refused-originals : endsHold 0 (length o) es ≡ true → coordinatesHold o ≡ false → refusal (weakTests o c t es) ≡ 4
+    refused-originals r a = past-lengths ∙ test-holds _ _ _ r ∙ test-fails _ _ _ a
 
     -- a current outside the table
-    pub refused-places : endsHold 0 (length o) es ≡ true → coordinatesHold o ≡ true → coordinatesHold c ≡ false → refusal o c t es ≡ 4
-    unfolding refusal
-    refused-places r a b = rw (le-ltb mostPoints (length o) h, eq-eqb (length c) (length o) ec, eq-eqb (length t) (length o) et, r, a, b)
+    pub refused-places : endsHold 0 (length o) es ≡ true → coordinatesHold o ≡ true → coordinatesHold c ≡ false → refusal (weakTests o c t es) ≡ 4
+    refused-places r a b = past-lengths ∙ test-holds _ _ _ r ∙ test-holds _ _ _ a ∙ test-fails _ _ _ b
 
     -- none of these
-    pub refused-not : endsHold 0 (length o) es ≡ true → coordinatesHold o ≡ true → coordinatesHold c ≡ true → refusal o c t es ≡ 0
-    unfolding refusal
-    refused-not r a b = rw (le-ltb mostPoints (length o) h, eq-eqb (length c) (length o) ec, eq-eqb (length t) (length o) et, r, a, b)
+    pub refused-not : endsHold 0 (length o) es ≡ true → coordinatesHold o ≡ true → coordinatesHold c ≡ true → refusal (weakTests o c t es) ≡ 0
+    refused-not r a b = no-refusal (weakTests o c t es) (le-leb (length o) mostPoints h, (eq-eqb (length c) (length o) ec, (eq-eqb (length t) (length o) et, (r, (a, (b, refl))))))
 
 -- ---- what is not refused
--- the answer 0 comes last
-answers : (a b d : Bool) → _≡_ {A = ℕ} (cond a 1 (cond (not b) 3 (cond (not d) 4 0))) 0 → (a ≡ false) × (b ≡ true) × (d ≡ true)
-answers false true true e = (refl, refl, refl)
-answers false true false e = let z : ⊥ = omega arith in absurd z
-answers false false d e = let z : ⊥ = omega arith in absurd z
-answers true b d e = let z : ⊥ = omega arith in absurd z
-
 -- an outline that is answered by 0 is accepted
-pub accepted : (o c : List ℤ) (t es : List ℕ) → refusal o c t es ≡ 0 → Accepted o c t es
-unfolding refusal
+pub accepted : (o c : List ℤ) (t es : List ℕ) → refusal (weakTests o c t es) ≡ 0 → Accepted o c t es
 accepted o c t es e =
-    let ec = eqb (length c) (length o) in
-    let et = eqb (length t) (length o) in
-    let a = answers (ltb mostPoints (length o) || (not ec || not et)) (endsHold 0 (length o) es) (coordinatesHold o && coordinatesHold c) e in
-    let l = neither (ltb mostPoints (length o)) (not ec || not et) (a .0) in
-    let m = neither (not ec) (not et) (l .1) in
-    let k = both (coordinatesHold o) (coordinatesHold c) (a .2) in
+    let long = all-hold (weakTests o c t es) refl e in
+    let marks = long .1 .1 in
+    let originals = marks .1 .1 in
     record {
-      points = ltb-false mostPoints (length o) (l .0);
-      currents-length = eqb-true (length c) (length o) (not-false ec (m .0));
-      marks-length = eqb-true (length t) (length o) (not-false et (m .1));
-      ends = a .1;
-      originals = coordinates-of o (k .0);
-      currents = coordinates-of c (k .1);
+      points = leb-true (length o) mostPoints (long .0);
+      currents-length = eqb-true (length c) (length o) (long .1 .0);
+      marks-length = eqb-true (length t) (length o) (marks .0);
+      ends = marks .1 .0;
+      originals = coordinates-of o (originals .0);
+      currents = coordinates-of c (originals .1 .0);
     }

@@ -1,13 +1,14 @@
 -- Weak points (document 01, module 2): which outlines are refused, and where each point of the others comes to. An outline is its points' originals o, currents
 -- c and touch marks t, and the ends es of its contours.
 use mathlib.Core.Path.{_≡_}
-use mathlib.Core.Bool.{Bool, true, not, cond, _&&_, _||_}
+use mathlib.Core.Bool.{Bool, true, cond, _&&_}
 use mathlib.Core.List.{List, [], _∷_}
 use mathlib.Core.Option.{Option, some, none}
 use Prim.Native.Nat.{ℕ, zero, suc}
 use lib.Dec.{leb, ltb, eqb}
 use lib.ListN.{length}
 use lib.IntN.{ℤ, natAbs}
+use Rattle.refusals.specs.Refusal.{Test, _unless_, refusal, answered, tooLong, badIndex, outOfRange}
 use Rattle.contours.specs.Limits.{mostPoints, mostCoordinate}
 use Rattle.contours.specs.Contour.{at, Contour, weakAt}
 
@@ -26,13 +27,16 @@ unfoldable pub coordinatesHold : List ℤ → Bool
 coordinatesHold [] = true
 coordinatesHold (z ∷ zs) = coordinateHolds z && coordinatesHold zs
 
--- the first refusal that applies, or 0: 1 where there are too many points or the point lists differ in length, 3 where a contour end breaks its rule, 4 where
--- a coordinate is outside the table
-unfoldable pub refusal : List ℤ → List ℤ → List ℕ → List ℕ → ℕ
-refusal o c t es =
-    cond (ltb mostPoints (length o) || (not (eqb (length c) (length o)) || not (eqb (length t) (length o)))) 1
-    (cond (not (endsHold 0 (length o) es)) 3
-    (cond (not (coordinatesHold o && coordinatesHold c)) 4 0))
+-- the tests of `align_weak_points`, in document 01's order
+abbrev pub weakTests : List ℤ → List ℤ → List ℕ → List ℕ → List Test
+weakTests o c t es =
+    tooLong unless leb (length o) mostPoints
+    ∷ tooLong unless eqb (length c) (length o)
+    ∷ tooLong unless eqb (length t) (length o)
+    ∷ badIndex unless endsHold 0 (length o) es
+    ∷ outOfRange unless coordinatesHold o
+    ∷ outOfRange unless coordinatesHold c
+    ∷ []
 
 -- ---- contours
 -- the contour of the point i, where the first of the contours with these ends starts at `start` and each other behind the one before it; the points behind
@@ -59,9 +63,9 @@ listOf f i (suc n) = f i ∷ listOf f (suc i) n
 
 -- the currents at the end: a refusal writes nothing
 unfoldable pub result : List ℤ → List ℤ → List ℕ → List ℕ → List ℤ
-result o c t es = cond (eqb (refusal o c t es) 0) (listOf (alignedAt o c t es) 0 (length c)) c
+result o c t es = answered (refusal (weakTests o c t es)) (λ _. c) (listOf (alignedAt o c t es) 0 (length c))
 
 -- what `align_weak_points` owes its caller: the answer a, 0 or the number of a refusal, and the currents d that it leaves
 pub record Outcome (o c : List ℤ) (t es : List ℕ) (a : ℕ) (d : List ℤ) : Type 0 where
-  pub answer : a ≡ refusal o c t es
+  pub answer : a ≡ refusal (weakTests o c t es)
   pub currents : d ≡ result o c t es

@@ -2,8 +2,12 @@
 use super::limits::LEAST_COORDINATE;
 use super::limits::MOST_COORDINATE;
 use super::limits::MOST_POINTS;
+use refusals::order::BAD_INDEX;
+use refusals::order::OUT_OF_RANGE;
+use refusals::order::TOO_LONG;
 ghost use mathlib.Core.Path.{_≡_};
-ghost use Rattle.outline.specs.Weak.{endsHold, coordinateHolds, coordinatesHold, refusal};
+ghost use Rattle.refusals.specs.Refusal.{refusal};
+ghost use Rattle.outline.specs.Weak.{endsHold, coordinateHolds, coordinatesHold, weakTests};
 
 // A contour end as an index.
 pub fn wide(x: u16) -> usize
@@ -56,27 +60,27 @@ fn coordinates_hold(list: &[i32]) -> bool
     all
 }
 
-// The first refusal that applies to an outline, or 0.
-pub fn refusal_of(originals: &[i32], currents: &[i32], touched: &[u8], ends: &[u16]) -> u8
-    ensures { λ r. ⌜ r ≡ refusal (now (originals .entry)) (now (currents .entry)) (now (touched .entry)) (now (ends .entry)) ⌝ }
+// The refusal of an outline, or 0: the first test that fails ends the tests, since each goes over a whole list.
+pub fn weak_refusal(originals: &[i32], currents: &[i32], touched: &[u8], ends: &[u16]) -> u8
+    ensures { λ r. ⌜ r ≡ refusal (weakTests (now (originals .entry)) (now (currents .entry)) (now (touched .entry)) (now (ends .entry))) ⌝ }
 {
     if MOST_POINTS < originals.len() {
-        return 1;
+        return TOO_LONG;
     }
     if currents.len() != originals.len() {
-        return 1;
+        return TOO_LONG;
     }
     if touched.len() != originals.len() {
-        return 1;
+        return TOO_LONG;
     }
     if !ends_hold(ends, originals.len()) {
-        return 3;
+        return BAD_INDEX;
     }
     if !coordinates_hold(originals) {
-        return 4;
+        return OUT_OF_RANGE;
     }
     if !coordinates_hold(currents) {
-        return 4;
+        return OUT_OF_RANGE;
     }
     0
 }

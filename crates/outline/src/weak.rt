@@ -1,5 +1,5 @@
 // The public call (the Rust's `align_weak_points`, for one axis).
-use super::accept::refusal_of;
+use super::accept::weak_refusal;
 use super::accept::wide;
 use contours::contour::align_contour;
 ghost use Rattle.outline.specs.Weak.{Outcome};
@@ -33,8 +33,8 @@ pub fn align_weak_points(
 ) -> u8
     ensures { λ r. ⌜ Outcome (now (originals .entry)) (now (currents .entry)) (now (touched .entry)) (now (ends .entry)) r (now (currents .exit)) ⌝ }
 {
-    let answer = refusal_of(originals, currents, touched, ends);
-    if answer != 0 {
+    let answer = weak_refusal(originals, currents, touched, ends);
+    if 0 < answer {
         return answer;
     }
     align_contours(originals, currents, touched, ends);

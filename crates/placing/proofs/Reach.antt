@@ -11,16 +11,16 @@ use mir.Syntax.{w32}
 use mir.Val.{toZ, ofZ}
 use Rattle.signed.specs.Range.{Between}
 use Rattle.signed.proofs.Signed.{sub-law, fits-in, is}
+use Rattle.refusals.proofs.Tests.{and-first, and-second}
 use Rattle.fixed.specs.declared.width.WidthRule.{WidthRule}
 use Rattle.fixed.specs.Width.{fittedWidth}
 use Rattle.fixed.proofs.Widths.{fitted-within}
 use Rattle.axis.specs.declared.edge.Axis.{Axis}
 use Rattle.axis.specs.Edge.{edgeAt}
-use Rattle.axis.specs.Limits.{mostUnits}
+use Rattle.axis.specs.Limits.{mostEdges, mostUnits}
 use Rattle.axis.specs.Accepted.{AxisWithin}
-use Rattle.axis.proofs.Tests.{and-first, and-second}
 use Rattle.placing.specs.Placing.{bothBelow}
-use Rattle.placing.specs.Steps.{mostReach, InReach}
+use Rattle.placing.specs.Steps.{mostWidth, mostReach, InReach}
 
 -- two edges that passed the test are below the count
 pub below-first : (n i j : ℕ) → bothBelow n i j ≡ true → i < n
@@ -30,7 +30,7 @@ pub below-second : (n i j : ℕ) → bothBelow n i j ≡ true → j < n
 below-second n i j h = ltb-true j n (and-second (ltb i n) (ltb j n) h)
 
 -- an edge of an axis, and so of the working table
-pub in-table : (m i : ℕ) (axis : Axis) → AxisWithin m axis → i < axis .len → i < 128
+pub in-table : (m i : ℕ) (axis : Axis) → AxisWithin m axis → i < axis .len → i < mostEdges
 in-table m i axis h q = omega (arith, h .few)
 
 -- an edge of an axis within less than the reach
@@ -45,5 +45,6 @@ pub reach-read : (z : ℤ) → Between mostReach mostReach z → toZ w32 (ofZ w3
 reach-read z h = is (fits-in w32 h tt tt)
 
 -- a fitted width is at most 16 more than the distance of two original positions
-pub width-range : (rule : WidthRule) (xs : List ℤ) (o s : ℤ) → Between mostUnits mostUnits o → Between mostUnits mostUnits s → Between 32782 32782 (fittedWidth rule xs (s -ℤ o))
+pub width-range : (rule : WidthRule) (xs : List ℤ) (o s : ℤ)
+    → Between mostUnits mostUnits o → Between mostUnits mostUnits s → Between mostWidth mostWidth (fittedWidth rule xs (s -ℤ o))
 width-range rule xs o s h g = omega (arith, fitted-within rule xs (s -ℤ o), sub-law s o)

@@ -8,7 +8,7 @@ use fixed::point::magnitude;
 ghost use mathlib.Core.Path.{_≡_};
 ghost use Prim.Native.Nat.{_<_, _≤_};
 ghost use Rattle.signed.specs.Range.{Between};
-ghost use Rattle.axis.specs.Limits.{mostPos};
+ghost use Rattle.axis.specs.Limits.{mostEdges, mostPos};
 ghost use Rattle.axis.specs.Accepted.{AxisWithin};
 ghost use Rattle.placing.specs.Placing.{outOfOrder, hasPassed, isFar, neighbour, adjusted};
 ghost use Rattle.placing.specs.Steps.{mostReach};
@@ -50,7 +50,7 @@ pub fn is_far(pos1: i32, pos2: i32) -> bool
 
 // The neighbour that an edge is held to, where there is one; a next one that is not done is none.
 fn neighbour_of(axis: Axis, edge: usize, dir: LinkDir) -> Link
-    requires { ⌜ (edge < axis .len) × (axis .len ≤ 128) ⌝ }
+    requires { ⌜ (edge < axis .len) × (axis .len ≤ mostEdges) ⌝ }
     ensures { λ r. ⌜ r ≡ neighbour dir axis edge ⌝ }
 {
     match dir {

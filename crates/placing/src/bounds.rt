@@ -3,11 +3,12 @@ use axis::edge::Axis;
 use axis::kinds::Link;
 ghost use mathlib.Core.Path.{_≡_};
 ghost use Prim.Native.Nat.{_<_, _≤_};
+ghost use Rattle.axis.specs.Limits.{mostEdges};
 ghost use Rattle.placing.specs.Placing.{lowerBound, upperBound};
 
 // The edge before, where there is one.
 pub fn lower_bound(edge: usize) -> Link
-    requires { ⌜ edge < 128 ⌝ }
+    requires { ⌜ edge < mostEdges ⌝ }
     ensures { λ r. ⌜ r ≡ lowerBound edge ⌝ }
 {
     if edge == 0 {
@@ -18,7 +19,7 @@ pub fn lower_bound(edge: usize) -> Link
 
 // The edge behind, where there is one and it is done.
 pub fn upper_bound(axis: Axis, edge: usize) -> Link
-    requires { ⌜ (edge < axis .len) × (axis .len ≤ 128) ⌝ }
+    requires { ⌜ (edge < axis .len) × (axis .len ≤ mostEdges) ⌝ }
     ensures { λ r. ⌜ r ≡ upperBound axis edge ⌝ }
 {
     let next = edge + 1;

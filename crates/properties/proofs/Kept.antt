@@ -12,6 +12,7 @@ use lib.ListN.{length}
 use lib.Seq.{getD-set-same, getD-set-other, set-out}
 use lib.Signed.{ltZ}
 use Rattle.signed.proofs.Signed.{lt-or-le}
+use Rattle.signed.proofs.Choices.{either-way}
 use Rattle.axis.specs.declared.kinds.Link.{Link}
 use Rattle.axis.specs.declared.kinds.Link.the-variants as Links
 use Rattle.axis.specs.declared.edge.Axis.{Axis}
@@ -19,24 +20,20 @@ use Rattle.axis.specs.declared.edge.Edge.{Edge}
 use Rattle.axis.specs.declared.flags.Flags.{Flags}
 use Rattle.axis.specs.declared.segment.Segments.{Segments}
 use Rattle.axis.specs.Accepted.{Below, AxisWithin}
-use Rattle.axis.specs.Edge.{emptyEdge, edgeAt, putEdge}
+use Rattle.axis.specs.Edge.{emptyEdge, edgeAt, putEdge, flagged, joinedTo}
 use Rattle.axis.specs.Limits.{mostSegments, mostEdges}
 use Rattle.axis.specs.Link.{indexOr}
 use Rattle.axis.specs.Ring.{nextOf, walk, ends, members}
 use Rattle.axis.specs.Segment.{segmentAt}
 use Rattle.axis.proofs.Acceptance.{below-none, below-to}
-use Rattle.axis.proofs.Tests.{and-first, and-second}
+use Rattle.refusals.proofs.Tests.{and-first, and-second}
 use Rattle.properties.specs.declared.join.Join.{Join}
-use Rattle.properties.specs.Properties.{dist, edgeOf, isOther, joinOf, joinAt, with, flagged, asSerif, chosen, putSerif, putLink, joinBy, member, visits, roundness, straightness, serifBeside, finished, visit, edges, edgeProperties}
-use Rattle.properties.specs.Outcomes.{heldBy, nearer, joinedTo}
+use Rattle.properties.specs.Properties.{dist, edgeOf, isOther, joinOf, joinAt, asSerif, chosen, putSerif, putLink, joinBy, member, visits, roundness, straightness, serifBeside, finished, visit, edges, edgeProperties}
+use Rattle.properties.specs.Outcomes.{heldBy, nearer, joinedBy}
 use Rattle.properties.specs.Steps.{Ready}
 
-pub cond-both : {A : Type 0} (P : A → Type 0) (b : Bool) (x y : A) → P x → P y → P (cond b x y)
-cond-both P true x y p q = p
-cond-both P false x y p q = q
-
 -- ---- indices
-pub index-below : (n other : ℕ) (l : Link) → other < n → Below n l → indexOr other l < n
+index-below : (n other : ℕ) (l : Link) → other < n → Below n l → indexOr other l < n
 index-below n other Links.None h b = h
 index-below n other (Links.To k) h b = b .at k refl
 
@@ -54,13 +51,13 @@ pub record KeptEdge (n : ℕ) (e₀ e : Edge) : Type 0 where
   pub serif : Below n (e .serif)
 
 module _ (n : ℕ) (e₀ e : Edge) (h : KeptEdge n e₀ e) where
-  with-kept : (link serif : Link) → Below n link → Below n serif → KeptEdge n e₀ (with e link serif)
+  with-kept : (link serif : Link) → Below n link → Below n serif → KeptEdge n e₀ (joinedTo e link serif)
   with-kept link serif p q = record { fpos = h .fpos; opos = h .opos; pos = h .pos; dir = h .dir; blue = h .blue; first = h .first; last = h .last; link = p; serif = q }
 
   flagged-kept : (f : Flags) → KeptEdge n e₀ (flagged e f)
   flagged-kept f = record { fpos = h .fpos; opos = h .opos; pos = h .pos; dir = h .dir; blue = h .blue; first = h .first; last = h .last; link = h .link; serif = h .serif }
 
-  pub held-below : (b : Bool) → Below n (heldBy b e)
+  held-below : (b : Bool) → Below n (heldBy b e)
   held-below true = h .serif
   held-below false = h .link
 
@@ -68,21 +65,21 @@ module _ (n : ℕ) (e₀ e : Edge) (h : KeptEdge n e₀ e) where
   unfolding nearer
   nearer-below e2 delta Links.None held p q = q
   nearer-below e2 delta (Links.To k) Links.None p q = p
-  nearer-below e2 delta (Links.To k) (Links.To o) p q = cond-both (Below n) (ltZ delta (dist (e .fpos) (e2 .fpos))) (Links.To k) (Links.To o) p q
+  nearer-below e2 delta (Links.To k) (Links.To o) p q = either-way (Below n) (ltZ delta (dist (e .fpos) (e2 .fpos))) (Links.To k) (Links.To o) p q
 
-  pub joined-kept : (e2 : Edge) (j : Join) → Below n (j .edge) → KeptEdge n e₀ (joinedTo e e2 j)
-  unfolding joinedTo
+  joined-kept : (e2 : Edge) (j : Join) → Below n (j .edge) → KeptEdge n e₀ (joinedBy e e2 j)
+  unfolding joinedBy
   joined-kept e2 j p =
-      cond-both (KeptEdge n e₀) (j .«is_serif») (with e (e .link) (nearer e e2 (j .delta) (j .edge) (e .serif))) (with e (nearer e e2 (j .delta) (j .edge) (e .link)) (e .serif))
+      either-way (KeptEdge n e₀) (j .«is_serif») (joinedTo e (e .link) (nearer e e2 (j .delta) (j .edge) (e .serif))) (joinedTo e (nearer e e2 (j .delta) (j .edge) (e .link)) (e .serif))
       (with-kept (e .link) (nearer e e2 (j .delta) (j .edge) (e .serif)) (h .link) (nearer-below e2 (j .delta) (j .edge) (e .serif) p (h .serif)))
       (with-kept (nearer e e2 (j .delta) (j .edge) (e .link)) (e .serif) (nearer-below e2 (j .delta) (j .edge) (e .link) p (h .link)) (h .serif))
 
   chosen-below : (axis : Axis) (delta : ℤ) (q : ℕ) (held : Link) → q < n → Below n held → Below n (Links.To (chosen axis e delta q held))
   unfolding chosen
   chosen-below axis delta q Links.None p b = below-to n q p
-  chosen-below axis delta q (Links.To o) p b = below-to n _ (cond-both (λ (k : ℕ). k < n) (ltZ delta (dist (e .fpos) (edgeAt axis o .fpos))) q o p (b .at o refl))
+  chosen-below axis delta q (Links.To o) p b = below-to n _ (either-way (λ (k : ℕ). k < n) (ltZ delta (dist (e .fpos) (edgeAt axis o .fpos))) q o p (b .at o refl))
 
-  pub finished-kept : (round straight : ℕ) → KeptEdge n e₀ (finished round straight e)
+  finished-kept : (round straight : ℕ) → KeptEdge n e₀ (finished round straight e)
   unfolding finished
   finished-kept round straight = let p = with-kept (e .link) (serifBeside (e .link) (e .serif)) (h .link) (beside (e .link) (e .serif) (h .serif)) in
       record { fpos = p .fpos; opos = p .opos; pos = p .pos; dir = p .dir; blue = p .blue; first = p .first; last = p .last; link = p .link; serif = p .serif }
@@ -106,7 +103,7 @@ same-place axis i e =
     (λ (h : length (axis .edges) ≤ i). inr (rw set-out))
     (lt-or-le i (length (axis .edges)))
 
-pub put-kept : (axis₀ axis : Axis) (i : ℕ) (e : Edge) → Kept axis₀ axis → KeptEdge (axis₀ .len) (edgeAt axis₀ i) e → Kept axis₀ (putEdge axis i e)
+put-kept : (axis₀ axis : Axis) (i : ℕ) (e : Edge) → Kept axis₀ axis → KeptEdge (axis₀ .len) (edgeAt axis₀ i) e → Kept axis₀ (putEdge axis i e)
 put-kept axis₀ axis i e h p = record { dim = h .dim; major = h .major; len = h .len; edge = λ k l. by-place k l (eqb k i) refl }
   where
     by-place : (k : ℕ) → k < axis₀ .len → (b : Bool) → eqb k i ≡ b → KeptEdge (axis₀ .len) (edgeAt axis₀ k) (edgeAt (putEdge axis i e) k)
@@ -125,12 +122,12 @@ module _ (axis₀ : Axis) (t : Segments) (r : Ready axis₀ t) where
   edge-below ix (Links.To i) b = r .segment i (b .at i refl) .edge
 
   -- an edge that a segment asks for
-  pub asked-below : (k ix : ℕ) → ix < t .len → Below (axis₀ .len) (joinAt t k ix .edge)
+  asked-below : (k ix : ℕ) → ix < t .len → Below (axis₀ .len) (joinAt t k ix .edge)
   unfolding joinAt joinOf
   asked-below k ix h =
       let s = segmentAt t ix in
       let at = r .segment ix h in
-      cond-both (λ (j : Join). Below (axis₀ .len) (j .edge)) (isOther k (edgeOf (s .serif) (segmentAt t (indexOr ix (s .serif))))) _ _ (edge-below ix (s .serif) (at .serif)) (edge-below ix (s .link) (at .link))
+      either-way (λ (j : Join). Below (axis₀ .len) (j .edge)) (isOther k (edgeOf (s .serif) (segmentAt t (indexOr ix (s .serif))))) _ _ (edge-below ix (s .serif) (at .serif)) (edge-below ix (s .link) (at .link))
 
   module _ (k : ℕ) (hk : k < axis₀ .len) where
     join-kept : (b : Bool) (delta : ℤ) (l : Link) (axis : Axis) → Below (axis₀ .len) l → Kept axis₀ axis → Kept axis₀ (joinBy k b delta l axis)
@@ -144,25 +141,28 @@ module _ (axis₀ : Axis) (t : Segments) (r : Ready axis₀ t) where
         let w = chosen axis e delta q (e .link) in
         let bv : Below n (Links.To v) = chosen-below n (edgeAt axis₀ k) e g axis delta q (e .serif) (p .at q refl) (g .serif) in
         let bw : Below n (Links.To w) = chosen-below n (edgeAt axis₀ k) e g axis delta q (e .link) (p .at q refl) (g .link) in
-        let put = put-kept axis₀ axis k (with e (e .link) (Links.To v)) h (with-kept n (edgeAt axis₀ k) e g (e .link) (Links.To v) (g .link) bv) in
-        cond-both (Kept axis₀) b (putSerif k v axis) (putLink k w axis)
-        (put-kept axis₀ (putEdge axis k (with e (e .link) (Links.To v))) v (asSerif (edgeAt (putEdge axis k (with e (e .link) (Links.To v))) v)) put (flagged-kept n (edgeAt axis₀ v) (edgeAt (putEdge axis k (with e (e .link) (Links.To v))) v) (put .edge v (bv .at v refl)) _))
-        (put-kept axis₀ axis k (with e (Links.To w) (e .serif)) h (with-kept n (edgeAt axis₀ k) e g (Links.To w) (e .serif) bw (g .serif)))
+        let put = put-kept axis₀ axis k (joinedTo e (e .link) (Links.To v)) h (with-kept n (edgeAt axis₀ k) e g (e .link) (Links.To v) (g .link) bv) in
+        either-way (Kept axis₀) b (putSerif k v axis) (putLink k w axis)
+        (put-kept axis₀ (putEdge axis k (joinedTo e (e .link) (Links.To v))) v (asSerif (edgeAt (putEdge axis k (joinedTo e (e .link) (Links.To v))) v)) put (flagged-kept n (edgeAt axis₀ v) (edgeAt (putEdge axis k (joinedTo e (e .link) (Links.To v))) v) (put .edge v (bv .at v refl)) _))
+        (put-kept axis₀ axis k (joinedTo e (Links.To w) (e .serif)) h (with-kept n (edgeAt axis₀ k) e g (Links.To w) (e .serif) bw (g .serif)))
 
     pub member-kept : (ix : ℕ) (axis : Axis) → ix < t .len → Kept axis₀ axis → Kept axis₀ (member t k ix axis)
     unfolding member
     member-kept ix axis p h = join-kept (joinAt t k ix .«is_serif») (joinAt t k ix .delta) (joinAt t k ix .edge) axis (asked-below k ix p) h
 
-    walk-kept : (last n ix : ℕ) (axis : Axis) → ix < t .len → ends t last n ix ≡ true → Kept axis₀ axis → Kept axis₀ (visits t k (walk t last n ix) axis)
+    walk-kept : (last n ix : ℕ) (axis : Axis) → ix < t .len → ends (nextOf t last) (t .len) last n ix ≡ true → Kept axis₀ axis → Kept axis₀ (visits t k (walk (nextOf t last) last n ix) axis)
     unfolding walk ends visits
     walk-kept last zero ix axis p e h = member-kept ix axis p h
     walk-kept last (suc n) ix axis p e h = go (eqb ix last) (walk-kept last n (nextOf t last ix) (member t k ix axis)) e
       where
-        go : (b : Bool) → (nextOf t last ix < t .len → ends t last n (nextOf t last ix) ≡ true → Kept axis₀ (member t k ix axis) → Kept axis₀ (visits t k (walk t last n (nextOf t last ix)) (member t k ix axis))) → cond b true (ltb (nextOf t last ix) (t .len) && ends t last n (nextOf t last ix)) ≡ true → Kept axis₀ (visits t k (cond b (ix ∷ []) (ix ∷ walk t last n (nextOf t last ix))) axis)
+        go : (b : Bool)
+            → (nextOf t last ix < t .len → ends (nextOf t last) (t .len) last n (nextOf t last ix) ≡ true → Kept axis₀ (member t k ix axis) → Kept axis₀ (visits t k (walk (nextOf t last) last n (nextOf t last ix)) (member t k ix axis)))
+            → cond b true (ltb (nextOf t last ix) (t .len) && ends (nextOf t last) (t .len) last n (nextOf t last ix)) ≡ true
+            → Kept axis₀ (visits t k (cond b (ix ∷ []) (ix ∷ walk (nextOf t last) last n (nextOf t last ix))) axis)
         go true f z = member-kept ix axis p h
         go false f z = f (ltb-true (nextOf t last ix) (t .len) (and-first _ _ z)) (and-second (ltb (nextOf t last ix) (t .len)) _ z) (member-kept ix axis p h)
 
-    pub visit-kept : (axis : Axis) → Kept axis₀ axis → Kept axis₀ (visit t k (members axis t k) axis)
+    visit-kept : (axis : Axis) → Kept axis₀ axis → Kept axis₀ (visit t k (members axis t k) axis)
     unfolding visit
     visit-kept axis h =
         let g = h .edge k hk in
@@ -191,7 +191,9 @@ module _ (axis₀ : Axis) (t : Segments) (r : Ready axis₀ t) where
   pub held-inside : (k place : ℕ) (b : Bool) (e : Edge) → k < axis₀ .len → KeptEdge (axis₀ .len) (edgeAt axis₀ k) e → place ≡ indexOr k (heldBy b e) → place < mostEdges
   held-inside k place b e h g p = let q = index-below (axis₀ .len) k (heldBy b e) h (held-below (axis₀ .len) (edgeAt axis₀ k) e g b) in omega (arith, q, p, r .few-edges)
 
-  pub joined-inside : (axis : Axis) (k ix at1 at2 place : ℕ) (j : Join) (e e2 : Edge) → k < axis₀ .len → ix < t .len → Kept axis₀ axis → at1 ≡ indexOr ix (segmentAt t ix .serif) → at2 ≡ indexOr ix (segmentAt t ix .link) → j ≡ joinOf k (segmentAt t ix) (segmentAt t at1) (segmentAt t at2) → e ≡ joinedTo (edgeAt axis k) e2 j → place ≡ indexOr k (heldBy (j .«is_serif») e) → place < mostEdges
+  pub joined-inside : (axis : Axis) (k ix at1 at2 place : ℕ) (j : Join) (e e2 : Edge) → k < axis₀ .len → ix < t .len → Kept axis₀ axis → at1 ≡ indexOr ix (segmentAt t ix .serif)
+      → at2 ≡ indexOr ix (segmentAt t ix .link) → j ≡ joinOf k (segmentAt t ix) (segmentAt t at1) (segmentAt t at2) → e ≡ joinedBy (edgeAt axis k) e2 j
+      → place ≡ indexOr k (heldBy (j .«is_serif») e) → place < mostEdges
   unfolding joinAt
   joined-inside axis k ix at1 at2 place j e e2 hk hx h p1 p2 p3 p4 p5 =
       let asked : Below (axis₀ .len) (j .edge) = rw (p3, p1, p2) (asked-below k ix hx) in
@@ -211,7 +213,7 @@ module _ (axis₀ : Axis) (t : Segments) (r : Ready axis₀ t) where
   edges-kept (suc k) h = visit-kept k (omega arith) (edges t k axis₀) (edges-kept k (omega arith))
 
   -- the whole
-  pub properties-kept : Kept axis₀ (edgeProperties axis₀ t)
+  properties-kept : Kept axis₀ (edgeProperties axis₀ t)
   unfolding edgeProperties
   properties-kept = edges-kept (axis₀ .len) (omega arith)
 

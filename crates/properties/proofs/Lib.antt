@@ -1,5 +1,4 @@
 -- The laws by subject, each over plain variables.
-pub mod Reading
 pub mod Kept
 pub mod Turns
 pub mod Worked

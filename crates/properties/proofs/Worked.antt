@@ -15,7 +15,7 @@ use Rattle.axis.specs.declared.edge.Edge.{Edge}
 use Rattle.axis.specs.declared.flags.Flags.{Flags}
 use Rattle.axis.specs.declared.segment.Segment.{Segment}
 use Rattle.axis.specs.declared.segment.Segments.{Segments}
-use Rattle.axis.specs.Edge.{emptyEdge}
+use Rattle.axis.specs.Edge.{emptyEdge, freshEdge, changed}
 use Rattle.axis.specs.Flags.{normal}
 use Rattle.axis.specs.Limits.{mostEdges, mostSegments}
 use Rattle.axis.specs.Ring.{walk}
@@ -37,7 +37,7 @@ flags round serif = record { round = round; serif = serif; done = false; neutral
 
 -- an edge at a position, of the segments from the first to the last, with these flags, link and serif
 abbrev edge : ℕ → ℕ → ℕ → Flags → Link → Link → Edge
-edge p first last f link serif = record { fpos = pos p; opos = pos p; pos = pos p; flags = f; dir = Right; blue = Blues.None; link = link; serif = serif; first = first; last = last }
+edge p first last f link serif = changed (freshEdge (pos p) (pos p) Right first) (pos p) f Blues.None link serif last
 
 -- such an edge as building makes it
 abbrev bare : ℕ → ℕ → ℕ → Edge
@@ -45,7 +45,23 @@ bare p first last = edge p first last normal None None
 
 -- a segment at a position, round or not, with this link and serif, of an edge, with the next one there
 abbrev segment : ℕ → Bool → Link → Link → Link → Link → Segment
-segment p round link serif of next = record { flags = flags round false; dir = Right; pos = pos p; delta = pos 0; «min_coord» = pos 0; «max_coord» = pos 0; height = pos 0; score = pos 0; len = pos 0; link = link; serif = serif; first = 0; last = 0; edge = of; next = next }
+segment p round link serif of next = record {
+  flags = flags round false;
+  dir = Right;
+  pos = pos p;
+  delta = pos 0;
+  «min_coord» = pos 0;
+  «max_coord» = pos 0;
+  height = pos 0;
+  score = pos 0;
+  len = pos 0;
+  link = link;
+  serif = serif;
+  first = 0;
+  last = 0;
+  edge = of;
+  next = next;
+}
 
 -- the tables of a few
 abbrev axis : List Edge → Axis

@@ -5,8 +5,9 @@ use lib.Signed.{ltZ}
 use Rattle.axis.specs.declared.kinds.Link.{Link}
 use Rattle.axis.specs.declared.kinds.Link.the-variants as Links
 use Rattle.axis.specs.declared.edge.Edge.{Edge}
+use Rattle.axis.specs.Edge.{joinedTo}
 use Rattle.properties.specs.declared.join.Join.{Join}
-use Rattle.properties.specs.Properties.{dist, with, asSerif}
+use Rattle.properties.specs.Properties.{dist, asSerif}
 
 -- the serif or the link of an edge
 abbrev pub heldBy : Bool → Edge → Link
@@ -19,11 +20,11 @@ nearer e e2 delta (Links.To q) Links.None = Links.To q
 nearer e e2 delta (Links.To q) (Links.To o) = cond (ltZ delta (dist (e .fpos) (e2 .fpos))) (Links.To q) (Links.To o)
 
 -- the edge with that one as its serif or as its link
-unfoldable pub joinedTo : Edge → Edge → Join → Edge
-joinedTo e e2 j =
+unfoldable pub joinedBy : Edge → Edge → Join → Edge
+joinedBy e e2 j =
     cond (j .«is_serif»)
-    (with e (e .link) (nearer e e2 (j .delta) (j .edge) (e .serif)))
-    (with e (nearer e e2 (j .delta) (j .edge) (e .link)) (e .serif))
+    (joinedTo e (e .link) (nearer e e2 (j .delta) (j .edge) (e .serif)))
+    (joinedTo e (nearer e e2 (j .delta) (j .edge) (e .link)) (e .serif))
 
 -- SERIF set, where the join is that of a serif
 abbrev pub flaggedBy : Bool → Edge → Edge

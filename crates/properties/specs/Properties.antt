@@ -10,10 +10,9 @@ use Rattle.axis.specs.declared.kinds.Link.{Link}
 use Rattle.axis.specs.declared.kinds.Link.the-variants as Links
 use Rattle.axis.specs.declared.edge.Axis.{Axis}
 use Rattle.axis.specs.declared.edge.Edge.{Edge}
-use Rattle.axis.specs.declared.flags.Flags.{Flags}
 use Rattle.axis.specs.declared.segment.Segment.{Segment}
 use Rattle.axis.specs.declared.segment.Segments.{Segments}
-use Rattle.axis.specs.Edge.{edgeAt, putEdge}
+use Rattle.axis.specs.Edge.{edgeAt, putEdge, flagged, joinedTo}
 use Rattle.axis.specs.Link.{indexOr}
 use Rattle.axis.specs.Ring.{members}
 use Rattle.axis.specs.Segment.{segmentAt}
@@ -47,14 +46,6 @@ unfoldable pub joinAt : Segments → ℕ → ℕ → Join
 joinAt t k ix = joinOf k (segmentAt t ix) (segmentAt t (indexOr ix (segmentAt t ix .serif))) (segmentAt t (indexOr ix (segmentAt t ix .link)))
 
 -- ---- one segment of edge k
--- the edge with this link and this serif
-abbrev pub with : Edge → Link → Link → Edge
-with e link serif = record { fpos = e .fpos; opos = e .opos; pos = e .pos; flags = e .flags; dir = e .dir; blue = e .blue; link = link; serif = serif; first = e .first; last = e .last }
-
--- the edge with these flags
-abbrev pub flagged : Edge → Flags → Edge
-flagged e flags = record { fpos = e .fpos; opos = e .opos; pos = e .pos; flags = flags; dir = e .dir; blue = e .blue; link = e .link; serif = e .serif; first = e .first; last = e .last }
-
 -- the edge with SERIF set
 abbrev pub asSerif : Edge → Edge
 asSerif e = flagged e (record { round = e .flags .round; serif = true; done = e .flags .done; neutral = e .flags .neutral })
@@ -70,11 +61,11 @@ setSerif w axis = putEdge axis w (asSerif (edgeAt axis w))
 
 -- edge k has edge w as its serif, and SERIF is set on that one
 abbrev pub putSerif : ℕ → ℕ → Axis → Axis
-putSerif k w axis = setSerif w (putEdge axis k (with (edgeAt axis k) (edgeAt axis k .link) (Links.To w)))
+putSerif k w axis = setSerif w (putEdge axis k (joinedTo (edgeAt axis k) (edgeAt axis k .link) (Links.To w)))
 
 -- edge k has edge w as its link
 abbrev pub putLink : ℕ → ℕ → Axis → Axis
-putLink k w axis = putEdge axis k (with (edgeAt axis k) (Links.To w) (edgeAt axis k .serif))
+putLink k w axis = putEdge axis k (joinedTo (edgeAt axis k) (Links.To w) (edgeAt axis k .serif))
 
 -- an edge that is asked for, in the way that it is
 unfoldable pub joinBy : ℕ → Bool → ℤ → Link → Axis → Axis
@@ -116,7 +107,7 @@ serifBeside (Links.To k) serif = Links.None
 -- the edge at the end of its visit: of its flags only ROUND can be set, and a serif is dropped where a link is
 unfoldable pub finished : ℕ → ℕ → Edge → Edge
 finished round straight e =
-    flagged (with e (e .link) (serifBeside (e .link) (e .serif))) (record { round = isRound round straight; serif = false; done = false; neutral = false })
+    flagged (joinedTo e (e .link) (serifBeside (e .link) (e .serif))) (record { round = isRound round straight; serif = false; done = false; neutral = false })
 
 -- the visit of edge k by these segments
 unfoldable pub visit : Segments → ℕ → List ℕ → Axis → Axis

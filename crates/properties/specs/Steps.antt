@@ -7,7 +7,7 @@ use Rattle.axis.specs.declared.segment.Segments.{Segments}
 use Rattle.axis.specs.Accepted.{Below}
 use Rattle.axis.specs.Edge.{edgeAt}
 use Rattle.axis.specs.Limits.{mostEdges, mostSegments}
-use Rattle.axis.specs.Ring.{Ringed}
+use Rattle.axis.specs.Ring.{AllWalked}
 use Rattle.axis.specs.Segment.{segmentAt}
 
 -- link and serif of an edge of n are edges
@@ -27,4 +27,4 @@ pub record Ready (axis : Axis) (t : Segments) : Type 0 where
   pub few-segments : t .len ≤ mostSegments
   pub edge : (k : ℕ) → k < axis .len → EdgeBelow (axis .len) (edgeAt axis k)
   pub segment : (i : ℕ) → i < t .len → SegmentBelow (axis .len) (t .len) (segmentAt t i)
-  pub rings : Ringed axis t
+  pub rings : AllWalked axis t

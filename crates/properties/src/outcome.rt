@@ -8,7 +8,7 @@ use axis::kinds::Link;
 use axis::link::index_or;
 ghost use mathlib.Core.Path.{_≡_};
 ghost use Rattle.axis.specs.Link.{indexOr};
-ghost use Rattle.properties.specs.Outcomes.{heldBy, nearer as nearerOf, joinedTo, flaggedBy};
+ghost use Rattle.properties.specs.Outcomes.{heldBy, nearer as nearerOf, joinedBy, flaggedBy};
 ghost use Rattle.properties.specs.Properties.{isRound, serifBeside, finished as finishedAs};
 
 // The place of the edge that this one is joined to in the way of a join, or its own where there is none.
@@ -42,7 +42,7 @@ fn nearer(edge: Edge, edge2: Edge, edge2_ix: Link, join: Join) -> Link
 
 // The edge joined to the nearer of the edge asked for and edge2, its serif's or its link's.
 pub fn joined_to(edge: Edge, edge2: Edge, join: Join) -> Edge
-    ensures { λ r. ⌜ r ≡ joinedTo edge edge2 join ⌝ }
+    ensures { λ r. ⌜ r ≡ joinedBy edge edge2 join ⌝ }
 {
     if join.is_serif {
         let held = edge.serif;

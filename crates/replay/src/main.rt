@@ -1,6 +1,7 @@
 // Answers job lines: reads them from standard input, and writes an answer line for each to standard output.
 mod spell;
 
+use jobs::answer::LONGEST;
 use jobs::answer::answer;
 use libc::STDIN_FILENO;
 use libc::STDOUT_FILENO;
@@ -51,7 +52,7 @@ fn feed_block(
 fn main() {
     let mut block = io::large_buffer();
     let mut words = [0i32; 32769];
-    let mut out = [0i32; 9091];
+    let mut out = [0i32; LONGEST];
     let mut text = [0u8; 72729];
     let mut line = Line::new();
     let mut turns: u64 = 18446744073709551615;

@@ -5,7 +5,8 @@ use mathlib.Core.List.{List, [], _∷_, _++_}
 use Prim.Native.Nat.{ℕ, _-_}
 use lib.IntN.{ℤ}
 use lib.ListN.{length, replicate}
-use Rattle.outline.specs.Weak.{refusal, result}
+use Rattle.refusals.specs.Refusal.{refusal}
+use Rattle.outline.specs.Weak.{weakTests, result}
 use Rattle.fixed.specs.declared.width.WidthRule.{WidthRule}
 use Rattle.axis.specs.declared.kinds.Dimension.{Dimension}
 use Rattle.axis.specs.declared.kinds.Dimension.the-variants.{Horizontal}
@@ -19,6 +20,7 @@ use Rattle.axis.specs.declared.segment.Segment.{Segment}
 use Rattle.axis.specs.declared.segment.Segments.{Segments}
 use Rattle.axis.specs.Edge.{emptyEdge}
 use Rattle.axis.specs.Segment.{emptySegment}
+use Rattle.axis.specs.Limits.{mostEdges, mostSegments}
 use Rattle.linking.specs.Linking.{beside, linkSegmentsCjk}
 use Rattle.building.specs.Building.{isCjk, distanceThreshold}
 use Rattle.lowercase_m.specs.M.{hinted, hintLowercaseM}
@@ -27,11 +29,11 @@ use Rattle.stems.specs.Stems.{stems as aligned, alignStemEdges}
 
 -- an axis of these edges, its other places empty
 abbrev axisOf : Dimension → List Edge → Axis
-axisOf dim es = record { dim = dim; «major_dir» = Directions.None; edges = es ++ replicate (128 - length es) emptyEdge; len = length es }
+axisOf dim es = record { dim = dim; «major_dir» = Directions.None; edges = es ++ replicate (mostEdges - length es) emptyEdge; len = length es }
 
 -- the table of these segments, its other places empty
 abbrev segmentsOf : List Segment → Segments
-segmentsOf l = record { segments = l ++ replicate (512 - length l) emptySegment; len = length l }
+segmentsOf l = record { segments = l ++ replicate (mostSegments - length l) emptySegment; len = length l }
 
 -- a row: its input and its result
 pub data Row : Type 0 where
@@ -52,9 +54,12 @@ pub data Row : Type 0 where
 
 -- the definitions give the row's result on the row's input
 abbrev pub Holds : Row → Type 0
-Holds (weak originals currents touched ends answer after) = (refusal originals currents touched ends ≡ answer) × (result originals currents touched ends ≡ after)
-Holds (stemCjk dim adjust rule edges d answer delta after) = hintNormalStemCjk (axisOf dim edges) adjust rule [] 0 1 d ≡ hintedCjk (axisOf dim after) delta answer
-Holds (stems dim group adjust ttb anchor rule edges answer count anchor′ after) = alignStemEdges (axisOf dim edges) group adjust ttb anchor rule [] ≡ aligned count anchor′ (axisOf dim after) answer
+Holds (weak originals currents touched ends answer after) =
+    (refusal (weakTests originals currents touched ends) ≡ answer) × (result originals currents touched ends ≡ after)
+Holds (stemCjk dim adjust rule edges d answer delta after) =
+    hintNormalStemCjk (axisOf dim edges) adjust rule [] 0 1 d ≡ hintedCjk (axisOf dim after) delta answer
+Holds (stems dim group adjust ttb anchor rule edges answer count anchor′ after) =
+    alignStemEdges (axisOf dim edges) group adjust ttb anchor rule [] ≡ aligned count anchor′ (axisOf dim after) answer
 Holds (build group first scale threshold) = distanceThreshold (isCjk group) first scale ≡ threshold
 Holds (m group edges answer after) = hintLowercaseM (axisOf Horizontal edges) group ≡ hinted (axisOf Horizontal after) answer
 Holds (link segments major upem scale answer after) = linkSegmentsCjk (segmentsOf segments) major upem scale ≡ beside (segmentsOf after) answer

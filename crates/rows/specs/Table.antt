@@ -4,17 +4,17 @@ use mathlib.Core.Bool.{true, false}
 use mathlib.Core.List.{List, [], _∷_}
 use Prim.Native.Nat.{ℕ}
 use lib.IntN.{ℤ, pos, negℤ}
+use Rattle.refusals.specs.Refusal.{refusal}
 use Rattle.fixed.specs.declared.width.WidthRule.the-variants.{Keep}
 use Rattle.fixed.specs.Pixel.{pixFloor, pixRound}
 use Rattle.fixed.specs.Width.{ruleHolds, fittedWidth}
 use Rattle.fixed.specs.Point.{near, nearZ, mulFix, divFix, derived}
 use Rattle.contours.specs.Contour.{firstTouched, lastTouched, touchedBefore, touchedBehind, references, firstOf, secondOf, interpolated, betweenAt, shiftedAt, followed, weakAt}
-use Rattle.outline.specs.Weak.{endsHold, coordinateHolds, coordinatesHold, refusal, contourOf, onContour, alignedAt, listOf, result}
+use Rattle.outline.specs.Weak.{endsHold, coordinateHolds, coordinatesHold, contourOf, onContour, alignedAt, listOf, result}
 use Rattle.axis.specs.declared.kinds.Dimension.the-variants.{Vertical}
 use Rattle.axis.specs.declared.kinds.Direction.{Direction}
 use Rattle.axis.specs.declared.kinds.Direction.the-variants as Directions
 use Rattle.axis.specs.declared.kinds.Direction.the-variants.{Up, Down}
-use Rattle.axis.specs.declared.kinds.Blue.the-variants as Blues
 use Rattle.axis.specs.declared.kinds.Link.{Link}
 use Rattle.axis.specs.declared.kinds.Link.the-variants as Links
 use Rattle.axis.specs.declared.kinds.Group.the-variants.{Default, Cjk}
@@ -23,8 +23,10 @@ use Rattle.axis.specs.declared.segment.Segment.{Segment}
 use Rattle.axis.specs.Direction as D
 use Rattle.axis.specs.Flags.{normal}
 use Rattle.axis.specs.Link.{linksTo}
-use Rattle.axis.specs.Edge.{emptyEdge, finished}
-use Rattle.axis.specs.Refusals.{linkHolds, blueHolds, every, edgeIndices, edgeNumbers, edgesIndices, edgesNumbers, edgesRefusal, segmentIndices, segmentNext, segmentNumbers, segmentsIndices, segmentsNexts, segmentsNumbers, segmentsRefusal}
+use Rattle.axis.specs.Edge.{freshEdge, emptyEdge, placed, finished, joinedTo}
+use Rattle.axis.specs.Refusals.{linkHolds, blueHolds, every, edgeIndices, edgeNumbers, edgesIndices, edgesNumbers}
+use Rattle.axis.specs.Refusals.{segmentIndices, segmentNext, segmentNumbers, segmentsIndices, segmentsNexts, segmentsNumbers}
+use Rattle.axis.specs.Visits.{visits}
 use Rattle.building.specs.Building.{distanceThreshold}
 use Rattle.linking_rounds.specs.Loops.{turns, till}
 use Rattle.linking_rounds.specs.Pairs as P
@@ -35,7 +37,6 @@ use Rattle.cjk_numbers.specs.Cjk.{maxGap, gapOf, pixelOffset, narrowDelta, isBl
 use Rattle.stem_cjk.specs.Cjk.{hintNormalStemCjk}
 use Rattle.placing.specs.Placing.{lowerBound, hasPassed, neighbour, boundBy, adjusted}
 use Rattle.stem_latin.specs.Latin.{centreOf, lowerOffset, upperOffset, nearerCentre, thinCentre, thinFirst, thinSecond, anchoredFirst, anchoredSecond}
-use Rattle.zone.specs.Zones.{visits}
 use Rattle.stems_plan.specs.Visit.{tooClose}
 use Rattle.stems.specs.Stems.{besideAnchor, latinStem, groupStem, zoneStem, visitLink, visit, stemsOf, alignStemEdges}
 use Rattle.rows.specs.Row.{Row, weak, stems, stemCjk, build, m, link, All}
@@ -46,15 +47,31 @@ minus n = negℤ (pos n)
 
 -- an unlinked edge, by opos and pos
 abbrev edge : ℕ → ℕ → Edge
-edge o p = record { fpos = pos 0; opos = pos o; pos = pos p; flags = normal; dir = Directions.None; blue = Blues.None; link = Links.None; serif = Links.None; first = 0; last = 0 }
+edge o p = placed (freshEdge (pos 0) (pos o) Directions.None 0) (pos p)
 
 -- the same, linked to an edge
 abbrev linked : ℕ → ℕ → ℕ → Edge
-linked o p k = record { fpos = pos 0; opos = pos o; pos = pos p; flags = normal; dir = Directions.None; blue = Blues.None; link = Links.To k; serif = Links.None; first = 0; last = 0 }
+linked o p k = joinedTo (edge o p) (Links.To k) Links.None
 
 -- a segment from 0 to 200, by direction, position, score, len and link
 abbrev segment : Direction → ℕ → ℕ → ℕ → Link → Segment
-segment dir p score len to = record { flags = normal; dir = dir; pos = pos p; delta = pos 0; «min_coord» = pos 0; «max_coord» = pos 200; height = pos 0; score = pos score; len = pos len; link = to; serif = Links.None; first = 0; last = 0; edge = Links.None; next = Links.None }
+segment dir p score len to = record {
+  flags = normal;
+  dir = dir;
+  pos = pos p;
+  delta = pos 0;
+  «min_coord» = pos 0;
+  «max_coord» = pos 200;
+  height = pos 0;
+  score = pos score;
+  len = pos len;
+  link = to;
+  serif = Links.None;
+  first = 0;
+  last = 0;
+  edge = Links.None;
+  next = Links.None;
+}
 
 -- the rows, in the document's order
 abbrev pub table : List Row
@@ -74,9 +91,11 @@ table =
     -- the same, currents 5, 99, 20: 5, 15, 25
     ∷ weak (pos 0 ∷ pos 10 ∷ pos 20 ∷ []) (pos 5 ∷ pos 99 ∷ pos 20 ∷ []) (1 ∷ 0 ∷ 0 ∷ []) (2 ∷ []) 0 (pos 5 ∷ pos 15 ∷ pos 25 ∷ [])
     -- Latin, Keep, bottom to top; edge 0 is the anchor, done, unlinked, at 0 and unmoved; edges 1 and 2 have opos 100 and 160, linked to each other: 130 and 190
-    ∷ stems Vertical Default false false (Links.To 0) Keep (finished (edge 0 0) ∷ linked 100 100 2 ∷ linked 160 160 1 ∷ []) 0 0 (Links.To 0) (finished (edge 0 0) ∷ finished (linked 100 130 2) ∷ finished (linked 160 190 1) ∷ [])
+    ∷ stems Vertical Default false false (Links.To 0) Keep (finished (edge 0 0) ∷ linked 100 100 2 ∷ linked 160 160 1 ∷ [])
+    0 0 (Links.To 0) (finished (edge 0 0) ∷ finished (linked 100 130 2) ∷ finished (linked 160 190 1) ∷ [])
     -- the same, 87 and 157 (tie between offsets 38 and 26): 119 and 189
-    ∷ stems Vertical Default false false (Links.To 0) Keep (finished (edge 0 0) ∷ linked 87 87 2 ∷ linked 157 157 1 ∷ []) 0 0 (Links.To 0) (finished (edge 0 0) ∷ finished (linked 87 119 2) ∷ finished (linked 157 189 1) ∷ [])
+    ∷ stems Vertical Default false false (Links.To 0) Keep (finished (edge 0 0) ∷ linked 87 87 2 ∷ linked 157 157 1 ∷ [])
+    0 0 (Links.To 0) (finished (edge 0 0) ∷ finished (linked 87 119 2) ∷ finished (linked 157 189 1) ∷ [])
     -- CJK, Keep, vertical, not round, no STEM_ADJUST, passed delta 0, 40 and 80: 26 and 66
     ∷ stemCjk Vertical false Keep (edge 40 40 ∷ edge 80 80 ∷ []) (pos 0) 0 (minus 14) (edge 40 26 ∷ edge 80 66 ∷ [])
     -- the same with STEM_ADJUST: 24 and 64
@@ -85,12 +104,26 @@ table =
     ∷ build Default (pos 21) (pos 32768) (pos 22)
     ∷ build Cjk (pos 21) (pos 32768) (pos 21)
     -- 6 Latin edges; 0, 2, 4 have opos 0, 100, 207, pos 0, 128, 270; 4 has no link: edge 4 at 256
-    ∷ m Default (edge 0 0 ∷ emptyEdge ∷ edge 100 128 ∷ emptyEdge ∷ edge 207 270 ∷ emptyEdge ∷ []) 0 (edge 0 0 ∷ emptyEdge ∷ edge 100 128 ∷ emptyEdge ∷ finished (edge 207 256) ∷ emptyEdge ∷ [])
+    ∷ m Default (edge 0 0 ∷ emptyEdge ∷ edge 100 128 ∷ emptyEdge ∷ edge 207 270 ∷ emptyEdge ∷ [])
+    0 (edge 0 0 ∷ emptyEdge ∷ edge 100 128 ∷ emptyEdge ∷ finished (edge 207 256) ∷ emptyEdge ∷ [])
     -- positions 0 (major) and 100 (opposite), both 0 to 200 wide, score 32,000, len 0, 1000 per em, scale 65,536: linked to each other, score 100, len 200
-    ∷ link (segment Up 0 32000 0 Links.None ∷ segment Down 100 32000 0 Links.None ∷ []) Up (pos 1000) (pos 65536) 0 (segment Up 0 100 200 (Links.To 1) ∷ segment Down 100 100 200 (Links.To 0) ∷ [])
+    ∷ link (segment Up 0 32000 0 Links.None ∷ segment Down 100 32000 0 Links.None ∷ []) Up (pos 1000) (pos 65536)
+    0 (segment Up 0 100 200 (Links.To 1) ∷ segment Down 100 100 200 (Links.To 0) ∷ [])
     ∷ []
 
 -- every row holds
 pub rows-hold : All table
-unfolding near nearZ mulFix divFix distanceThreshold endsHold coordinateHolds coordinatesHold refusal contourOf firstTouched lastTouched touchedBefore touchedBehind references firstOf secondOf interpolated betweenAt shiftedAt followed weakAt onContour alignedAt listOf result linkHolds blueHolds every edgeIndices edgeNumbers edgesIndices edgesNumbers edgesRefusal linkedOn groupHolds applies moveDone moveOnly moveLink moveSerifs moveStem aligned hintLowercaseM D.same D.opposite linksTo segmentIndices segmentNext segmentNumbers segmentsIndices segmentsNexts segmentsNumbers segmentsRefusal derived turns till P.maxZ P.minZ P.gapOf P.facing P.checkSeg P.improvedBy P.nearStem P.encloses P.muchLonger P.rewritten P.staysSerif P.settled Q.improvePair Q.pairTurn Q.majorTurn Q.pairRound Q.rewriteTurn Q.rewriteAll Q.unlink Q.heldTo Q.givenUpTo Q.holdTurn Q.givenUp Q.hold Q.serifTo Q.serifTurn Q.serifRound Q.lastTo Q.lastTurn Q.lastRound Q.linked L.thresholdsOf L.numbersHold L.linkingRefusal L.linkSegmentsCjk pixFloor pixRound ruleHolds fittedWidth maxGap gapOf pixelOffset narrowDelta isBlocked shortestMove wideDelta offsetsDelta startOf clamped deltaOf stemAt stemOf placedStem hintedStem hintNormalStemCjk lowerBound hasPassed neighbour boundBy adjusted centreOf lowerOffset upperOffset nearerCentre thinCentre thinFirst thinSecond anchoredFirst anchoredSecond visits tooClose besideAnchor latinStem groupStem zoneStem visitLink visit stemsOf alignStemEdges
+unfolding
+    near nearZ mulFix divFix derived pixFloor pixRound ruleHolds fittedWidth
+    refusal linkHolds blueHolds every edgeIndices edgeNumbers edgesIndices edgesNumbers segmentIndices segmentNext segmentNumbers segmentsIndices segmentsNexts segmentsNumbers
+    endsHold coordinateHolds coordinatesHold contourOf firstTouched lastTouched touchedBefore touchedBehind references firstOf secondOf interpolated betweenAt shiftedAt followed
+    weakAt onContour alignedAt listOf result
+    distanceThreshold
+    linkedOn groupHolds applies moveDone moveOnly moveLink moveSerifs moveStem aligned hintLowercaseM
+    D.same D.opposite linksTo turns till P.maxZ P.minZ P.gapOf P.facing P.checkSeg P.improvedBy P.nearStem P.encloses P.muchLonger P.rewritten P.staysSerif P.settled
+    Q.improvePair Q.pairTurn Q.majorTurn Q.pairRound Q.rewriteTurn Q.rewriteAll Q.unlink Q.heldTo Q.givenUpTo Q.holdTurn Q.givenUp Q.hold Q.serifTo Q.serifTurn Q.serifRound
+    Q.lastTo Q.lastTurn Q.lastRound Q.linked L.thresholdsOf L.numbersHold L.linkSegmentsCjk
+    maxGap gapOf pixelOffset narrowDelta isBlocked shortestMove wideDelta offsetsDelta startOf clamped deltaOf stemAt stemOf placedStem hintedStem hintNormalStemCjk
+    lowerBound hasPassed neighbour boundBy adjusted centreOf lowerOffset upperOffset nearerCentre thinCentre thinFirst thinSecond anchoredFirst anchoredSecond
+    visits tooClose besideAnchor latinStem groupStem zoneStem visitLink visit stemsOf alignStemEdges
 rows-hold = ((refl, refl), ((refl, refl), ((refl, refl), ((refl, refl), ((refl, refl), ((refl, refl), ((refl, refl), (refl, (refl, (refl, (refl, (refl, (refl, (refl, (refl, tt)))))))))))))))

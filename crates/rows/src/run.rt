@@ -1,7 +1,13 @@
 // A row's job, answered and compared.
+use super::number::numbers;
+use jobs::answer::LONGEST;
 use jobs::answer::answer;
+use jobs::list::part;
 use libc::STDOUT_FILENO;
 use words::word::word_at;
+
+// The words of the longest job and of the longest answer that a row has.
+const ROOM: usize = 80;
 
 // Writes bytes to standard output.
 pub fn text(bytes: &[u8]) {
@@ -22,9 +28,15 @@ fn begins(out: &[i32], told: usize, expected: &[i32]) -> bool {
 }
 
 // Answers a job, and tells beside the row's text whether the answer is the one that is expected.
-pub fn row(title: &[u8], job: &[i32], expected: &[i32]) {
-    let mut out = [0i32; 9091];
+pub fn row(title: &[u8], job: &[u8], expected: &[u8]) {
+    let mut asked = [0i32; ROOM];
+    let mut due = [0i32; ROOM];
+    let n = numbers(job, &mut asked);
+    let m = numbers(expected, &mut due);
+    let mut out = [0i32; LONGEST];
+    let job = part(&asked, 0, n);
     let told = answer(job, &mut out);
+    let expected = part(&due, 0, m);
     if begins(&out, told, expected) {
         text(b"agrees   ");
     } else {

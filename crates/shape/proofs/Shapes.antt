@@ -18,7 +18,7 @@ use Rattle.shape.specs.declared.field.Place.the-variants.{Nowhere, At}
 use Rattle.shape.specs.declared.field.Range.{Range}
 use Rattle.shape.specs.declared.element.Record.the-variants as Records
 use Rattle.shape.specs.declared.element.Element.{Element}
-use Rattle.shape.specs.Shape.{andThen, within, field, fields, rangesOf, blueHolds, edge, element, elements, isRun}
+use Rattle.shape.specs.Shape.{andThen, isIn, field, fields, rangesOf, blueShown, edge, element, elements, isRun}
 
 -- ---- readings in a row
 -- x is what the next reading gives from p
@@ -36,25 +36,25 @@ then-at {x} {p} {next} g q = g .on ∙ ap (λ (y : Place). andThen y next) q
 -- ---- a field
 -- a word below its field's values, above them, and within them
 module _ (r : Range) (w : ℤ) where
-  pub within-low : up w + dn (r .low) < up (r .low) + dn w → within r w ≡ false
-  within-low h = rw (to-le-false (r .low) w h)
+  pub below-range : up w + dn (r .low) < up (r .low) + dn w → isIn r w ≡ false
+  below-range h = rw (to-le-false (r .low) w h)
 
-  pub within-high : up (r .high) + dn w < up w + dn (r .high) → within r w ≡ false
-  within-high h = rw (to-le-false w (r .high) h, and-false)
+  pub above-range : up (r .high) + dn w < up w + dn (r .high) → isIn r w ≡ false
+  above-range h = rw (to-le-false w (r .high) h, and-false)
 
-  pub within-on : up (r .low) + dn w ≤ up w + dn (r .low) → up w + dn (r .high) ≤ up (r .high) + dn w → within r w ≡ true
-  within-on l h = rw (to-le-true (r .low) w l, to-le-true w (r .high) h)
+  pub in-range : up (r .low) + dn w ≤ up w + dn (r .low) → up w + dn (r .high) ≤ up (r .high) + dn w → isIn r w ≡ true
+  in-range l h = rw (to-le-true (r .low) w l, to-le-true w (r .high) h)
 
 pub field-end : (r : Range) (ws : List ℤ) (at : ℕ) → length ws ≤ at → field r ws at ≡ Nowhere
 unfolding field
 field-end r ws at h = rw (le-ltb at (length ws) h)
 
 module _ (r : Range) (ws : List ℤ) (at : ℕ) (inside : at < length ws) where
-  pub field-off : within r (getD ws at (pos 0)) ≡ false → field r ws at ≡ Nowhere
+  pub field-off : isIn r (getD ws at (pos 0)) ≡ false → field r ws at ≡ Nowhere
   unfolding field
   field-off e = rw (lt-ltb at (length ws) inside, e)
 
-  pub field-on : within r (getD ws at (pos 0)) ≡ true → field r ws at ≡ At (at + 1)
+  pub field-on : isIn r (getD ws at (pos 0)) ≡ true → field r ws at ≡ At (at + 1)
   unfolding field
   field-on e = rw (lt-ltb at (length ws) inside, e)
 
@@ -107,15 +107,15 @@ module _ (ws : List ℤ) (at n : ℕ) (there : fields (rangesOf Records.Edge) ws
   fitted-at = omega (arith, fields-place (rangesOf Records.Edge) ws at n there)
 
   pub edge-blue : getD ws (n - 6) (pos 0) ≡ pos 1 → At n ≡ edge ws at
-  unfolding edge andThen blueHolds
+  unfolding edge andThen blueShown
   edge-blue e = rw (there, eqZ-yes (getD ws (at + 5) (pos 0)) (pos 1) (subst (λ (k : ℕ). getD ws k (pos 0) ≡ pos 1) blue-at e))
 
   pub edge-plain : getD ws (n - 5) (pos 0) ≡ pos 0 → At n ≡ edge ws at
-  unfolding edge andThen blueHolds
+  unfolding edge andThen blueShown
   edge-plain e = rw (there, eqZ-yes (getD ws (at + 6) (pos 0)) (pos 0) (subst (λ (k : ℕ). getD ws k (pos 0) ≡ pos 0) fitted-at e), or-true)
 
   pub edge-breaks : (getD ws (n - 6) (pos 0) ≡ pos 1 → ⊥) → (getD ws (n - 5) (pos 0) ≡ pos 0 → ⊥) → Nowhere ≡ edge ws at
-  unfolding edge andThen blueHolds
+  unfolding edge andThen blueShown
   edge-breaks p q =
       rw (
         there,

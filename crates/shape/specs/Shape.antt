@@ -1,12 +1,14 @@
 -- Which words are those of fields, records and runs of records. A reading starts at a place of the list and ends at the place behind what it read, or nowhere.
 use mathlib.Core.Bool.{Bool, false, cond, _&&_, _||_}
 use mathlib.Core.List.{List, [], _∷_}
-use Prim.Native.Nat.{ℕ, zero, suc, _+_, _/_}
+use Prim.Native.Nat.{ℕ, zero, suc, _+_}
 use lib.Dec.{ltb, eqb}
 use lib.ListN.{length, getD}
 use lib.IntN.{ℤ, pos, negsuc}
 use lib.Signed.{leZ}
 use Rattle.signed.specs.Equality.{eqZ}
+use Rattle.words.specs.Edge.{edgesIn}
+use Rattle.words.specs.Segment.{segmentsIn}
 use Rattle.shape.specs.declared.field.Place.{Place}
 use Rattle.shape.specs.declared.field.Place.the-variants.{Nowhere, At}
 use Rattle.shape.specs.declared.field.Range.{Range}
@@ -28,12 +30,12 @@ isAt n (At m) = eqb m n
 
 -- ---- fields of one word
 -- a word within a field's values
-abbrev pub within : Range → ℤ → Bool
-within r w = leZ (r .low) w && leZ w (r .high)
+abbrev pub isIn : Range → ℤ → Bool
+isIn r w = leZ (r .low) w && leZ w (r .high)
 
 -- the place behind a word that is there and within its field's values
 unfoldable pub field : Range → List ℤ → ℕ → Place
-field r ws at = cond (ltb at (length ws) && within r (getD ws at (pos 0))) (At (at + 1)) Nowhere
+field r ws at = cond (ltb at (length ws) && isIn r (getD ws at (pos 0))) (At (at + 1)) Nowhere
 
 -- the place behind one field after the other
 unfoldable pub fields : List Range → List ℤ → ℕ → Place
@@ -86,12 +88,12 @@ rangesOf Records.Segment = flags ∷ direction ∷ short ∷ short ∷ short ∷
 rangesOf Records.Edge = short ∷ word ∷ word ∷ flags ∷ direction ∷ choice ∷ word ∷ link ∷ link ∷ index ∷ index ∷ []
 
 -- an edge whose blue is absent has fitted 0
-unfoldable pub blueHolds : List ℤ → ℕ → Bool
-blueHolds ws at = eqZ (getD ws (at + 5) (pos 0)) (pos 1) || eqZ (getD ws (at + 6) (pos 0)) (pos 0)
+unfoldable pub blueShown : List ℤ → ℕ → Bool
+blueShown ws at = eqZ (getD ws (at + 5) (pos 0)) (pos 1) || eqZ (getD ws (at + 6) (pos 0)) (pos 0)
 
 -- the place behind an edge
 unfoldable pub edge : List ℤ → ℕ → Place
-edge ws at = andThen (fields (rangesOf Records.Edge) ws at) (λ next. cond (blueHolds ws at) (At next) Nowhere)
+edge ws at = andThen (fields (rangesOf Records.Edge) ws at) (λ next. cond (blueShown ws at) (At next) Nowhere)
 
 -- ---- runs of elements
 -- the place behind an element
@@ -111,10 +113,10 @@ elements (suc n) e ws at = andThen (element e ws at) (elements n e ws)
 unfoldable pub isRun : ℕ → Element → List ℤ → Bool
 isRun n e ws = isAt (length ws) (elements n e ws 0)
 
--- edges, of 11 words each
+-- edges
 unfoldable pub edgesShown : List ℤ → Bool
-edgesShown ws = isRun (length ws / 11) Edge ws
+edgesShown ws = isRun (edgesIn ws) Edge ws
 
--- segments, of 15 words each
+-- segments
 unfoldable pub segmentsShown : List ℤ → Bool
-segmentsShown ws = isRun (length ws / 15) Segment ws
+segmentsShown ws = isRun (segmentsIn ws) Segment ws

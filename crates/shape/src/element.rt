@@ -9,6 +9,8 @@ use super::field::Range;
 use super::field::SHORT;
 use super::field::WORD;
 use super::field::skip_field;
+use words::edge::EDGE_WORDS;
+use words::segment::SEGMENT_WORDS;
 use words::word::word_at;
 ghost use mathlib.Core.Path.{_≡_};
 ghost use Prim.Native.Nat.{_<_};
@@ -29,8 +31,8 @@ pub enum Element {
     LentEdge,
 }
 
-// The 15 words of a segment: flags, direction, pos, delta, min_coord, max_coord, height, score, len, link, serif, first, last, edge, next.
-const SEGMENT: [Range; 15] = [
+// The words of a segment: flags, direction, pos, delta, min_coord, max_coord, height, score, len, link, serif, first, last, edge, next.
+const SEGMENT: [Range; SEGMENT_WORDS] = [
     FLAGS,
     DIRECTION,
     SHORT,
@@ -48,8 +50,8 @@ const SEGMENT: [Range; 15] = [
     LINK,
 ];
 
-// The 11 words of an edge: fpos, opos, pos, flags, direction, blue present, blue fitted, link, serif, first, last.
-const EDGE: [Range; 11] = [
+// The words of an edge: fpos, opos, pos, flags, direction, blue present, blue fitted, link, serif, first, last.
+const EDGE: [Range; EDGE_WORDS] = [
     SHORT,
     WORD,
     WORD,
@@ -68,8 +70,8 @@ fn size(kind: Record) -> usize
     ensures { λ r. ⌜ r ≡ length (rangesOf kind) ⌝ }
 {
     match kind {
-        Record::Segment => 15,
-        Record::Edge => 11,
+        Record::Segment => SEGMENT_WORDS,
+        Record::Edge => EDGE_WORDS,
     }
 }
 
@@ -159,12 +161,12 @@ fn is_run(words: &[i32], kind: Element, n: usize) -> bool
 pub fn is_edges(words: &[i32]) -> bool
     ensures { λ r. ⌜ r ≡ edgesShown (now (words .entry)) ⌝ }
 {
-    is_run(words, Element::Edge, words.len() / 11)
+    is_run(words, Element::Edge, words.len() / EDGE_WORDS)
 }
 
 // Whether a list is segments and no more.
 pub fn is_segments(words: &[i32]) -> bool
     ensures { λ r. ⌜ r ≡ segmentsShown (now (words .entry)) ⌝ }
 {
-    is_run(words, Element::Segment, words.len() / 15)
+    is_run(words, Element::Segment, words.len() / SEGMENT_WORDS)
 }

@@ -1,6 +1,6 @@
 // A field of one word, its values, and the place behind it.
 ghost use mathlib.Core.Path.{_≡_};
-ghost use Rattle.shape.specs.Shape.{within, field};
+ghost use Rattle.shape.specs.Shape.{isIn, field};
 
 // A place in a word list, or nowhere, where the words are not those that are read.
 pub enum Place {
@@ -44,7 +44,7 @@ pub const FLAGS: Range = Range { low: 0, high: 15 };
 
 // Whether a word is within a field's values.
 pub fn is_in(word: i32, range: Range) -> bool
-    ensures { λ r. ⌜ r ≡ within range word ⌝ }
+    ensures { λ r. ⌜ r ≡ isIn range word ⌝ }
 {
     if word < range.low {
         return false;

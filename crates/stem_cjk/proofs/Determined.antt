@@ -9,5 +9,6 @@ use Rattle.axis.specs.declared.edge.Axis.{Axis}
 use Rattle.stem_cjk.specs.declared.hint.StemCjk.{StemCjk}
 use Rattle.stem_cjk.specs.Cjk.{hintNormalStemCjk}
 
-pub determined : (axis : Axis) (adjust : Bool) (rule : WidthRule) (xs : List ℤ) (i j : ℕ) (d : ℤ) {r s : StemCjk} → r ≡ hintNormalStemCjk axis adjust rule xs i j d → s ≡ hintNormalStemCjk axis adjust rule xs i j d → r ≡ s
+pub determined : (axis : Axis) (adjust : Bool) (rule : WidthRule) (xs : List ℤ) (i j : ℕ) (d : ℤ) {r s : StemCjk}
+    → r ≡ hintNormalStemCjk axis adjust rule xs i j d → s ≡ hintNormalStemCjk axis adjust rule xs i j d → r ≡ s
 determined axis adjust rule xs i j d p q = p ∙ sym q

@@ -1,14 +1,15 @@
 -- The call that places a CJK stem (document 01, module 5): its refusal, then the stem of `cjk_numbers`.
 use mathlib.Core.Bool.{Bool}
-use mathlib.Core.List.{List}
+use mathlib.Core.List.{List, [], _∷_}
 use Prim.Native.Nat.{ℕ}
 use lib.IntN.{ℤ, pos}
+use Rattle.refusals.specs.Refusal.{Test, _unless_, badParameter, badIndex, outOfRange, refusal, answered}
 use Rattle.fixed.specs.declared.width.WidthRule.{WidthRule}
 use Rattle.fixed.specs.Width.{ruleHolds}
 use Rattle.axis.specs.declared.edge.Axis.{Axis}
 use Rattle.axis.specs.Limits.{mostUnits}
 use Rattle.axis.specs.Edge.{edgeAt}
-use Rattle.axis.specs.Refusals.{within, edgesRefusal, answered}
+use Rattle.axis.specs.Refusals.{within, edgesShort, edgesIndexed, edgesInRange}
 use Rattle.placing.specs.Placing.{bothBelow}
 use Rattle.cjk_numbers.specs.Cjk.{stemOf, hintedStem}
 use Rattle.stem_cjk.specs.declared.hint.StemCjk.{StemCjk}
@@ -17,12 +18,15 @@ use Rattle.stem_cjk.specs.declared.hint.StemCjk.{StemCjk}
 abbrev pub hinted : Axis → ℤ → ℕ → StemCjk
 hinted axis d k = record { answer = k; delta = d; axis = axis }
 
--- the refusal of the call, or 0
-abbrev pub refusal : Axis → WidthRule → List ℤ → ℕ → ℕ → ℤ → ℕ
-refusal axis rule xs i j d = edgesRefusal axis (ruleHolds rule xs) (bothBelow (axis .len) i j) (within mostUnits d)
+-- the tests of the call, in document 01's order
+abbrev pub stemTests : Axis → WidthRule → List ℤ → ℕ → ℕ → ℤ → List Test
+stemTests axis rule xs i j d =
+    edgesShort axis ∷ badParameter unless ruleHolds rule xs
+    ∷ edgesIndexed axis ∷ badIndex unless bothBelow (axis .len) i j
+    ∷ edgesInRange axis ∷ outOfRange unless within mostUnits d ∷ []
 
 -- `hint_normal_stem_cjk`: the refusal, delta 0 and the axis as it came, or 0, the stem's own delta and the axis with its two edges placed
 unfoldable pub hintNormalStemCjk : Axis → Bool → WidthRule → List ℤ → ℕ → ℕ → ℤ → StemCjk
 hintNormalStemCjk axis adjust rule xs i j d =
-    answered (refusal axis rule xs i j d) (hinted axis (pos 0))
+    answered (refusal (stemTests axis rule xs i j d)) (hinted axis (pos 0))
     (hinted (hintedStem axis i j (stemOf (axis .dim) adjust rule xs (edgeAt axis i) (edgeAt axis j) d)) (stemOf (axis .dim) adjust rule xs (edgeAt axis i) (edgeAt axis j) d .delta) 0)

@@ -1,5 +1,7 @@
 // The call.
-use axis::accept::edges_refusal;
+use axis::accept::edges_indices;
+use axis::accept::edges_numbers;
+use axis::accept::few_edges;
 use axis::accept::is_inside;
 use axis::edge::Axis;
 use axis::edge::with_pos;
@@ -10,13 +12,19 @@ use cjk_numbers::stem::stem_of;
 use fixed::width::WidthRule;
 use fixed::width::rule_holds;
 use placing::named::both_below;
+use refusals::order::BAD_INDEX;
+use refusals::order::BAD_PARAMETER;
+use refusals::order::OUT_OF_RANGE;
+use refusals::order::TOO_LONG;
+use refusals::order::or_refused;
 ghost use mathlib.Core.Path.{_≡_};
 ghost use Prim.Native.Nat.{_<_};
 ghost use Rattle.signed.specs.Range.{Between};
-ghost use Rattle.axis.specs.Limits.{mostPos};
+ghost use Rattle.refusals.specs.Refusal.{refusal};
+ghost use Rattle.axis.specs.Limits.{mostEdges, mostPos};
 ghost use Rattle.axis.specs.Accepted.{AxisWithin};
 ghost use Rattle.cjk_numbers.specs.Cjk.{placedStem, hintedStem, mostWidth, mostStart};
-ghost use Rattle.stem_cjk.specs.Cjk.{hintNormalStemCjk};
+ghost use Rattle.stem_cjk.specs.Cjk.{stemTests, hintNormalStemCjk};
 
 // An answer, 0 or the refusal, what the stem was moved by, and the axis.
 pub struct StemCjk {
@@ -27,7 +35,7 @@ pub struct StemCjk {
 
 // Places the lower edge of a stem, then the upper one.
 fn place_stem(axis: Axis, lower: usize, upper: usize, pos: i32, width: i32) -> Axis
-    requires { ⌜ (lower < 128) × (upper < 128) ⌝ }
+    requires { ⌜ (lower < mostEdges) × (upper < mostEdges) ⌝ }
     requires { ⌜ Between mostStart mostStart pos × Between mostWidth mostWidth width ⌝ }
     ensures { λ r. ⌜ r ≡ placedStem axis lower upper pos width ⌝ }
 {
@@ -51,6 +59,29 @@ fn hint_stem(axis: Axis, edge: usize, edge2: usize, stem: Stem) -> Axis
     place_stem(axis, edge2, edge, stem.pos, stem.width)
 }
 
+// The refusal of the call, or 0.
+fn stem_refusal(
+    axis: Axis,
+    rule: WidthRule,
+    standards: &[i32],
+    edge: usize,
+    edge2: usize,
+    delta: i32,
+) -> u8
+    ensures { λ r. ⌜ r ≡ refusal (stemTests axis rule (now (standards .entry)) edge edge2 delta) ⌝ }
+{
+    let answer = or_refused(0, few_edges(axis.len), TOO_LONG);
+    let answer = or_refused(answer, rule_holds(rule, standards), BAD_PARAMETER);
+    let answer = or_refused(answer, edges_indices(axis), BAD_INDEX);
+    let answer = or_refused(answer, both_below(edge, edge2, axis.len), BAD_INDEX);
+    let answer = or_refused(answer, edges_numbers(axis), OUT_OF_RANGE);
+    or_refused(
+        answer,
+        is_inside(delta, LEAST_UNITS, MOST_UNITS),
+        OUT_OF_RANGE,
+    )
+}
+
 // Adjusts both edges of a stem and hands back what it was moved by.
 pub fn hint_normal_stem_cjk(
     axis: Axis,
@@ -63,10 +94,7 @@ pub fn hint_normal_stem_cjk(
 ) -> StemCjk
     ensures { λ r. ⌜ r ≡ hintNormalStemCjk axis «stem_adjust» rule (now (standards .entry)) edge edge2 delta ⌝ }
 {
-    let right = rule_holds(rule, standards);
-    let named = both_below(edge, edge2, axis.len);
-    let passed = is_inside(delta, LEAST_UNITS, MOST_UNITS);
-    let answer = edges_refusal(axis, right, named, passed);
+    let answer = stem_refusal(axis, rule, standards, edge, edge2, delta);
     if 0 < answer {
         return StemCjk {
             answer,

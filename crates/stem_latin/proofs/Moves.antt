@@ -1,5 +1,4 @@
 -- How far from its ends a stem's edges can be placed.
-use mathlib.Core.Bool.{Bool, true, false, cond}
 use Prim.Native.Nat.{ℕ, _+_, _≤_}
 use native.Mathlib.Omega.{arith}
 use lib.Dec.{ltb}
@@ -9,15 +8,13 @@ use Rattle.signed.specs.Parts.{up, dn}
 use Rattle.signed.specs.Range.{Between}
 use Rattle.signed.proofs.Operations.{quot-up, quot-dn}
 use Rattle.signed.proofs.Signed.{add-law, sub-law, shr-law}
+use Rattle.signed.proofs.Choices.{either-way}
 use Rattle.fixed.specs.Pixel.{pixRound}
 use Rattle.fixed.proofs.Pixels.{round-law}
 use Rattle.axis.specs.Limits.{mostUnits}
-use Rattle.stem_latin.specs.Latin.{mostStart, mostLength, mostWidth, mostCentre, centreOf, lowerOffset, upperOffset, lowerCentre, upperCentre, distance, nearerCentre, thinCentre, thinFirst, thinSecond, byFirst, bySecond, centreMove, wideFirst, anchoredFirst, anchoredSecond, freeFirst}
-
--- what holds of both choices holds of the chosen one
-either-way : (P : ℤ → Type 0) (t : Bool) (a b : ℤ) → P a → P b → P (cond t a b)
-either-way P true a b h g = h
-either-way P false a b h g = g
+use Rattle.stem_latin.specs.Latin.{mostStart, mostLength, mostWidth, mostCentre}
+use Rattle.stem_latin.specs.Latin.{centreOf, lowerOffset, upperOffset, lowerCentre, upperCentre, distance, nearerCentre}
+use Rattle.stem_latin.specs.Latin.{thinCentre, thinFirst, thinSecond, byFirst, bySecond, centreMove, wideFirst, anchoredFirst, anchoredSecond, freeFirst}
 
 -- ---- the centre
 -- r is at most n from c
@@ -48,7 +45,9 @@ thin-near c w =
 -- what holds of both candidates holds of it
 wide-either : (P : ℤ → Type 0) (start l w : ℤ) → P (byFirst start) → P (bySecond start l w) → P (wideFirst start l w)
 unfolding wideFirst
-wide-either P start l w h g = either-way P (ltb (centreMove (byFirst start) w (centreOf start l)) (centreMove (bySecond start l w) w (centreOf start l))) (byFirst start) (bySecond start l w) h g
+wide-either P start l w h g =
+    let c = centreOf start l in
+    either-way P (ltb (centreMove (byFirst start) w c) (centreMove (bySecond start l w) w c)) (byFirst start) (bySecond start l w) h g
 
 -- ---- the placed edges, by the ends of the stem
 -- the start and the end of a stem are within b, its length and its width within their limits
@@ -60,7 +59,7 @@ pub record Ends (b : ℕ) (start l w : ℤ) : Type 0 where
 
 -- what placing an edge adds to that: a rounding and a width
 abbrev pub mostShift : ℕ
-mostShift = 32814
+mostShift = mostWidth + 32
 
 -- an edge placed by ends within b
 abbrev pub Placed : ℕ → ℤ → Type 0
@@ -71,7 +70,8 @@ pub most-ends : (start l w : ℤ) → Between mostStart mostStart start → Betw
 most-ends start l w h g k = record { start-within = omega arith; end-within = omega (arith, add-law start l); length-within = g; width-within = k }
 
 -- beside an anchor at p, original position o, a stem of original positions e and f
-pub anchored-ends : (b : ℕ) (p o e f w : ℤ) → Between b b p → Between mostUnits mostUnits o → Between mostUnits mostUnits e → Between mostUnits mostUnits f → Between mostWidth mostWidth w → Ends (b + mostLength) (p +ℤ (e -ℤ o)) (f -ℤ e) w
+pub anchored-ends : (b : ℕ) (p o e f w : ℤ)
+    → Between b b p → Between mostUnits mostUnits o → Between mostUnits mostUnits e → Between mostUnits mostUnits f → Between mostWidth mostWidth w → Ends (b + mostLength) (p +ℤ (e -ℤ o)) (f -ℤ e) w
 anchored-ends b p o e f w hp ho he hf hw = record {
   start-within = omega (arith, add-law p (e -ℤ o), sub-law e o);
   end-within = omega (arith, add-law (p +ℤ (e -ℤ o)) (f -ℤ e), add-law p (e -ℤ o), sub-law e o, sub-law f e);

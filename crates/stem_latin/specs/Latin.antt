@@ -1,10 +1,11 @@
 -- The Latin stem (document 01, module 5): where its edges come to lie beside an anchor, and where its first edge does without one.
 use mathlib.Core.Bool.{cond}
-use Prim.Native.Nat.{ℕ}
+use Prim.Native.Nat.{ℕ, _+_}
 use lib.Dec.{ltb}
 use lib.IntN.{ℤ, pos, natAbs, _+ℤ_, _-ℤ_}
 use lib.Signed.{ltZ, leZ, quotZ, shrZ}
 use Rattle.fixed.specs.Pixel.{pixRound}
+use Rattle.axis.specs.Limits.{mostUnits}
 
 -- ---- what the numbers of a stem can be
 -- the start that an anchor's shift gives it: an anchor within reach, and the distance of two original positions
@@ -13,15 +14,15 @@ mostStart = 34000000
 
 -- its original length, the distance of two original positions
 abbrev pub mostLength : ℕ
-mostLength = 32766
+mostLength = mostUnits + mostUnits
 
 -- its fitted width, at most 16 more
 abbrev pub mostWidth : ℕ
-mostWidth = 32782
+mostWidth = mostLength + 16
 
 -- its centre, at most half a length from the start
 abbrev pub mostCentre : ℕ
-mostCentre = 34016383
+mostCentre = mostStart + mostUnits
 
 -- ---- the centre of a thin stem, of width below 96
 -- the centre that a stem has by its start and its original length l, of which it takes half, rounded down

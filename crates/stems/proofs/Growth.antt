@@ -8,6 +8,7 @@ use lib.IntN.{ℤ, pos, _+ℤ_}
 use lib.Signed.{ltZ}
 use Rattle.signed.specs.Range.{Between}
 use Rattle.signed.proofs.Signed.{add-law, sub-law}
+use Rattle.signed.proofs.Choices.{either-way}
 use Rattle.fixed.specs.declared.width.WidthRule.{WidthRule}
 use Rattle.axis.specs.declared.kinds.Link.{Link}
 use Rattle.axis.specs.declared.kinds.Link.the-variants as Links
@@ -22,11 +23,11 @@ use Rattle.axis.specs.Limits.{mostUnits, mostPos}
 use Rattle.placing.specs.Placing.{linkedPos}
 use Rattle.placing.specs.Steps.{mostReach, InReach}
 use Rattle.placing.proofs.Reach.{width-range}
-use Rattle.stem_latin.proofs.Moves.{anchored-ends, first-range, second-range, free-ends, free-range, free-second-range}
+use Rattle.stem_latin.specs.Latin.{mostLength}
+use Rattle.stem_latin.proofs.Moves.{mostShift, anchored-ends, first-range, second-range, free-ends, free-range, free-second-range}
 use Rattle.cjk_numbers.specs.declared.stem.Stem.{Stem}
 use Rattle.cjk_numbers.specs.Cjk.{mostStart, mostWidth, mostMove}
 use Rattle.cjk_numbers.proofs.Moves.{stem-pos-range, stem-width-range, stem-delta-range}
-use Rattle.zone.proofs.Kept.{either-way}
 use Rattle.stems_plan.specs.declared.kinds.Mode.{Mode}
 use Rattle.stems_plan.specs.declared.kinds.LastStem.the-variants as LastStems
 use Rattle.stems_plan.specs.declared.kinds.Trail.{Trail}
@@ -39,7 +40,11 @@ use Rattle.stems_plan.specs.Steps.{mostPlace, LastWithin}
 
 -- what a visit adds: beside an anchor, the distance of two original positions, a rounding, and a width
 abbrev pub mostGrowth : ℕ
-mostGrowth = 65580
+mostGrowth = mostLength + mostShift
+
+-- where the second edge of a CJK stem can be: a width behind the first
+abbrev mostEnd : ℕ
+mostEnd = mostStart + mostWidth
 
 -- ---- plans within b
 pub record SecondWithin (b : ℕ) (x : Second) : Type 0 where
@@ -93,7 +98,7 @@ pub record Reached (b : ℕ) : Type 0 where
 pub edge-reach : (b : ℕ) (e : Edge) → Reached b → EdgeIn b e → InReach e
 edge-reach b e r h = let p = h .pos in record { opos = h .opos; pos = omega (arith, r .most) }
 
-width-in : (b : ℕ) (rule : WidthRule) (xs : List ℤ) (e e2 : Edge) → EdgeIn b e → EdgeIn b e2 → Between 32782 32782 (widthOf rule xs e e2)
+width-in : (b : ℕ) (rule : WidthRule) (xs : List ℤ) (e e2 : Edge) → EdgeIn b e → EdgeIn b e2 → Between mostWidth mostWidth (widthOf rule xs e e2)
 width-in b rule xs e e2 h g = width-range rule xs (e .opos) (e2 .opos) (h .opos) (g .opos)
 
 module _ (b : ℕ) (r : Reached b) where
@@ -106,14 +111,16 @@ module _ (b : ℕ) (r : Reached b) where
   }
 
   -- ---- Latin
-  behind-within : (rule : WidthRule) (xs : List ℤ) (e e2 : Edge) (t : Trail) → EdgeIn b e → EdgeIn b e2 → TrailWithin t → PlanWithin (b + mostGrowth) (behindPlan e2 (widthOf rule xs e e2) t)
+  behind-within : (rule : WidthRule) (xs : List ℤ) (e e2 : Edge) (t : Trail)
+      → EdgeIn b e → EdgeIn b e2 → TrailWithin t → PlanWithin (b + mostGrowth) (behindPlan e2 (widthOf rule xs e e2) t)
   behind-within rule xs e e2 t h g k = record {
     first = omega (arith, g .pos, width-in b rule xs e e2 h g, sub-law (e2 .pos) (widthOf rule xs e e2));
     second = stays-within (b + mostGrowth);
     trail = k;
   }
 
-  centred-within : (rule : WidthRule) (xs : List ℤ) (e e2 a : Edge) (t : Trail) → EdgeIn b e → EdgeIn b e2 → EdgeIn b a → TrailWithin t → PlanWithin (b + mostGrowth) (centredPlan (startBeside a e) (originalLen e e2) (widthOf rule xs e e2) t)
+  centred-within : (rule : WidthRule) (xs : List ℤ) (e e2 a : Edge) (t : Trail)
+      → EdgeIn b e → EdgeIn b e2 → EdgeIn b a → TrailWithin t → PlanWithin (b + mostGrowth) (centredPlan (startBeside a e) (originalLen e e2) (widthOf rule xs e e2) t)
   centred-within rule xs e e2 a t h g l k =
       let n = anchored-ends b (a .pos) (a .opos) (e .opos) (e2 .opos) (widthOf rule xs e e2) (l .pos) (l .opos) (h .opos) (g .opos) (width-in b rule xs e e2 h g) in
       record {
@@ -122,7 +129,8 @@ module _ (b : ℕ) (r : Reached b) where
         trail = k;
       }
 
-  anchored-within : (rule : WidthRule) (xs : List ℤ) (e e2 a : Edge) (t : Trail) → EdgeIn b e → EdgeIn b e2 → EdgeIn b a → TrailWithin t → PlanWithin (b + mostGrowth) (anchoredPlan rule xs e e2 a t)
+  anchored-within : (rule : WidthRule) (xs : List ℤ) (e e2 a : Edge) (t : Trail)
+      → EdgeIn b e → EdgeIn b e2 → EdgeIn b a → TrailWithin t → PlanWithin (b + mostGrowth) (anchoredPlan rule xs e e2 a t)
   unfolding anchoredPlan
   anchored-within rule xs e e2 a t h g l k = either-way (PlanWithin (b + mostGrowth)) (e2 .flags .done) _ _ (behind-within rule xs e e2 t h g k) (centred-within rule xs e e2 a t h g l k)
 
@@ -136,24 +144,26 @@ module _ (b : ℕ) (r : Reached b) where
         trail = k;
       }
 
-  latin-within : (rule : WidthRule) (xs : List ℤ) (e e2 a : Edge) (anchor : Link) (t : Trail) → EdgeIn b e → EdgeIn b e2 → EdgeIn b a → TrailWithin t → PlanWithin (b + mostGrowth) (latinPlan rule xs e e2 a anchor t)
+  latin-within : (rule : WidthRule) (xs : List ℤ) (e e2 a : Edge) (anchor : Link) (t : Trail)
+      → EdgeIn b e → EdgeIn b e2 → EdgeIn b a → TrailWithin t → PlanWithin (b + mostGrowth) (latinPlan rule xs e e2 a anchor t)
   unfolding latinPlan
   latin-within rule xs e e2 a Links.None t h g l k = free-within rule xs e e2 t h g k
   latin-within rule xs e e2 a (Links.To j) t h g l k = anchored-within rule xs e e2 a t h g l k
 
   -- ---- CJK
-  fixed-plan-within : (p q d : ℤ) → Between 98318 98318 p → Between 98318 98318 q → Between mostUnits mostUnits d → PlanWithin (b + mostGrowth) (fixedPlan p q d)
+  fixed-plan-within : (p q d : ℤ) → Between mostEnd mostEnd p → Between mostEnd mostEnd q → Between mostUnits mostUnits d → PlanWithin (b + mostGrowth) (fixedPlan p q d)
   fixed-plan-within p q d h g k = record {
     first = omega (arith, r .least, h);
     second = fixed-within (b + mostGrowth) q (omega (arith, r .least, g));
     trail = record { last = last-at q (omega (arith, g)); delta = k };
   }
 
-  stem-within : (e e2 : Edge) (s : Stem) (d : ℤ) → Between mostStart mostStart (s .pos) → Between mostWidth mostWidth (s .width) → Between mostUnits mostUnits d → PlanWithin (b + mostGrowth) (stemPlan e e2 s d)
+  stem-within : (e e2 : Edge) (s : Stem) (d : ℤ) → Between mostStart mostStart (s .pos) → Between mostWidth mostWidth (s .width) → Between mostUnits mostUnits d
+      → PlanWithin (b + mostGrowth) (stemPlan e e2 s d)
   unfolding stemPlan
   stem-within e e2 s d h g k =
-      let u : Between 98318 98318 (s .pos +ℤ s .width) = omega (arith, h, g, add-law (s .pos) (s .width)) in
-      let l : Between 98318 98318 (s .pos) = omega (arith, h) in
+      let u : Between mostEnd mostEnd (s .pos +ℤ s .width) = omega (arith, h, g, add-law (s .pos) (s .width)) in
+      let l : Between mostEnd mostEnd (s .pos) = omega (arith, h) in
       either-way (PlanWithin (b + mostGrowth)) (ltZ (e .opos) (e2 .opos)) _ _ (fixed-plan-within _ _ d l u k) (fixed-plan-within _ _ d u l k)
 
   beside-within : (anchor : Link) (old d : ℤ) → Between mostUnits mostUnits old → Between mostMove mostMove d → Between mostUnits mostUnits (deltaBeside anchor old d)
@@ -166,25 +176,30 @@ module _ (b : ℕ) (r : Reached b) where
   after-within Horizontal anchor old d h g = beside-within anchor old d h g
   after-within Vertical anchor old d h g = h
 
-  cjk-within : (m : Mode) (xs : List ℤ) (e e2 : Edge) (anchor : Link) (before : Bool) (t : Trail) → EdgeIn b e → EdgeIn b e2 → TrailWithin t → PlanWithin (b + mostGrowth) (cjkPlan m xs e e2 anchor before t)
+  cjk-within : (m : Mode) (xs : List ℤ) (e e2 : Edge) (anchor : Link) (before : Bool) (t : Trail)
+      → EdgeIn b e → EdgeIn b e2 → TrailWithin t → PlanWithin (b + mostGrowth) (cjkPlan m xs e e2 anchor before t)
   unfolding cjkPlan
   cjk-within m xs e e2 anchor before t h g k =
       let i = edge-reach b e r h in
       let j = edge-reach b e2 r g in
       either-way (PlanWithin (b + mostGrowth)) before _ _
       (linked-within (m .rule) xs e e2 _ h g (record { last = last-at (e .pos) (omega (arith, i .pos)); delta = k .delta }))
-      (stem-within e e2 _ _ (stem-pos-range _ _ _ _ _ _ _ i j (k .delta)) (stem-width-range _ _ _ _ _ _ _ i j) (after-within (m .dim) anchor _ _ (k .delta) (stem-delta-range _ _ _ _ _ _ _)))
+      (stem-within e e2 _ _ (stem-pos-range _ _ _ _ _ _ _ i j (k .delta)) (stem-width-range _ _ _ _ _ _ _ i j)
+      (after-within (m .dim) anchor _ _ (k .delta) (stem-delta-range _ _ _ _ _ _ _)))
 
   -- ---- the plan
-  group-within : (group : Group) (m : Mode) (xs : List ℤ) (e e2 a : Edge) (anchor : Link) (before : Bool) (t : Trail) → EdgeIn b e → EdgeIn b e2 → EdgeIn b a → TrailWithin t → PlanWithin (b + mostGrowth) (groupPlan group m xs e e2 a anchor before t)
+  group-within : (group : Group) (m : Mode) (xs : List ℤ) (e e2 a : Edge) (anchor : Link) (before : Bool) (t : Trail)
+      → EdgeIn b e → EdgeIn b e2 → EdgeIn b a → TrailWithin t → PlanWithin (b + mostGrowth) (groupPlan group m xs e e2 a anchor before t)
   unfolding groupPlan
   group-within Default m xs e e2 a anchor before t h g l k = latin-within (m .rule) xs e e2 a anchor t h g l k
   group-within Cjk m xs e e2 a anchor before t h g l k = cjk-within m xs e e2 anchor before t h g k
 
-  zone-within : (blue : Blue) (m : Mode) (xs : List ℤ) (e e2 a : Edge) (anchor : Link) (before : Bool) (t : Trail) → EdgeIn b e → EdgeIn b e2 → EdgeIn b a → TrailWithin t → PlanWithin (b + mostGrowth) (zonePlan blue m xs e e2 a anchor before t)
+  zone-within : (blue : Blue) (m : Mode) (xs : List ℤ) (e e2 a : Edge) (anchor : Link) (before : Bool) (t : Trail)
+      → EdgeIn b e → EdgeIn b e2 → EdgeIn b a → TrailWithin t → PlanWithin (b + mostGrowth) (zonePlan blue m xs e e2 a anchor before t)
   unfolding zonePlan
   zone-within Blues.None m xs e e2 a anchor before t h g l k = group-within (m .group) m xs e e2 a anchor before t h g l k
   zone-within (Blues.Fitted z) m xs e e2 a anchor before t h g l k = linked-within (m .rule) xs e e2 t h g k
 
-  pub plan-within : (m : Mode) (xs : List ℤ) (e e2 a : Edge) (anchor : Link) (before : Bool) (t : Trail) → EdgeIn b e → EdgeIn b e2 → EdgeIn b a → TrailWithin t → PlanWithin (b + mostGrowth) (planOf m xs e e2 a anchor before t)
+  pub plan-within : (m : Mode) (xs : List ℤ) (e e2 a : Edge) (anchor : Link) (before : Bool) (t : Trail)
+      → EdgeIn b e → EdgeIn b e2 → EdgeIn b a → TrailWithin t → PlanWithin (b + mostGrowth) (planOf m xs e e2 a anchor before t)
   plan-within m xs e e2 a anchor before t h g l k = zone-within (e2 .blue) m xs e e2 a anchor before t h g l k

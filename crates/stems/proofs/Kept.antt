@@ -1,34 +1,36 @@
 -- What the visits keep: each edge stays within its limits, and the pass within the reach.
-use mathlib.Core.Path.{_≡_, refl, sym, subst}
-use mathlib.Core.Bool.{Bool, true, _&&_}
+use mathlib.Core.Path.{_≡_, refl, ap, subst}
+use mathlib.Core.Bool.{Bool, _&&_}
 use mathlib.Core.List.{List}
 use Prim.Native.Nat.{ℕ, zero, suc, _+_, _*_, _-_, _≤_, _<_}
 use native.Mathlib.Omega.{arith}
 use lib.IntN.{ℤ, pos}
 use Rattle.signed.specs.Range.{Between}
+use Rattle.signed.proofs.Choices.{either-way}
+use Rattle.refusals.specs.Refusal.{refusal, answered}
+use Rattle.refusals.proofs.Tests.{all-hold}
 use Rattle.fixed.specs.declared.width.WidthRule.{WidthRule}
-use Rattle.fixed.specs.Width.{ruleHolds}
 use Rattle.axis.specs.declared.kinds.Link.{Link}
 use Rattle.axis.specs.declared.kinds.Link.the-variants as Links
 use Rattle.axis.specs.declared.kinds.Group.{Group}
 use Rattle.axis.specs.declared.edge.Edge.{Edge}
 use Rattle.axis.specs.declared.edge.Axis.{Axis}
 use Rattle.axis.specs.Link.{indexOr}
-use Rattle.axis.specs.Edge.{edgeAt, placed}
-use Rattle.axis.specs.Limits.{mostPos}
-use Rattle.axis.specs.Refusals.{linkHolds, edgesRefusal, answered}
+use Rattle.axis.specs.Edge.{edgeAt, placed, fixedAt}
+use Rattle.axis.specs.Limits.{mostEdges, mostPos}
+use Rattle.axis.specs.Visits.{visits}
 use Rattle.axis.specs.Accepted.{Below, EdgeWithin, AxisWithin}
-use Rattle.axis.proofs.Acceptance.{below-to, link-below, edges-accepted}
+use Rattle.axis.proofs.Acceptance.{below-to, link-below, axis-within}
+use Rattle.axis.proofs.Visits.{turn}
 use Rattle.placing.specs.Steps.{mostReach}
-use Rattle.zone.specs.Zones.{visits}
-use Rattle.zone.proofs.Kept.{either-way, within-more, put-within, edge-at}
+use Rattle.zone.proofs.Kept.{within-more, put-within, edge-at}
 use Rattle.stems_plan.specs.declared.kinds.Mode.{Mode}
 use Rattle.stems_plan.specs.declared.kinds.Second.{Second}
 use Rattle.stems_plan.specs.declared.kinds.Second.the-variants.{Stays, Placed, Fixed}
 use Rattle.stems_plan.specs.declared.kinds.Plan.{Plan}
-use Rattle.stems_plan.specs.Visit.{tooClose, fixedAt}
+use Rattle.stems_plan.specs.Visit.{tooClose}
 use Rattle.stems_plan.specs.Plan.{isBounded, isOver, secondEdge, heldEdge, anchorAfter}
-use Rattle.stems.specs.Stems.{State, counted, begun, stems, stemsOf, modeOf, alignStemEdges}
+use Rattle.stems.specs.Stems.{State, counted, begun, stems, stemsOf, modeOf, stemsTests, alignStemEdges}
 use Rattle.stems.specs.Steps.{planAt, firstPut, secondPut, heldPut, carriedOut, stepLink, step}
 use Rattle.stems.proofs.Straight.{steps-are}
 use Rattle.stems.proofs.Growth.{mostGrowth, SecondWithin, TrailWithin, PlanWithin, EdgeIn, Reached, plan-within, last-none}
@@ -131,7 +133,7 @@ link-sound b n i m xs s (Links.To k) r h q e =
     (counted-sound b (b + mostGrowth) n i s (omega arith) h)
     (carried-sound b n i k m s (planAt m xs s i k) h q p (plan-in b n i k m xs s r h q p))
 
-pub step-sound : (b n i : ℕ) (m : Mode) (xs : List ℤ) (s : State) → Reached b → Sound b n i s → i < n → Sound (b + mostGrowth) n (i + 1) (step m xs s i)
+step-sound : (b n i : ℕ) (m : Mode) (xs : List ℤ) (s : State) → Reached b → Sound b n i s → i < n → Sound (b + mostGrowth) n (i + 1) (step m xs s i)
 unfolding step
 step-sound b n i m xs s r h q =
     either-way (Sound (b + mostGrowth) n (i + 1)) (edgeAt (s .axis) i .flags .done) s _
@@ -143,18 +145,44 @@ step-sound b n i m xs s r h q =
 abbrev pub grown : ℕ → ℕ
 grown i = mostPos + i * mostGrowth
 
-pub reached : (n i : ℕ) → n ≤ 128 → i < n → Reached (grown i)
+pub reached : (n i : ℕ) → n ≤ mostEdges → i < n → Reached (grown i)
 reached n i h q = record { least = omega arith; most = omega (arith, h, q) }
 
-pub begun-sound : (anchor : Link) (axis : Axis) → AxisWithin mostPos axis → Below (axis .len) anchor → Sound (grown 0) (axis .len) 0 (begun anchor axis)
+begun-sound : (anchor : Link) (axis : Axis) → AxisWithin mostPos axis → Below (axis .len) anchor → Sound (grown 0) (axis .len) 0 (begun anchor axis)
 begun-sound anchor axis h g = record { len = refl; axis-in = h; count-in = omega arith; anchor-in = g; trail-in = record { last = last-none; delta = omega arith } }
 
-pub turn-sound : (n i : ℕ) (m : Mode) (xs : List ℤ) (s s′ : State) → n ≤ 128 → i < n → step m xs s i ≡ s′ → Sound (grown i) n i s → Sound (grown (i + 1)) n (i + 1) s′
+turn-sound : (n i : ℕ) (m : Mode) (xs : List ℤ) (s s′ : State) → n ≤ mostEdges → i < n → step m xs s i ≡ s′ → Sound (grown i) n i s → Sound (grown (i + 1)) n (i + 1) s′
 turn-sound n i m xs s s′ h q e g =
     let g′ : grown i + mostGrowth ≡ grown (i + 1) = omega arith in
     subst (λ (c : ℕ). Sound c n (i + 1) s′) g′ (subst (Sound (grown i + mostGrowth) n (i + 1)) e (step-sound (grown i) n i m xs s (reached n i h q) g q))
 
-steps-sound : (j i n : ℕ) (m : Mode) (xs : List ℤ) (s : State) → n ≤ 128 → i + j ≡ n → Sound (grown i) n i s → Sound (grown n) n n (visits (step m xs) j i s)
+-- after i of n visits of the code: the state is sound, and what is left gives the whole pass
+pub record Goes (m : Mode) (xs : List ℤ) (n : ℕ) (anchor : Link) (axis : Axis) (s : State) (i : ℕ) : Type 0 where
+  pub visited : i ≤ n
+  pub few : n ≤ mostEdges
+  pub sound : Sound (grown i) n i s
+  pub rest : visits (step m xs) (n - i) i s ≡ visits (step m xs) n 0 (begun anchor axis)
+
+pub goes-begun : (m : Mode) (xs : List ℤ) (anchor : Link) (axis : Axis) → AxisWithin mostPos axis → Below (axis .len) anchor → Goes m xs (axis .len) anchor axis (begun anchor axis) 0
+goes-begun m xs anchor axis h g =
+    let e : axis .len - 0 ≡ axis .len = omega arith in
+    record {
+      visited = omega arith;
+      few = h .few;
+      sound = begun-sound anchor axis h g;
+      rest = ap (λ (k : ℕ). visits (step m xs) k 0 (begun anchor axis)) e;
+    }
+
+pub goes-on : {m : Mode} {xs : List ℤ} {n : ℕ} {anchor : Link} {axis : Axis} {s s′ : State} {i : ℕ}
+    → Goes m xs n anchor axis s i → i < n → step m xs s i ≡ s′ → Goes m xs n anchor axis s′ (i + 1)
+goes-on {m} {xs} {n} {anchor} {axis} {s} {s′} {i} g q e = record {
+  visited = omega (arith, q);
+  few = g .few;
+  sound = turn-sound n i m xs s s′ (g .few) q e (g .sound);
+  rest = turn (step m xs) n i s s′ _ q e (g .rest);
+}
+
+steps-sound : (j i n : ℕ) (m : Mode) (xs : List ℤ) (s : State) → n ≤ mostEdges → i + j ≡ n → Sound (grown i) n i s → Sound (grown n) n n (visits (step m xs) j i s)
 unfolding visits
 steps-sound zero i n m xs s h e g = let q : i ≡ n = omega (arith, e) in subst (λ (x : ℕ). Sound (grown x) n x s) q g
 steps-sound (suc j) i n m xs s h e g =
@@ -173,7 +201,8 @@ unfolding stemsOf
 pass-keeps m xs anchor axis h g =
     let n = axis .len in
     let f = h .few in
-    let s = subst (Sound (grown n) n n) (steps-are m xs n 0 (begun anchor axis)) (steps-sound n 0 n m xs (begun anchor axis) f (omega arith) (begun-sound anchor axis h g)) in
+    let all = steps-sound n 0 n m xs (begun anchor axis) f (omega arith) (begun-sound anchor axis h g) in
+    let s = subst (Sound (grown n) n n) (steps-are m xs n 0 (begun anchor axis)) all in
     record {
       positions = within-more (grown n) mostReach _ (omega (arith, f)) (s .axis-in);
       counts = s .count-in;
@@ -182,12 +211,16 @@ pass-keeps m xs anchor axis h g =
 
 -- ---- the call
 -- it counts at most 128 edges, refused or not
-pub call-counts : (axis : Axis) (group : Group) (adjust ttb : Bool) (anchor : Link) (rule : WidthRule) (xs : List ℤ) → alignStemEdges axis group adjust ttb anchor rule xs .count ≤ 128
+pub call-counts : (axis : Axis) (group : Group) (adjust ttb : Bool) (anchor : Link) (rule : WidthRule) (xs : List ℤ)
+    → alignStemEdges axis group adjust ttb anchor rule xs .count ≤ mostEdges
 unfolding alignStemEdges
-call-counts axis group adjust ttb anchor rule xs = by (edgesRefusal axis (ruleHolds rule xs) (linkHolds (axis .len) anchor) true) refl
+call-counts axis group adjust ttb anchor rule xs = by (refusal (stemsTests axis anchor rule xs)) refl
   where
-    by : (k : ℕ) → edgesRefusal axis (ruleHolds rule xs) (linkHolds (axis .len) anchor) true ≡ k → answered k (stems 0 Links.None axis) (stemsOf (modeOf axis group adjust ttb rule) xs anchor axis) .count ≤ 128
+    by : (k : ℕ) → refusal (stemsTests axis anchor rule xs) ≡ k
+        → answered k (stems 0 Links.None axis) (stemsOf (modeOf axis group adjust ttb rule) xs anchor axis) .count ≤ mostEdges
     by zero e =
-        let a = edges-accepted axis (ruleHolds rule xs) (linkHolds (axis .len) anchor) true 0 (sym e) (omega arith) in
-        omega (arith, pass-keeps (modeOf axis group adjust ttb rule) xs anchor axis (a .axis-holds) (link-below _ _ (a .named-holds)) .counts, a .axis-holds .few)
+        let t = all-hold (stemsTests axis anchor rule xs) refl e in
+        let indexed = t .1 .1 in
+        let within = axis-within axis (t .0) (indexed .0) (indexed .1 .1 .0) in
+        omega (arith, pass-keeps (modeOf axis group adjust ttb rule) xs anchor axis within (link-below _ _ (indexed .1 .0)) .counts, within .few)
     by (suc k) e = omega arith

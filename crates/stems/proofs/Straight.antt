@@ -23,20 +23,23 @@ use Rattle.axis.specs.declared.kinds.Group.the-variants.{Default, Cjk}
 use Rattle.axis.specs.declared.edge.Edge.{Edge}
 use Rattle.axis.specs.declared.edge.Axis.{Axis}
 use Rattle.axis.specs.Link.{indexOr}
-use Rattle.axis.specs.Edge.{emptyEdge, edgeAt, putEdge, placed, finished}
+use Rattle.axis.specs.Edge.{emptyEdge, edgeAt, putEdge, placed, finished, fixedAt}
+use Rattle.axis.specs.Visits.{visits}
+use Rattle.axis.proofs.Visits.{visits-same}
 use Rattle.placing.specs.declared.adjust.LinkDir.the-variants.{Prev}
 use Rattle.placing.specs.Placing.{linkedPos, lowerBound, hasPassed, isFar, neighbour, heldTo, boundBy, adjusted}
 use Rattle.stem_latin.specs.Latin.{anchoredFirst, anchoredSecond}
 use Rattle.cjk_numbers.specs.Cjk.{stemAt, stemOf, placedStem, hintedStem}
-use Rattle.zone.specs.Zones.{visits}
-use Rattle.zone.proofs.Straight.{put-same, keeps, visits-same}
+use Rattle.zone.proofs.Straight.{put-same, keeps}
 use Rattle.stems_plan.specs.declared.kinds.Mode.{Mode}
 use Rattle.stems_plan.specs.declared.kinds.LastStem.the-variants as LastStems
 use Rattle.stems_plan.specs.declared.kinds.Trail.{Trail}
 use Rattle.stems_plan.specs.declared.kinds.Plan.{Plan}
-use Rattle.stems_plan.specs.Visit.{tooClose, widthOf, fixedAt}
-use Rattle.stems_plan.specs.Plan.{linkedPlan, behindPlan, centredPlan, anchoredPlan, freePlan, latinPlan, fixedPlan, stemPlan, normalPlan, cjkPlan, groupPlan, zonePlan, secondEdge, heldEdge, anchorAfter}
-use Rattle.stems.specs.Stems.{State, counted, fixAt, fixByLink, bothDone, centredStem, besideAnchor, freePos, firstStem, latinStem, backStem, normalStem, cjkStem, groupStem, zoneStem, visitLink, visit}
+use Rattle.stems_plan.specs.Visit.{tooClose, widthOf}
+use Rattle.stems_plan.specs.Plan.{linkedPlan, behindPlan, centredPlan, anchoredPlan, freePlan, latinPlan, fixedPlan, stemPlan, normalPlan, cjkPlan, groupPlan, zonePlan}
+use Rattle.stems_plan.specs.Plan.{secondEdge, heldEdge, anchorAfter}
+use Rattle.stems.specs.Stems.{State, counted, fixAt, fixByLink, bothDone, centredStem, besideAnchor, freePos, firstStem, latinStem, backStem, normalStem, cjkStem}
+use Rattle.stems.specs.Stems.{groupStem, zoneStem, visitLink, visit}
 use Rattle.stems.specs.Steps.{heldPut, carriedOut, stepLink, step}
 
 -- ---- the bound
@@ -46,7 +49,8 @@ one-store axis i e true true = refl
 one-store axis i e true false = put-same axis i
 one-store axis i e false y = put-same axis i
 
-far-held : (axis : Axis) (h i k : ℕ) (l : Link) → l ≡ Links.To k → heldTo axis h i h l ≡ cond (isFar (edgeAt axis k .pos) (edgeAt axis h .pos)) (putEdge axis i (placed (edgeAt axis i) (edgeAt axis h .pos))) axis
+far-held : (axis : Axis) (h i k : ℕ) (l : Link) → l ≡ Links.To k
+    → heldTo axis h i h l ≡ cond (isFar (edgeAt axis k .pos) (edgeAt axis h .pos)) (putEdge axis i (placed (edgeAt axis i) (edgeAt axis h .pos))) axis
 unfolding heldTo
 far-held axis h i k l e = rw e
 
@@ -77,8 +81,8 @@ fix-keeps-opos axis j i p = keeps oposOf (axis .edges) j i (fixedAt (edgeAt axis
 
 -- ---- the normal CJK stem
 -- an edge of a list changed, in its place
-abbrev changed : (Edge → Edge) → ℕ → List Edge → List Edge
-changed f i es = set es i (f (getD es i emptyEdge))
+abbrev changedAt : (Edge → Edge) → ℕ → List Edge → List Edge
+changedAt f i es = set es i (f (getD es i emptyEdge))
 
 abbrev moved : ℤ → Edge → Edge
 moved p e = placed e p
@@ -86,13 +90,14 @@ moved p e = placed e p
 abbrev fixed : ℤ → Edge → Edge
 fixed p e = fixedAt e p
 
-moved-then-done : (es : List Edge) (i : ℕ) (p : ℤ) → changed finished i (changed (moved p) i es) ≡ changed (fixed p) i es
+moved-then-done : (es : List Edge) (i : ℕ) (p : ℤ) → changedAt finished i (changedAt (moved p) i es) ≡ changedAt (fixed p) i es
 moved-then-done [] i p = refl
 moved-then-done (e ∷ es) zero p = refl
 moved-then-done (e ∷ es) (suc i) p = ap (λ (l : List Edge). e ∷ l) (moved-then-done es i p)
 
 -- both edges are moved, one after the other, and then done; or each is moved and done
-rising : (es : List Edge) (i k : ℕ) (p q : ℤ) → changed (fixed q) k (changed (fixed p) i es) ≡ changed finished k (changed finished i (changed (moved q) k (changed (moved p) i es)))
+rising : (es : List Edge) (i k : ℕ) (p q : ℤ)
+    → changedAt (fixed q) k (changedAt (fixed p) i es) ≡ changedAt finished k (changedAt finished i (changedAt (moved q) k (changedAt (moved p) i es)))
 rising [] i k p q = refl
 rising (e ∷ es) zero zero p q = refl
 rising (e ∷ es) zero (suc k) p q = ap (λ (l : List Edge). fixed p e ∷ l) (sym (moved-then-done es k q))
@@ -100,7 +105,8 @@ rising (e ∷ es) (suc i) zero p q = ap (λ (l : List Edge). fixed q e ∷ l) (s
 rising (e ∷ es) (suc i) (suc k) p q = ap (λ (l : List Edge). e ∷ l) (rising es i k p q)
 
 -- the same where the second edge is moved first: to the same position, where it is the same edge
-falling : (es : List Edge) (i k : ℕ) (p q : ℤ) → (i ≡ k → p ≡ q) → changed (fixed q) k (changed (fixed p) i es) ≡ changed finished k (changed finished i (changed (moved p) i (changed (moved q) k es)))
+falling : (es : List Edge) (i k : ℕ) (p q : ℤ) → (i ≡ k → p ≡ q)
+    → changedAt (fixed q) k (changedAt (fixed p) i es) ≡ changedAt finished k (changedAt finished i (changedAt (moved p) i (changedAt (moved q) k es)))
 falling [] i k p q h = refl
 falling (e ∷ es) zero zero p q h = ap (λ (z : ℤ). fixed z e ∷ es) (sym (h refl))
 falling (e ∷ es) zero (suc k) p q h = ap (λ (l : List Edge). fixed p e ∷ l) (sym (moved-then-done es k q))
@@ -114,7 +120,10 @@ withEdges axis es = record { dim = axis .dim; «major_dir» = axis .«major_dir�
 abbrev anchorState : State → ℕ → Trail → Axis → State
 anchorState s i t axis = record { axis = axis; count = s .count; anchor = Links.To i; trail = t }
 
-by-lower : (m : Mode) (s : State) (i k : ℕ) (p w d : ℤ) (lower : Bool) → (i ≡ k → w ≡ pos 0) → carriedOut m s i k (cond lower (fixedPlan p (p +ℤ w) d) (fixedPlan (p +ℤ w) p d)) ≡ anchorState s i (record { last = LastStems.At (cond lower (p +ℤ w) p); delta = d }) (bothDone i k (cond lower (placedStem (s .axis) i k p w) (placedStem (s .axis) k i p w)))
+by-lower : (m : Mode) (s : State) (i k : ℕ) (p w d : ℤ) (lower : Bool) → (i ≡ k → w ≡ pos 0)
+    → carriedOut m s i k (cond lower (fixedPlan p (p +ℤ w) d) (fixedPlan (p +ℤ w) p d))
+    ≡ anchorState s i (record { last = LastStems.At (cond lower (p +ℤ w) p); delta = d })
+    (bothDone i k (cond lower (placedStem (s .axis) i k p w) (placedStem (s .axis) k i p w)))
 unfolding carriedOut secondEdge heldEdge anchorAfter placedStem
 by-lower m s i k p w d true h = ap (anchorState s i _) (put-same _ i ∙ ap (withEdges (s .axis)) (rising (s .axis .edges) i k p (p +ℤ w)))
 by-lower m s i k p w d false h = ap (anchorState s i _) (put-same _ i ∙ ap (withEdges (s .axis)) (falling (s .axis .edges) i k (p +ℤ w) p (λ (e : i ≡ k). plus-none p w (h e))))
@@ -159,29 +168,40 @@ module _ (m : Mode) (xs : List ℤ) (s : State) (i k : ℕ) where
   unfolding cjkPlan cjkStem
   cjk-is = by (ltb k i)
     where
-      by : (before : Bool) → carriedOut m s i k (cond before (linkedPlan (m .rule) xs e e2 (record { last = LastStems.At (e .pos); delta = s .trail .delta })) (normalPlan m xs e e2 (s .anchor) (s .trail))) ≡ cond before (backStem m xs s i k) (normalStem m s i k (stemOf (m .dim) (m .«stem_adjust») (m .rule) xs e e2 (s .trail .delta)))
+      by : (before : Bool)
+          → carriedOut m s i k
+          (cond before (linkedPlan (m .rule) xs e e2 (record { last = LastStems.At (e .pos); delta = s .trail .delta })) (normalPlan m xs e e2 (s .anchor) (s .trail)))
+          ≡ cond before (backStem m xs s i k) (normalStem m s i k (stemOf (m .dim) (m .«stem_adjust») (m .rule) xs e e2 (s .trail .delta)))
       by true = linked-is _
       by false = normal-is
 
   module _ (h : e .link ≡ Links.To k) where
-    behind-is : carriedOut m s i k (behindPlan e2 (widthOf (m .rule) xs e e2) (s .trail)) ≡ axisState s (s .trail) (adjusted (fixAt (s .axis) i (e2 .pos -ℤ widthOf (m .rule) xs e e2)) i Prev (m .«top_to_bottom»))
+    behind-is : carriedOut m s i k (behindPlan e2 (widthOf (m .rule) xs e e2) (s .trail))
+        ≡ axisState s (s .trail) (adjusted (fixAt (s .axis) i (e2 .pos -ℤ widthOf (m .rule) xs e e2)) i Prev (m .«top_to_bottom»))
     unfolding carriedOut secondEdge anchorAfter
     behind-is =
         let p = e2 .pos -ℤ widthOf (m .rule) xs e e2 in
         let plan = behindPlan e2 (widthOf (m .rule) xs e e2) (s .trail) in
-        ap (axisState s (s .trail)) (ap (heldPut (m .«top_to_bottom») plan i k) (put-same (fixAt (s .axis) i p) k) ∙ bound-is-adjusted (fixAt (s .axis) i p) i k (m .«top_to_bottom») plan refl (fix-keeps-link (s .axis) i i p ∙ h))
+        ap (axisState s (s .trail))
+        (ap (heldPut (m .«top_to_bottom») plan i k) (put-same (fixAt (s .axis) i p) k)
+        ∙ bound-is-adjusted (fixAt (s .axis) i p) i k (m .«top_to_bottom») plan refl (fix-keeps-link (s .axis) i i p ∙ h))
 
     centred-is : (p n w : ℤ) → carriedOut m s i k (centredPlan p n w (s .trail)) ≡ axisState s (s .trail) (adjusted (centredStem (s .axis) i k p n w) i Prev (m .«top_to_bottom»))
     unfolding carriedOut secondEdge anchorAfter
     centred-is p n w =
         ap (axisState s (s .trail))
-        (bound-is-adjusted _ i k (m .«top_to_bottom») (centredPlan p n w (s .trail)) refl (fix-keeps-link (fixAt (s .axis) i (anchoredFirst p n w)) k i (anchoredSecond p n w) ∙ fix-keeps-link (s .axis) i i (anchoredFirst p n w) ∙ h))
+        (bound-is-adjusted _ i k (m .«top_to_bottom») (centredPlan p n w (s .trail)) refl
+        (fix-keeps-link (fixAt (s .axis) i (anchoredFirst p n w)) k i (anchoredSecond p n w) ∙ fix-keeps-link (s .axis) i i (anchoredFirst p n w) ∙ h))
 
-    anchored-is : (a : ℕ) → carriedOut m s i k (anchoredPlan (m .rule) xs e e2 (edgeAt (s .axis) a) (s .trail)) ≡ axisState s (s .trail) (adjusted (besideAnchor (m .rule) xs (s .axis) i k a) i Prev (m .«top_to_bottom»))
+    anchored-is : (a : ℕ) → carriedOut m s i k (anchoredPlan (m .rule) xs e e2 (edgeAt (s .axis) a) (s .trail))
+        ≡ axisState s (s .trail) (adjusted (besideAnchor (m .rule) xs (s .axis) i k a) i Prev (m .«top_to_bottom»))
     unfolding anchoredPlan besideAnchor
     anchored-is a = by (e2 .flags .done) _ _ _ _ behind-is (centred-is _ _ _)
       where
-        by : (t : Bool) (x y : Plan) (u v : Axis) → carriedOut m s i k x ≡ axisState s (s .trail) (adjusted u i Prev (m .«top_to_bottom»)) → carriedOut m s i k y ≡ axisState s (s .trail) (adjusted v i Prev (m .«top_to_bottom»)) → carriedOut m s i k (cond t x y) ≡ axisState s (s .trail) (adjusted (cond t u v) i Prev (m .«top_to_bottom»))
+        by : (t : Bool) (x y : Plan) (u v : Axis)
+            → carriedOut m s i k x ≡ axisState s (s .trail) (adjusted u i Prev (m .«top_to_bottom»))
+            → carriedOut m s i k y ≡ axisState s (s .trail) (adjusted v i Prev (m .«top_to_bottom»))
+            → carriedOut m s i k (cond t x y) ≡ axisState s (s .trail) (adjusted (cond t u v) i Prev (m .«top_to_bottom»))
         by true x y u v p q = p
         by false x y u v p q = q
 
@@ -190,7 +210,8 @@ module _ (m : Mode) (xs : List ℤ) (s : State) (i k : ℕ) where
     free-is =
         let p = freePos (m .rule) xs e e2 in
         let u = fixAt (s .axis) i p in
-        ap (anchorState s i (s .trail)) (put-same _ i ∙ ap (λ (o : ℤ). putEdge u k (placed (edgeAt u k) (linkedPos (m .rule) xs p (e .opos) o))) (sym (fix-keeps-opos (s .axis) i k p)))
+        ap (anchorState s i (s .trail))
+        (put-same _ i ∙ ap (λ (o : ℤ). putEdge u k (placed (edgeAt u k) (linkedPos (m .rule) xs p (e .opos) o))) (sym (fix-keeps-opos (s .axis) i k p)))
 
     latin-is : (l : Link) → s .anchor ≡ l → carriedOut m s i k (latinPlan (m .rule) xs e e2 (edgeAt (s .axis) (indexOr i l)) l (s .trail)) ≡ latinStem m xs s i k l
     unfolding latinPlan latinStem

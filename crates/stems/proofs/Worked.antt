@@ -10,26 +10,24 @@ use Rattle.fixed.specs.Pixel.{pixFloor, pixRound}
 use Rattle.fixed.specs.Width.{fittedWidth}
 use Rattle.axis.specs.declared.kinds.Link.{Link}
 use Rattle.axis.specs.declared.kinds.Link.the-variants as Links
-use Rattle.axis.specs.declared.kinds.Blue.the-variants as Blues
 use Rattle.axis.specs.declared.kinds.Direction.the-variants as Directions
 use Rattle.axis.specs.declared.kinds.Dimension.the-variants.{Vertical}
 use Rattle.axis.specs.declared.kinds.Group.{Group}
 use Rattle.axis.specs.declared.kinds.Group.the-variants.{Default, Cjk}
 use Rattle.axis.specs.declared.edge.Edge.{Edge}
 use Rattle.axis.specs.declared.edge.Axis.{Axis}
-use Rattle.axis.specs.Flags.{normal}
-use Rattle.axis.specs.Edge.{finished}
+use Rattle.axis.specs.Edge.{freshEdge, placed, finished, joinedTo}
+use Rattle.axis.specs.Visits.{visits}
 use Rattle.placing.specs.Placing.{linkedPos, lowerBound, hasPassed, neighbour, heldTo, boundBy, adjusted}
 use Rattle.stem_latin.specs.Latin.{centreOf, lowerOffset, upperOffset, nearerCentre, thinCentre, thinFirst, thinSecond, anchoredFirst, anchoredSecond, freeFirst}
 use Rattle.cjk_numbers.specs.Cjk.{maxGap, gapOf, pixelOffset, narrowDelta, offsetsDelta, startOf, clamped, deltaOf, stemAt, stemOf, placedStem, hintedStem}
-use Rattle.zone.specs.Zones.{visits}
 use Rattle.stems_plan.specs.Visit.{isClose, tooClose, deltaAfter}
 use Rattle.stems.specs.declared.pass.Stems.{Stems}
 use Rattle.stems.specs.Stems.{besideAnchor, latinStem, cjkStem, groupStem, zoneStem, visitLink, visit, stems, stemsOf, modeOf}
 
 -- an edge by opos, pos and link
 abbrev edge : ℕ → ℕ → Link → Edge
-edge o p l = record { fpos = pos 0; opos = pos o; pos = pos p; flags = normal; dir = Directions.None; blue = Blues.None; link = l; serif = Links.None; first = 0; last = 0 }
+edge o p l = joinedTo (placed (freshEdge (pos 0) (pos o) Directions.None 0) (pos p)) l Links.None
 
 -- a vertical axis of these edges
 abbrev axisOf : List Edge → Axis
@@ -56,5 +54,8 @@ pub record Worked : Type 0 where
       ≡ stems 2 (Links.To 0) (axisOf (finished (edge 40 26 (Links.To 1)) ∷ finished (edge 80 66 (Links.To 0)) ∷ edge 129 129 (Links.To 3) ∷ edge 170 170 (Links.To 2) ∷ [])) 0
 
 pub worked : Worked
-unfolding stemsOf visits visit visitLink tooClose isClose zoneStem groupStem latinStem besideAnchor cjkStem deltaAfter linkedPos lowerBound hasPassed neighbour heldTo boundBy adjusted fittedWidth pixFloor pixRound centreOf lowerOffset upperOffset nearerCentre thinCentre thinFirst thinSecond anchoredFirst anchoredSecond freeFirst maxGap gapOf pixelOffset narrowDelta offsetsDelta startOf clamped deltaOf stemAt stemOf placedStem hintedStem
+unfolding stemsOf visits visit visitLink tooClose isClose zoneStem groupStem latinStem besideAnchor cjkStem deltaAfter linkedPos lowerBound hasPassed
+    neighbour heldTo boundBy adjusted fittedWidth pixFloor pixRound centreOf lowerOffset upperOffset nearerCentre thinCentre thinFirst thinSecond
+    anchoredFirst anchoredSecond freeFirst maxGap gapOf pixelOffset narrowDelta offsetsDelta startOf clamped deltaOf stemAt stemOf placedStem
+    hintedStem
 worked = record { first-stem = refl; second-edge = refl; bounded = refl; not-bounded = refl; too-close = refl }

@@ -1,10 +1,11 @@
 -- The stem pass (document 01, module 5), as the Rust's `align_stem_edges` visits the edges.
-use mathlib.Core.Bool.{Bool, true, cond}
-use mathlib.Core.List.{List}
+use mathlib.Core.Bool.{Bool, cond}
+use mathlib.Core.List.{List, [], _∷_}
 use Prim.Native.Nat.{ℕ, _+_}
 use lib.Dec.{ltb}
 use lib.IntN.{ℤ, pos, _+ℤ_, _-ℤ_}
 use lib.Signed.{ltZ}
+use Rattle.refusals.specs.Refusal.{Test, _unless_, refusal, answered, badParameter, badIndex}
 use Rattle.fixed.specs.declared.width.WidthRule.{WidthRule}
 use Rattle.fixed.specs.Width.{ruleHolds}
 use Rattle.axis.specs.declared.kinds.Link.{Link}
@@ -15,18 +16,18 @@ use Rattle.axis.specs.declared.kinds.Group.{Group}
 use Rattle.axis.specs.declared.kinds.Group.the-variants.{Default, Cjk}
 use Rattle.axis.specs.declared.edge.Edge.{Edge}
 use Rattle.axis.specs.declared.edge.Axis.{Axis}
-use Rattle.axis.specs.Edge.{edgeAt, putEdge, finished}
-use Rattle.axis.specs.Refusals.{linkHolds, edgesRefusal, answered}
+use Rattle.axis.specs.Edge.{edgeAt, putEdge, finished, fixedAt}
+use Rattle.axis.specs.Refusals.{linkHolds, edgesShort, edgesIndexed, edgesInRange}
+use Rattle.axis.specs.Visits.{visits}
 use Rattle.placing.specs.declared.adjust.LinkDir.the-variants.{Prev}
 use Rattle.placing.specs.Placing.{linkedEdge, adjusted}
 use Rattle.stem_latin.specs.Latin.{anchoredFirst, anchoredSecond, freeFirst}
 use Rattle.cjk_numbers.specs.declared.stem.Stem.{Stem}
 use Rattle.cjk_numbers.specs.Cjk.{stemOf, hintedStem}
-use Rattle.zone.specs.Zones.{visits}
 use Rattle.stems_plan.specs.declared.kinds.Mode.{Mode}
 use Rattle.stems_plan.specs.declared.kinds.LastStem.the-variants as LastStems
 use Rattle.stems_plan.specs.declared.kinds.Trail.{Trail}
-use Rattle.stems_plan.specs.Visit.{tooClose, originalLen, widthOf, startBeside, deltaAfter, fixedAt}
+use Rattle.stems_plan.specs.Visit.{tooClose, originalLen, widthOf, startBeside, deltaAfter}
 use Rattle.stems.specs.declared.pass.Stems.{Stems}
 
 -- ---- what the visits come to
@@ -155,8 +156,18 @@ stemsOf m xs anchor axis = done (visits (visit m xs) (axis .len) 0 (begun anchor
 abbrev pub modeOf : Axis → Group → Bool → Bool → WidthRule → Mode
 modeOf axis group adjust ttb rule = record { dim = axis .dim; group = group; «stem_adjust» = adjust; «top_to_bottom» = ttb; rule = rule }
 
+-- the tests of `align_stem_edges`, in document 01's order
+abbrev pub stemsTests : Axis → Link → WidthRule → List ℤ → List Test
+stemsTests axis anchor rule xs =
+    edgesShort axis
+    ∷ badParameter unless ruleHolds rule xs
+    ∷ edgesIndexed axis
+    ∷ badIndex unless linkHolds (axis .len) anchor
+    ∷ edgesInRange axis
+    ∷ []
+
 -- `align_stem_edges`: the refusal, count 0, no anchor and the axis as it came, or 0, the count, the anchor or its absence, and the axis
 unfoldable pub alignStemEdges : Axis → Group → Bool → Bool → Link → WidthRule → List ℤ → Stems
 alignStemEdges axis group adjust ttb anchor rule xs =
-    answered (edgesRefusal axis (ruleHolds rule xs) (linkHolds (axis .len) anchor) true) (stems 0 Links.None axis)
+    answered (refusal (stemsTests axis anchor rule xs)) (stems 0 Links.None axis)
     (stemsOf (modeOf axis group adjust ttb rule) xs anchor axis)

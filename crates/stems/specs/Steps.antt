@@ -8,10 +8,10 @@ use Rattle.axis.specs.declared.kinds.Link.{Link}
 use Rattle.axis.specs.declared.kinds.Link.the-variants as Links
 use Rattle.axis.specs.declared.edge.Axis.{Axis}
 use Rattle.axis.specs.Link.{indexOr}
-use Rattle.axis.specs.Edge.{edgeAt, putEdge}
+use Rattle.axis.specs.Edge.{edgeAt, putEdge, fixedAt}
 use Rattle.stems_plan.specs.declared.kinds.Mode.{Mode}
 use Rattle.stems_plan.specs.declared.kinds.Plan.{Plan}
-use Rattle.stems_plan.specs.Visit.{tooClose, fixedAt}
+use Rattle.stems_plan.specs.Visit.{tooClose}
 use Rattle.stems_plan.specs.Plan.{planOf, secondEdge, heldEdge, anchorAfter}
 use Rattle.stems.specs.Stems.{State, counted}
 

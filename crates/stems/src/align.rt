@@ -1,16 +1,35 @@
 // The call.
 use super::pass::Stems;
 use super::pass::align_stems;
-use axis::accept::edges_refusal;
+use axis::accept::edges_indices;
+use axis::accept::edges_numbers;
+use axis::accept::few_edges;
 use axis::accept::link_holds;
 use axis::edge::Axis;
 use axis::kinds::Group;
 use axis::kinds::Link;
 use fixed::width::WidthRule;
 use fixed::width::rule_holds;
+use refusals::order::BAD_INDEX;
+use refusals::order::BAD_PARAMETER;
+use refusals::order::OUT_OF_RANGE;
+use refusals::order::TOO_LONG;
+use refusals::order::or_refused;
 use stems_plan::kinds::Mode;
 ghost use mathlib.Core.Path.{_≡_};
-ghost use Rattle.stems.specs.Stems.{alignStemEdges};
+ghost use Rattle.refusals.specs.Refusal.{refusal};
+ghost use Rattle.stems.specs.Stems.{stemsTests, alignStemEdges};
+
+// The refusal of the call, or 0.
+fn stems_refusal(axis: Axis, anchor: Link, rule: WidthRule, standards: &[i32]) -> u8
+    ensures { λ r. ⌜ r ≡ refusal (stemsTests axis anchor rule (now (standards .entry))) ⌝ }
+{
+    let answer = or_refused(0, few_edges(axis.len), TOO_LONG);
+    let answer = or_refused(answer, rule_holds(rule, standards), BAD_PARAMETER);
+    let answer = or_refused(answer, edges_indices(axis), BAD_INDEX);
+    let answer = or_refused(answer, link_holds(anchor, axis.len), BAD_INDEX);
+    or_refused(answer, edges_numbers(axis), OUT_OF_RANGE)
+}
 
 // Aligns all stem edges, and hands back how many edges it passed over, and the anchor.
 pub fn align_stem_edges(
@@ -24,9 +43,7 @@ pub fn align_stem_edges(
 ) -> Stems
     ensures { λ r. ⌜ r ≡ alignStemEdges axis group «stem_adjust» «top_to_bottom» anchor rule (now (standards .entry)) ⌝ }
 {
-    let right = rule_holds(rule, standards);
-    let named = link_holds(anchor, axis.len);
-    let answer = edges_refusal(axis, right, named, true);
+    let answer = stems_refusal(axis, anchor, rule, standards);
     if 0 < answer {
         return Stems {
             answer,

@@ -14,13 +14,13 @@ use Rattle.axis.specs.declared.kinds.Blue.the-variants as Blues
 use Rattle.axis.specs.declared.kinds.Group.{Group}
 use Rattle.axis.specs.declared.kinds.Group.the-variants.{Default, Cjk}
 use Rattle.axis.specs.declared.edge.Edge.{Edge}
-use Rattle.axis.specs.Edge.{placed}
+use Rattle.axis.specs.Edge.{placed, fixedAt}
 use Rattle.placing.specs.declared.adjust.LinkDir.the-variants.{Prev}
 use Rattle.placing.specs.Placing.{linkedPos, linkedEdge, hasPassed, isFar}
 use Rattle.stem_latin.specs.Latin.{anchoredFirst, anchoredSecond, freeFirst}
 use Rattle.cjk_numbers.specs.declared.stem.Stem.{Stem}
 use Rattle.cjk_numbers.specs.Cjk.{stemOf}
-use Rattle.stems_plan.specs.Visit.{originalLen, widthOf, startBeside, deltaAfter, fixedAt}
+use Rattle.stems_plan.specs.Visit.{originalLen, widthOf, startBeside, deltaAfter}
 use Rattle.stems_plan.specs.declared.kinds.Mode.{Mode}
 use Rattle.stems_plan.specs.declared.kinds.LastStem.the-variants as LastStems
 use Rattle.stems_plan.specs.declared.kinds.Trail.{Trail}
@@ -76,7 +76,8 @@ stemPlan e e2 s d = cond (ltZ (e .opos) (e2 .opos)) (fixedPlan (s .pos) (s .pos 
 -- a normal stem, as `hint_normal_stem_cjk` places it
 abbrev pub normalPlan : Mode → List ℤ → Edge → Edge → Link → Trail → Plan
 normalPlan m xs e e2 anchor trail =
-    stemPlan e e2 (stemOf (m .dim) (m .«stem_adjust») (m .rule) xs e e2 (trail .delta)) (deltaAfter (m .dim) anchor (trail .delta) (stemOf (m .dim) (m .«stem_adjust») (m .rule) xs e e2 (trail .delta) .delta))
+    stemPlan e e2 (stemOf (m .dim) (m .«stem_adjust») (m .rule) xs e e2 (trail .delta))
+    (deltaAfter (m .dim) anchor (trail .delta) (stemOf (m .dim) (m .«stem_adjust») (m .rule) xs e e2 (trail .delta) .delta))
 
 -- an edge whose link is before it is placed by that one, and is where the last stem is, by its position before
 unfoldable pub cjkPlan : Mode → List ℤ → Edge → Edge → Link → Bool → Trail → Plan

@@ -13,7 +13,6 @@ use Rattle.axis.specs.declared.kinds.Group.the-variants.{Default, Cjk}
 use Rattle.axis.specs.declared.kinds.Dimension.{Dimension}
 use Rattle.axis.specs.declared.kinds.Dimension.the-variants.{Horizontal, Vertical}
 use Rattle.axis.specs.declared.edge.Edge.{Edge}
-use Rattle.axis.specs.Edge.{placed, finished}
 use Rattle.stems_plan.specs.declared.kinds.LastStem.{LastStem}
 use Rattle.stems_plan.specs.declared.kinds.LastStem.the-variants as LastStems
 
@@ -48,8 +47,3 @@ deltaBeside (Links.To k) old d = old
 unfoldable pub deltaAfter : Dimension → Link → ℤ → ℤ → ℤ
 deltaAfter Horizontal anchor old d = deltaBeside anchor old d
 deltaAfter Vertical anchor old d = old
-
--- ---- an edge
--- at a position, done
-abbrev pub fixedAt : Edge → ℤ → Edge
-fixedAt e p = finished (placed e p)

@@ -3,7 +3,7 @@ use super::kinds::Mode;
 use super::kinds::Plan;
 use super::kinds::Second;
 use axis::edge::Edge;
-use axis::edge::with_done_flag;
+use axis::edge::fix_at;
 use axis::edge::with_pos;
 use axis::kinds::Link;
 use placing::adjust::LinkDir;
@@ -12,17 +12,11 @@ use placing::adjust::is_far;
 ghost use mathlib.Core.Path.{_≡_};
 ghost use Prim.Native.Nat.{_-_, _<_};
 ghost use Rattle.signed.specs.Range.{Between};
+ghost use Rattle.axis.specs.Edge.{fixedAt};
+ghost use Rattle.axis.specs.Limits.{mostEdges};
 ghost use Rattle.placing.specs.Steps.{InReach};
-ghost use Rattle.stems_plan.specs.Visit.{fixedAt};
 ghost use Rattle.stems_plan.specs.Plan.{secondEdge, isOver, isBounded, heldEdge, anchorAfter};
 ghost use Rattle.stems_plan.specs.Steps.{mostPlace};
-
-// The edge at a position, done.
-fn fix_at(edge: Edge, pos: i32) -> Edge
-    ensures { λ r. ⌜ r ≡ fixedAt edge pos ⌝ }
-{
-    with_done_flag(with_pos(edge, pos))
-}
 
 // The first edge of a stem.
 pub fn first_edge(edge: Edge, plan: Plan) -> Edge
@@ -90,7 +84,7 @@ pub fn hold(mode: Mode, plan: Plan, i: usize, edge: Edge, prev: Edge, link: Edge
 
 // The anchor, which the first edge of a stem may become.
 pub fn anchor_after(plan: Plan, anchor: Link, i: usize) -> Link
-    requires { ⌜ i < 128 ⌝ }
+    requires { ⌜ i < mostEdges ⌝ }
     ensures { λ r. ⌜ r ≡ anchorAfter plan anchor i ⌝ }
 {
     if plan.anchors {

@@ -12,7 +12,7 @@ use Rattle.words.specs.Word.{written, firsts, joined, table}
 use Rattle.words.proofs.Writing.{written-length, written-none, written-more}
 
 -- ---- filling
-pub firsts-length : {A : Type 0} (f : ℕ → A) (n : ℕ) → length (firsts f n) ≡ n
+firsts-length : {A : Type 0} (f : ℕ → A) (n : ℕ) → length (firsts f n) ≡ n
 unfolding firsts
 firsts-length f zero = refl
 firsts-length f (suc n) = length-append (firsts f n) (f n ∷ []) ∙ omega (arith, firsts-length f n)
@@ -53,7 +53,9 @@ module _ (f : ℕ → List ℤ) (k : ℕ) (sized : (i : ℕ) → length (f i) �
   joined-length (suc n) = length-append (joined f n) (f n) ∙ omega (arith, sized n, joined-length n)
 
   -- one more
-  pub joined-more : {out₀ out out′ : List ℤ} {at n i : ℕ} (v : List ℤ) → Joined f out₀ out at n i → i < n → at + k * n ≤ length out₀ → v ≡ f i → out′ ≡ written out (at + k * i) v → Joined f out₀ out′ at n (i + 1)
+  pub joined-more :
+      {out₀ out out′ : List ℤ} {at n i : ℕ} (v : List ℤ) → Joined f out₀ out at n i → i < n → at + k * n ≤ length out₀ → v ≡ f i → out′ ≡ written out (at + k * i) v
+      → Joined f out₀ out′ at n (i + 1)
   unfolding joined
   joined-more {out₀} {out} {out′} {at} {n} {i} v j h room p e = record {
     within = omega arith;

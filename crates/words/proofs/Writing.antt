@@ -19,7 +19,9 @@ pub record Pasted (ws out₀ out : List ℤ) (at i : ℕ) : Type 0 where
 pub pasted-none : (ws out : List ℤ) (at : ℕ) → Pasted ws out out at 0
 pasted-none ws out at = record { within = omega arith; kept = refl; so-far = paste-zero out at ws }
 
-pub pasted-more : {ws out₀ out : List ℤ} {at i : ℕ} (w : ℤ) → Pasted ws out₀ out at i → i < length ws → at + length ws ≤ length out₀ → w ≡ getD ws i (pos 0) → Pasted ws out₀ (set out (at + i) w) at (i + 1)
+pub pasted-more :
+    {ws out₀ out : List ℤ} {at i : ℕ} (w : ℤ) → Pasted ws out₀ out at i → i < length ws → at + length ws ≤ length out₀ → w ≡ getD ws i (pos 0)
+    → Pasted ws out₀ (set out (at + i) w) at (i + 1)
 pasted-more {ws} {out₀} {out} {at} {i} w p h room e = record {
   within = omega arith;
   kept = length-set out (at + i) w ∙ p .kept;

@@ -1,4 +1,4 @@
--- Edges as words: 11 for each edge.
+-- Edges as words.
 use mathlib.Core.List.{List, [], _∷_}
 use Prim.Native.Nat.{ℕ, _+_, _*_, _/_, min}
 use lib.ListN.{length}
@@ -11,6 +11,14 @@ use Rattle.axis.specs.Edge.{emptyEdge, edgeAt}
 use Rattle.axis.specs.Limits.{mostEdges}
 use Rattle.words.specs.Word.{wordAt, written, joined, table}
 use Rattle.words.specs.Field.{shortOf, indexOf, linkOf, directionOf, blueOf, flagsOf, linkWord, directionWord, presentWord, fittedWord, flagsWord}
+
+-- how many words an edge is
+abbrev pub edgeSize : ℕ
+edgeSize = 11
+
+-- how many words the places of the working table are
+abbrev pub tableSize : ℕ
+tableSize = edgeSize * mostEdges
 
 -- ---- words as edges
 -- the edge whose words stand at a place
@@ -29,12 +37,12 @@ edgeFrom ws at = record {
 }
 
 -- an edge of those whose words stand from a place on
-abbrev pub edgeOf : List ℤ → ℕ → ℕ → Edge
-edgeOf ws first i = edgeFrom ws (first + 11 * i)
+abbrev pub edgeInRun : List ℤ → ℕ → ℕ → Edge
+edgeInRun ws first i = edgeFrom ws (first + edgeSize * i)
 
 -- an axis whose table holds the first n edges from a place on; its other places are empty
 abbrev pub axisTo : List ℤ → ℕ → Dimension → Direction → ℕ → ℕ → Axis
-axisTo ws first dim major len n = record { dim = dim; «major_dir» = major; edges = table mostEdges emptyEdge (edgeOf ws first) n; len = len }
+axisTo ws first dim major len n = record { dim = dim; «major_dir» = major; edges = table mostEdges emptyEdge (edgeInRun ws first) n; len = len }
 
 -- the axis of len edges from a place on, of which the table holds as many as it has places
 unfoldable pub axisRun : List ℤ → ℕ → Dimension → Direction → ℕ → Axis
@@ -42,7 +50,7 @@ axisRun ws first dim major len = axisTo ws first dim major len (min len mostEdge
 
 -- how many edges a list without a count has
 abbrev pub edgesIn : List ℤ → ℕ
-edgesIn ws = length ws / 11
+edgesIn ws = length ws / edgeSize
 
 -- the axis whose edges are a list without a count
 unfoldable pub flatAxis : List ℤ → Dimension → Direction → Axis
@@ -50,7 +58,9 @@ flatAxis ws dim major = axisRun ws 0 dim major (edgesIn ws)
 
 -- ---- edges as words
 unfoldable pub edgeWords : Edge → List ℤ
-edgeWords e = e .fpos ∷ e .opos ∷ e .pos ∷ flagsWord (e .flags) ∷ directionWord (e .dir) ∷ presentWord (e .blue) ∷ fittedWord (e .blue) ∷ linkWord (e .link) ∷ linkWord (e .serif) ∷ pos (e .first) ∷ pos (e .last) ∷ []
+edgeWords e =
+    e .fpos ∷ e .opos ∷ e .pos ∷ flagsWord (e .flags) ∷ directionWord (e .dir) ∷ presentWord (e .blue) ∷ fittedWord (e .blue)
+    ∷ linkWord (e .link) ∷ linkWord (e .serif) ∷ pos (e .first) ∷ pos (e .last) ∷ []
 
 -- an edge of an axis
 abbrev pub edgeWordsAt : Axis → ℕ → List ℤ

@@ -1,4 +1,4 @@
--- Segments as words: 15 for each segment.
+-- Segments as words.
 use mathlib.Core.List.{List, [], _∷_}
 use Prim.Native.Nat.{ℕ, _+_, _*_, _/_, min}
 use lib.ListN.{length}
@@ -9,6 +9,10 @@ use Rattle.axis.specs.Segment.{emptySegment, segmentAt}
 use Rattle.axis.specs.Limits.{mostSegments}
 use Rattle.words.specs.Word.{wordAt, written, joined, table}
 use Rattle.words.specs.Field.{shortOf, indexOf, linkOf, directionOf, flagsOf, linkWord, directionWord, flagsWord}
+
+-- how many words a segment is
+abbrev pub segmentSize : ℕ
+segmentSize = 15
 
 -- ---- words as segments
 -- the segment whose words stand at a place
@@ -32,12 +36,12 @@ segmentFrom ws at = record {
 }
 
 -- a segment of those whose words stand from a place on
-abbrev pub segmentOf : List ℤ → ℕ → ℕ → Segment
-segmentOf ws first i = segmentFrom ws (first + 15 * i)
+abbrev pub segmentInRun : List ℤ → ℕ → ℕ → Segment
+segmentInRun ws first i = segmentFrom ws (first + segmentSize * i)
 
 -- a table that holds the first n segments from a place on; its other places are empty
 abbrev pub segmentsTo : List ℤ → ℕ → ℕ → ℕ → Segments
-segmentsTo ws first len n = record { segments = table mostSegments emptySegment (segmentOf ws first) n; len = len }
+segmentsTo ws first len n = record { segments = table mostSegments emptySegment (segmentInRun ws first) n; len = len }
 
 -- the table of len segments from a place on, of which it holds as many as it has places
 unfoldable pub segmentsRun : List ℤ → ℕ → ℕ → Segments
@@ -45,7 +49,7 @@ segmentsRun ws first len = segmentsTo ws first len (min len mostSegments)
 
 -- how many segments a list without a count has
 abbrev pub segmentsIn : List ℤ → ℕ
-segmentsIn ws = length ws / 15
+segmentsIn ws = length ws / segmentSize
 
 -- the segments that are a list without a count
 unfoldable pub flatSegments : List ℤ → Segments
@@ -53,7 +57,9 @@ flatSegments ws = segmentsRun ws 0 (segmentsIn ws)
 
 -- ---- segments as words
 unfoldable pub segmentWords : Segment → List ℤ
-segmentWords s = flagsWord (s .flags) ∷ directionWord (s .dir) ∷ s .pos ∷ s .delta ∷ s .«min_coord» ∷ s .«max_coord» ∷ s .height ∷ s .score ∷ s .len ∷ linkWord (s .link) ∷ linkWord (s .serif) ∷ pos (s .first) ∷ pos (s .last) ∷ linkWord (s .edge) ∷ linkWord (s .next) ∷ []
+segmentWords s =
+    flagsWord (s .flags) ∷ directionWord (s .dir) ∷ s .pos ∷ s .delta ∷ s .«min_coord» ∷ s .«max_coord» ∷ s .height ∷ s .score ∷ s .len
+    ∷ linkWord (s .link) ∷ linkWord (s .serif) ∷ pos (s .first) ∷ pos (s .last) ∷ linkWord (s .edge) ∷ linkWord (s .next) ∷ []
 
 -- a segment of a table
 abbrev pub segmentWordsAt : Segments → ℕ → List ℤ

@@ -12,19 +12,27 @@ use super::field::link_word;
 use super::field::present_word;
 use super::field::short_at;
 use super::field::short_word;
-use super::word::least;
 use super::word::word_at;
 use super::word::write_words;
+use axis::accept::least;
 use axis::edge::Axis;
 use axis::edge::Edge;
 use axis::edge::empty_axis;
 use axis::kinds::Dimension;
 use axis::kinds::Direction;
+use axis::limits::MOST_EDGES;
 ghost use mathlib.Core.Path.{_≡_};
 ghost use Prim.Native.Nat.{_+_, _*_, _≤_};
 ghost use lib.ListN.{length};
 ghost use Rattle.words.specs.Word.{written, joined};
-ghost use Rattle.words.specs.Edge.{edgeFrom, axisRun, flatAxis, edgeWords, edgeWordsAt, edgesOver};
+ghost use Rattle.axis.specs.Limits.{mostEdges};
+ghost use Rattle.words.specs.Edge.{edgeSize, edgeFrom, axisRun, flatAxis, edgeWords, edgeWordsAt, edgesOver};
+
+// How many words an edge is.
+pub const EDGE_WORDS: usize = 11;
+
+// How many words the places of the working table are.
+pub const TABLE_WORDS: usize = EDGE_WORDS * MOST_EDGES;
 
 // The edge whose words stand at a place.
 pub fn edge_from(words: &[i32], at: usize) -> Edge
@@ -50,12 +58,12 @@ fn axis_run(words: &[i32], first: usize, dim: Dimension, major_dir: Direction, l
     requires { ⌜ first ≤ 65537 ⌝ }
     ensures { λ r. ⌜ r ≡ axisRun (now (words .entry)) first dim «major_dir» len ⌝ }
 {
-    let n = least(len, 128);
+    let n = least(len, MOST_EDGES);
     let mut axis = empty_axis(dim, major_dir);
     axis.len = len;
     let mut i = 0;
     while i < n {
-        let edge = edge_from(words, first + 11 * i);
+        let edge = edge_from(words, first + EDGE_WORDS * i);
         axis.edges[i] = edge;
         i += 1;
     }
@@ -66,11 +74,11 @@ fn axis_run(words: &[i32], first: usize, dim: Dimension, major_dir: Direction, l
 pub fn flat_axis(words: &[i32], dim: Dimension, major_dir: Direction) -> Axis
     ensures { λ r. ⌜ r ≡ flatAxis (now (words .entry)) dim «major_dir» ⌝ }
 {
-    axis_run(words, 0, dim, major_dir, words.len() / 11)
+    axis_run(words, 0, dim, major_dir, words.len() / EDGE_WORDS)
 }
 
-// The 11 words of an edge.
-pub fn edge_words(edge: Edge) -> [i32; 11]
+// The words of an edge.
+pub fn edge_words(edge: Edge) -> [i32; EDGE_WORDS]
     ensures { λ r. ⌜ r ≡ edgeWords edge ⌝ }
 {
     let flags = edge.flags;
@@ -95,14 +103,14 @@ pub fn edge_words(edge: Edge) -> [i32; 11]
 
 // Writes the first n edges of an axis from a place on.
 fn write_run(out: &mut [i32], first: usize, axis: Axis, n: usize)
-    requires { ⌜ (n ≤ 128) × (first + 11 * n ≤ length (now out)) ⌝ }
+    requires { ⌜ (n ≤ mostEdges) × (first + edgeSize * n ≤ length (now out)) ⌝ }
     ensures { λ _. ⌜ now (out .exit) ≡ written (now (out .entry)) first (joined (edgeWordsAt axis) n) ⌝ }
 {
     let mut i = 0;
     while i < n {
         let edge = axis.edges[i];
         let words = edge_words(edge);
-        write_words(out, first + 11 * i, &words);
+        write_words(out, first + EDGE_WORDS * i, &words);
         i += 1;
     }
 }
@@ -111,6 +119,6 @@ fn write_run(out: &mut [i32], first: usize, axis: Axis, n: usize)
 pub fn write_flat_edges(out: &mut [i32], axis: Axis)
     ensures { λ _. ⌜ now (out .exit) ≡ edgesOver (now (out .entry)) axis ⌝ }
 {
-    let n = least(out.len() / 11, 128);
+    let n = least(out.len() / EDGE_WORDS, MOST_EDGES);
     write_run(out, 0, axis, n);
 }

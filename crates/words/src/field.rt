@@ -77,7 +77,7 @@ pub fn choice_of(word: i32) -> bool
 }
 
 // The choice at a place.
-pub fn choice_at(words: &[i32], i: usize) -> bool
+fn choice_at(words: &[i32], i: usize) -> bool
     ensures { λ r. ⌜ r ≡ choiceOf (wordAt (now (words .entry)) i) ⌝ }
 {
     choice_of(word_at(words, i))

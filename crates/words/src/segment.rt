@@ -9,9 +9,10 @@ use super::field::link_at;
 use super::field::link_word;
 use super::field::short_at;
 use super::field::short_word;
-use super::word::least;
 use super::word::word_at;
 use super::word::write_words;
+use axis::accept::least;
+use axis::limits::MOST_SEGMENTS;
 use axis::segment::Segment;
 use axis::segment::Segments;
 use axis::segment::empty_segments;
@@ -19,7 +20,11 @@ ghost use mathlib.Core.Path.{_≡_};
 ghost use Prim.Native.Nat.{_+_, _*_, _≤_};
 ghost use lib.ListN.{length};
 ghost use Rattle.words.specs.Word.{written, joined};
-ghost use Rattle.words.specs.Segment.{segmentFrom, segmentsRun, flatSegments, segmentWords, segmentWordsAt, segmentsOver};
+ghost use Rattle.axis.specs.Limits.{mostSegments};
+ghost use Rattle.words.specs.Segment.{segmentSize, segmentFrom, segmentsRun, flatSegments, segmentWords, segmentWordsAt, segmentsOver};
+
+// How many words a segment is.
+pub const SEGMENT_WORDS: usize = 15;
 
 // The segment whose words stand at a place.
 fn segment_from(words: &[i32], at: usize) -> Segment
@@ -50,12 +55,12 @@ fn segments_run(words: &[i32], first: usize, len: usize) -> Segments
     requires { ⌜ first ≤ 65537 ⌝ }
     ensures { λ r. ⌜ r ≡ segmentsRun (now (words .entry)) first len ⌝ }
 {
-    let n = least(len, 512);
+    let n = least(len, MOST_SEGMENTS);
     let mut table = empty_segments();
     table.len = len;
     let mut i = 0;
     while i < n {
-        let segment = segment_from(words, first + 15 * i);
+        let segment = segment_from(words, first + SEGMENT_WORDS * i);
         table.segments[i] = segment;
         i += 1;
     }
@@ -66,11 +71,11 @@ fn segments_run(words: &[i32], first: usize, len: usize) -> Segments
 pub fn flat_segments(words: &[i32]) -> Segments
     ensures { λ r. ⌜ r ≡ flatSegments (now (words .entry)) ⌝ }
 {
-    segments_run(words, 0, words.len() / 15)
+    segments_run(words, 0, words.len() / SEGMENT_WORDS)
 }
 
-// The 15 words of a segment.
-fn segment_words(segment: Segment) -> [i32; 15]
+// The words of a segment.
+fn segment_words(segment: Segment) -> [i32; SEGMENT_WORDS]
     ensures { λ r. ⌜ r ≡ segmentWords segment ⌝ }
 {
     let flags = segment.flags;
@@ -100,14 +105,14 @@ fn segment_words(segment: Segment) -> [i32; 15]
 
 // Writes the first n segments of a table from a place on.
 fn write_run(out: &mut [i32], first: usize, table: Segments, n: usize)
-    requires { ⌜ (n ≤ 512) × (first + 15 * n ≤ length (now out)) ⌝ }
+    requires { ⌜ (n ≤ mostSegments) × (first + segmentSize * n ≤ length (now out)) ⌝ }
     ensures { λ _. ⌜ now (out .exit) ≡ written (now (out .entry)) first (joined (segmentWordsAt table) n) ⌝ }
 {
     let mut i = 0;
     while i < n {
         let segment = table.segments[i];
         let words = segment_words(segment);
-        write_words(out, first + 15 * i, &words);
+        write_words(out, first + SEGMENT_WORDS * i, &words);
         i += 1;
     }
 }
@@ -116,6 +121,6 @@ fn write_run(out: &mut [i32], first: usize, table: Segments, n: usize)
 pub fn write_flat_segments(out: &mut [i32], table: Segments)
     ensures { λ _. ⌜ now (out .exit) ≡ segmentsOver (now (out .entry)) table ⌝ }
 {
-    let n = least(out.len() / 15, 512);
+    let n = least(out.len() / SEGMENT_WORDS, MOST_SEGMENTS);
     write_run(out, 0, table, n);
 }

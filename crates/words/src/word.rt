@@ -1,6 +1,6 @@
 // The words of a list, read as numbers and counts, and written.
 ghost use mathlib.Core.Path.{_≡_};
-ghost use Prim.Native.Nat.{_+_, _%_, _≤_, min};
+ghost use Prim.Native.Nat.{_+_, _%_, _≤_};
 ghost use lib.ListN.{length};
 ghost use lib.IntN.{pos};
 ghost use Rattle.signed.specs.Parts.{up};
@@ -31,16 +31,6 @@ pub fn count_at(words: &[i32], i: usize) -> usize
     ensures { λ r. ⌜ r ≡ up (wordAt (now (words .entry)) i) ⌝ }
 {
     size_of(word_at(words, i))
-}
-
-// The lesser of two.
-pub fn least(a: usize, b: usize) -> usize
-    ensures { λ r. ⌜ r ≡ min a b ⌝ }
-{
-    if a < b {
-        return a;
-    }
-    b
 }
 
 // A count as a word; in an answer it is below 65,536, and the remainder is the count.

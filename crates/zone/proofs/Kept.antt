@@ -1,13 +1,13 @@
--- What each store of a visit keeps: an axis within m stays within m, and within 32,782 more once a linked edge is aligned.
+-- What each store of a visit keeps: an axis within m stays within m, and within a fitted width more once a linked edge is aligned.
 use mathlib.Core.Path.{_≡_, refl, sym, subst, _∙_}
-use mathlib.Core.Bool.{Bool, true, false, cond}
-use mathlib.Core.List.{List, [], _∷_}
-use Prim.Native.Nat.{ℕ, zero, suc, _+_, _≤_, _<_}
+use mathlib.Core.Bool.{Bool, cond}
+use mathlib.Core.List.{List}
+use Prim.Native.Nat.{ℕ, _+_, _≤_, _<_}
 use native.Mathlib.Omega.{arith}
-use lib.ListN.{getD, set}
 use lib.IntN.{ℤ, _-ℤ_}
 use Rattle.signed.specs.Range.{Between}
 use Rattle.signed.proofs.Signed.{add-law}
+use Rattle.signed.proofs.Choices.{either-way, at-set}
 use Rattle.fixed.specs.declared.width.WidthRule.{WidthRule}
 use Rattle.fixed.specs.Width.{fittedWidth}
 use Rattle.axis.specs.declared.kinds.Link.{Link}
@@ -16,28 +16,17 @@ use Rattle.axis.specs.declared.kinds.Blue.{Blue}
 use Rattle.axis.specs.declared.kinds.Blue.the-variants as Blues
 use Rattle.axis.specs.declared.edge.Edge.{Edge}
 use Rattle.axis.specs.declared.edge.Axis.{Axis}
-use Rattle.axis.specs.Edge.{emptyEdge, edgeAt, putEdge, placed, finished}
+use Rattle.axis.specs.Link.{indexOr}
+use Rattle.axis.specs.Edge.{emptyEdge, edgeAt, putEdge, fixedAt}
 use Rattle.axis.specs.Limits.{mostUnits}
 use Rattle.axis.specs.Accepted.{Below, InZone, EdgeWithin, AxisWithin}
 use Rattle.placing.specs.Placing.{linkedPos}
-use Rattle.placing.specs.Steps.{mostReach, InReach}
+use Rattle.placing.specs.Steps.{mostWidth, mostReach, InReach}
 use Rattle.placing.proofs.Reach.{width-range}
 use Rattle.zone.specs.Zones.{hasBlue}
-use Rattle.zone.specs.Steps.{thinned, linkOr, zoneOf, linkedOrZoned}
-
--- what holds of both choices holds of the chosen one
-pub either-way : {A : Type 0} (P : A → Type 0) (t : Bool) (a b : A) → P a → P b → P (cond t a b)
-either-way P true a b h g = h
-either-way P false a b h g = g
+use Rattle.zone.specs.Steps.{thinned, zoneOf, linkedOrZoned}
 
 -- ---- edges
-pub at-set : {A : Type 0} (P : A → Type 0) (l : List A) (i k : ℕ) (v d : A) → P v → P (getD l k d) → P (getD (set l i v) k d)
-at-set P [] i k v d g h = h
-at-set P (x ∷ l) zero zero v d g h = g
-at-set P (x ∷ l) zero (suc k) v d g h = h
-at-set P (x ∷ l) (suc i) zero v d g h = h
-at-set P (x ∷ l) (suc i) (suc k) v d g h = at-set P l i k v d g h
-
 edge-more : (m c n : ℕ) (e : Edge) → m ≤ c → EdgeWithin m n e → EdgeWithin c n e
 edge-more m c n e w h = let p = h .pos in record { opos = h .opos; pos = omega arith; blue = h .blue; link = h .link; serif = h .serif }
 
@@ -58,13 +47,12 @@ pub reach-at : (m n j : ℕ) (axis : Axis) → AxisWithin m axis → axis .len �
 reach-at m n j axis h e q w = let f = edge-at m n j axis h e q in let p = f .pos in record { opos = f .opos; pos = omega arith }
 
 -- ---- places
-or-below : (n i : ℕ) (l : Link) → Below n l → i < n → linkOr l i < n
-unfolding linkOr
+or-below : (n i : ℕ) (l : Link) → Below n l → i < n → indexOr i l < n
 or-below n i Links.None h q = q
 or-below n i (Links.To k) h q = h .at k refl
 
 -- the link of edge i, or i, is an edge
-pub link-in : (m n i k : ℕ) (axis : Axis) → AxisWithin m axis → axis .len ≡ n → i < n → k ≡ linkOr (edgeAt axis i .link) i → k < n
+pub link-in : (m n i k : ℕ) (axis : Axis) → AxisWithin m axis → axis .len ≡ n → i < n → k ≡ indexOr i (edgeAt axis i .link) → k < n
 link-in m n i k axis h e q g = subst (λ (x : ℕ). x < n) (sym g) (or-below n i (edgeAt axis i .link) (edge-at m n i axis h e q .link) q)
 
 pub choice-in : (n i k r : ℕ) (t : Bool) → i < n → k < n → r ≡ cond t i k → r < n
@@ -83,13 +71,14 @@ unfolding zoneOf
 zone-in Blues.None y h g = g
 zone-in (Blues.Fitted z) y h g = h
 
-linked-within : (m n : ℕ) (rule : WidthRule) (xs : List ℤ) (base stem : Edge) → EdgeWithin m n base → EdgeWithin m n stem → EdgeWithin (m + 32782) n (linkedOrZoned rule xs base stem)
+linked-within : (m n : ℕ) (rule : WidthRule) (xs : List ℤ) (base stem : Edge) → EdgeWithin m n base → EdgeWithin m n stem
+    → EdgeWithin (m + mostWidth) n (linkedOrZoned rule xs base stem)
 unfolding linkedOrZoned linkedPos
 linked-within m n rule xs base stem h g =
     let p = h .pos in
     let w = width-range rule xs (base .opos) (stem .opos) (h .opos) (g .opos) in
-    either-way (EdgeWithin (m + 32782) n) (hasBlue (stem .blue)) stem _
-    (edge-more m (m + 32782) n stem (omega arith) g)
+    either-way (EdgeWithin (m + mostWidth) n) (hasBlue (stem .blue)) stem _
+    (edge-more m (m + mostWidth) n stem (omega arith) g)
     (record {
       opos = g .opos;
       pos = omega (arith, w, add-law (base .pos) (fittedWidth rule xs (stem .opos -ℤ base .opos)));
@@ -100,17 +89,23 @@ linked-within m n rule xs base stem h g =
 
 -- ---- the stores of a visit, one after the other
 pub thin-put : (m n i : ℕ) (axis : Axis) (skip : Bool) (e : Edge) → AxisWithin m axis → axis .len ≡ n → i < n → e ≡ thinned skip (edgeAt axis i) → AxisWithin m (putEdge axis i e)
-thin-put m n i axis skip e h q k g = put-within m i axis e h (subst (EdgeWithin m (axis .len)) (sym g) (thinned-within m (axis .len) skip (edgeAt axis i) (h .edge i (omega arith))))
+thin-put m n i axis skip e h q k g =
+    put-within m i axis e h (subst (EdgeWithin m (axis .len)) (sym g) (thinned-within m (axis .len) skip (edgeAt axis i) (h .edge i (omega arith))))
 
-pub zone-at : (m n i k : ℕ) (axis : Axis) (x : Blue) (z : ℤ) → AxisWithin m axis → axis .len ≡ n → i < n → k < n → x ≡ zoneOf (edgeAt axis i .blue) (edgeAt axis k .blue) → x ≡ Blues.Fitted z → Between mostUnits mostUnits z
-zone-at m n i k axis x z h e hi hk q g = zone-in (edgeAt axis i .blue) (edgeAt axis k .blue) (edge-at m n i axis h e hi .blue) (edge-at m n k axis h e hk .blue) .at z (sym q ∙ g)
+pub zone-at : (m n i k : ℕ) (axis : Axis) (x : Blue) (z : ℤ) → AxisWithin m axis → axis .len ≡ n → i < n → k < n
+    → x ≡ zoneOf (edgeAt axis i .blue) (edgeAt axis k .blue) → x ≡ Blues.Fitted z → Between mostUnits mostUnits z
+zone-at m n i k axis x z h e hi hk q g =
+    zone-in (edgeAt axis i .blue) (edgeAt axis k .blue) (edge-at m n i axis h e hi .blue) (edge-at m n k axis h e hk .blue) .at z (sym q ∙ g)
 
-pub zone-put : (m n i : ℕ) (axis : Axis) (z : ℤ) (e : Edge) → AxisWithin m axis → axis .len ≡ n → i < n → mostUnits ≤ m → Between mostUnits mostUnits z → e ≡ finished (placed (edgeAt axis i) z) → AxisWithin m (putEdge axis i e)
+pub zone-put : (m n i : ℕ) (axis : Axis) (z : ℤ) (e : Edge) → AxisWithin m axis → axis .len ≡ n → i < n → mostUnits ≤ m → Between mostUnits mostUnits z
+    → e ≡ fixedAt (edgeAt axis i) z → AxisWithin m (putEdge axis i e)
 zone-put m n i axis z e h q k r w g =
     let f = h .edge i (omega arith) in
     put-within m i axis e h (subst (EdgeWithin m (axis .len)) (sym g) (record { opos = f .opos; pos = omega arith; blue = f .blue; link = f .link; serif = f .serif }))
 
-pub link-put : (m n one two : ℕ) (axis : Axis) (rule : WidthRule) (xs : List ℤ) (e : Edge) → AxisWithin m axis → axis .len ≡ n → one < n → two < n → e ≡ linkedOrZoned rule xs (edgeAt axis one) (edgeAt axis two) → AxisWithin (m + 32782) (putEdge axis two e)
+pub link-put : (m n one two : ℕ) (axis : Axis) (rule : WidthRule) (xs : List ℤ) (e : Edge) → AxisWithin m axis → axis .len ≡ n → one < n → two < n
+    → e ≡ linkedOrZoned rule xs (edgeAt axis one) (edgeAt axis two) → AxisWithin (m + mostWidth) (putEdge axis two e)
 link-put m n one two axis rule xs e h q h1 h2 g =
-    put-within (m + 32782) two axis e (within-more m (m + 32782) axis (omega arith) h)
-    (subst (EdgeWithin (m + 32782) (axis .len)) (sym g) (linked-within m (axis .len) rule xs (edgeAt axis one) (edgeAt axis two) (h .edge one (omega arith)) (h .edge two (omega arith))))
+    put-within (m + mostWidth) two axis e (within-more m (m + mostWidth) axis (omega arith) h)
+    (subst (EdgeWithin (m + mostWidth) (axis .len)) (sym g)
+    (linked-within m (axis .len) rule xs (edgeAt axis one) (edgeAt axis two) (h .edge one (omega arith)) (h .edge two (omega arith))))

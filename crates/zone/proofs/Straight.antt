@@ -2,7 +2,7 @@
 use mathlib.Core.Path.{_≡_, refl, ap, _∙_}
 use mathlib.Core.Bool.{Bool, true, false, not, cond, _&&_}
 use mathlib.Core.List.{List, [], _∷_}
-use Prim.Native.Nat.{ℕ, zero, suc, _+_}
+use Prim.Native.Nat.{ℕ, zero, suc}
 use lib.IntN.{ℤ}
 use lib.ListN.{getD, set}
 use lib.Seq.{set-getD}
@@ -13,9 +13,12 @@ use Rattle.axis.specs.declared.kinds.Blue.{Blue}
 use Rattle.axis.specs.declared.kinds.Blue.the-variants as Blues
 use Rattle.axis.specs.declared.edge.Edge.{Edge}
 use Rattle.axis.specs.declared.edge.Axis.{Axis}
-use Rattle.axis.specs.Edge.{emptyEdge, edgeAt, putEdge, placed, finished}
-use Rattle.zone.specs.Zones.{hasBlue, unzoned, skipped, onZone, linkAligned, State, anchorFirst, visitAlone, visitPair, visitLink, visit, visits}
-use Rattle.zone.specs.Steps.{thinned, isLinked, linkOr, bothZoned, losesLink, losesOwn, zoneOf, linkedOrZoned, thinBoth, linkAt, byZone, stepBy, step}
+use Rattle.axis.specs.Link.{isLinked, indexOr}
+use Rattle.axis.specs.Edge.{emptyEdge, edgeAt, putEdge, fixedAt}
+use Rattle.axis.specs.Visits.{visits}
+use Rattle.axis.proofs.Visits.{visits-same}
+use Rattle.zone.specs.Zones.{hasBlue, unzoned, skipped, onZone, linkAligned, State, anchorFirst, visitAlone, visitPair, visitLink, visit}
+use Rattle.zone.specs.Steps.{thinned, bothZoned, losesLink, losesOwn, zoneOf, linkedOrZoned, thinBoth, linkAt, byZone, stepBy, step}
 
 -- ---- stores that change nothing
 pub put-same : (axis : Axis) (i : ℕ) → putEdge axis i (edgeAt axis i) ≡ axis
@@ -33,25 +36,39 @@ blueOf e = e .blue
 
 zone-keeps : (axis : Axis) (i k : ℕ) (z : ℤ) → edgeAt (onZone axis i z) k .blue ≡ edgeAt axis k .blue
 unfolding blueOf
-zone-keeps axis i k z = keeps blueOf (axis .edges) i k (finished (placed (edgeAt axis i) z)) emptyEdge refl
+zone-keeps axis i k z = keeps blueOf (axis .edges) i k (fixedAt (edgeAt axis i) z) emptyEdge refl
 
 -- ---- one store of two is made
+-- the edge without its zone where that is skipped, as `thinned` has it
+abbrev bare : Bool → Edge → Edge
+bare skip e = cond skip (unzoned e) e
+
 one-of-two : (axis : Axis) (i k : ℕ) (p q r : Bool) →
-    putEdge (putEdge axis i (cond (p && (not q && r)) (unzoned (edgeAt axis i)) (edgeAt axis i))) k
-    (cond (p && q) (unzoned (edgeAt (putEdge axis i (cond (p && (not q && r)) (unzoned (edgeAt axis i)) (edgeAt axis i))) k)) (edgeAt (putEdge axis i (cond (p && (not q && r)) (unzoned (edgeAt axis i)) (edgeAt axis i))) k))
+    putEdge (putEdge axis i (bare (p && (not q && r)) (edgeAt axis i))) k (bare (p && q) (edgeAt (putEdge axis i (bare (p && (not q && r)) (edgeAt axis i))) k))
     ≡ cond p (cond q (putEdge axis k (unzoned (edgeAt axis k))) (cond r (putEdge axis i (unzoned (edgeAt axis i))) axis)) axis
 one-of-two axis i k false q r = put-same _ k ∙ put-same axis i
 one-of-two axis i k true true r = ap (λ (u : Axis). putEdge u k (unzoned (edgeAt u k))) (put-same axis i)
 one-of-two axis i k true false true = put-same _ k
 one-of-two axis i k true false false = put-same _ k ∙ put-same axis i
 
+-- with a link both have a zone where each has one, without it never
+zoned-linked : (e f : Edge) → isLinked (e .link) ≡ true → bothZoned e f ≡ (hasBlue (e .blue) && hasBlue (f .blue))
+unfolding bothZoned
+zoned-linked e f h = ap (λ (t : Bool). t && (hasBlue (e .blue) && hasBlue (f .blue))) h
+
+zoned-alone : (e f : Edge) → isLinked (e .link) ≡ false → bothZoned e f ≡ false
+unfolding bothZoned
+zoned-alone e f h = ap (λ (t : Bool). t && (hasBlue (e .blue) && hasBlue (f .blue))) h
+
 thin-skipped : (axis : Axis) (i k : ℕ) → isLinked (edgeAt axis i .link) ≡ true → thinBoth axis i k ≡ skipped axis i k
-unfolding thinned losesOwn losesLink bothZoned skipped
-thin-skipped axis i k h = rw h (one-of-two axis i k (hasBlue (edgeAt axis i .blue) && hasBlue (edgeAt axis k .blue)) (edgeAt axis k .flags .neutral) (edgeAt axis i .flags .neutral))
+unfolding thinned losesOwn losesLink skipped
+thin-skipped axis i k h =
+    rw (zoned-linked (edgeAt axis i) (edgeAt axis k) h)
+    (one-of-two axis i k (hasBlue (edgeAt axis i .blue) && hasBlue (edgeAt axis k .blue)) (edgeAt axis k .flags .neutral) (edgeAt axis i .flags .neutral))
 
 thin-alone : (axis : Axis) (i : ℕ) → isLinked (edgeAt axis i .link) ≡ false → thinBoth axis i i ≡ axis
-unfolding thinned losesOwn losesLink bothZoned
-thin-alone axis i h = rw h (put-same _ i ∙ put-same axis i)
+unfolding thinned losesOwn losesLink
+thin-alone axis i h = rw (zoned-alone (edgeAt axis i) (edgeAt axis i) h) (put-same _ i ∙ put-same axis i)
 
 module _ (rule : WidthRule) (xs : List ℤ) where
   link-same : (axis : Axis) (i j : ℕ) → linkAt rule xs axis i j ≡ linkAligned rule xs axis i j
@@ -87,8 +104,8 @@ module _ (rule : WidthRule) (xs : List ℤ) where
     pair-alone (Blues.Fitted z) h = ap (λ (u : Axis). record { axis = u; anchor = anchorFirst a i }) (aligned-own z h)
 
   module _ (axis : Axis) (a : Link) (i : ℕ) where
-    by-link : (l : Link) → edgeAt axis i .link ≡ l → stepBy rule xs (record { axis = axis; anchor = a }) i (linkOr l i) ≡ visitLink rule xs (record { axis = axis; anchor = a }) i l
-    unfolding linkOr visitLink isLinked
+    by-link : (l : Link) → edgeAt axis i .link ≡ l → stepBy rule xs (record { axis = axis; anchor = a }) i (indexOr i l) ≡ visitLink rule xs (record { axis = axis; anchor = a }) i l
+    unfolding visitLink
     by-link Links.None h =
         ap (λ (u : Axis). byZone rule xs u a i i (zoneOf (edgeAt u i .blue) (edgeAt u i .blue))) (thin-alone axis i (ap isLinked h))
         ∙ zone-pair axis a i i (edgeAt axis i .blue) (edgeAt axis i .blue) refl
@@ -102,10 +119,5 @@ module _ (rule : WidthRule) (xs : List ℤ) where
     step-is = ap (cond (edgeAt axis i .flags .done) (record { axis = axis; anchor = a })) (by-link (edgeAt axis i .link) refl)
 
 -- ---- and so are the passes
-pub visits-same : {S : Type 0} (f g : S → ℕ → S) → ((s : S) (i : ℕ) → f s i ≡ g s i) → (n i : ℕ) (s : S) → visits f n i s ≡ visits g n i s
-unfolding visits
-visits-same f g h zero i s = refl
-visits-same f g h (suc n) i s = ap (visits f n (i + 1)) (h s i) ∙ visits-same f g h n (i + 1) (g s i)
-
 pub steps-are : (rule : WidthRule) (xs : List ℤ) (n i : ℕ) (s : State) → visits (step rule xs) n i s ≡ visits (visit rule xs) n i s
 steps-are rule xs n i s = visits-same (step rule xs) (visit rule xs) (λ (s : State) (i : ℕ). step-is rule xs (s .axis) (s .anchor) i) n i s

@@ -1,15 +1,15 @@
 -- What the steps of the pass promise each other: a visit along one path, with the edge itself where it has no link. `steps-are` shows that steps are visits.
-use mathlib.Core.Bool.{Bool, true, false, not, cond, _&&_}
+use mathlib.Core.Bool.{Bool, not, cond, _&&_}
 use mathlib.Core.List.{List}
 use Prim.Native.Nat.{ℕ}
 use lib.IntN.{ℤ}
 use Rattle.fixed.specs.declared.width.WidthRule.{WidthRule}
 use Rattle.axis.specs.declared.kinds.Link.{Link}
-use Rattle.axis.specs.declared.kinds.Link.the-variants as Links
 use Rattle.axis.specs.declared.kinds.Blue.{Blue}
 use Rattle.axis.specs.declared.kinds.Blue.the-variants as Blues
 use Rattle.axis.specs.declared.edge.Edge.{Edge}
 use Rattle.axis.specs.declared.edge.Axis.{Axis}
+use Rattle.axis.specs.Link.{isLinked, indexOr}
 use Rattle.axis.specs.Edge.{edgeAt, putEdge, finished}
 use Rattle.placing.specs.Placing.{linkedEdge}
 use Rattle.zone.specs.Zones.{hasBlue, unzoned, onZone, State, anchorFirst}
@@ -17,16 +17,6 @@ use Rattle.zone.specs.Zones.{hasBlue, unzoned, onZone, State, anchorFirs
 -- the edge, without its zone where that is skipped
 unfoldable pub thinned : Bool → Edge → Edge
 thinned skip e = cond skip (unzoned e) e
-
--- there is a link
-unfoldable pub isLinked : Link → Bool
-isLinked Links.None = false
-isLinked (Links.To k) = true
-
--- the link, or i where there is none
-unfoldable pub linkOr : Link → ℕ → ℕ
-linkOr Links.None i = i
-linkOr (Links.To k) i = k
 
 -- the edge e and its link f both have a zone
 unfoldable pub bothZoned : Edge → Edge → Bool
@@ -74,4 +64,4 @@ stepBy rule xs s i k = byZone rule xs (thinBoth (s .axis) i k) (s .anchor) i k (
 
 -- the step of edge i
 unfoldable pub step : WidthRule → List ℤ → State → ℕ → State
-step rule xs s i = cond (edgeAt (s .axis) i .flags .done) s (stepBy rule xs s i (linkOr (edgeAt (s .axis) i .link) i))
+step rule xs s i = cond (edgeAt (s .axis) i .flags .done) s (stepBy rule xs s i (indexOr i (edgeAt (s .axis) i .link)))

@@ -1,7 +1,7 @@
 -- Edges put on their blue zones (document 01, module 5), as the Rust's `align_edges_to_blues` visits them; `blues_pass` has the pass, `blues` the call.
 use mathlib.Core.Bool.{Bool, true, false, cond, _&&_}
 use mathlib.Core.List.{List}
-use Prim.Native.Nat.{ℕ, zero, suc, _+_}
+use Prim.Native.Nat.{ℕ}
 use lib.IntN.{ℤ}
 use Rattle.fixed.specs.declared.width.WidthRule.{WidthRule}
 use Rattle.axis.specs.declared.flags.Flags.{Flags}
@@ -11,7 +11,7 @@ use Rattle.axis.specs.declared.kinds.Blue.{Blue}
 use Rattle.axis.specs.declared.kinds.Blue.the-variants as Blues
 use Rattle.axis.specs.declared.edge.Edge.{Edge}
 use Rattle.axis.specs.declared.edge.Axis.{Axis}
-use Rattle.axis.specs.Edge.{edgeAt, putEdge, placed, finished}
+use Rattle.axis.specs.Edge.{edgeAt, putEdge, changed, finished, fixedAt}
 use Rattle.placing.specs.Placing.{linkedEdge}
 
 -- ---- zones
@@ -26,7 +26,7 @@ notNeutral f = record { round = f .round; serif = f .serif; done = f .done; neut
 
 -- the edge without its zone, and no longer neutral
 abbrev pub unzoned : Edge → Edge
-unzoned e = record { fpos = e .fpos; opos = e .opos; pos = e .pos; flags = notNeutral (e .flags); dir = e .dir; blue = Blues.None; link = e .link; serif = e .serif; first = e .first; last = e .last }
+unzoned e = changed e (e .pos) (notNeutral (e .flags)) Blues.None (e .link) (e .serif) (e .last)
 
 -- where edge i and its link k both have a zone, one that is neutral is skipped: the link's, or else the edge's own
 unfoldable pub skipped : Axis → ℕ → ℕ → Axis
@@ -39,7 +39,7 @@ skipped axis i k =
 
 -- edge i at the zone's fitted position, done
 abbrev pub onZone : Axis → ℕ → ℤ → Axis
-onZone axis i z = putEdge axis i (finished (placed (edgeAt axis i) z))
+onZone axis i z = putEdge axis i (fixedAt (edgeAt axis i) z)
 
 -- edge j, linked to edge i on its zone, aligned and done, where it has no zone of its own
 unfoldable pub linkAligned : WidthRule → List ℤ → Axis → ℕ → ℕ → Axis
@@ -80,8 +80,3 @@ visitLink rule xs s i (Links.To k) = thenPair rule xs (record { axis = skipped (
 -- an edge that is done is passed over
 unfoldable pub visit : WidthRule → List ℤ → State → ℕ → State
 visit rule xs s i = cond (edgeAt (s .axis) i .flags .done) s (visitLink rule xs s i (edgeAt (s .axis) i .link))
-
--- n visits, from edge i on
-unfoldable pub visits : {S : Type 0} → (S → ℕ → S) → ℕ → ℕ → S → S
-visits f zero i s = s
-visits f (suc n) i s = visits f n (i + 1) (f s i)

@@ -1,19 +1,19 @@
 // What the pass asks of two edges and does to one.
 use axis::edge::Edge;
 use axis::edge::with_done_flag;
-use axis::edge::with_pos;
 use axis::kinds::Blue;
 use axis::kinds::Link;
+use axis::link::is_linked;
 use fixed::width::WidthRule;
 use placing::place::linked_edge;
 ghost use mathlib.Core.Path.{_≡_};
 ghost use mathlib.Core.Bool.{true, cond};
 ghost use Prim.Native.Nat.{_<_};
-ghost use Rattle.axis.specs.Edge.{placed, finished};
+ghost use Rattle.axis.specs.Limits.{mostEdges};
 ghost use Rattle.fixed.specs.Width.{ruleHolds};
 ghost use Rattle.placing.specs.Steps.{InReach};
 ghost use Rattle.zone.specs.Zones.{hasBlue, unzoned, anchorFirst};
-ghost use Rattle.zone.specs.Steps.{isLinked, linkOr, bothZoned, losesOwn, losesLink, thinned, zoneOf, linkedOrZoned};
+ghost use Rattle.zone.specs.Steps.{bothZoned, losesOwn, losesLink, thinned, zoneOf, linkedOrZoned};
 
 // Whether an edge has a blue zone.
 pub fn has_blue(edge: Edge) -> bool
@@ -57,26 +57,6 @@ pub fn thin(skipped: bool, edge: Edge) -> Edge
         return unzone(edge);
     }
     edge
-}
-
-// Whether there is a link.
-fn is_linked(link: Link) -> bool
-    ensures { λ r. ⌜ r ≡ isLinked link ⌝ }
-{
-    match link {
-        Link::None => false,
-        Link::To(k) => true,
-    }
-}
-
-// The linked edge, or the edge itself where there is none.
-pub fn link_or(link: Link, edge: usize) -> usize
-    ensures { λ r. ⌜ r ≡ linkOr link edge ⌝ }
-{
-    match link {
-        Link::None => edge,
-        Link::To(k) => k as usize,
-    }
 }
 
 // Whether an edge and its link both have a zone.
@@ -136,15 +116,6 @@ pub fn choose(first: bool, a: usize, b: usize) -> usize
     b
 }
 
-// The edge at a position, done.
-pub fn fix_at(edge: Edge, pos: i32) -> Edge
-    ensures { λ r. ⌜ r ≡ finished (placed edge pos) ⌝ }
-{
-    let mut fixed = with_pos(edge, pos);
-    fixed.flags.done = true;
-    fixed
-}
-
 // The stem edge aligned to the base edge and done, where it has no zone of its own.
 pub fn align_stem(rule: WidthRule, standards: &[i32], base: Edge, stem: Edge) -> Edge
     requires { ⌜ ruleHolds rule (now standards) ≡ true ⌝ }
@@ -159,7 +130,7 @@ pub fn align_stem(rule: WidthRule, standards: &[i32], base: Edge, stem: Edge) ->
 
 // The anchor, which the first edge whose visit found a zone becomes.
 pub fn anchor_first(anchor: Link, edge: usize) -> Link
-    requires { ⌜ edge < 128 ⌝ }
+    requires { ⌜ edge < mostEdges ⌝ }
     ensures { λ r. ⌜ r ≡ anchorFirst anchor edge ⌝ }
 {
     match anchor {

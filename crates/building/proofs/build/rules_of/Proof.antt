@@ -2,7 +2,7 @@
 use borrow.Author.Needs.{needs}
 use mir.Syntax.{w32}
 use Rattle.signed.proofs.Signed.{is}
-use Rattle.joining.proofs.Reading.{back}
+use Rattle.signed.proofs.Reading.{back}
 use Rattle.building.proofs.Scales.{right}
 use Rattle.building.proofs.build.rules_of.Statement.{statement}
 use Rattle.building.proofs.build.rules_of.Tie as tie
@@ -24,7 +24,13 @@ returns c =
     let goes-down = told .before in
     let start = goes-down .before in
     let near = rw (back w32 (start .args .thresholds .distance) (told .struct-told .given .0 .1), is (start .fits .scale)) at (near-of .near-of .ensures) in
-    rw (back w32 (start .args .thresholds .length) (told2 .struct-told2 .given .1 .0 .1), back w32 (start .args .thresholds .width) (c .struct-told3 .given .1 .1 .0 .1), is (start .fits .scale), near, goes-down .goes-down .ensures)
+    rw (
+      back w32 (start .args .thresholds .length) (told2 .struct-told2 .given .1 .0 .1),
+      back w32 (start .args .thresholds .width) (c .struct-told3 .given .1 .1 .0 .1),
+      is (start .fits .scale),
+      near,
+      goes-down .goes-down .ensures,
+    )
 
 pub rules-of-spec : {M : Type 1} → statement M
 rules-of-spec = tie.close (tie.spec goes-down-requires near-of-requires returns)

@@ -2,13 +2,14 @@
 use native.Mathlib.Omega.{arith}
 use mathlib.Core.Path.{_≡_, sym, ap, _∙_}
 use mathlib.Core.Bool.{Bool, true, false}
-use lib.IntN.{pos, natAbs}
+use lib.IntN.{natAbs}
 use lib.Signed.{ltZ}
 use mir.Syntax.{w32, w64}
 use mir.Val.{toZ, ofZ}
 use Rattle.signed.proofs.Signed.{signed, fits, range, is, got}
 use Rattle.fixed.specs.Point.{mulFix, divFix}
 use Rattle.signed.proofs.By.{by₂}
+use Rattle.building.specs.Building.{mostDistance}
 use Rattle.building.proofs.Scales.{scaled-fits, quotient-near, number-near, over, under-cjk, under-latin}
 use Rattle.building.proofs.numbers.near_of.Statement.{statement}
 use Rattle.building.proofs.numbers.near_of.Tie as tie
@@ -17,8 +18,8 @@ use Rattle.building.proofs.numbers.near_of.Tie as tie
 scaled : (c : tie.After-fixed-mul) → toZ w32 (ofZ w32 (c .fixed-mul .result)) ≡ mulFix (c .before .args .distance) (c .before .args .scale)
 scaled c = is (got w32 (c .fixed-mul .result) (c .fixed-mul .ok)) ∙ by₂ mulFix (c .fixed-mul .ensures) (is (c .before .fits .distance)) (is (c .before .fits .scale))
 
-tested : (c : tie.After-fixed-mul) (v : Bool) → ltZ (pos 16) (toZ w32 (ofZ w32 (c .fixed-mul .result))) ≡ v → ltZ (pos 16) (mulFix (c .before .args .distance) (c .before .args .scale)) ≡ v
-tested c v e = sym (ap (ltZ (pos 16)) (scaled c)) ∙ e
+tested : (c : tie.After-fixed-mul) (v : Bool) → ltZ mostDistance (toZ w32 (ofZ w32 (c .fixed-mul .result))) ≡ v → ltZ mostDistance (mulFix (c .before .args .distance) (c .before .args .scale)) ≡ v
+tested c v e = sym (ap (ltZ mostDistance) (scaled c)) ∙ e
 
 fixed-mul-requires : tie.Need-fixed-mul-requires
 fixed-mul-requires c κs = rw (is (c .fits .distance), is (c .fits .scale)) (scaled-fits _ _ (c .pre .0) (c .pre .1))
@@ -27,17 +28,19 @@ wide-div-requires : tie.Need-wide-div-requires
 wide-div-requires c κs = let start = c .before .before in rw (is (start .fits .scale)) (start .pre .2)
 
 -- the two quotients
-most : (c : tie.After-wide-div) → toZ w64 (ofZ w64 (c .wide-div .result)) ≡ divFix (pos 16) (c .before .before .before .args .scale)
-most c = is (got w64 (c .wide-div .result) (c .wide-div .ok)) ∙ c .wide-div .ensures ∙ ap (divFix (pos 16)) (is (c .before .before .before .fits .scale))
+most : (c : tie.After-wide-div) → toZ w64 (ofZ w64 (c .wide-div .result)) ≡ divFix mostDistance (c .before .before .before .args .scale)
+most c = is (got w64 (c .wide-div .result) (c .wide-div .ok)) ∙ c .wide-div .ensures ∙ ap (divFix mostDistance) (is (c .before .before .before .fits .scale))
 
-own : (c : tie.After-wide-div2) → toZ w64 (ofZ w64 (c .wide-div2 .result)) ≡ divFix (mulFix (c .before .before .before .before .args .distance) (c .before .before .before .before .args .scale)) (c .before .before .before .before .args .scale)
+own : (c : tie.After-wide-div2)
+    → toZ w64 (ofZ w64 (c .wide-div2 .result))
+    ≡ divFix (mulFix (c .before .before .before .before .args .distance) (c .before .before .before .before .args .scale)) (c .before .before .before .before .args .scale)
 own c =
     let fixed-mul = c .before .before .before in
     let start = fixed-mul .before in
     is (got w64 (c .wide-div2 .result) (c .wide-div2 .ok)) ∙ by₂ divFix (c .wide-div2 .ensures) (scaled fixed-mul) (is (start .fits .scale))
 
 magnitude-requires : tie.Need-magnitude-requires
-magnitude-requires c κs = rw (most c) (quotient-near (pos 16) _ (fits (omega (arith, signed))) (c .before .before .before .pre .2))
+magnitude-requires c κs = rw (most c) (quotient-near mostDistance _ (fits (omega (arith, signed))) (c .before .before .before .pre .2))
 
 returns : tie.Need-returns
 returns c =

@@ -8,7 +8,7 @@ use Rattle.signed.proofs.Signed.{is}
 use Rattle.axis.specs.Limits.{mostScore, leastScale, mostScale}
 use Rattle.axis.specs.Refusals.{inside}
 use Rattle.building.specs.Building.{numbersHold}
-use Rattle.joining.proofs.Reading.{back}
+use Rattle.signed.proofs.Reading.{back}
 use Rattle.building.proofs.numbers.numbers_hold.Statement.{statement}
 use Rattle.building.proofs.numbers.numbers_hold.Tie as tie
 
@@ -58,7 +58,11 @@ returns-4 c =
     let else2 = else3 .before .before .before in
     let else1 = else2 .before .before .before in
     let start = else1 .before .before in
-    rw (sym (scale-is (else1 .before)) ∙ not-false _ (else1 .if1 .left), sym (distance-is (else2 .before)) ∙ not-false _ (else2 .if2 .left), sym (length-is (else3 .before)) ∙ not-false _ (else3 .if3 .left))
+    rw (
+      sym (scale-is (else1 .before)) ∙ not-false _ (else1 .if1 .left),
+      sym (distance-is (else2 .before)) ∙ not-false _ (else2 .if2 .left),
+      sym (length-is (else3 .before)) ∙ not-false _ (else3 .if3 .left),
+    )
     (rw (back w32 (start .args .thresholds .width) (told3 .struct-told3 .given .1 .1 .0 .1)) at (c .is-inside4 .ensures))
 
 pub numbers-hold-spec : {M : Type 1} → statement M

@@ -9,7 +9,7 @@ use Rattle.fixed.specs.Point.{mulFix}
 use Rattle.axis.specs.Limits.{mostUnits}
 use Rattle.axis.proofs.Tests.{inside-high, inside-low}
 use Rattle.building.specs.Building.{scaledHolds}
-use Rattle.joining.proofs.Reading.{cast-16, back-16}
+use Rattle.signed.proofs.Reading.{cast-16, back-16}
 use Rattle.building.proofs.numbers.scaled_holds.Statement.{statement}
 use Rattle.building.proofs.numbers.scaled_holds.Tie as tie
 
@@ -26,6 +26,12 @@ cast-wide-mul c = cast-16 (c .before .before .args .segment .pos) (c .struct-tol
 wide-mul-requires : tie.Need-wide-mul-requires
 wide-mul-requires c κs = search needs
 
+cast-if1 : tie.Need-cast-if1
+cast-if1 c = search needs
+
+cast-result : tie.Need-cast-result
+cast-result c = search needs
+
 returns : tie.Need-returns
 unfolding scaledHolds
 returns c = inside-high (negℤ (pos mostUnits)) (pos mostUnits) _ _ _ _ refl refl (product (c .before)) (c .if1 .taken)
@@ -35,4 +41,4 @@ unfolding scaledHolds
 returns-2 c = inside-low (negℤ (pos mostUnits)) (pos mostUnits) _ _ _ refl (product (c .before)) (c .if1 .left)
 
 pub scaled-holds-spec : {M : Type 1} → statement M
-scaled-holds-spec = tie.close (tie.spec cast-wide-mul wide-mul-requires returns returns-2)
+scaled-holds-spec = tie.close (tie.spec cast-wide-mul wide-mul-requires cast-if1 cast-result returns returns-2)

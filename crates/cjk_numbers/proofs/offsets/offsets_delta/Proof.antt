@@ -47,7 +47,8 @@ is-blocked-requires c κs = search needs
 above : (c : tie.Else3) → leZ (c .before .before .before .args .cur-len) (c .before .before .before .args .threshold) ≡ false
 above c = let s = c .before .before .before in rw (is (s .fits .cur-len), is (s .fits .threshold)) at (c .if3 .left)
 
-blocked-is : (c : tie.After-is-blocked) → c .is-blocked .result ≡ isBlocked (c .before .before .before .before .args .d-off1) (c .before .before .before .before .args .d-off2) (c .before .before .before .before .args .threshold)
+blocked-is : (c : tie.After-is-blocked) → c .is-blocked .result
+    ≡ isBlocked (c .before .before .before .before .args .d-off1) (c .before .before .before .before .args .d-off2) (c .before .before .before .before .args .threshold)
 blocked-is c = let s = c .before .before .before .before in rw (is (s .fits .d-off1), is (s .fits .d-off2), is (s .fits .threshold)) at (c .is-blocked .ensures)
 
 returns-4 : tie.Need-returns-4

@@ -22,7 +22,8 @@ down-or-up-requires : tie.Need-down-or-up-requires
 down-or-up-requires c κs = let k = sub-u-off1 c also sub-down-or-up c also sub-down-or-up-2 c in (omega (arith, signed), omega (arith, signed))
 
 -- the move of the first edge
-first-is : (c : tie.After-down-or-up) → c .down-or-up .result ≡ downOrUp (c .before .args .threshold -ℤ (pos 64 -ℤ c .before .args .d-off1)) ((pos 64 -ℤ c .before .args .d-off1) -ℤ c .before .args .offset)
+first-is : (c : tie.After-down-or-up) → c .down-or-up .result
+    ≡ downOrUp (c .before .args .threshold -ℤ (pos 64 -ℤ c .before .args .d-off1)) ((pos 64 -ℤ c .before .args .d-off1) -ℤ c .before .args .offset)
 first-is c =
     let s = c .before in
     rw (is (sub-down-or-up s), is (sub-down-or-up-2 s), is (sub-u-off1 s), is (s .fits .d-off1), is (s .fits .offset), is (s .fits .threshold)) at (c .down-or-up .ensures .0)
@@ -40,7 +41,8 @@ smaller-of-requires : tie.Need-smaller-of-requires
 smaller-of-requires c κs = search needs
 
 -- and of the second
-second-is : (c : tie.After-down-or-up2) → c .down-or-up2 .result ≡ downOrUp (c .before .before .args .d-off2 -ℤ c .before .before .args .offset) (c .before .before .args .threshold -ℤ c .before .before .args .d-off2)
+second-is : (c : tie.After-down-or-up2) → c .down-or-up2 .result
+    ≡ downOrUp (c .before .before .args .d-off2 -ℤ c .before .before .args .offset) (c .before .before .args .threshold -ℤ c .before .before .args .d-off2)
 second-is c =
     let o = c .before in
     let s = o .before in

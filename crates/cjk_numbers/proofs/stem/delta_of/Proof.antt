@@ -1,7 +1,7 @@
 -- `cjk_numbers::stem::delta_of` meets its contract. Assumes nothing.
 use mathlib.Core.Path.{_≡_}
 use native.Mathlib.Omega.{arith}
-use lib.IntN.{_+ℤ_}
+use lib.IntN.{ℤ, _+ℤ_}
 use mir.Syntax.{w32}
 use Rattle.signed.proofs.Signed.{fits, is, got, signed}
 use Rattle.cjk_numbers.specs.Cjk.{pixelOffset, offsetsDelta, deltaOf}
@@ -31,7 +31,10 @@ first-is c = rw (is (c .before .fits .start)) at (c .pixel-offset .ensures .0)
 second-is : (c : tie.After-pixel-offset2) → c .pixel-offset2 .result ≡ pixelOffset (c .before .before .args .start +ℤ c .before .before .args .width)
 second-is c = let m = c .before in let s = m .before in rw (is (add-pixel-offset m), is (s .fits .start), is (s .fits .width)) at (c .pixel-offset2 .ensures .0)
 
-move-is : (c : tie.After-offsets-delta) → c .offsets-delta .result ≡ offsetsDelta (pixelOffset (c .before .before .before .args .start)) (pixelOffset (c .before .before .before .args .start +ℤ c .before .before .before .args .width)) (c .before .before .before .args .width) (c .before .before .before .args .threshold)
+abbrev moveBy : tie.Start → ℤ
+moveBy s = offsetsDelta (pixelOffset (s .args .start)) (pixelOffset (s .args .start +ℤ s .args .width)) (s .args .width) (s .args .threshold)
+
+move-is : (c : tie.After-offsets-delta) → c .offsets-delta .result ≡ moveBy (c .before .before .before)
 move-is c =
     let n = c .before in
     let m = n .before in

@@ -27,7 +27,8 @@ sub-result : tie.Need-sub-result
 sub-result c = let k = add-center c also div-center c .1 also add-center-2 c also div-result c .1 in fits (omega (arith, signed))
 
 -- the centre between the original positions, and half the width
-center-is : (c : tie.Start) → toZ w32 (ofZ w32 (quotZ (toZ w32 (ofZ w32 (toZ w32 (ofZ w32 (c .args .opos1)) +ℤ toZ w32 (ofZ w32 (c .args .opos2))))) (pos 2))) ≡ quotZ (c .args .opos1 +ℤ c .args .opos2) (pos 2)
+center-is : (c : tie.Start) → toZ w32 (ofZ w32 (quotZ (toZ w32 (ofZ w32 (toZ w32 (ofZ w32 (c .args .opos1)) +ℤ toZ w32 (ofZ w32 (c .args .opos2))))) (pos 2)))
+    ≡ quotZ (c .args .opos1 +ℤ c .args .opos2) (pos 2)
 center-is c = is (div-center c .1) ∙ ap (λ (z : ℤ). quotZ z (pos 2)) (is (add-center c) ∙ λ i. is (c .fits .opos1) i +ℤ is (c .fits .opos2) i)
 
 half-is : (c : tie.Start) → toZ w32 (ofZ w32 (quotZ (toZ w32 (ofZ w32 (c .args .width))) (pos 2))) ≡ quotZ (c .args .width) (pos 2)

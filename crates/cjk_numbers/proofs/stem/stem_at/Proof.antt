@@ -1,6 +1,7 @@
 -- `cjk_numbers::stem::stem_at` meets its contract. Assumes nothing.
 use mathlib.Core.Path.{_≡_}
 use native.Mathlib.Omega.{arith}
+use lib.IntN.{ℤ}
 use mir.Syntax.{w32}
 use Rattle.signed.proofs.Signed.{fits, is, got, _also_, signed}
 use Rattle.cjk_numbers.specs.Cjk.{startOf, deltaOf, stemAt}
@@ -23,7 +24,12 @@ delta-of-requires c κs =
     let k = got w32 (c .start-of .result) (c .start-of .ok) in
     (omega (arith, signed), omega (arith, signed), omega (arith, signed))
 
-delta-is : (c : tie.After-delta-of) → c .delta-of .result ≡ deltaOf (c .before .before .args .stem-adjust) (startOf (c .before .before .args .opos1) (c .before .before .args .opos2) (c .before .before .args .width) (c .before .before .args .delta)) (c .before .before .args .width) (c .before .before .args .threshold)
+-- the start by the arguments
+abbrev startAt : tie.Start → ℤ
+startAt s = startOf (s .args .opos1) (s .args .opos2) (s .args .width) (s .args .delta)
+
+delta-is : (c : tie.After-delta-of) → c .delta-of .result
+    ≡ deltaOf (c .before .before .args .stem-adjust) (startAt (c .before .before)) (c .before .before .args .width) (c .before .before .args .threshold)
 delta-is c =
     let o = c .before in
     let s = o .before in
@@ -35,7 +41,7 @@ add-t9 c =
     let s = o .before in
     let e = start-is o also delta-is c in
     let h = start-range _ _ _ _ (s .pre .0) (s .pre .1) (s .pre .2) (s .pre .3) in
-    let d = delta-range (s .args .stem-adjust) (startOf (s .args .opos1) (s .args .opos2) (s .args .width) (s .args .delta)) (s .args .width) _ (s .pre .4) in
+    let d = delta-range (s .args .stem-adjust) (startAt s) (s .args .width) _ (s .pre .4) in
     let k = got w32 (o .start-of .result) (o .start-of .ok) also got w32 (c .delta-of .result) (c .delta-of .ok) in
     fits (omega (arith, signed))
 

@@ -40,7 +40,8 @@ returns-2 c =
     let n = g .before .before .before in
     let a = n .before .before .args in
     let e : g .align-gaps .result ≡ n .next-touched .result = c .before .before .before .if2 .taken in
-    done-one (a .originals .now) (a .currents .now) (a .touched .now) _ _ _ (omega arith) (n .next-touched .ensures) (rw e at (g .align-gaps .ensures .0)) (rw e at (g .align-gaps .ensures .1)) (c .before .iup-shift .ensures)
+    let gaps = g .align-gaps .ensures in
+    done-one (a .originals .now) (a .currents .now) (a .touched .now) _ _ _ (omega arith) (n .next-touched .ensures) (rw e at (gaps .0)) (rw e at (gaps .1)) (c .before .iup-shift .ensures)
 
 add-iup-interpolate : tie.Need-add-iup-interpolate
 add-iup-interpolate c = search needs
@@ -78,7 +79,8 @@ returns-3 c =
     let g = i .before .before .before .before in
     let n = g .before .before .before in
     let a = n .before .before .args in
-    done-more (a .originals .now) (a .currents .now) (a .touched .now) _ _ _ (n .next-touched .ensures) (g .align-gaps .ensures .0) (g .align-gaps .ensures .1) _ (i .iup-interpolate .ensures) _ (omega arith)
+    let gaps = g .align-gaps .ensures in
+    done-more (a .originals .now) (a .currents .now) (a .touched .now) _ _ _ (n .next-touched .ensures) (gaps .0) (gaps .1) _ (i .iup-interpolate .ensures) _ (omega arith)
     (i .before .before .if2 .left)
     (c .before .iup-interpolate2 .ensures)
 

@@ -78,10 +78,14 @@ module _ (s : tie.Start) where
 
   -- in their order
   less : ltZ v2 v1 ≡ true → Ordered v2 u2 v1 u1
-  less e = record { original1 = s .pre .1 .1 .0 (s .args .ref2); current1 = s .pre .1 .1 .2; original2 = s .pre .1 .1 .0 (s .args .ref1); current2 = s .pre .1 .1 .1; order = atmost (omega (arith, signed)) }
+  less e =
+      let h = s .pre .1 .1 in
+      record { original1 = h .0 (s .args .ref2); current1 = h .2; original2 = h .0 (s .args .ref1); current2 = h .1; order = atmost (omega (arith, signed)) }
 
   more : ltZ v2 v1 ≡ false → Ordered v1 u1 v2 u2
-  more e = record { original1 = s .pre .1 .1 .0 (s .args .ref1); current1 = s .pre .1 .1 .1; original2 = s .pre .1 .1 .0 (s .args .ref2); current2 = s .pre .1 .1 .2; order = atmost (omega (arith, signed)) }
+  more e =
+      let h = s .pre .1 .1 in
+      record { original1 = h .0 (s .args .ref1); current1 = h .1; original2 = h .0 (s .args .ref2); current2 = h .2; order = atmost (omega (arith, signed)) }
 
 -- the function's entry, from behind the four reads and the test
 abbrev start : tie.After-behind-is-first → tie.Start
@@ -99,7 +103,9 @@ span-of-requires c κs =
     let s = start (c .before .before) in
     ordered-as (v2-is s) (u2-is s) (v1-is s) (u1-is s) (less s (tested (c .before .before) true (c .before .if2 .taken)))
 
-span-is : (c : tie.After-span-of) → c .span-of .result ≡ spanOf (v2 (start (c .before .before .before))) (u2 (start (c .before .before .before))) (v1 (start (c .before .before .before))) (u1 (start (c .before .before .before)))
+span-is : (c : tie.After-span-of)
+    → c .span-of .result
+    ≡ spanOf (v2 (start (c .before .before .before))) (u2 (start (c .before .before .before))) (v1 (start (c .before .before .before))) (u1 (start (c .before .before .before)))
 span-is c = let s = start (c .before .before .before) in c .span-of .ensures ∙ λ i. spanOf (v2-is s i) (u2-is s i) (v1-is s i) (u1-is s i)
 
 fill-requires : tie.Need-fill-requires
@@ -112,7 +118,9 @@ span-of-requires-2 c κs =
     let s = start (c .before .before) in
     ordered-as (v1-is s) (u1-is s) (v2-is s) (u2-is s) (more s (tested (c .before .before) false (c .before .if2 .left)))
 
-span-is-2 : (c : tie.After-span-of2) → c .span-of2 .result ≡ spanOf (v1 (start (c .before .before .before))) (u1 (start (c .before .before .before))) (v2 (start (c .before .before .before))) (u2 (start (c .before .before .before)))
+span-is-2 : (c : tie.After-span-of2)
+    → c .span-of2 .result
+    ≡ spanOf (v1 (start (c .before .before .before))) (u1 (start (c .before .before .before))) (v2 (start (c .before .before .before))) (u2 (start (c .before .before .before)))
 span-is-2 c = let s = start (c .before .before .before) in c .span-of2 .ensures ∙ λ i. spanOf (v1-is s i) (u1-is s i) (v2-is s i) (u2-is s i)
 
 fill-requires-2 : tie.Need-fill-requires-2
@@ -128,7 +136,8 @@ returns-2 c =
     let m = c .before .before in
     let a = start (m .before .before .before) .args in
     let e = tested (m .before .before .before) true (m .before .before .if2 .taken) in
-    wrote-as _ _ _ _ _ _ (λ i. ap (λ (z : Span). spannedAt (a .originals .now) z i) (span-is m) ∙ between-less (a .originals .now) (a .currents .now) (a .ref1) (a .ref2) e i) (c .before .fill .ensures)
+    wrote-as _ _ _ _ _ _ (λ i. ap (λ (z : Span). spannedAt (a .originals .now) z i) (span-is m) ∙ between-less (a .originals .now) (a .currents .now) (a .ref1) (a .ref2) e i)
+    (c .before .fill .ensures)
 
 same-length-2 : tie.Need-same-length-2
 same-length-2 c = search needs
@@ -138,7 +147,8 @@ returns-3 c =
     let m = c .before .before in
     let a = start (m .before .before .before) .args in
     let e = tested (m .before .before .before) false (m .before .before .if2 .left) in
-    wrote-as _ _ _ _ _ _ (λ i. ap (λ (z : Span). spannedAt (a .originals .now) z i) (span-is-2 m) ∙ between-more (a .originals .now) (a .currents .now) (a .ref1) (a .ref2) e i) (c .before .fill2 .ensures)
+    wrote-as _ _ _ _ _ _ (λ i. ap (λ (z : Span). spannedAt (a .originals .now) z i) (span-is-2 m) ∙ between-more (a .originals .now) (a .currents .now) (a .ref1) (a .ref2) e i)
+    (c .before .fill2 .ensures)
 
 pub iup-interpolate-spec : {M : Type 1} → statement M
 iup-interpolate-spec =

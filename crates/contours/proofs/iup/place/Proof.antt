@@ -83,7 +83,8 @@ returns-2 c =
     let e = c .before .before .before .before .before in
     let s = start1 e in
     let k = whole s in
-    by₂ _+ℤ_ (is (add-result-2 c)) (is (s .fits .v)) (by₂ _-ℤ_ (is (sub-result-2 c)) (is (k .x2)) (is (k .w2))) ∙ sym (interpolated-high (v s) (v1 s) (u1 s) (v2 s) (u2 s) (above e) (omega (arith, signed)))
+    by₂ _+ℤ_ (is (add-result-2 c)) (is (s .fits .v)) (by₂ _-ℤ_ (is (sub-result-2 c)) (is (k .x2)) (is (k .w2)))
+    ∙ sym (interpolated-high (v s) (v1 s) (u1 s) (v2 s) (u2 s) (above e) (omega (arith, signed)))
 
 -- below the second
 below : (e : tie.Else2) → up (v (start2 e)) + dn (v2 (start2 e)) < up (v2 (start2 e)) + dn (v (start2 e))

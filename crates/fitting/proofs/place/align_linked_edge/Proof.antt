@@ -1,52 +1,53 @@
 -- `fitting::place::align_linked_edge` meets its contract. Assumes nothing.
-use mathlib.Core.Path.{_≡_, _∙_}
-use mathlib.Core.Bool.{true}
+use mathlib.Core.Path.{refl}
+use mathlib.Core.List.{List}
 use Prim.Native.Nat.{_<_}
 use native.Mathlib.Omega.{arith}
-use Rattle.fixed.specs.Width.{ruleHolds}
+use Rattle.refusals.specs.Refusal.{Test}
+use Rattle.refusals.proofs.Tests.{AllHold, all-held, answered-no, answered-yes}
 use Rattle.axis.specs.Edge.{putEdge}
-use Rattle.axis.specs.Refusals.{edgesRefusal}
-use Rattle.axis.proofs.Tests.{answered-no, answered-yes}
-use Rattle.axis.proofs.Acceptance.{EdgesAccepted, edges-accepted}
-use Rattle.placing.specs.Placing.{bothBelow}
+use Rattle.axis.specs.Limits.{mostEdges, mostPos}
+use Rattle.axis.specs.Accepted.{AxisWithin}
+use Rattle.axis.proofs.Acceptance.{axis-within}
 use Rattle.placing.proofs.Reach.{below-first, below-second, in-table, in-reach}
-use Rattle.fitting.specs.Fitting.{fitted, alignLinkedEdge}
+use Rattle.fitting.specs.Fitting.{linkedTests, fitted, alignLinkedEdge}
 use borrow.Author.Needs.{needs}
 use Rattle.fitting.proofs.place.align_linked_edge.Statement.{statement}
 use Rattle.fitting.proofs.place.align_linked_edge.Tie as tie
 
-rule-holds-requires : tie.Need-rule-holds-requires
-rule-holds-requires c κs = search needs
+linked-refusal-requires : tie.Need-linked-refusal-requires
+linked-refusal-requires c κs = search needs
 
-both-below-requires : tie.Need-both-below-requires
-both-below-requires c κs = search needs
+-- ---- what acceptance yields
+abbrev start : tie.Else1 → tie.Start
+start c = c .before .before
 
-edges-refusal-requires : tie.Need-edges-refusal-requires
-edges-refusal-requires c κs = search needs
+-- the tests of the call, by its arguments
+abbrev testsOf : tie.Start → List Test
+testsOf s = linkedTests (s .args .t1) (s .args .rule) (s .args .standards .now) (s .args .base) (s .args .stem)
 
--- the answer is the refusal
-refusal-is : (c : tie.After-edges-refusal) → c .edges-refusal .result ≡ edgesRefusal (c .before .before .before .args .t1) (ruleHolds (c .before .before .before .args .rule) (c .before .before .before .args .standards .now)) (bothBelow (c .before .before .before .args .t1 .len) (c .before .before .before .args .base) (c .before .before .before .args .stem)) true
-refusal-is c = c .edges-refusal .ensures ∙ λ i. edgesRefusal (c .before .before .before .args .t1) (c .before .before .rule-holds .ensures i) (c .before .both-below .ensures i) true
+tests-hold : (c : tie.Else1) → AllHold (testsOf (start c))
+tests-hold c = all-held {ts = testsOf (start c)} (record { refused = c .before .linked-refusal .ensures; numbers = refl }) (c .if1 .left)
 
--- what acceptance yields
-accepted : (c : tie.Else1) → EdgesAccepted (c .before .before .before .before .args .t1) (ruleHolds (c .before .before .before .before .args .rule) (c .before .before .before .before .args .standards .now)) (bothBelow (c .before .before .before .before .args .t1 .len) (c .before .before .before .before .args .base) (c .before .before .before .before .args .stem)) true
-accepted c = edges-accepted _ _ _ _ _ (refusal-is (c .before)) (c .if1 .left)
+accepted : (c : tie.Else1) → AxisWithin mostPos (start c .args .t1)
+accepted c = let h = tests-hold c in axis-within _ (h .0) (h .1 .1 .0) (h .1 .1 .1 .1 .0)
 
-base-below : (c : tie.Else1) → c .before .before .before .before .args .base < c .before .before .before .before .args .t1 .len
-base-below c = below-first _ _ _ (accepted c .named-holds)
+base-below : (c : tie.Else1) → start c .args .base < start c .args .t1 .len
+base-below c = below-first _ _ _ (tests-hold c .1 .1 .1 .0)
 
-stem-below : (c : tie.Else1) → c .before .before .before .before .args .stem < c .before .before .before .before .args .t1 .len
-stem-below c = below-second _ _ _ (accepted c .named-holds)
+stem-below : (c : tie.Else1) → start c .args .stem < start c .args .t1 .len
+stem-below c = below-second _ _ _ (tests-hold c .1 .1 .1 .0)
 
-base-inside : (c : tie.Else1) → c .before .before .before .before .args .base < 128
-base-inside c = in-table _ _ _ (accepted c .axis-holds) (base-below c)
+base-inside : (c : tie.Else1) → start c .args .base < mostEdges
+base-inside c = in-table _ _ _ (accepted c) (base-below c)
 
-stem-inside : (c : tie.Else1) → c .before .before .before .before .args .stem < 128
-stem-inside c = in-table _ _ _ (accepted c .axis-holds) (stem-below c)
+stem-inside : (c : tie.Else1) → start c .args .stem < mostEdges
+stem-inside c = in-table _ _ _ (accepted c) (stem-below c)
 
+-- ---- the answers
 returns : tie.Need-returns
 unfolding alignLinkedEdge
-returns c = let s = c .before .before .before .before in answered-no _ _ (fitted (s .args .t1)) _ (refusal-is (c .before)) (c .if1 .taken)
+returns c = answered-no _ _ (fitted (c .before .before .args .t1)) _ (c .before .linked-refusal .ensures) (c .if1 .taken)
 
 mul-linked-edge : tie.Need-mul-linked-edge
 mul-linked-edge c = let h = base-inside c in search needs
@@ -64,10 +65,10 @@ linked-edge-requires : tie.Need-linked-edge-requires
 linked-edge-requires c κs =
     let o = c .before .before in
     let a = accepted o in
-    (a .right-holds, (in-reach _ _ _ (omega arith) (a .axis-holds) (base-below o), in-reach _ _ _ (omega arith) (a .axis-holds) (stem-below o)))
+    (tests-hold o .1 .0, (in-reach _ _ _ (omega arith) a (base-below o), in-reach _ _ _ (omega arith) a (stem-below o)))
 
-mul-t23 : tie.Need-mul-t23
-mul-t23 c = let h = stem-inside (c .before .before .before) in search needs
+mul-t21 : tie.Need-mul-t21
+mul-t21 c = let h = stem-inside (c .before .before .before) in search needs
 
 element-set-from-aligned : tie.Need-element-set-from-aligned
 element-set-from-aligned c = stem-inside (c .before .before .before)
@@ -76,22 +77,21 @@ returns-2 : tie.Need-returns-2
 unfolding alignLinkedEdge
 returns-2 c =
     let o = c .before .before .before in
-    let s = o .before .before .before .before in
-    answered-yes _ _ (fitted (s .args .t1)) _ _ (refusal-is (o .before)) (o .if1 .left) (λ i. fitted (putEdge (s .args .t1) (s .args .stem) (c .linked-edge .ensures i)) 0)
+    let s = start o in
+    answered-yes _ _ (fitted (s .args .t1)) _ _ (o .before .linked-refusal .ensures) (o .if1 .left)
+    (λ i. fitted (putEdge (s .args .t1) (s .args .stem) (c .linked-edge .ensures i)) 0)
 
 pub align-linked-edge-spec : {M : Type 1} → statement M
 align-linked-edge-spec =
     tie.close
     (tie.spec
-    rule-holds-requires
-    both-below-requires
-    edges-refusal-requires
+    linked-refusal-requires
     returns
     mul-linked-edge
     element-copy-out-linked-edge
     mul-linked-edge-2
     element-copy-out-linked-edge-2
     linked-edge-requires
-    mul-t23
+    mul-t21
     element-set-from-aligned
     returns-2)

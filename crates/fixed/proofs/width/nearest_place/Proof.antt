@@ -71,7 +71,8 @@ loop-again c =
     let o = old-is (c .before) in (
       omega arith,
       ⊎-elim (λ w. subst (NearestOf (l .i + 1) (a .standards .now) (a .width)) (sym (w .1)) (nearest-new (l .i) (a .standards .now) (a .width) (l .best) (l .inv .1) (omega arith)))
-          (λ w. subst (NearestOf (l .i + 1) (a .standards .now) (a .width)) (sym (w .1)) (nearest-old (l .i) (a .standards .now) (a .width) (l .best) (at-loop (c .before) .before .pre .1) (omega arith) (l .inv .1) (omega arith)))
+          (λ w. subst (NearestOf (l .i + 1) (a .standards .now) (a .width)) (sym (w .1))
+          (nearest-old (l .i) (a .standards .now) (a .width) (l .best) (at-loop (c .before) .before .pre .1) (omega arith) (l .inv .1) (omega arith)))
           (c .if1 .came),
     )
 

@@ -84,7 +84,10 @@ returns-3 c =
     is (start a .fits .width) ∙ sym (settles a ∙ settled-far (start a .args .width) (standard a) (not-zero a) (omega (arith, distance-is d)))
 
 sub-result : tie.Need-sub-result
-sub-result c = let a = c .before .before .before in let k = whole a in fits (omega (arith, signed, range k, start a .pre .least (a .before .nearest-place .result) (a .before .nearest-place .ensures .0)))
+sub-result c =
+    let a = c .before .before .before in
+    let k = whole a in
+    fits (omega (arith, signed, range k, start a .pre .least (a .before .nearest-place .result) (a .before .nearest-place .ensures .0)))
 
 returns-4 : tie.Need-returns-4
 returns-4 c =

@@ -10,7 +10,7 @@ use Rattle.words.proofs.Fields.{kept}
 use Rattle.signed.specs.Parts.{up}
 use Rattle.signed.proofs.Signed.{is}
 use Rattle.fitting.specs.Fitting.{latinRemainingBounds}
-use Rattle.shape.specs.Shape.{within, index}
+use Rattle.shape.specs.Shape.{isIn, index}
 use Rattle.fitting.specs.declared.bounds.Bounds.{Bounds}
 use Rattle.flat.specs.Fit.{boundsShown, boundsFound, boundsWords}
 use Rattle.signed.proofs.By.{by₂}
@@ -23,7 +23,7 @@ start c = c .before .before .before
 
 -- what the tests tell
 shown : (c : tie.After-both) → boundsShown (start c .args .edges .now) (start c .args .edge) ≡ c .both .result
-shown c = sym (by₂ _&&_ (c .both .ensures) (c .before .before .is-edges .ensures) (c .before .is-in .ensures ∙ ap (within index) (is (start c .fits .edge))))
+shown c = sym (by₂ _&&_ (c .both .ensures) (c .before .before .is-edges .ensures) (c .before .is-in .ensures ∙ ap (isIn index) (is (start c .fits .edge))))
 
 abbrev tested : tie.After-latin-remaining-bounds → tie.Else1
 tested c = c .before .before .before

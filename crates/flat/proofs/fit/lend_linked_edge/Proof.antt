@@ -8,7 +8,7 @@ use Rattle.words.specs.Edge.{edgesOver}
 use Rattle.signed.specs.Parts.{up}
 use Rattle.signed.proofs.Signed.{is}
 use Rattle.fitting.specs.Fitting.{alignLinkedEdge}
-use Rattle.shape.specs.Shape.{within, index, choice}
+use Rattle.shape.specs.Shape.{isIn, index, choice}
 use Rattle.fitting.specs.declared.place.Fitted.{Fitted}
 use Rattle.lent.specs.Lent.{bothIn}
 use Rattle.flat.specs.Fit.{linkedShown, linkedFitted}
@@ -26,7 +26,7 @@ shown c =
     let s = start c in
     let b = c .before .before in
     sym (by₂ _&&_ (c .both2 .ensures) (b .before .before .is-edges .ensures) (by₂ _&&_ (c .before .both .ensures)
-    (b .before .is-in .ensures ∙ ap (within choice) (is (s .fits .rule)))
+    (b .before .is-in .ensures ∙ ap (isIn choice) (is (s .fits .rule)))
     (by₂ (bothIn index) (b .both-in .ensures) (is (s .fits .base)) (is (s .fits .stem)))))
 
 abbrev tested : tie.After-align-linked-edge → tie.Else1

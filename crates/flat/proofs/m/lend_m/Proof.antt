@@ -8,7 +8,7 @@ use Rattle.words.specs.Edge.{edgesOver}
 use Rattle.signed.proofs.Signed.{is}
 use Rattle.lowercase_m.specs.declared.hint.Hinted.{Hinted}
 use Rattle.lowercase_m.specs.M.{hintLowercaseM}
-use Rattle.shape.specs.Shape.{within, choice}
+use Rattle.shape.specs.Shape.{isIn, choice}
 use Rattle.flat.specs.M.{mShown, mHinted}
 use Rattle.signed.proofs.By.{by₂}
 use Rattle.lent.proofs.Lents.{not-shown, shown-by}
@@ -20,7 +20,7 @@ start c = c .before .before .before .before
 
 -- what the tests tell
 shown : (c : tie.After-both) → mShown (start c .args .edges .now) (start c .args .group) ≡ c .both .result
-shown c = sym (by₂ _&&_ (c .both .ensures) (c .before .before .is-edges .ensures) (c .before .is-in .ensures ∙ ap (within choice) (is (start c .fits .group))))
+shown c = sym (by₂ _&&_ (c .both .ensures) (c .before .before .is-edges .ensures) (c .before .is-in .ensures ∙ ap (isIn choice) (is (start c .fits .group))))
 
 abbrev tested : tie.After-hint-lowercase-m → tie.Else1
 tested c = c .before .before .before .before

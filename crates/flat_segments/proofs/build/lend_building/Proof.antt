@@ -9,15 +9,16 @@ use lib.ListN.{length}
 use lib.IntN.{pos}
 use mir.Syntax.{w32}
 use mir.Val.{toZ, ofZ}
+use Rattle.words.specs.Edge.{tableSize}
 use Rattle.words.specs.Field.{choiceOf, dimensionOf, directionOf, groupOf}
 use Rattle.flat_segments.proofs.Readings.{building-reads}
 use Rattle.words.proofs.Fields.{kept}
 use Rattle.signed.proofs.Signed.{is}
-use Rattle.shape.specs.Shape.{within, direction}
+use Rattle.shape.specs.Shape.{isIn, direction}
 use Rattle.lent.specs.Lent.{choices}
 use Rattle.signed.proofs.By.{by₂, by₃}
 use Rattle.building.specs.declared.build.Built.{Built}
-use Rattle.flat_segments.specs.Build.{tableWords, buildShown, built, builtWords}
+use Rattle.flat_segments.specs.Build.{buildShown, built, builtWords}
 use Rattle.lent.proofs.Lents.{not-shown, shown-by, lent-as, lent-pair}
 use Rattle.flat_segments.proofs.build.lend_building.Statement.{statement}
 use Rattle.flat_segments.proofs.build.lend_building.Tie as tie
@@ -35,10 +36,10 @@ shown c =
     let g = c .before .before in
     let w = g .before .before in
     let words =
-    by₂ _&&_ (w .both .ensures) (w .before .before .is-in .ensures ∙ ap (within direction) (is (s .fits .major-dir)))
+    by₂ _&&_ (w .both .ensures) (w .before .before .is-in .ensures ∙ ap (isIn direction) (is (s .fits .major-dir)))
     (by₃ choices (w .before .are-choices .ensures) (is (s .fits .dim)) (is (s .fits .group)) (is (s .fits .top-to-bottom)))
     in
-    sym (by₂ _&&_ (c .both3 .ensures) (g .is-segments .ensures) (c .before .both2 .ensures ∙ ap (λ (b : Bool). eqb (length (s .args .edges .now)) tableWords && b) words))
+    sym (by₂ _&&_ (c .both3 .ensures) (g .is-segments .ensures) (c .before .both2 .ensures ∙ ap (λ (b : Bool). eqb (length (s .args .edges .now)) tableSize && b) words))
 
 abbrev tested : tie.After-compute-edges → tie.Else1
 tested c = c .before .before .before .before .before .before .before .before

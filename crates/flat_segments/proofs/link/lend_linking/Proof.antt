@@ -8,7 +8,7 @@ use Rattle.words.specs.Segment.{segmentsOver}
 use Rattle.signed.proofs.Signed.{is}
 use Rattle.linking.specs.declared.link.Linked.{Linked}
 use Rattle.linking.specs.Linking.{linkSegmentsCjk}
-use Rattle.shape.specs.Shape.{within, direction}
+use Rattle.shape.specs.Shape.{isIn, direction}
 use Rattle.signed.proofs.By.{by₂, by₄}
 use Rattle.flat_segments.specs.Link.{linkingShown, linkingLinked}
 use Rattle.lent.proofs.Lents.{not-shown, shown-by}
@@ -20,7 +20,7 @@ start c = c .before .before .before .before
 
 -- what the tests tell
 shown : (c : tie.After-both) → linkingShown (start c .args .segments .now) (start c .args .major-dir) ≡ c .both .result
-shown c = sym (by₂ _&&_ (c .both .ensures) (c .before .before .is-segments .ensures) (c .before .is-in .ensures ∙ ap (within direction) (is (start c .fits .major-dir))))
+shown c = sym (by₂ _&&_ (c .both .ensures) (c .before .before .is-segments .ensures) (c .before .is-in .ensures ∙ ap (isIn direction) (is (start c .fits .major-dir))))
 
 abbrev tested : tie.After-link-segments-cjk → tie.Else1
 tested c = c .before .before .before .before

@@ -11,7 +11,7 @@ use Rattle.signed.proofs.Signed.{is}
 use Rattle.stems.specs.declared.pass.Stems.{Stems}
 use Rattle.words.specs.Field.{choiceOf, dimensionOf, groupOf, linkOf, ruleOf, linkWord}
 use Rattle.words.proofs.Fields.{kept}
-use Rattle.shape.specs.Shape.{within, link, choice}
+use Rattle.shape.specs.Shape.{isIn, link, choice}
 use Rattle.lent.specs.Lent.{bothIn, choices}
 use Rattle.signed.proofs.By.{by₂, by₃}
 use Rattle.lent.proofs.Lents.{not-shown, shown-by, lent-as, lent-pair}
@@ -36,7 +36,7 @@ shown c =
     let i = o .before in
     sym (by₂ _&&_ (c .both3 .ensures) (c .before .is-edges .ensures) (by₂ _&&_ (b .both2 .ensures)
     (by₃ choices (t .are-choices .ensures) (is (s .fits .dim)) (is (s .fits .group)) (is (s .fits .stem-adjust)))
-    (by₂ _&&_ (o .both .ensures) (by₂ (bothIn choice) (i .before .both-in .ensures) (is (s .fits .top-to-bottom)) (is (s .fits .rule))) (i .is-in .ensures ∙ ap (within link) (is (s .fits .anchor))))))
+    (by₂ _&&_ (o .both .ensures) (by₂ (bothIn choice) (i .before .both-in .ensures) (is (s .fits .top-to-bottom)) (is (s .fits .rule))) (i .is-in .ensures ∙ ap (isIn link) (is (s .fits .anchor))))))
 
 abbrev tested : tie.After-align-stem-edges → tie.Else1
 tested c = c .before .before .before .before .before .before .before .before .before

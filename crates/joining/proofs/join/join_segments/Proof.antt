@@ -11,23 +11,25 @@ use lib.ListN.{set}
 use mir.Syntax.{w32}
 use Rattle.signed.proofs.Signed.{fits-in}
 use Rattle.axis.specs.Edge.{emptyEdge}
+use Rattle.axis.specs.Limits.{mostEdges, mostSegments}
 use Rattle.axis.specs.Segment.{segmentAt}
 use Rattle.joining.specs.Joining.{stopsBehind, settle, skips, mayJoin, stateAt}
-use Rattle.joining.proofs.Reading.{back}
+use Rattle.signed.proofs.Reading.{back}
 use Rattle.joining.proofs.Settling.{settle-end, settle-stop, settle-on}
 use Rattle.joining.proofs.Turns.{Stands, place, left, stands-begun, turn-room, turn-skip, turn-last, turn-ring, may-said, search-start, search-no, search-yes, search-end, search-stop, turn-join, turn-none, turn-made, turn-full}
 use Rattle.joining.proofs.join.join_segments.Statement.{statement}
 use Rattle.joining.proofs.join.join_segments.Tie as tie
 
 abbrev Inv-loop2 : tie.InvT-loop2
-Inv-loop2 stems rules second segments count axis next i segment edges best₀ limit₀ k₀ best limit k = (k ≤ edges) × (edges ≤ 128) × (best ≤ edges) × (left segments rules second i edges k best limit ≡ place segments rules second i)
+Inv-loop2 stems rules second segments count axis next i segment edges best₀ limit₀ k₀ best limit k =
+    (k ≤ edges) × (edges ≤ mostEdges) × (best ≤ edges) × (left segments rules second i edges k best limit ≡ place segments rules second i)
 
 abbrev μ-loop2 : tie.MeasureT-loop2
 μ-loop2 stems rules second segments count axis next i segment edges best₀ limit₀ k₀ best limit k = edges - k
 
 abbrev Inv-loop3 : tie.InvT-loop3
 Inv-loop3 stems rules second segments count axis₀ next i edges best limit edge ix₀ axis ix =
-    (ix ≤ edges) × (edges < 128) × (axis .len ≡ axis₀ .len) × (axis .dim ≡ axis₀ .dim) × (axis .«major_dir» ≡ axis₀ .«major_dir»)
+    (ix ≤ edges) × (edges < mostEdges) × (axis .len ≡ axis₀ .len) × (axis .dim ≡ axis₀ .dim) × (axis .«major_dir» ≡ axis₀ .«major_dir»)
     × (settle (stopsBehind rules edge) emptyEdge edge (axis .edges) ix ≡ settle (stopsBehind rules edge) emptyEdge edge (axis₀ .edges) edges)
 
 abbrev μ-loop3 : tie.MeasureT-loop3
@@ -40,11 +42,15 @@ abbrev μ-loop : tie.MeasureT-loop
 μ-loop stems rules second segments count axis₀ next₀ i₀ axis next i = count - i
 
 -- the segment is asked for an edge
-free : (c : tie.Else1 Inv-loop2 μ-loop2 Inv-loop3 μ-loop3 Inv-loop μ-loop) → skips (c .before .before .before .before .before .before .before .args .rules) (c .before .before .before .before .before .before .before .args .second) (segmentAt (c .before .before .before .before .before .before .before .args .t1) (c .before .before .before .before .loop .i)) ≡ false
+free : (c : tie.Else1 Inv-loop2 μ-loop2 Inv-loop3 μ-loop3 Inv-loop μ-loop)
+    → skips (c .before .before .before .before .before .before .before .args .rules) (c .before .before .before .before .before .before .before .args .second) (segmentAt (c .before .before .before .before .before .before .before .args .t1) (c .before .before .before .before .loop .i))
+    ≡ false
 free c = sym (c .before .skips .ensures) ∙ c .if1 .left
 
 -- what the test of an edge said
-said : (c : tie.After-may-join Inv-loop2 μ-loop2 Inv-loop3 μ-loop3 Inv-loop μ-loop) → c .may-join .result ≡ mayJoin (c .before .before .before .before .before .before .before .before .before .before .before .before .before .args .t1) (c .before .before .before .before .before .before .before .before .before .before .before .before .before .args .rules) (c .before .before .before .before .before .before .before .before .before .before .before .before .before .args .second) (stateAt (c .before .before .before .before .before .before .before .before .before .before .before .before .before .args .t1) (c .before .before .before .before .before .before .before .before .before .before .before .before .before .args .rules) (c .before .before .before .before .before .before .before .before .before .before .before .before .before .args .second) (c .before .before .before .before .before .before .before .before .before .before .loop .i)) (c .before .before .before .before .before .before .before .before .before .before .loop .i) (c .before .before .before .before .before .loop2 .k) (c .before .before .before .before .before .loop2 .limit)
+said : (c : tie.After-may-join Inv-loop2 μ-loop2 Inv-loop3 μ-loop3 Inv-loop μ-loop)
+    → c .may-join .result
+    ≡ mayJoin (c .before .before .before .before .before .before .before .before .before .before .before .before .before .args .t1) (c .before .before .before .before .before .before .before .before .before .before .before .before .before .args .rules) (c .before .before .before .before .before .before .before .before .before .before .before .before .before .args .second) (stateAt (c .before .before .before .before .before .before .before .before .before .before .before .before .before .args .t1) (c .before .before .before .before .before .before .before .before .before .before .before .before .before .args .rules) (c .before .before .before .before .before .before .before .before .before .before .before .before .before .args .second) (c .before .before .before .before .before .before .before .before .before .before .loop .i)) (c .before .before .before .before .before .before .before .before .before .before .loop .i) (c .before .before .before .before .before .loop2 .k) (c .before .before .before .before .before .loop2 .limit)
 said c =
     let in-inner = c .before .before .before .before in
     let in-outer = in-inner .before .before .before .before .before in
@@ -53,7 +59,9 @@ said c =
     may-said (start .args .t1) (start .args .rules) (start .args .second) (outer .loop .i) (outer .loop .axis) (outer .loop .next) (start .pre .0 .0 .few) (start .pre .0 .2) (outer .loop .inv .1) (in-outer .loop-test .taken) _ (in-inner .loop2-test .taken) _ _ _ (start .pre .0 .1) (c .may-join .ensures)
 
 -- where the search ends, it has found the place
-found : (c : tie.Left-loop2 Inv-loop2 μ-loop2 Inv-loop3 μ-loop3 Inv-loop μ-loop) → place (c .before .before .before .before .before .before .before .before .before .args .t1) (c .before .before .before .before .before .before .before .before .before .args .rules) (c .before .before .before .before .before .before .before .before .before .args .second) (c .before .before .before .before .before .before .loop .i) ≡ c .before .loop2 .best
+found : (c : tie.Left-loop2 Inv-loop2 μ-loop2 Inv-loop3 μ-loop3 Inv-loop μ-loop)
+    → place (c .before .before .before .before .before .before .before .before .before .args .t1) (c .before .before .before .before .before .before .before .before .before .args .rules) (c .before .before .before .before .before .before .before .before .before .args .second) (c .before .before .before .before .before .before .loop .i)
+    ≡ c .before .loop2 .best
 found c =
     let inner = c .before in
     let in-outer = inner .before .before .before .before in
@@ -65,7 +73,9 @@ found c =
     (c .loop2-test .came)
 
 -- where the walk back ends, the edge is settled
-settled : (c : tie.Left-loop3 Inv-loop2 μ-loop2 Inv-loop3 μ-loop3 Inv-loop μ-loop) → set (c .before .loop3 .axis .edges) (c .before .loop3 .ix) (c .before .before .new-edge .result) ≡ settle (stopsBehind (c .before .before .before .before .before .before .before .before .before .before .before .before .before .before .before .before .args .rules) (c .before .before .new-edge .result)) emptyEdge (c .before .before .new-edge .result) (c .before .before .before .before .before .before .before .before .before .before .before .before .before .loop .axis .edges) (c .before .before .before .before .before .before .before .before .before .before .before .before .before .loop .axis .len)
+settled : (c : tie.Left-loop3 Inv-loop2 μ-loop2 Inv-loop3 μ-loop3 Inv-loop μ-loop)
+    → set (c .before .loop3 .axis .edges) (c .before .loop3 .ix) (c .before .before .new-edge .result)
+    ≡ settle (stopsBehind (c .before .before .before .before .before .before .before .before .before .before .before .before .before .before .before .before .args .rules) (c .before .before .new-edge .result)) emptyEdge (c .before .before .new-edge .result) (c .before .before .before .before .before .before .before .before .before .before .before .before .before .loop .axis .edges) (c .before .before .before .before .before .before .before .before .before .before .before .before .before .loop .axis .len)
 settled c =
     let walk = c .before in
     ⊎-elim
@@ -74,7 +84,8 @@ settled c =
     (c .loop3-test .came)
 
 -- the segment is one of the table's
-below : (c : tie.Left-loop3 Inv-loop2 μ-loop2 Inv-loop3 μ-loop3 Inv-loop μ-loop) → c .before .before .before .before .before .before .before .before .before .before .before .before .before .loop .i < 512
+below : (c : tie.Left-loop3 Inv-loop2 μ-loop2 Inv-loop3 μ-loop3 Inv-loop μ-loop)
+    → c .before .before .before .before .before .before .before .before .before .before .before .before .before .loop .i < mostSegments
 below c =
     let in-outer = c .before .before .before .before .before .before .before .before .before .before .before .before in
     let start = in-outer .before .before .before .before in

@@ -4,13 +4,14 @@ use mathlib.Core.Path.{ap}
 use mathlib.Core.Bool.{false}
 use lib.ListN.{replicate}
 use Rattle.axis.specs.declared.edge.Axis.{Axis}
+use Rattle.axis.specs.Limits.{mostSegments}
 use Rattle.joining.specs.declared.join.Joined.{Joined}
 use Rattle.joining.proofs.join.none_joined.Statement.{statement}
 use Rattle.joining.proofs.join.none_joined.Tie as tie
 
 -- the tables of these edges, where no segment has joined one
 abbrev with : Axis → Joined
-with axis = record { full = false; axis = axis; next = replicate 512 0 }
+with axis = record { full = false; axis = axis; next = replicate mostSegments 0 }
 
 empty-axis-requires : tie.Need-empty-axis-requires
 empty-axis-requires c κs = search needs

@@ -11,23 +11,28 @@ use lib.Signed.{leZ}
 use mir.Syntax.{w32}
 use mir.Val.{toZ}
 use Rattle.signed.proofs.Signed.{is, got}
-use Rattle.joining.specs.Walks.{walk, ends, stemNear, stemsAgree}
-use Rattle.joining.proofs.Rings.{Passes, walk-passes, shorter}
+use Rattle.axis.specs.Limits.{mostSegments}
+use Rattle.axis.specs.Ring.{walk, ends}
+use Rattle.axis.proofs.Rings.{Passes, walk-passes}
+use Rattle.joining.specs.Walks.{nextIn, noStem, stemNear, stemsAgree}
+use Rattle.joining.proofs.Rings.{fewer}
 use Rattle.joining.proofs.Stems.{disagrees, agrees-last, agrees-on}
 use Rattle.joining.proofs.ring.ring_agrees.Statement.{statement}
 use Rattle.joining.proofs.ring.ring_agrees.Tie as tie
 
 abbrev Inv-loop : tie.InvT-loop
-Inv-loop next stems first last stem near ix₀ ix = (ix < 512) × (ends next last 512 ix ≡ true) × (stemsAgree stems near (toZ w32 stem) (walk next last 512 ix) ≡ stemsAgree stems near (toZ w32 stem) (walk next last 512 ix₀))
+Inv-loop next stems first last stem near ix₀ ix =
+    (ix < mostSegments) × (ends (nextIn next) mostSegments last mostSegments ix ≡ true)
+    × (stemsAgree stems near (toZ w32 stem) (walk (nextIn next) last mostSegments ix) ≡ stemsAgree stems near (toZ w32 stem) (walk (nextIn next) last mostSegments ix₀))
 
 abbrev μ-loop : tie.MeasureT-loop
-μ-loop next stems first last stem near ix₀ ix = length (walk next last 512 ix)
+μ-loop next stems first last stem near ix₀ ix = length (walk (nextIn next) last mostSegments ix)
 
 returns : tie.Need-returns Inv-loop μ-loop
 returns c = rw (rw (is (c .before .fits .stem)) at (c .if1 .taken))
 
 -- there is a stem
-asked : (c : tie.Else1 Inv-loop μ-loop) → leZ (pos 65536) (c .before .args .stem) ≡ false
+asked : (c : tie.Else1 Inv-loop μ-loop) → leZ noStem (c .before .args .stem) ≡ false
 asked c = rw (is (c .before .fits .stem)) at (c .if1 .left)
 
 loop-holds : tie.Need-loop-holds Inv-loop μ-loop
@@ -46,7 +51,9 @@ stem-near-requires : tie.Need-stem-near-requires Inv-loop μ-loop
 stem-near-requires c κs = search needs
 
 -- what the test said of the member
-tested : (c : tie.After-stem-near Inv-loop μ-loop) → c .stem-near .result ≡ stemNear (c .before .before .before .before .args .near) (c .before .before .before .before .args .stem) (getD (c .before .before .before .before .args .stems .now) (c .before .before .loop .ix) (pos 0))
+tested : (c : tie.After-stem-near Inv-loop μ-loop)
+    → c .stem-near .result
+    ≡ stemNear (c .before .before .before .before .args .near) (c .before .before .before .before .args .stem) (getD (c .before .before .before .before .args .stems .now) (c .before .before .loop .ix) (pos 0))
 tested c =
     let start = c .before .before .before .before in
     rw (is (start .fits .stem), is (got w32 _ (c .before .stem-near-arg .given))) at (c .stem-near .ensures)
@@ -56,7 +63,7 @@ returns-2 c =
     let loop = c .before .before .before in
     let start = loop .before .before in
     rw (asked (loop .before))
-    (disagrees _ _ _ _ _ _ 512 (sym (tested (c .before)) ∙ not-true _ (c .if2 .taken)) ∙ rw (is (start .fits .stem)) at (loop .loop .inv .2))
+    (disagrees _ _ _ _ _ _ mostSegments (sym (tested (c .before)) ∙ not-true _ (c .if2 .taken)) ∙ rw (is (start .fits .stem)) at (loop .loop .inv .2))
 
 returns-3 : tie.Need-returns-3 Inv-loop μ-loop
 returns-3 c =
@@ -64,11 +71,12 @@ returns-3 c =
     let loop = else2 .before .before .before in
     let start = loop .before .before in
     rw (asked (loop .before))
-    (agrees-last _ _ _ _ _ _ (sym (tested (else2 .before)) ∙ not-false _ (else2 .if2 .left)) 512 (c .if3 .taken) ∙ rw (is (start .fits .stem)) at (loop .loop .inv .2))
+    (agrees-last _ _ _ _ _ _ (sym (tested (else2 .before)) ∙ not-false _ (else2 .if2 .left)) mostSegments (c .if3 .taken) ∙ rw (is (start .fits .stem)) at (loop .loop .inv .2))
 
 -- one step on
-passes : (c : tie.Else3 Inv-loop μ-loop) → Passes (c .before .before .before .before .before .before .args .next .now) (c .before .before .before .before .before .before .args .last) 512 (c .before .before .before .before .loop .ix)
-passes c = walk-passes _ _ _ _ (c .if3 .left) (c .before .before .before .before .loop .inv .1)
+passes : (c : tie.Else3 Inv-loop μ-loop)
+    → Passes (nextIn (c .before .before .before .before .before .before .args .next .now)) mostSegments (c .before .before .before .before .before .before .args .last) mostSegments (c .before .before .before .before .loop .ix)
+passes c = walk-passes _ _ _ _ _ (c .if3 .left) (c .before .before .before .before .loop .inv .1)
 
 mul-ix : tie.Need-mul-ix Inv-loop μ-loop
 mul-ix c = omega arith
@@ -77,7 +85,7 @@ element-copy-out-ix : tie.Need-element-copy-out-ix Inv-loop μ-loop
 element-copy-out-ix c = omega arith
 
 loop-less : tie.Need-loop-less Inv-loop μ-loop
-loop-less c = shorter _ _ _ _ (passes (c .before))
+loop-less c = fewer _ _ _ _ _ (passes (c .before))
 
 loop-again : tie.Need-loop-again Inv-loop μ-loop
 loop-again c =
@@ -88,7 +96,7 @@ loop-again c =
     let p = passes else3 in (
       p .below,
       p .on,
-      rw (is (start .fits .stem)) (agrees-on _ _ _ _ _ _ (sym (tested (else2 .before)) ∙ not-false _ (else2 .if2 .left)) 512 p ∙ rw (is (start .fits .stem)) at (loop .loop .inv .2)),
+      rw (is (start .fits .stem)) (agrees-on _ _ _ _ _ _ (sym (tested (else2 .before)) ∙ not-false _ (else2 .if2 .left)) _ mostSegments p ∙ rw (is (start .fits .stem)) at (loop .loop .inv .2)),
     )
 
 pub ring-agrees-spec : {M : Type 1} → statement M

@@ -7,20 +7,21 @@ use mathlib.Core.Path.{refl}
 use Prim.Native.Nat.{_<_, _≤_, _-_}
 use mir.Syntax.{w16}
 use Rattle.signed.proofs.Signed.{got}
+use Rattle.axis.specs.Limits.{mostSegments}
 use Rattle.axis.specs.Segment.{segmentAt}
-use Rattle.joining.proofs.Reading.{cast-16, back-16}
+use Rattle.signed.proofs.Reading.{cast-16, back-16}
 use Rattle.joining.proofs.Stems.{Filled, filled-none, filled-skip, filled-more, stems-none, stems-all}
 use Rattle.joining.proofs.ring.stems_of.Statement.{statement}
 use Rattle.joining.proofs.ring.stems_of.Tie as tie
 
 abbrev Inv-loop : tie.InvT-loop
-Inv-loop cjk segments count stems₀ i₀ stems i = (i ≤ count) × (count ≤ 512) × Filled segments stems i
+Inv-loop cjk segments count stems₀ i₀ stems i = (i ≤ count) × (count ≤ mostSegments) × Filled segments stems i
 
 abbrev μ-loop : tie.MeasureT-loop
 μ-loop cjk segments count stems₀ i₀ stems i = count - i
 
 -- the link is to a segment of the table
-inside : (c : tie.After-known-told Inv-loop μ-loop) → c .before .link .given .0 .0 < 512
+inside : (c : tie.After-known-told Inv-loop μ-loop) → c .before .link .given .0 .0 < mostSegments
 inside c =
     let link = c .before in
     let in-loop = link .before .before .before in

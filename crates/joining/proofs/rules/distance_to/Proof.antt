@@ -1,6 +1,6 @@
 -- `joining::rules::distance_to` meets its contract. Assumes nothing.
 use borrow.Author.Needs.{needs}
-use Rattle.joining.proofs.Reading.{cast-16, back-16}
+use Rattle.signed.proofs.Reading.{cast-16, back-16}
 use Rattle.joining.proofs.rules.distance_to.Statement.{statement}
 use Rattle.joining.proofs.rules.distance_to.Tie as tie
 

@@ -6,7 +6,7 @@ use mathlib.Core.Bool.{false}
 use lib.Signed.{ltZ}
 use mir.Syntax.{w32}
 use Rattle.joining.proofs.Passing as P
-use Rattle.joining.proofs.Reading.{back, cast-16, back-16, short-lt, lt-short, short}
+use Rattle.signed.proofs.Reading.{back, cast-16, back-16, short-lt, lt-short, short}
 use Rattle.joining.proofs.rules.is_passed_over.Statement.{statement}
 use Rattle.joining.proofs.rules.is_passed_over.Tie as tie
 
@@ -18,7 +18,9 @@ long c =
     let g = told .before .before .args in
     short-lt (g .segment .height) (g .rules .length) (told .struct-told .given .1 .1 .1 .1 .1 .1 .0 .1) (told2 .struct-told2 .given .1 .1 .1 .1 .1 .1 .0 .1) (c .if1 .left)
 
-narrow : (c : tie.Else2) → ltZ (c .before .before .before .before .before .before .before .before .before .before .args .rules .width) (c .before .before .before .before .before .before .before .before .before .before .args .segment .delta) ≡ false
+narrow : (c : tie.Else2)
+    → ltZ (c .before .before .before .before .before .before .before .before .before .before .args .rules .width) (c .before .before .before .before .before .before .before .before .before .before .args .segment .delta)
+    ≡ false
 narrow c =
     let told4 = c .before in
     let told3 = told4 .before .before in

@@ -1,7 +1,7 @@
 -- `joining::rules::new_edge` meets its contract: the scaled position fits. Assumes nothing.
 use mir.Syntax.{w16, w32}
 use Rattle.signed.proofs.Signed.{is, got}
-use Rattle.joining.proofs.Reading.{back, cast-16, back-16}
+use Rattle.signed.proofs.Reading.{back, cast-16, back-16}
 use Rattle.joining.proofs.rules.new_edge.Statement.{statement}
 use Rattle.joining.proofs.rules.new_edge.Tie as tie
 

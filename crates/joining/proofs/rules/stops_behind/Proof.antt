@@ -5,7 +5,7 @@ use mathlib.Core.Bool.{false}
 use lib.Signed.{ltZ}
 use mir.Syntax.{w16}
 use Rattle.joining.specs.Joining as J
-use Rattle.joining.proofs.Reading.{lt-was}
+use Rattle.signed.proofs.Reading.{lt-was}
 use Rattle.joining.proofs.rules.stops_behind.Statement.{statement}
 use Rattle.joining.proofs.rules.stops_behind.Tie as tie
 

@@ -1,11 +1,12 @@
 -- `label::fit::with_zones` is safe.
 use borrow.Author.Needs.{needs}
 use Prim.Native.Nat.{_≤_, _-_}
+use Rattle.axis.specs.Limits.{mostEdges}
 use Rattle.label.proofs.fit.with_zones.Statement.{statement}
 use Rattle.label.proofs.fit.with_zones.Tie as tie
 
 abbrev Inv-loop : tie.InvT-loop
-Inv-loop words zones edges₀ n i₀ edges i = (i ≤ n) × (n ≤ 128)
+Inv-loop words zones edges₀ n i₀ edges i = (i ≤ n) × (n ≤ mostEdges)
 
 abbrev μ-loop : tie.MeasureT-loop
 μ-loop words zones edges₀ n i₀ edges i = n - i

@@ -1,11 +1,12 @@
 -- `label::topo::pairs` is safe.
 use borrow.Author.Needs.{needs}
-use Prim.Native.Nat.{_≤_, _-_}
+use Prim.Native.Nat.{_≤_, _+_, _-_}
+use Rattle.axis.specs.Limits.{mostSegments}
 use Rattle.label.proofs.topo.pairs.Statement.{statement}
 use Rattle.label.proofs.topo.pairs.Tie as tie
 
 abbrev Inv-loop : tie.InvT-loop
-Inv-loop words n i₀ i = (i ≤ n) × (n ≤ 513)
+Inv-loop words n i₀ i = (i ≤ n) × (n ≤ mostSegments + 1)
 
 abbrev μ-loop : tie.MeasureT-loop
 μ-loop words n i₀ i = n - i

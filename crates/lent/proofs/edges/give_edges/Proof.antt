@@ -1,7 +1,7 @@
 -- `lent::edges::give_edges` meets its contract. Assumes nothing.
 use borrow.Author.Needs.{needs}
 use native.Mathlib.Omega.{arith}
-use Rattle.lent.proofs.Lents.{refused, done}
+use Rattle.lent.proofs.Lents.{refused, handed-back}
 use Rattle.lent.proofs.edges.give_edges.Statement.{statement}
 use Rattle.lent.proofs.edges.give_edges.Tie as tie
 

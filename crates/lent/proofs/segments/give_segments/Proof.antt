@@ -1,7 +1,7 @@
 -- `lent::segments::give_segments` meets its contract. Assumes nothing.
 use borrow.Author.Needs.{needs}
 use native.Mathlib.Omega.{arith}
-use Rattle.lent.proofs.Lents.{refused, done}
+use Rattle.lent.proofs.Lents.{refused, handed-back}
 use Rattle.lent.proofs.segments.give_segments.Statement.{statement}
 use Rattle.lent.proofs.segments.give_segments.Tie as tie
 

@@ -3,7 +3,7 @@ use borrow.Author.Needs.{needs}
 use mathlib.Core.Path.{ap, _∙_}
 use mathlib.Core.Bool.{_&&_}
 use Rattle.signed.proofs.Signed.{is}
-use Rattle.shape.specs.Shape.{within, choice}
+use Rattle.shape.specs.Shape.{isIn, choice}
 use Rattle.lent.specs.Lent.{bothIn}
 use Rattle.signed.proofs.By.{by₂}
 use Rattle.lent.proofs.shown.are_choices.Statement.{statement}
@@ -21,7 +21,7 @@ both-requires c κs = search needs
 returns : tie.Need-returns
 returns c =
     let s = c .before .before .before in
-    by₂ _&&_ (c .both .ensures) (c .before .before .is-in .ensures ∙ ap (within choice) (is (s .fits .a))) (by₂ (bothIn choice) (c .before .both-in .ensures) (is (s .fits .b)) (is (s .fits .c)))
+    by₂ _&&_ (c .both .ensures) (c .before .before .is-in .ensures ∙ ap (isIn choice) (is (s .fits .a))) (by₂ (bothIn choice) (c .before .both-in .ensures) (is (s .fits .b)) (is (s .fits .c)))
 
 pub are-choices-spec : {M : Type 1} → statement M
 are-choices-spec = tie.close (tie.spec is-in-requires both-in-requires both-requires returns)

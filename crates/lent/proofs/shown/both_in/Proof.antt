@@ -3,7 +3,7 @@ use borrow.Author.Needs.{needs}
 use mathlib.Core.Path.{ap, _∙_}
 use mathlib.Core.Bool.{_&&_}
 use Rattle.signed.proofs.Signed.{is}
-use Rattle.shape.specs.Shape.{within}
+use Rattle.shape.specs.Shape.{isIn}
 use Rattle.signed.proofs.By.{by₂}
 use Rattle.lent.proofs.shown.both_in.Statement.{statement}
 use Rattle.lent.proofs.shown.both_in.Tie as tie
@@ -20,7 +20,7 @@ both-requires c κs = search needs
 returns : tie.Need-returns
 returns c =
     let s = c .before .before .before in
-    by₂ _&&_ (c .both .ensures) (c .before .before .is-in .ensures ∙ ap (within (s .args .range)) (is (s .fits .a))) (c .before .is-in2 .ensures ∙ ap (within (s .args .range)) (is (s .fits .b)))
+    by₂ _&&_ (c .both .ensures) (c .before .before .is-in .ensures ∙ ap (isIn (s .args .range)) (is (s .fits .a))) (c .before .is-in2 .ensures ∙ ap (isIn (s .args .range)) (is (s .fits .b)))
 
 pub both-in-spec : {M : Type 1} → statement M
 both-in-spec = tie.close (tie.spec is-in-requires is-in-requires-2 both-requires returns)

@@ -2,7 +2,7 @@
 use borrow.Author.Needs.{needs}
 use native.Mathlib.Omega.{arith}
 use Rattle.signed.proofs.Signed.{is}
-use Rattle.lent.proofs.Lents.{refused, done}
+use Rattle.lent.proofs.Lents.{refused, handed-back}
 use Rattle.lent.proofs.word.give_word.Statement.{statement}
 use Rattle.lent.proofs.word.give_word.Tie as tie
 

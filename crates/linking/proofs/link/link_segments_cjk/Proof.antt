@@ -1,11 +1,11 @@
 -- `linking::link::link_segments_cjk` meets its contract: a refusal hands back what came, and an accepted call goes through the rounds. Assumes nothing.
 use borrow.Author.Needs.{needs}
 use mathlib.Core.Path.{_≡_, sym, ap, _∙_}
-use mathlib.Core.Bool.{Bool, true}
+use lib.IntN.{ℤ}
 use Rattle.signed.proofs.Signed.{is}
 use Rattle.axis.specs.declared.segment.Segments.{Segments}
-use Rattle.axis.specs.Refusals.{segmentsRefusal}
-use Rattle.axis.proofs.Tests.{answered-no, answered-yes}
+use Rattle.refusals.specs.Refusal.{refusal}
+use Rattle.refusals.proofs.Tests.{answered-no, answered-yes}
 use Rattle.linking_rounds.specs.declared.thresholds.Thresholds.{Thresholds}
 use Rattle.linking_rounds.specs.Rounds.{linked}
 use Rattle.linking_rounds.proofs.Handing.{Ready, start-ready, after-pairs, after-serifs, whole}
@@ -16,23 +16,18 @@ use Rattle.linking.proofs.link.link_segments_cjk.Statement.{statement}
 use Rattle.linking.proofs.link.link_segments_cjk.Tie as tie
 
 -- the answer is the refusal of the definition
-answer-is : (c : tie.After-segments-refusal) → c .segments-refusal .result ≡ L.linkingRefusal (c .before .before .before .args .segments) (c .before .before .before .args .units-per-em) (c .before .before .before .args .scale)
-unfolding L.linkingRefusal
+answer-is : (c : tie.After-linking-refusal) → c .linking-refusal .result ≡ refusal (L.linkingTests (c .before .args .segments) (c .before .args .units-per-em) (c .before .args .scale))
 answer-is c =
-    let numbers-hold = c .before .before in
-    let start = numbers-hold .before in
-    by₂ (λ (right below : Bool). segmentsRefusal (start .args .segments) true right below true)
-    (c .segments-refusal .ensures)
-    (by₂ L.numbersHold (numbers-hold .numbers-hold .ensures) (is (start .fits .units-per-em)) (is (start .fits .scale)))
-    (c .before .segments-nexts .ensures)
+    let start = c .before in
+    by₂ (λ (upem scale : ℤ). refusal (L.linkingTests (start .args .segments) upem scale)) (c .linking-refusal .ensures) (is (start .fits .units-per-em)) (is (start .fits .scale))
 
 -- where the code goes on, the call is accepted
-taken : (c : tie.Else1) → Accepted (c .before .before .before .before .args .segments) (c .before .before .before .before .args .units-per-em) (c .before .before .before .before .args .scale)
-taken c = accepted _ _ _ (c .before .segments-refusal .result) (answer-is (c .before)) (c .if1 .left)
+taken : (c : tie.Else1) → Accepted (c .before .before .args .segments) (c .before .before .args .units-per-em) (c .before .before .args .scale)
+taken c = accepted _ _ _ (c .before .linking-refusal .result) (answer-is (c .before)) (c .if1 .left)
 
-measured : (c : tie.After-thresholds-of) → c .thresholds-of .result ≡ L.thresholdsOf (c .before .before .before .before .before .args .units-per-em) (c .before .before .before .before .before .args .scale)
+measured : (c : tie.After-thresholds-of) → c .thresholds-of .result ≡ L.thresholdsOf (c .before .before .before .args .units-per-em) (c .before .before .before .args .scale)
 measured c =
-    let start = c .before .before .before .before .before in
+    let start = c .before .before .before in
     by₂ L.thresholdsOf (c .thresholds-of .ensures) (is (start .fits .units-per-em)) (is (start .fits .scale))
 
 -- what each round hands on
@@ -42,24 +37,18 @@ paired c = after-pairs _ _ (start-ready _ (taken (c .before .before) .within)) _
 held : (c : tie.After-serif-round) → Ready (c .serif-round .result)
 held c = after-serifs _ _ (paired (c .before)) _ (c .serif-round .ensures)
 
-numbers-hold-requires : tie.Need-numbers-hold-requires
-numbers-hold-requires c κs = search needs
-
-segments-nexts-requires : tie.Need-segments-nexts-requires
-segments-nexts-requires c κs = search needs
-
-segments-refusal-requires : tie.Need-segments-refusal-requires
-segments-refusal-requires c κs = search needs
+linking-refusal-requires : tie.Need-linking-refusal-requires
+linking-refusal-requires c κs = search needs
 
 returns : tie.Need-returns
 unfolding L.linkSegmentsCjk
 returns c =
-    let start = c .before .before .before .before in
+    let start = c .before .before in
     answered-no _ _ (L.beside (start .args .segments)) _ (answer-is (c .before)) (c .if1 .taken)
 
 thresholds-of-requires : tie.Need-thresholds-of-requires
 thresholds-of-requires c κs =
-    let start = c .before .before .before .before in
+    let start = c .before .before in
     sym (by₂ L.numbersHold (sym (taken c .numbers)) (sym (is (start .fits .units-per-em))) (sym (is (start .fits .scale))))
 
 pair-round-requires : tie.Need-pair-round-requires
@@ -77,20 +66,18 @@ returns-2 c =
     let pair-round = c .before .before in
     let thresholds-of = pair-round .before in
     let else1 = thresholds-of .before in
-    let segments-refusal = else1 .before in
-    let start = segments-refusal .before .before .before in
+    let linking-refusal = else1 .before in
+    let start = linking-refusal .before in
     let s = start .args in
     let t = whole _ _ _ _ _ _ (pair-round .pair-round .ensures) (c .before .serif-round .ensures) (c .last-round .ensures) in
-    answered-yes _ _ (L.beside (s .segments)) _ _ (answer-is segments-refusal) (else1 .if1 .left)
+    answered-yes _ _ (L.beside (s .segments)) _ _ (answer-is linking-refusal) (else1 .if1 .left)
     (ap (λ (u : Segments). L.beside u 0) (t ∙ ap (λ (by : Thresholds). linked (s .major-dir) by (s .segments)) (measured thresholds-of)))
 
 pub link-segments-cjk-spec : {M : Type 1} → statement M
 link-segments-cjk-spec =
     tie.close
     (tie.spec
-    numbers-hold-requires
-    segments-nexts-requires
-    segments-refusal-requires
+    linking-refusal-requires
     returns
     thresholds-of-requires
     pair-round-requires

@@ -17,7 +17,8 @@ mul-fixed-div : tie.Need-mul-fixed-div
 mul-fixed-div c = search needs
 
 fixed-div-requires : tie.Need-fixed-div-requires
-fixed-div-requires c κs = (rw (is (c .before .fits .scale)) (scale-some (c .before .args .units-per-em) _ (c .before .pre)), rw (is (c .before .fits .scale)) (dist-fits (c .before .args .units-per-em) _ (c .before .pre)))
+fixed-div-requires c κs =
+    (rw (is (c .before .fits .scale)) (scale-some (c .before .args .units-per-em) _ (c .before .pre)), rw (is (c .before .fits .scale)) (dist-fits (c .before .args .units-per-em) _ (c .before .pre)))
 
 returns : tie.Need-returns
 unfolding thresholdsOf

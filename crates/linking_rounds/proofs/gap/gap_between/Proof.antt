@@ -3,7 +3,7 @@ use borrow.Author.Needs.{needs}
 use mathlib.Core.Path.{_≡_}
 use mir.Syntax.{w16}
 use Rattle.linking_rounds.specs.Pairs as P
-use Rattle.linking_rounds.proofs.Reading.{back, cast-16, sub-fits, sub-is}
+use Rattle.signed.proofs.Reading.{back, cast-16, sub-fits, sub-is}
 use Rattle.linking_rounds.proofs.gap.gap_between.Statement.{statement}
 use Rattle.linking_rounds.proofs.gap.gap_between.Tie as tie
 
@@ -15,7 +15,8 @@ low c =
     rw (back w16 (start .args .seg1 .«min_coord») (told .struct-told .given .1 .1 .1 .1 .0 .1), back w16 (start .args .seg2 .«min_coord») (c .before .struct-told2 .given .1 .1 .1 .1 .0 .1)) at (c .larger .ensures)
 
 -- its end
-high : (c : tie.After-smaller) → c .smaller .result ≡ P.minZ (c .before .before .before .before .before .before .args .seg1 .«max_coord») (c .before .before .before .before .before .before .args .seg2 .«max_coord»)
+high : (c : tie.After-smaller)
+    → c .smaller .result ≡ P.minZ (c .before .before .before .before .before .before .args .seg1 .«max_coord») (c .before .before .before .before .before .before .args .seg2 .«max_coord»)
 high c =
     let told3 = c .before .before in
     let start = told3 .before .before .before .before in

@@ -1,6 +1,6 @@
 -- `linking_rounds::gap::times` meets its contract: the product of 32 bits and a small number fits 64. Assumes nothing.
 use Rattle.signed.proofs.Signed.{is, between-sfits, fits-prod}
-use Rattle.linking_rounds.proofs.Reading.{cast-32, back-32}
+use Rattle.signed.proofs.Reading.{cast-32, back-32}
 use Rattle.linking_rounds.proofs.gap.times.Statement.{statement}
 use Rattle.linking_rounds.proofs.gap.times.Tie as tie
 

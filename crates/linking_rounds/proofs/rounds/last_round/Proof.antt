@@ -4,6 +4,7 @@ use native.Mathlib.Omega.{arith}
 use native.Mathlib.Nat.{lt-of-lt-of-le}
 use mathlib.Core.Path.{_≡_}
 use Prim.Native.Nat.{_≤_, _<_, _-_}
+use Rattle.axis.specs.Limits.{mostSegments}
 use Rattle.linking_rounds.specs.Loops.{turns}
 use Rattle.linking_rounds.specs.Rounds as R
 use Rattle.linking_rounds.proofs.Loops.{none, turn, end}
@@ -13,7 +14,7 @@ use Rattle.linking_rounds.proofs.rounds.last_round.Statement.{statement
 use Rattle.linking_rounds.proofs.rounds.last_round.Tie as tie
 
 abbrev Inv-loop : tie.InvT-loop
-Inv-loop thresholds count table₀ ix1₀ table ix1 = (ix1 ≤ count) × (count ≤ 512) × (table ≡ turns (R.lastTurn thresholds) ix1 table₀)
+Inv-loop thresholds count table₀ ix1₀ table ix1 = (ix1 ≤ count) × (count ≤ mostSegments) × (table ≡ turns (R.lastTurn thresholds) ix1 table₀)
 
 abbrev μ-loop : tie.MeasureT-loop
 μ-loop thresholds count table₀ ix1₀ table ix1 = count - ix1

@@ -4,6 +4,7 @@ use borrow.Author.Tests.{not-true, not-false}
 use native.Mathlib.Omega.{arith}
 use mathlib.Core.Path.{_≡_, sym, _∙_}
 use Prim.Native.Nat.{_≤_, _-_}
+use Rattle.axis.specs.Limits.{mostSegments}
 use Rattle.linking_rounds.specs.Loops.{turns}
 use Rattle.linking_rounds.specs.Rounds as R
 use Rattle.linking_rounds.proofs.Loops.{none, turn, end}
@@ -12,13 +13,13 @@ use Rattle.linking_rounds.proofs.rounds.pair_round.Statement.{statement
 use Rattle.linking_rounds.proofs.rounds.pair_round.Tie as tie
 
 abbrev Inv-loop2 : tie.InvT-loop2
-Inv-loop2 major-dir thresholds count table₀ ix1 before ix2₀ table ix2 = (ix2 ≤ count) × (count ≤ 512) × (table ≡ turns (R.pairTurn thresholds before ix1) ix2 table₀)
+Inv-loop2 major-dir thresholds count table₀ ix1 before ix2₀ table ix2 = (ix2 ≤ count) × (count ≤ mostSegments) × (table ≡ turns (R.pairTurn thresholds before ix1) ix2 table₀)
 
 abbrev μ-loop2 : tie.MeasureT-loop2
 μ-loop2 major-dir thresholds count table₀ ix1 before ix2₀ table ix2 = count - ix2
 
 abbrev Inv-loop : tie.InvT-loop
-Inv-loop major-dir thresholds count table₀ ix1₀ table ix1 = (ix1 ≤ count) × (count ≤ 512) × (table ≡ turns (R.majorTurn major-dir thresholds count) ix1 table₀)
+Inv-loop major-dir thresholds count table₀ ix1₀ table ix1 = (ix1 ≤ count) × (count ≤ mostSegments) × (table ≡ turns (R.majorTurn major-dir thresholds count) ix1 table₀)
 
 abbrev μ-loop : tie.MeasureT-loop
 μ-loop major-dir thresholds count table₀ ix1₀ table ix1 = count - ix1

@@ -3,6 +3,7 @@ use borrow.Author.Needs.{needs}
 use native.Mathlib.Omega.{arith}
 use mathlib.Core.Path.{_≡_}
 use Prim.Native.Nat.{_≤_, _-_}
+use Rattle.axis.specs.Limits.{mostSegments}
 use Rattle.linking_rounds.specs.Loops.{turns}
 use Rattle.linking_rounds.specs.Rounds as R
 use Rattle.linking_rounds.proofs.Loops.{none, turn, end}
@@ -11,7 +12,7 @@ use Rattle.linking_rounds.proofs.rounds.rewrite_links.Statement.{statem
 use Rattle.linking_rounds.proofs.rounds.rewrite_links.Tie as tie
 
 abbrev Inv-loop : tie.InvT-loop
-Inv-loop ix2 link1-ix link2-ix ix1 count table₀ i₀ table i = (i ≤ count) × (count ≤ 512) × (table ≡ turns (R.rewriteTurn ix2 link1-ix link2-ix ix1) i table₀)
+Inv-loop ix2 link1-ix link2-ix ix1 count table₀ i₀ table i = (i ≤ count) × (count ≤ mostSegments) × (table ≡ turns (R.rewriteTurn ix2 link1-ix link2-ix ix1) i table₀)
 
 abbrev μ-loop : tie.MeasureT-loop
 μ-loop ix2 link1-ix link2-ix ix1 count table₀ i₀ table i = count - i

@@ -7,6 +7,7 @@ use mathlib.Core.Path.{_≡_, sym, _∙_}
 use mathlib.Core.Logic.{⊎-elim}
 use Prim.Native.Nat.{_≤_, _<_, _-_}
 use Rattle.axis.specs.Segment.{segmentAt}
+use Rattle.axis.specs.Limits.{mostSegments}
 use Rattle.linking_rounds.specs.Loops.{turns}
 use Rattle.linking_rounds.specs.Rounds as R
 use Rattle.linking_rounds.specs.Steps.{Closed}
@@ -18,19 +19,21 @@ use Rattle.linking_rounds.proofs.rounds.serif_round.Statement.{statemen
 use Rattle.linking_rounds.proofs.rounds.serif_round.Tie as tie
 
 abbrev Inv-loop2 : tie.InvT-loop2
-Inv-loop2 thresholds count table₀ ix1 seg1 link1-ix at1 link1 ix2₀ table ix2 = (ix2 ≤ count) × (count ≤ 512) × (ix1 < count) × (at1 < count) × H.Held count seg1 link1 ix1 link1-ix table₀ ix2 table
+Inv-loop2 thresholds count table₀ ix1 seg1 link1-ix at1 link1 ix2₀ table ix2 =
+    (ix2 ≤ count) × (count ≤ mostSegments) × (ix1 < count) × (at1 < count) × H.Held count seg1 link1 ix1 link1-ix table₀ ix2 table
 
 abbrev μ-loop2 : tie.MeasureT-loop2
 μ-loop2 thresholds count table₀ ix1 seg1 link1-ix at1 link1 ix2₀ table ix2 = count - ix2
 
 abbrev Inv-loop : tie.InvT-loop
-Inv-loop thresholds count table₀ ix1₀ table ix1 = (ix1 ≤ count) × (count ≤ 512) × (table ≡ turns (R.serifTurn thresholds count) ix1 table₀)
+Inv-loop thresholds count table₀ ix1₀ table ix1 = (ix1 ≤ count) × (count ≤ mostSegments) × (table ≡ turns (R.serifTurn thresholds count) ix1 table₀)
 
 abbrev μ-loop : tie.MeasureT-loop
 μ-loop thresholds count table₀ ix1₀ table ix1 = count - ix1
 
 -- in the middle of the round, each link is to a segment of the table
-whole : (c : tie.After-known-told Inv-loop2 μ-loop2 Inv-loop μ-loop) → Closed (c .before .before .before .before .before .before .args .segments .len) (c .before .before .before .before .before .loop .table)
+whole : (c : tie.After-known-told Inv-loop2 μ-loop2 Inv-loop μ-loop)
+    → Closed (c .before .before .before .before .before .before .args .segments .len) (c .before .before .before .before .before .loop .table)
 whole c =
     let outer = c .before .before .before .before .before in
     let start = outer .before in
@@ -44,7 +47,8 @@ target c =
     let o = outer .loop in
     to-below _ (o .ix1) _ (o .table) (whole c) (in-outer .loop-test .taken) (c .before .first .given .1)
 
-target2 : (c : tie.After-known-told2 Inv-loop2 μ-loop2 Inv-loop μ-loop) → c .before .second .given .0 .0 < c .before .before .before .before .before .before .before .before .before .before .before .before .before .before .before .args .segments .len
+target2 : (c : tie.After-known-told2 Inv-loop2 μ-loop2 Inv-loop μ-loop)
+    → c .before .second .given .0 .0 < c .before .before .before .before .before .before .before .before .before .before .before .before .before .before .before .args .segments .len
 target2 c =
     let in-inner = c .before .before .before .before in
     let inner = in-inner .before in
@@ -52,7 +56,9 @@ target2 c =
     to-below _ (o .ix2) _ (o .table) (o .inv .4 .closed) (in-inner .loop2-test .taken) (c .before .second .given .1)
 
 -- what the inner loop leaves, by its end or by the break
-made : (c : tie.Left-loop2 Inv-loop2 μ-loop2 Inv-loop μ-loop) → c .loop2-test .table ≡ R.hold (segmentAt (c .before .before .before .before .before .before .before .before .before .before .loop .table) (c .before .before .before .before .before .before .before .before .before .before .loop .ix1)) (segmentAt (c .before .before .before .before .before .before .before .before .before .before .loop .table) (c .before .before .before .before .before .before .first .given .0 .0)) (c .before .before .before .before .before .before .before .before .before .before .loop .ix1) (c .before .before .before .before .before .before .first .given .0 .0) (c .before .before .before .before .before .before .before .before .before .before .before .args .segments .len) (c .before .before .before .before .before .before .before .before .before .before .loop .table)
+made : (c : tie.Left-loop2 Inv-loop2 μ-loop2 Inv-loop μ-loop)
+    → c .loop2-test .table
+    ≡ R.hold (segmentAt (c .before .before .before .before .before .before .before .before .before .before .loop .table) (c .before .before .before .before .before .before .before .before .before .before .loop .ix1)) (segmentAt (c .before .before .before .before .before .before .before .before .before .before .loop .table) (c .before .before .before .before .before .before .first .given .0 .0)) (c .before .before .before .before .before .before .before .before .before .before .loop .ix1) (c .before .before .before .before .before .before .first .given .0 .0) (c .before .before .before .before .before .before .before .before .before .before .before .args .segments .len) (c .before .before .before .before .before .before .before .before .before .before .loop .table)
 made c =
     let start = c .before .before .before .before .before .before .before .before .before .before .before in
     ⊎-elim

@@ -1,6 +1,6 @@
 -- `linking_rounds::serif::as_serif` meets its contract: each number that is kept is read back. Assumes nothing.
 use mir.Syntax.{w16, w32}
-use Rattle.linking_rounds.proofs.Reading.{back}
+use Rattle.signed.proofs.Reading.{back}
 use Rattle.linking_rounds.proofs.serif.as_serif.Statement.{statement}
 use Rattle.linking_rounds.proofs.serif.as_serif.Tie as tie
 

@@ -2,7 +2,7 @@
 use borrow.Author.Tests.{eq-eqb, ne-eqb}
 use mathlib.Core.Path.{sym, _∙_}
 use mir.Syntax.{w16}
-use Rattle.linking_rounds.proofs.Reading.{eq-same}
+use Rattle.signed.proofs.Reading.{eq-same}
 use Rattle.linking_rounds.proofs.serif.coincide.Statement.{statement}
 use Rattle.linking_rounds.proofs.serif.coincide.Tie as tie
 

@@ -3,7 +3,7 @@ use borrow.Author.Needs.{needs}
 use borrow.Author.Tests.{not-true, not-false}
 use mathlib.Core.Path.{sym, _∙_}
 use mir.Syntax.{w16}
-use Rattle.linking_rounds.proofs.Reading.{le-same}
+use Rattle.signed.proofs.Reading.{le-same}
 use Rattle.linking_rounds.proofs.serif.ends_outside.Statement.{statement}
 use Rattle.linking_rounds.proofs.serif.ends_outside.Tie as tie
 

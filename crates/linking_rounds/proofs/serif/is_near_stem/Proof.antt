@@ -4,7 +4,7 @@ use borrow.Author.Tests.{not-true, not-false}
 use mathlib.Core.Path.{sym, _∙_}
 use mir.Syntax.{w16, w32}
 use Rattle.linking_rounds.specs.Pairs as P
-use Rattle.linking_rounds.proofs.Reading.{lt-same, le-turned}
+use Rattle.signed.proofs.Reading.{lt-same, le-turned}
 use Rattle.linking_rounds.proofs.serif.is_near_stem.Statement.{statement}
 use Rattle.linking_rounds.proofs.serif.is_near_stem.Tie as tie
 

@@ -1,7 +1,7 @@
 -- `linking_rounds::serif::little_worse` meets its contract: the product is compared in 64 bits. Assumes nothing.
 use borrow.Author.Needs.{needs}
 use mir.Syntax.{w32, w64}
-use Rattle.linking_rounds.proofs.Reading.{back, cast-32, back-32, le-turned}
+use Rattle.signed.proofs.Reading.{back, cast-32, back-32, le-turned}
 use Rattle.linking_rounds.proofs.serif.little_worse.Statement.{statement}
 use Rattle.linking_rounds.proofs.serif.little_worse.Tie as tie
 

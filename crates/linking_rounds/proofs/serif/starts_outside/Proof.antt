@@ -1,6 +1,6 @@
 -- `linking_rounds::serif::starts_outside` meets its contract: the order is tested the other way round. Assumes nothing.
 use mir.Syntax.{w16}
-use Rattle.linking_rounds.proofs.Reading.{lt-turned}
+use Rattle.signed.proofs.Reading.{lt-turned}
 use Rattle.linking_rounds.proofs.serif.starts_outside.Statement.{statement}
 use Rattle.linking_rounds.proofs.serif.starts_outside.Tie as tie
 

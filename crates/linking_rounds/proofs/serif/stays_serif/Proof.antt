@@ -2,7 +2,7 @@
 use borrow.Author.Needs.{needs}
 use mir.Syntax.{w32, w64}
 use Rattle.linking_rounds.specs.Pairs as P
-use Rattle.linking_rounds.proofs.Reading.{back, cast-32, back-32, lt-was}
+use Rattle.signed.proofs.Reading.{back, cast-32, back-32, lt-was}
 use Rattle.linking_rounds.proofs.serif.stays_serif.Statement.{statement}
 use Rattle.linking_rounds.proofs.serif.stays_serif.Tie as tie
 

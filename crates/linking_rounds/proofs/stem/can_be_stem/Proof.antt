@@ -6,7 +6,7 @@ use mir.Syntax.{w32}
 use native.Mathlib.Omega.{arith}
 use lib.IntN.{pos}
 use Rattle.linking_rounds.specs.Pairs as P
-use Rattle.linking_rounds.proofs.Reading.{le-same, lt-turned}
+use Rattle.signed.proofs.Reading.{le-same, lt-turned}
 use Rattle.linking_rounds.proofs.stem.can_be_stem.Statement.{statement}
 use Rattle.linking_rounds.proofs.stem.can_be_stem.Tie as tie
 

@@ -6,7 +6,7 @@ use lib.IntN.{pos, _*ℤ_}
 use lib.Signed.{ltZ}
 use mir.Syntax.{w32}
 use Rattle.linking_rounds.specs.Pairs as P
-use Rattle.linking_rounds.proofs.Reading.{back, lt-same}
+use Rattle.signed.proofs.Reading.{back, lt-same}
 use Rattle.linking_rounds.proofs.stem.check_seg.Statement.{statement}
 use Rattle.linking_rounds.proofs.stem.check_seg.Tie as tie
 
@@ -18,7 +18,9 @@ nine c =
     sym (rw (back w32 (start .args .gap .dist) (told .struct-told .given .0 .1), back w32 (start .args .seg .score) (c .before .struct-told2 .given .1 .1 .1 .1 .1 .1 .1 .0 .1)) at (c .is-below .ensures))
 
 -- the second, of seven times the score
-seven : (c : tie.After-is-below2) → ltZ ((c .before .before .before .before .before .before .before .args .gap .dist) *ℤ pos 8) ((c .before .before .before .before .before .before .before .args .seg .score) *ℤ pos 7) ≡ c .is-below2 .result
+seven : (c : tie.After-is-below2)
+    → ltZ ((c .before .before .before .before .before .before .before .args .gap .dist) *ℤ pos 8) ((c .before .before .before .before .before .before .before .args .seg .score) *ℤ pos 7)
+    ≡ c .is-below2 .result
 seven c =
     let told3 = c .before .before in
     let start = told3 .before .before .before .before .before in

@@ -2,7 +2,7 @@
 use borrow.Author.Needs.{needs}
 use mir.Syntax.{w64}
 use Rattle.signed.proofs.Signed.{is}
-use Rattle.linking_rounds.proofs.Reading.{back}
+use Rattle.signed.proofs.Reading.{back}
 use Rattle.linking_rounds.proofs.stem.is_below.Statement.{statement}
 use Rattle.linking_rounds.proofs.stem.is_below.Tie as tie
 

@@ -43,7 +43,10 @@ links-on-requires-3 c κs = search needs
 
 returns-3 : tie.Need-returns-3
 unfolding linkedOn
-returns-3 c = let d = c .before .before in let b = d .before .before .before in rw (sym (b .before .links-on .ensures) ∙ not-false _ (b .if1 .left), sym (d .before .links-on2 .ensures) ∙ not-false _ (d .if2 .left)) (c .links-on3 .ensures)
+returns-3 c =
+    let d = c .before .before in
+    let b = d .before .before .before in
+    rw (sym (b .before .links-on .ensures) ∙ not-false _ (b .if1 .left), sym (d .before .links-on2 .ensures) ∙ not-false _ (d .if2 .left)) (c .links-on3 .ensures)
 
 pub linked-on-spec : {M : Type 1} → statement M
 linked-on-spec =

@@ -30,7 +30,10 @@ stemPut c = putEdge (start c .args .t1) (start c .args .third) (c .with-done-fla
 
 stem-moved : (c : tie.After-with-done-flag) → stemPut c ≡ stemDone c
 unfolding moveDone
-stem-moved c = ap (putEdge (start c .args .t1) (start c .args .third)) (c .with-done-flag .ensures ∙ ap finished (c .before .moved-back .ensures ∙ ap (movedBack (edgeAt (start c .args .t1) (start c .args .third))) (is (start c .fits .delta))))
+stem-moved c =
+    let s = start c in
+    let moved = c .before .moved-back .ensures ∙ ap (movedBack (edgeAt (s .args .t1) (s .args .third))) (is (s .fits .delta)) in
+    ap (putEdge (s .args .t1) (s .args .third)) (c .with-done-flag .ensures ∙ ap finished moved)
 
 stem-places : (c : tie.After-with-done-flag) → Places onceMoved (stemDone c)
 stem-places c = let s = start c in done-places unmoved (s .args .third) (s .args .t1) (s .args .delta) (s .pre .1 .0) (s .pre .0 .0) (s .pre .1 .1)
@@ -49,19 +52,26 @@ linked-place c = let s = start (c .before .before) in rw (done-len (s .args .t1)
 abbrev linkDone : tie.After-link → Axis
 linkDone c = moveDone (stemDone (c .before .before)) (c .link .given .0 .0) (start (c .before .before) .args .delta)
 
-link-moved : (c : tie.After-with-done-flag2) → putEdge (stemPut (c .before .before .before .before .before .before)) (c .before .before .before .before .link .given .0 .0) (c .with-done-flag2 .result) ≡ linkDone (c .before .before .before .before)
+link-moved : (c : tie.After-with-done-flag2)
+    → putEdge (stemPut (c .before .before .before .before .before .before)) (c .before .before .before .before .link .given .0 .0) (c .with-done-flag2 .result)
+    ≡ linkDone (c .before .before .before .before)
 unfolding moveDone
 link-moved c =
     let l = c .before .before .before .before in
     let w = l .before .before in
-    ap (λ (a : Axis). putEdge a (l .link .given .0 .0) (c .with-done-flag2 .result)) (stem-moved w)
-    ∙ ap (putEdge (stemDone w) (l .link .given .0 .0)) (c .with-done-flag2 .ensures ∙ ap finished (c .before .moved-back2 .ensures ∙ λ i. movedBack (edgeAt (stem-moved w i) (l .link .given .0 .0)) (is (start w .fits .delta) i)))
+    let k = l .link .given .0 .0 in
+    let moved = c .before .moved-back2 .ensures ∙ λ i. movedBack (edgeAt (stem-moved w i) k) (is (start w .fits .delta) i) in
+    ap (λ (a : Axis). putEdge a k (c .with-done-flag2 .result)) (stem-moved w) ∙ ap (putEdge (stemDone w) k) (c .with-done-flag2 .ensures ∙ ap finished moved)
 
 link-places : (c : tie.After-link) → Places twiceMoved (linkDone c)
-link-places c = let s = start (c .before .before) in done-places onceMoved (c .link .given .0 .0) (stemDone (c .before .before)) (s .args .delta) (stem-places (c .before .before)) (linked-place c) (s .pre .1 .1)
+link-places c =
+    let w = c .before .before in
+    let s = start w in
+    done-places onceMoved (c .link .given .0 .0) (stemDone w) (s .args .delta) (stem-places w) (linked-place c) (s .pre .1 .1)
 
 -- the axis once the serifs behind a link are moved: a second time, where one of them is the link
-serifs-moved : (c : tie.After-move-serifs2) → c .move-serifs2 .result ≡ moveSerifs (linkDone (c .before .before .before .before .before)) (start (c .before .before .before .before .before .before .before) .args .delta)
+serifs-moved : (c : tie.After-move-serifs2)
+    → c .move-serifs2 .result ≡ moveSerifs (linkDone (c .before .before .before .before .before)) (start (c .before .before .before .before .before .before .before) .args .delta)
 serifs-moved c = by₂ moveSerifs (c .move-serifs2 .ensures) (link-moved (c .before)) (is (start (c .before .before .before .before .before .before .before) .fits .delta))
 
 -- delta is within its limit when read back
@@ -100,7 +110,8 @@ unfolding moveStem moveLink
 returns c =
     let e = c .before in
     let w = e .before .before in
-    by₂ moveSerifs (c .move-serifs .ensures) (stem-moved w) (is (start w .fits .delta)) ∙ ap (λ (l : Link). moveSerifs (moveLink (stemDone w) l (start w .args .delta)) (start w .args .delta)) (sym (e .enum-told .given .1))
+    let d = start w .args .delta in
+    by₂ moveSerifs (c .move-serifs .ensures) (stem-moved w) (is (start w .fits .delta)) ∙ ap (λ (l : Link). moveSerifs (moveLink (stemDone w) l d) d) (sym (e .enum-told .given .1))
 
 cast-at : tie.Need-cast-at
 cast-at c = search needs
@@ -112,7 +123,11 @@ element-copy-out-linked : tie.Need-element-copy-out-linked
 element-copy-out-linked c = linked-below (c .before)
 
 moved-back-requires-2 : tie.Need-moved-back-requires-2
-moved-back-requires-2 c κs = let l = c .before .before in let w = l .before .before in (subst (λ (a : Axis). Between thriceMoved thriceMoved (edgeAt a (l .link .given .0 .0) .pos)) (sym (stem-moved w)) (further onceMoved _ (omega arith) (stem-places w .at _ (linked-place l))), delta-held (start w))
+moved-back-requires-2 c κs =
+    let l = c .before .before in
+    let w = l .before .before in
+    let k = l .link .given .0 .0 in
+    (subst (λ (a : Axis). Between thriceMoved thriceMoved (edgeAt a k .pos)) (sym (stem-moved w)) (further onceMoved _ (omega arith) (stem-places w .at _ (linked-place l))), delta-held (start w))
 
 with-done-flag-requires-2 : tie.Need-with-done-flag-requires-2
 with-done-flag-requires-2 c κs = search needs
@@ -131,7 +146,8 @@ unfolding moveStem moveLink
 returns-2 c =
     let l = c .before .before .before .before .before in
     let w = l .before .before in
-    serifs-moved c ∙ ap (λ (k : Link). moveSerifs (moveLink (stemDone w) k (start w .args .delta)) (start w .args .delta)) (sym (l .link .given .1))
+    let d = start w .args .delta in
+    serifs-moved c ∙ ap (λ (k : Link). moveSerifs (moveLink (stemDone w) k d) d) (sym (l .link .given .1))
 
 pub move-stem-spec : {M : Type 1} → statement M
 move-stem-spec =

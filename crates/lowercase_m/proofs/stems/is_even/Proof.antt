@@ -25,7 +25,12 @@ magnitude-requires : tie.Need-magnitude-requires
 magnitude-requires c κs = let k = sub-dist1 c also sub-dist2 c also sub-apart c also cast-magnitude c in omega (arith, signed)
 
 returns : tie.Need-returns
-returns c = let s = c .before in let f = s .fits in ap (λ (n : ℕ). ltb n 8) (c .magnitude .ensures ∙ ap natAbs (is (cast-magnitude s) ∙ by₂ _-ℤ_ (is (sub-apart s)) (by₂ _-ℤ_ (is (sub-dist1 s)) (is (f .second)) (is (f .first))) (by₂ _-ℤ_ (is (sub-dist2 s)) (is (f .third)) (is (f .second)))))
+returns c =
+    let s = c .before in
+    let f = s .fits in
+    let dist1 = by₂ _-ℤ_ (is (sub-dist1 s)) (is (f .second)) (is (f .first)) in
+    let dist2 = by₂ _-ℤ_ (is (sub-dist2 s)) (is (f .third)) (is (f .second)) in
+    ap (λ (n : ℕ). ltb n 8) (c .magnitude .ensures ∙ ap natAbs (is (cast-magnitude s) ∙ by₂ _-ℤ_ (is (sub-apart s)) dist1 dist2))
 
 pub is-even-spec : {M : Type 1} → statement M
 is-even-spec =

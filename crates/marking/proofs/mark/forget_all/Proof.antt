@@ -3,13 +3,14 @@ use borrow.Author.Needs.{needs}
 use native.Mathlib.Omega.{arith}
 use mathlib.Core.Path.{_≡_}
 use Prim.Native.Nat.{_≤_, _-_}
+use Rattle.axis.specs.Limits.{mostSegments}
 use Rattle.marking.specs.Marks.{clear}
 use Rattle.marking.proofs.Marking.{clear-none, clear-more, clear-done}
 use Rattle.marking.proofs.mark.forget_all.Statement.{statement}
 use Rattle.marking.proofs.mark.forget_all.Tie as tie
 
 abbrev Inv-loop : tie.InvT-loop
-Inv-loop count table₀ i₀ table i = (i ≤ count) × (count ≤ 512) × (table ≡ clear i table₀)
+Inv-loop count table₀ i₀ table i = (i ≤ count) × (count ≤ mostSegments) × (table ≡ clear i table₀)
 
 abbrev μ-loop : tie.MeasureT-loop
 μ-loop count table₀ i₀ table i = count - i

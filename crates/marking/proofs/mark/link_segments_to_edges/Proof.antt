@@ -6,30 +6,36 @@ use mathlib.Core.Bool.{true}
 use Prim.Native.Nat.{_-_, _≤_, _<_}
 use lib.ListN.{length}
 use Rattle.axis.specs.Edge.{edgeAt}
-use Rattle.joining.specs.Walks.{walk, ends}
-use Rattle.joining.proofs.Rings.{Passes, walk-passes, shorter}
-use Rattle.marking.specs.Marks.{marks, marked}
+use Rattle.axis.specs.Limits.{mostEdges, mostSegments}
+use Rattle.axis.specs.Ring.{walk, ends}
+use Rattle.axis.proofs.Rings.{Passes, walk-passes}
+use Rattle.joining.specs.Walks.{nextIn}
+use Rattle.joining.proofs.Rings.{fewer}
+use Rattle.marking.specs.Marks.{marks}
+use Rattle.marking.specs.Steps.{marked}
 use Rattle.marking.proofs.Marking.{mark-on, mark-end, marked-none, marked-more}
 use Rattle.marking.proofs.mark.link_segments_to_edges.Statement.{statement}
 use Rattle.marking.proofs.mark.link_segments_to_edges.Tie as tie
 
 abbrev Inv-loop2 : tie.InvT-loop2
 Inv-loop2 edges next count table₀ edge-ix last ix₀ table ix =
-    (ix < 512) × (edge-ix < count) × (count ≤ 128) × (ends next last 512 ix ≡ true)
-    × (marks next edge-ix (walk next last 512 ix) table ≡ marks next edge-ix (walk next last 512 ix₀) table₀)
+    (ix < mostSegments) × (edge-ix < count) × (count ≤ mostEdges) × (ends (nextIn next) mostSegments last mostSegments ix ≡ true)
+    × (marks next edge-ix (walk (nextIn next) last mostSegments ix) table ≡ marks next edge-ix (walk (nextIn next) last mostSegments ix₀) table₀)
 
 abbrev μ-loop2 : tie.MeasureT-loop2
-μ-loop2 edges next count table₀ edge-ix last ix₀ table ix = length (walk next last 512 ix)
+μ-loop2 edges next count table₀ edge-ix last ix₀ table ix = length (walk (nextIn next) last mostSegments ix)
 
 abbrev Inv-loop : tie.InvT-loop
-Inv-loop edges next count table₀ edge-ix₀ table edge-ix = (edge-ix ≤ count) × (count ≤ 128) × (table ≡ marked next edges edge-ix table₀)
+Inv-loop edges next count table₀ edge-ix₀ table edge-ix = (edge-ix ≤ count) × (count ≤ mostEdges) × (table ≡ marked next edges edge-ix table₀)
 
 abbrev μ-loop : tie.MeasureT-loop
 μ-loop edges next count table₀ edge-ix₀ table edge-ix = count - edge-ix
 
 -- one step on
-passes : (c : tie.Else1 Inv-loop2 μ-loop2 Inv-loop μ-loop) → Passes (c .before .before .before .before .before .before .before .before .args .t3) (edgeAt (c .before .before .before .before .before .before .before .before .args .t2) (c .before .before .before .before .before .before .loop .edge-ix) .last) 512 (c .before .before .before .loop2 .ix)
-passes c = walk-passes _ _ _ _ (c .if1 .left) (c .before .before .before .loop2 .inv .3)
+passes : (c : tie.Else1 Inv-loop2 μ-loop2 Inv-loop μ-loop) → Passes (nextIn (c .before .before .before .before .before .before .before .before .args .t3)) mostSegments
+    (edgeAt (c .before .before .before .before .before .before .before .before .args .t2) (c .before .before .before .before .before .before .loop .edge-ix) .last)
+    mostSegments (c .before .before .before .loop2 .ix)
+passes c = walk-passes _ _ _ _ _ (c .if1 .left) (c .before .before .before .loop2 .inv .3)
 
 forget-all-requires : tie.Need-forget-all-requires Inv-loop2 μ-loop2 Inv-loop μ-loop
 forget-all-requires c κs = c .pre .0
@@ -79,7 +85,7 @@ element-set-from-table : tie.Need-element-set-from-table Inv-loop2 μ-loop2 Inv-
 element-set-from-table c = omega arith
 
 loop2-less : tie.Need-loop2-less Inv-loop2 μ-loop2 Inv-loop μ-loop
-loop2-less c = shorter _ _ _ _ (passes c)
+loop2-less c = fewer _ _ _ _ _ (passes c)
 
 loop2-again : tie.Need-loop2-again Inv-loop2 μ-loop2 Inv-loop μ-loop
 loop2-again c =

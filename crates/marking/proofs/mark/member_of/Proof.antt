@@ -1,7 +1,7 @@
 -- `marking::mark::member_of` meets its contract: each number that is kept is read back. Assumes nothing.
 use mir.Syntax.{w16, w32}
 use Rattle.axis.specs.declared.kinds.Link.the-variants as Links
-use Rattle.joining.proofs.Reading.{back}
+use Rattle.signed.proofs.Reading.{back}
 use Rattle.marking.proofs.mark.member_of.Statement.{statement}
 use Rattle.marking.proofs.mark.member_of.Tie as tie
 

@@ -106,8 +106,9 @@ loop-again c =
     let w = c .before .before .before .before .before in
     let s = entry w in
     let l = w .before .before .before .loop in
-    sofar-next (s .args .originals .now) (s .args .currents .now) (s .args .touched .now) (s .args .ends .now) (s .pre .currents-length) (s .pre .marks-length) (l .k) (l .start) (w .wide .result) (l .currents) _ (w .wide .ensures)
-    (w .before .before .loop-test .taken) (l .inv) (c .before .align-contour .ensures)
+    let a = s .args in
+    sofar-next (a .originals .now) (a .currents .now) (a .touched .now) (a .ends .now) (s .pre .currents-length) (s .pre .marks-length) (l .k) (l .start) (w .wide .result) (l .currents) _
+    (w .wide .ensures) (w .before .before .loop-test .taken) (l .inv) (c .before .align-contour .ensures)
 
 same-length : tie.Need-same-length Inv-loop μ-loop
 same-length c = c .before .loop .inv .len

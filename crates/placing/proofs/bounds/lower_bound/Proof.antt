@@ -1,5 +1,4 @@
 -- `placing::bounds::lower_bound` meets its contract. Assumes nothing.
-use Prim.Native.Nat.{_-_}
 use Rattle.placing.proofs.Neighbours.{lower-none, lower-some}
 use borrow.Author.Needs.{needs}
 use Rattle.placing.proofs.bounds.lower_bound.Statement.{statement}

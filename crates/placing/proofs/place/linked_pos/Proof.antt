@@ -19,7 +19,10 @@ stem-width-requires c κs = search needs
 
 -- the fitted width, in terms of the original positions
 width-is : (c : tie.After-stem-width) → c .stem-width .result ≡ fittedWidth (c .before .args .rule) (c .before .args .standards .now) (c .before .args .stem-opos -ℤ c .before .args .base-opos)
-width-is c = let s = c .before in c .stem-width .ensures ∙ ap (fittedWidth (s .args .rule) (s .args .standards .now)) (is (sub-stem-width s) ∙ λ i. is (s .fits .stem-opos) i -ℤ is (s .fits .base-opos) i)
+width-is c =
+    let s = c .before in
+    c .stem-width .ensures
+    ∙ ap (fittedWidth (s .args .rule) (s .args .standards .now)) (is (sub-stem-width s) ∙ λ i. is (s .fits .stem-opos) i -ℤ is (s .fits .base-opos) i)
 
 add-result : tie.Need-add-result
 add-result c =

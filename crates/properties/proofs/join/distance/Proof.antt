@@ -2,36 +2,36 @@
 use mathlib.Core.Path.{_≡_}
 use mathlib.Core.Bool.{true, false}
 use lib.Signed.{ltZ}
+use Rattle.signed.proofs.Reading.{back-16, cast-16, sub-fits, sub-is}
 use Rattle.properties.specs.Properties.{dist}
-use Rattle.properties.proofs.Reading.{is-16, cast-16, apart, is-apart}
 use Rattle.properties.proofs.join.distance.Statement.{statement}
 use Rattle.properties.proofs.join.distance.Tie as tie
 
 cast-x : tie.Need-cast-x
-cast-x c = cast-16 (c .fits .a)
+cast-x c = cast-16 (c .args .a) (c .fits .a .sfits)
 
 cast-y : tie.Need-cast-y
-cast-y c = cast-16 (c .fits .b)
+cast-y c = cast-16 (c .args .b) (c .fits .b .sfits)
 
 sub-result : tie.Need-sub-result
-sub-result c = let start = c .before in apart (start .fits .b) (start .fits .a)
+sub-result c = let start = c .before in sub-fits (start .args .b) (start .args .a) (start .fits .b .sfits) (start .fits .a .sfits)
 
 sub-result-2 : tie.Need-sub-result-2
-sub-result-2 c = let start = c .before in apart (start .fits .a) (start .fits .b)
+sub-result-2 c = let start = c .before in sub-fits (start .args .a) (start .args .b) (start .fits .a .sfits) (start .fits .b .sfits)
 
 returns : tie.Need-returns
 unfolding dist
 returns c =
     let start = c .before in
-    let e : ltZ (start .args .a) (start .args .b) ≡ true = rw (is-16 (start .fits .a), is-16 (start .fits .b)) at (c .if1 .taken) in
-    rw (is-apart (start .fits .b) (start .fits .a), e)
+    let e : ltZ (start .args .a) (start .args .b) ≡ true = rw (back-16 (start .args .a) (start .fits .a .sfits), back-16 (start .args .b) (start .fits .b .sfits)) at (c .if1 .taken) in
+    rw (sub-is (start .args .b) (start .args .a) (start .fits .b .sfits) (start .fits .a .sfits), e)
 
 returns-2 : tie.Need-returns-2
 unfolding dist
 returns-2 c =
     let start = c .before in
-    let e : ltZ (start .args .a) (start .args .b) ≡ false = rw (is-16 (start .fits .a), is-16 (start .fits .b)) at (c .if1 .left) in
-    rw (is-apart (start .fits .a) (start .fits .b), e)
+    let e : ltZ (start .args .a) (start .args .b) ≡ false = rw (back-16 (start .args .a) (start .fits .a .sfits), back-16 (start .args .b) (start .fits .b .sfits)) at (c .if1 .left) in
+    rw (sub-is (start .args .a) (start .args .b) (start .fits .a .sfits) (start .fits .b .sfits), e)
 
 pub distance-spec : {M : Type 1} → statement M
 distance-spec = tie.close (tie.spec cast-x cast-y sub-result returns sub-result-2 returns-2)

@@ -9,7 +9,8 @@ use Rattle.properties.proofs.join.join_of.Statement.{statement}
 use Rattle.properties.proofs.join.join_of.Tie as tie
 
 -- the test of the serif's edge
-tested : (c : tie.After-is-other) {v : Bool} → c .is-other .result ≡ v → isOther (c .before .before .args .edge-ix) (edgeOf (c .before .before .args .segment .serif) (c .before .before .args .serif)) ≡ v
+tested : (c : tie.After-is-other) {v : Bool} → c .is-other .result ≡ v
+    → isOther (c .before .before .args .edge-ix) (edgeOf (c .before .before .args .segment .serif) (c .before .before .args .serif)) ≡ v
 tested c e = sym (rw (c .before .edge-of .ensures) at (c .is-other .ensures)) ∙ e
 
 edge-of-requires : tie.Need-edge-of-requires

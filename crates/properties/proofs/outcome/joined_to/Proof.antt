@@ -10,7 +10,7 @@ nearer-requires : tie.Need-nearer-requires
 nearer-requires c κs = search needs
 
 returns : tie.Need-returns
-unfolding O.joinedTo
+unfolding O.joinedBy
 returns c =
     let told3 = c .before in
     let told2 = told3 .before in
@@ -23,7 +23,7 @@ nearer-requires-2 : tie.Need-nearer-requires-2
 nearer-requires-2 c κs = search needs
 
 returns-2 : tie.Need-returns-2
-unfolding O.joinedTo
+unfolding O.joinedBy
 returns-2 c =
     let told6 = c .before in
     let told5 = told6 .before in

@@ -35,7 +35,10 @@ distance-requires : tie.Need-distance-requires
 distance-requires c κs = search needs
 
 -- the test of the two distances
-tested : (c : tie.After-struct-told3) {v : Bool} → ltZ (toZ w32 (ofZ w32 (c .before .before .before .before .before .before .before .before .before .args .join .delta))) (toZ w32 (ofZ w32 (c .before .before .distance .result))) ≡ v → ltZ (c .before .before .before .before .before .before .before .before .before .args .join .delta) (dist (c .before .before .before .before .before .before .before .before .before .args .edge .fpos) (c .before .before .before .before .before .before .before .before .before .args .edge2 .fpos)) ≡ v
+tested : (c : tie.After-struct-told3) {v : Bool}
+    → ltZ (toZ w32 (ofZ w32 (c .before .before .before .before .before .before .before .before .before .args .join .delta))) (toZ w32 (ofZ w32 (c .before .before .distance .result))) ≡ v
+    → ltZ (c .before .before .before .before .before .before .before .before .before .args .join .delta) (dist (c .before .before .before .before .before .before .before .before .before .args .edge .fpos) (c .before .before .before .before .before .before .before .before .before .args .edge2 .fpos))
+    ≡ v
 tested c e =
     let distance = c .before .before in
     let told2 = distance .before in

@@ -8,7 +8,7 @@ use lib.ListN.{length}
 use Rattle.axis.specs.declared.edge.Axis.{Axis}
 use Rattle.axis.specs.Edge.{edgeAt, putEdge}
 use Rattle.axis.specs.Limits.{mostEdges, mostSegments}
-use Rattle.axis.specs.Ring.{walk}
+use Rattle.axis.specs.Ring.{nextOf, walk}
 use Rattle.axis.proofs.Rings.{walk-passes, shorter}
 use Rattle.properties.specs.Properties as P
 use Rattle.properties.specs.Steps.{Ready}
@@ -19,13 +19,13 @@ use Rattle.properties.proofs.properties.compute_edge_properties.Tie as 
 
 abbrev Inv-loop2 : tie.InvT-loop2
 Inv-loop2 segments count table₀ edge-ix last ix₀ round₀ straight₀ table ix round straight =
-    (edge-ix < count) × (count ≤ 128) × (ix < 512) × (count ≡ table₀ .len) × Ready table₀ segments × Kept table₀ table × Along segments edge-ix last ix₀ table₀ table ix round straight
+    (edge-ix < count) × (count ≤ mostEdges) × (ix < mostSegments) × (count ≡ table₀ .len) × Ready table₀ segments × Kept table₀ table × Along segments edge-ix last ix₀ table₀ table ix round straight
 
 abbrev μ-loop2 : tie.MeasureT-loop2
-μ-loop2 segments count table₀ edge-ix last ix₀ round₀ straight₀ table ix round straight = length (walk segments last mostSegments ix)
+μ-loop2 segments count table₀ edge-ix last ix₀ round₀ straight₀ table ix round straight = length (walk (nextOf segments last) last mostSegments ix)
 
 abbrev Inv-loop : tie.InvT-loop
-Inv-loop segments count table₀ ix₀ table edge-ix = (edge-ix ≤ count) × (count ≤ 128) × (table ≡ P.edges segments edge-ix table₀)
+Inv-loop segments count table₀ ix₀ table edge-ix = (edge-ix ≤ count) × (count ≤ mostEdges) × (table ≡ P.edges segments edge-ix table₀)
 
 abbrev μ-loop : tie.MeasureT-loop
 μ-loop segments count table₀ ix₀ table edge-ix = count - edge-ix
@@ -183,7 +183,8 @@ abbrev inner-of : tie.After-flagged Inv-loop2 μ-loop2 Inv-loop μ-loop → tie.
 inner-of c = c .before .before .before .before .before .before .before .before .before .before .before .before .before .before
 
 -- the segment is counted
-counted : (c : tie.Joined1 Inv-loop2 μ-loop2 Inv-loop μ-loop) → Counted (c .before .before .before .before .before .before .before .before .before .args .t2) (c .before .before .before .loop2 .segment-ix) (c .before .before .before .loop2 .roundness) (c .before .before .before .loop2 .straightness) (c .if1 .roundness) (c .if1 .straightness)
+counted : (c : tie.Joined1 Inv-loop2 μ-loop2 Inv-loop μ-loop)
+    → Counted (c .before .before .before .before .before .before .before .before .before .args .t2) (c .before .before .before .loop2 .segment-ix) (c .before .before .before .loop2 .roundness) (c .before .before .before .loop2 .straightness) (c .if1 .roundness) (c .if1 .straightness)
 counted c =
     ⊎-elim
     (λ w. record { round = rw (w .0 .taken) (w .1); straight = rw (w .0 .taken) (omega (arith, w .2)) })
@@ -192,10 +193,13 @@ counted c =
 
 -- the table behind it
 abbrev now : tie.After-flagged Inv-loop2 μ-loop2 Inv-loop μ-loop → Axis
-now c = putEdge (putEdge (inner-of c .loop2 .table) (inner-of c .before .before .before .before .before .loop .edge-ix) (c .before .before .before .joined-to .result)) (c .before .before .edge2-at2 .result) (c .flagged .result)
+now c =
+    putEdge (putEdge (inner-of c .loop2 .table) (inner-of c .before .before .before .before .before .loop .edge-ix) (c .before .before .before .joined-to .result)) (c .before .before .edge2-at2 .result) (c .flagged .result)
 
 -- is that of one visit
-visited : (c : tie.After-flagged Inv-loop2 μ-loop2 Inv-loop μ-loop) → now c ≡ P.member (inner-of c .before .before .before .before .before .before .args .t2) (inner-of c .before .before .before .before .before .loop .edge-ix) (inner-of c .loop2 .segment-ix) (inner-of c .loop2 .table)
+visited : (c : tie.After-flagged Inv-loop2 μ-loop2 Inv-loop μ-loop)
+    → now c
+    ≡ P.member (inner-of c .before .before .before .before .before .before .args .t2) (inner-of c .before .before .before .before .before .loop .edge-ix) (inner-of c .loop2 .segment-ix) (inner-of c .loop2 .table)
 visited c =
     let edge2-at2 = c .before .before in
     let joined-to = edge2-at2 .before in
@@ -215,8 +219,8 @@ loop2-less c =
     let t = outer .before .args .t2 in
     let last = edgeAt (outer .loop .table) (outer .loop .edge-ix) .last in
     let ix = inner .loop2 .segment-ix in
-    let p = walk-passes t last mostSegments ix (else2 .if2 .left) (inner .loop2 .inv .6 .stops) in
-    rw (c .next-at .ensures) (omega (arith, shorter t last mostSegments ix p))
+    let p = walk-passes (nextOf t last) (t .len) last mostSegments ix (else2 .if2 .left) (inner .loop2 .inv .6 .stops) in
+    rw (c .next-at .ensures) (omega (arith, shorter (nextOf t last) (t .len) last mostSegments ix p))
 
 loop2-again : tie.Need-loop2-again Inv-loop2 μ-loop2 Inv-loop μ-loop
 loop2-again c =

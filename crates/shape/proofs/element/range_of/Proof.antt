@@ -4,6 +4,8 @@ use native.Mathlib.Omega.{arith}
 use mathlib.Core.Path.{sym, ap, subst}
 use Prim.Native.Nat.{_<_}
 use lib.ListN.{length, getD}
+use Rattle.words.specs.Edge.{edgeSize}
+use Rattle.words.specs.Segment.{segmentSize}
 use Rattle.shape.specs.declared.element.Record.{Record}
 use Rattle.shape.specs.Shape.{noRange, rangesOf}
 use Rattle.shape.proofs.element.range_of.Statement.{statement}
@@ -13,10 +15,10 @@ enum-told : tie.Need-enum-told
 enum-told c = search needs
 
 -- the place is within the record at hand
-within-segment : (c : tie.After-enum-told) → c .before .before .args .i < 15
+within-segment : (c : tie.After-enum-told) → c .before .before .args .i < segmentSize
 within-segment c = let s = c .before .before in subst (λ (k : Record). s .args .i < length (rangesOf k)) (c .enum-told .given .1) (s .pre)
 
-within-edge : (c : tie.After-enum-told2) → c .before .before .args .i < 11
+within-edge : (c : tie.After-enum-told2) → c .before .before .args .i < edgeSize
 within-edge c = let s = c .before .before in subst (λ (k : Record). s .args .i < length (rangesOf k)) (c .enum-told2 .given .1) (s .pre)
 
 mul-result : tie.Need-mul-result

@@ -5,6 +5,7 @@ use mathlib.Core.Path.{_≡_, sym, ap, _∙_}
 use Prim.Native.Nat.{ℕ, _+_}
 use mir.Syntax.{w32}
 use mir.Val.{toZ, ofZ}
+use Rattle.words.specs.Edge.{edgeSize}
 use Rattle.words.proofs.Fields.{kept}
 use Rattle.shape.specs.declared.field.Place.the-variants.{At}
 use Rattle.shape.specs.declared.element.Record.the-variants.{Edge}
@@ -23,7 +24,7 @@ next c = c .before .next .given .0 .0
 there : (c : tie.After-known-told) → fields (rangesOf Edge) (start c .args .words .now) (start c .args .at) ≡ At (next c)
 there c = sym (c .before .before .before .skip-record .ensures) ∙ c .before .next .given .1
 
-place : (c : tie.After-known-told) → next c ≡ start c .args .at + 11
+place : (c : tie.After-known-told) → next c ≡ start c .args .at + edgeSize
 place c = fields-place (rangesOf Edge) (start c .args .words .now) (start c .args .at) (next c) (there c)
 
 skip-record-requires : tie.Need-skip-record-requires

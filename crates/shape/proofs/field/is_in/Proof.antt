@@ -4,7 +4,7 @@ use mathlib.Core.Path.{sym}
 use mir.Syntax.{w32}
 use mir.Val.{SFits}
 use Rattle.signed.proofs.Signed.{signed, got, _also_}
-use Rattle.shape.proofs.Shapes.{within-low, within-high, within-on}
+use Rattle.shape.proofs.Shapes.{below-range, above-range, in-range}
 use Rattle.shape.proofs.field.is_in.Statement.{statement}
 use Rattle.shape.proofs.field.is_in.Tie as tie
 
@@ -20,14 +20,14 @@ returns c =
     let t = c .before in
     let s = t .before .before in
     let k = s .fits .word also low t in
-    sym (within-low (s .args .range) (s .args .word) (omega (arith, signed)))
+    sym (below-range (s .args .range) (s .args .word) (omega (arith, signed)))
 
 returns-2 : tie.Need-returns-2
 returns-2 c =
     let u = c .before in
     let s = u .before .before .before .before .before in
     let k = s .fits .word also high u in
-    sym (within-high (s .args .range) (s .args .word) (omega (arith, signed)))
+    sym (above-range (s .args .range) (s .args .word) (omega (arith, signed)))
 
 returns-3 : tie.Need-returns-3
 returns-3 c =
@@ -35,7 +35,7 @@ returns-3 c =
     let t = u .before .before .before in
     let s = t .before .before in
     let k = s .fits .word also low t also high u in
-    sym (within-on (s .args .range) (s .args .word) (omega (arith, signed)) (omega (arith, signed)))
+    sym (in-range (s .args .range) (s .args .word) (omega (arith, signed)) (omega (arith, signed)))
 
 pub is-in-spec : {M : Type 1} → statement M
 is-in-spec = tie.close (tie.spec returns returns-2 returns-3)

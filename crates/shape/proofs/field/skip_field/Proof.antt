@@ -6,7 +6,7 @@ use lib.ListN.{getD}
 use lib.IntN.{pos}
 use mir.Syntax.{w32}
 use Rattle.signed.proofs.Signed.{is, got}
-use Rattle.shape.specs.Shape.{within}
+use Rattle.shape.specs.Shape.{isIn}
 use Rattle.shape.proofs.Shapes.{field-end, field-off, field-on}
 use Rattle.shape.proofs.field.skip_field.Statement.{statement}
 use Rattle.shape.proofs.field.skip_field.Tie as tie
@@ -27,8 +27,8 @@ add-t10 : tie.Need-add-t10
 add-t10 c = search needs
 
 -- what the test says of the word
-tested : (c : tie.After-is-in) → within (c .before .before .before .args .range) (getD (c .before .before .before .args .words .now) (c .before .before .before .args .at) (pos 0)) ≡ c .is-in .result
-tested c = sym (c .is-in .ensures ∙ ap (within (c .before .before .before .args .range)) (is (got w32 _ (c .before .word .given))))
+tested : (c : tie.After-is-in) → isIn (c .before .before .before .args .range) (getD (c .before .before .before .args .words .now) (c .before .before .before .args .at) (pos 0)) ≡ c .is-in .result
+tested c = sym (c .is-in .ensures ∙ ap (isIn (c .before .before .before .args .range)) (is (got w32 _ (c .before .word .given))))
 
 returns-2 : tie.Need-returns-2
 returns-2 c = let s = c .before .before .before .before in sym (field-on (s .args .range) (s .args .words .now) (s .args .at) (omega arith) (tested (c .before) ∙ c .if2 .taken))

@@ -1,10 +1,12 @@
 -- `stem_cjk::hint::place_stem` meets its contract. Assumes nothing.
-use mathlib.Core.Path.{_≡_}
+use mathlib.Core.Path.{_≡_, ap, _∙_}
 use native.Mathlib.Omega.{arith}
 use lib.IntN.{_+ℤ_}
 use Rattle.signed.proofs.Signed.{fits, is, signed}
+use Rattle.axis.specs.declared.edge.Edge.{Edge}
+use Rattle.axis.specs.declared.edge.Axis.{Axis}
 use Rattle.axis.specs.Edge.{edgeAt, putEdge, placed}
-use Rattle.cjk_numbers.specs.Cjk.{placedStem}
+use Rattle.cjk_numbers.specs.Cjk.{placedAt, placedStem}
 use borrow.Author.Needs.{needs}
 use Rattle.stem_cjk.proofs.hint.place_stem.Statement.{statement}
 use Rattle.stem_cjk.proofs.hint.place_stem.Tie as tie
@@ -47,12 +49,22 @@ element-set-from-placed-2 : tie.Need-element-set-from-placed-2
 element-set-from-placed-2 c = search needs
 
 -- the upper edge as it is then, placed
-upper-is : (c : tie.After-with-pos2) → c .with-pos2 .result ≡ placed (edgeAt (putEdge (c .before .before .before .before .args .axis) (c .before .before .before .before .args .lower) (c .before .before .with-pos .result)) (c .before .before .before .before .args .upper)) (c .before .before .before .before .args .pos +ℤ c .before .before .before .before .args .width)
-upper-is c = let s = c .before .before .before .before in rw (is (add-with-pos (c .before)), is (s .fits .pos), is (s .fits .width)) at (c .with-pos2 .ensures)
+abbrev upper-start : tie.After-with-pos2 → tie.Start
+upper-start c = c .before .before .before .before
+
+abbrev lowerPut : tie.After-with-pos2 → Axis
+lowerPut c = putEdge (upper-start c .args .axis) (upper-start c .args .lower) (c .before .before .with-pos .result)
+
+upper-is : (c : tie.After-with-pos2) → c .with-pos2 .result
+    ≡ placed (edgeAt (lowerPut c) (upper-start c .args .upper)) (upper-start c .args .pos +ℤ upper-start c .args .width)
+upper-is c = let s = upper-start c in rw (is (add-with-pos (c .before)), is (s .fits .pos), is (s .fits .width)) at (c .with-pos2 .ensures)
 
 returns : tie.Need-returns
 unfolding placedStem
-returns c = rw (upper-is c, lower-is (c .before .before))
+returns c =
+    let s = upper-start c in
+    (λ i. putEdge (lowerPut c) (s .args .upper) (upper-is c i))
+    ∙ ap (λ (e : Edge). placedAt (putEdge (s .args .axis) (s .args .lower) e) (s .args .upper) (s .args .pos +ℤ s .args .width)) (lower-is (c .before .before))
 
 pub place-stem-spec : {M : Type 1} → statement M
 place-stem-spec =

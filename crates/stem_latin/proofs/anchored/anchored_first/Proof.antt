@@ -8,7 +8,7 @@ use mir.Val.{toZ, ofZ}
 use Rattle.signed.proofs.Signed.{is, got}
 use Rattle.stem_latin.specs.Latin.{thinFirst, wideFirst, anchoredFirst}
 use Rattle.signed.proofs.By.{by₃}
-use Rattle.stem_latin.proofs.Choices.{where-true, where-false}
+use Rattle.signed.proofs.Choices.{cond-true, cond-false}
 use borrow.Author.Needs.{needs}
 use Rattle.stem_latin.proofs.anchored.anchored_first.Statement.{statement}
 use Rattle.stem_latin.proofs.anchored.anchored_first.Tie as tie
@@ -25,8 +25,8 @@ unfolding anchoredFirst
 returns c =
     let s = c .before .before in
     let f = s .fits in
-    where-true _ _ _ (thin s true (c .before .if1 .taken))
-    (is (got w32 (c .thin-first .result) (c .thin-first .ok)) ∙ by₃ thinFirst (c .thin-first .ensures) (is (f .start)) (is (f .org-len)) (is (f .width)))
+    is (got w32 (c .thin-first .result) (c .thin-first .ok)) ∙ by₃ thinFirst (c .thin-first .ensures) (is (f .start)) (is (f .org-len)) (is (f .width))
+    ∙ sym (cond-true _ _ _ (thin s true (c .before .if1 .taken)))
 
 wide-first-requires : tie.Need-wide-first-requires
 wide-first-requires c κs = search needs
@@ -36,8 +36,8 @@ unfolding anchoredFirst
 returns-2 c =
     let s = c .before .before in
     let f = s .fits in
-    where-false _ _ _ (thin s false (c .before .if1 .left))
-    (is (got w32 (c .wide-first .result) (c .wide-first .ok)) ∙ by₃ wideFirst (c .wide-first .ensures) (is (f .start)) (is (f .org-len)) (is (f .width)))
+    is (got w32 (c .wide-first .result) (c .wide-first .ok)) ∙ by₃ wideFirst (c .wide-first .ensures) (is (f .start)) (is (f .org-len)) (is (f .width))
+    ∙ sym (cond-false _ _ _ (thin s false (c .before .if1 .left)))
 
 pub anchored-first-spec : {M : Type 1} → statement M
 anchored-first-spec =

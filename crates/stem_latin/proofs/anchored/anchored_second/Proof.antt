@@ -9,7 +9,8 @@ use mir.Val.{toZ, ofZ}
 use Rattle.signed.proofs.Signed.{fits, is, got, signed}
 use Rattle.stem_latin.specs.Latin.{thinSecond, wideFirst, anchoredFirst, anchoredSecond}
 use Rattle.signed.proofs.By.{by₂, by₃}
-use Rattle.stem_latin.proofs.Choices.{where-true, where-false, by-false, not-thin, thin}
+use Rattle.signed.proofs.Choices.{cond-true, cond-false}
+use Rattle.stem_latin.proofs.Choices.{not-thin, thin}
 use Rattle.stem_latin.proofs.Moves.{most-ends, wide-first-range}
 use borrow.Author.Needs.{needs}
 use Rattle.stem_latin.proofs.anchored.anchored_second.Statement.{statement}
@@ -22,7 +23,7 @@ wide c b h = ap (leZ (pos 96)) (sym (is (c .fits .width))) ∙ h
 -- the first edge of a wide stem
 first-is : (c : tie.Then1) → c .before .args .first ≡ wideFirst (c .before .args .start) (c .before .args .org-len) (c .before .args .width)
 unfolding anchoredFirst
-first-is c = let s = c .before in by-false _ _ _ (not-thin (s .args .width) (wide s true (c .if1 .taken))) (s .pre .1)
+first-is c = let s = c .before in s .pre .1 ∙ cond-false _ _ _ (not-thin (s .args .width) (wide s true (c .if1 .taken)))
 
 add-result : tie.Need-add-result
 add-result c =
@@ -34,7 +35,7 @@ returns : tie.Need-returns
 unfolding anchoredSecond
 returns c =
     let s = c .before in
-    where-false _ _ _ (not-thin (s .args .width) (wide s true (c .if1 .taken))) (by₂ _+ℤ_ (is (add-result c)) (is (s .fits .first) ∙ first-is c) (is (s .fits .width)))
+    by₂ _+ℤ_ (is (add-result c)) (is (s .fits .first) ∙ first-is c) (is (s .fits .width)) ∙ sym (cond-false _ _ _ (not-thin (s .args .width) (wide s true (c .if1 .taken))))
 
 thin-second-requires : tie.Need-thin-second-requires
 thin-second-requires c κs = search needs
@@ -44,8 +45,8 @@ unfolding anchoredSecond
 returns-2 c =
     let s = c .before .before in
     let f = s .fits in
-    where-true _ _ _ (thin (s .args .width) (wide s false (c .before .if1 .left)))
-    (is (got w32 (c .thin-second .result) (c .thin-second .ok)) ∙ by₃ thinSecond (c .thin-second .ensures) (is (f .start)) (is (f .org-len)) (is (f .width)))
+    is (got w32 (c .thin-second .result) (c .thin-second .ok)) ∙ by₃ thinSecond (c .thin-second .ensures) (is (f .start)) (is (f .org-len)) (is (f .width))
+    ∙ sym (cond-true _ _ _ (thin (s .args .width) (wide s false (c .before .if1 .left))))
 
 pub anchored-second-spec : {M : Type 1} → statement M
 anchored-second-spec =

@@ -10,7 +10,7 @@ use Rattle.signed.proofs.Signed.{is, got, signed}
 use Rattle.fixed.specs.Pixel.{pixRound}
 use Rattle.stem_latin.specs.Latin.{thinFirst, freeFirst}
 use Rattle.signed.proofs.By.{by₃}
-use Rattle.stem_latin.proofs.Choices.{where-true, where-false}
+use Rattle.signed.proofs.Choices.{cond-true, cond-false}
 use Rattle.stem_latin.proofs.first.free_first.Statement.{statement}
 use Rattle.stem_latin.proofs.first.free_first.Tie as tie
 
@@ -26,8 +26,8 @@ unfolding freeFirst
 returns c =
     let s = c .before .before in
     let f = s .fits in
-    where-true _ _ _ (thin s true (c .before .if1 .taken))
-    (is (got w32 (c .thin-first .result) (c .thin-first .ok)) ∙ by₃ thinFirst (c .thin-first .ensures) (is (f .opos)) (is (f .org-len)) (is (f .width)))
+    is (got w32 (c .thin-first .result) (c .thin-first .ok)) ∙ by₃ thinFirst (c .thin-first .ensures) (is (f .opos)) (is (f .org-len)) (is (f .width))
+    ∙ sym (cond-true _ _ _ (thin s true (c .before .if1 .taken)))
 
 pix-round-requires : tie.Need-pix-round-requires
 pix-round-requires c κs = omega (arith, signed)
@@ -36,7 +36,7 @@ returns-2 : tie.Need-returns-2
 unfolding freeFirst
 returns-2 c =
     let s = c .before .before in
-    where-false _ _ _ (thin s false (c .before .if1 .left)) (is (got w32 (c .pix-round .result) (c .pix-round .ok)) ∙ c .pix-round .ensures ∙ ap pixRound (is (s .fits .opos)))
+    is (got w32 (c .pix-round .result) (c .pix-round .ok)) ∙ c .pix-round .ensures ∙ ap pixRound (is (s .fits .opos)) ∙ sym (cond-false _ _ _ (thin s false (c .before .if1 .left)))
 
 pub free-first-spec : {M : Type 1} → statement M
 free-first-spec =

@@ -1,5 +1,5 @@
 -- `stem_latin::thin::thin_center` meets its contract. Assumes nothing.
-use mathlib.Core.Path.{_≡_, refl, sym, ap, _∙_}
+use mathlib.Core.Path.{_≡_, sym, ap, _∙_}
 use mathlib.Core.Bool.{Bool, true, false}
 use lib.IntN.{ℤ, pos}
 use lib.Signed.{leZ}
@@ -8,7 +8,7 @@ use mir.Val.{toZ, ofZ}
 use Rattle.signed.proofs.Signed.{is, got}
 use Rattle.stem_latin.specs.Latin.{lowerOffset, upperOffset, nearerCentre, thinCentre}
 use Rattle.signed.proofs.By.{by₃}
-use Rattle.stem_latin.proofs.Choices.{where-true, where-false}
+use Rattle.signed.proofs.Choices.{cond-true, cond-false}
 use borrow.Author.Needs.{needs}
 use Rattle.stem_latin.proofs.thin.thin_center.Statement.{statement}
 use Rattle.stem_latin.proofs.thin.thin_center.Tie as tie
@@ -25,7 +25,7 @@ unfolding thinCentre lowerOffset upperOffset
 returns c =
     let s = c .before .before in
     let h = narrow s true (c .before .if1 .taken) in
-    is (got w32 (c .nearer-center .result) (c .nearer-center .ok)) ∙ by₃ nearerCentre (c .nearer-center .ensures) (is (s .fits .center)) (where-true _ _ _ h refl) (where-true _ _ _ h refl)
+    is (got w32 (c .nearer-center .result) (c .nearer-center .ok)) ∙ by₃ nearerCentre (c .nearer-center .ensures) (is (s .fits .center)) (sym (cond-true _ _ _ h)) (sym (cond-true _ _ _ h))
 
 nearer-center-requires-2 : tie.Need-nearer-center-requires-2
 nearer-center-requires-2 c κs = search needs
@@ -35,7 +35,7 @@ unfolding thinCentre lowerOffset upperOffset
 returns-2 c =
     let s = c .before .before in
     let h = narrow s false (c .before .if1 .left) in
-    is (got w32 (c .nearer-center2 .result) (c .nearer-center2 .ok)) ∙ by₃ nearerCentre (c .nearer-center2 .ensures) (is (s .fits .center)) (where-false _ _ _ h refl) (where-false _ _ _ h refl)
+    is (got w32 (c .nearer-center2 .result) (c .nearer-center2 .ok)) ∙ by₃ nearerCentre (c .nearer-center2 .ensures) (is (s .fits .center)) (sym (cond-false _ _ _ h)) (sym (cond-false _ _ _ h))
 
 pub thin-center-spec : {M : Type 1} → statement M
 thin-center-spec =

@@ -61,7 +61,9 @@ sub-cur-pos2 c =
     fits (omega (arith, signed, round-law (s .args .start +ℤ s .args .org-len), add-law (s .args .start) (s .args .org-len)))
 
 -- the first edge where the second is on that pixel edge
-second-is : (c : tie.After-pix-round2) → toZ w32 (ofZ w32 (toZ w32 (ofZ w32 (c .pix-round2 .result)) -ℤ toZ w32 (ofZ w32 (start c .args .width)))) ≡ bySecond (start c .args .start) (start c .args .org-len) (start c .args .width)
+second-is : (c : tie.After-pix-round2)
+    → toZ w32 (ofZ w32 (toZ w32 (ofZ w32 (c .pix-round2 .result)) -ℤ toZ w32 (ofZ w32 (start c .args .width))))
+    ≡ bySecond (start c .args .start) (start c .args .org-len) (start c .args .width)
 second-is c = by₂ _-ℤ_ (is (sub-cur-pos2 c)) (end-round-is c) (is (start c .fits .width))
 
 add-nearer-of : tie.Need-add-nearer-of
@@ -86,7 +88,9 @@ sub-nearer-of-2 : tie.Need-sub-nearer-of-2
 sub-nearer-of-2 c =
     let s = start c in
     let k = end-round-is c also half-is (c .before .before) also sub-cur-pos2 c also add-nearer-of-2 c also center-is (c .before .before .before) in
-    fits (omega (arith, signed, round-law (s .args .start +ℤ s .args .org-len), add-law (s .args .start) (s .args .org-len), shr-law (s .args .width) 2 tt, centre-range (s .args .start) (s .args .org-len) (s .pre .0) (s .pre .1)))
+    let end = add-law (s .args .start) (s .args .org-len) in
+    let centre = centre-range (s .args .start) (s .args .org-len) (s .pre .0) (s .pre .1) in
+    fits (omega (arith, signed, round-law (s .args .start +ℤ s .args .org-len), end, shr-law (s .args .width) 2 tt, centre))
 
 nearer-of-requires : tie.Need-nearer-of-requires
 nearer-of-requires c κs = search needs

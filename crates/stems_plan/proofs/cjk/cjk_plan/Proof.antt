@@ -1,8 +1,10 @@
 -- `stems_plan::cjk::cjk_plan` meets its contract. Assumes nothing.
 use mathlib.Core.Path.{_≡_}
+use lib.IntN.{ℤ}
 use mir.Syntax.{w32}
 use Rattle.signed.proofs.Signed.{is, got}
 use Rattle.placing.proofs.Reach.{units-read, reach-read}
+use Rattle.cjk_numbers.specs.declared.stem.Stem.{Stem}
 use Rattle.cjk_numbers.specs.Cjk.{stemOf}
 use Rattle.cjk_numbers.proofs.Moves.{stem-pos-range, stem-width-range, stem-delta-range, move-read}
 use Rattle.stems_plan.specs.Visit.{deltaAfter}
@@ -28,16 +30,27 @@ stem-of-requires c κs = search needs
 abbrev start : tie.After-stem-of → tie.Start
 start c = c .before .before .before
 
+-- the stem of the edges that are given
+abbrev stemHere : tie.Start → Stem
+stemHere s = let m = s .args .mode in stemOf (m .dim) (m .«stem_adjust») (m .rule) (s .args .standards .now) (s .args .edge) (s .args .edge2) (s .args .trail .delta)
+
 -- the stem
-stem-is : (c : tie.After-stem-of) → c .stem-of .result ≡ stemOf (start c .args .mode .dim) (start c .args .mode .«stem_adjust») (start c .args .mode .rule) (start c .args .standards .now) (start c .args .edge) (start c .args .edge2) (start c .args .trail .delta)
+stem-is : (c : tie.After-stem-of) → c .stem-of .result ≡ stemHere (start c)
 stem-is c = rw (units-read _ (start c .pre .1 .2)) at (c .stem-of .ensures)
 
 delta-after-requires : tie.Need-delta-after-requires
 delta-after-requires c κs = search needs
 
 -- the delta that is passed on
-delta-is : (c : tie.After-delta-after) → c .delta-after .result ≡ deltaAfter (start (c .before .before .before) .args .mode .dim) (start (c .before .before .before) .args .anchor) (start (c .before .before .before) .args .trail .delta) (stemOf (start (c .before .before .before) .args .mode .dim) (start (c .before .before .before) .args .mode .«stem_adjust») (start (c .before .before .before) .args .mode .rule) (start (c .before .before .before) .args .standards .now) (start (c .before .before .before) .args .edge) (start (c .before .before .before) .args .edge2) (start (c .before .before .before) .args .trail .delta) .delta)
-delta-is c = let m = c .before .before .before in rw (stem-is m, units-read _ (start m .pre .1 .2), move-read _ (stem-delta-range (start m .args .mode .dim) (start m .args .mode .«stem_adjust») (start m .args .mode .rule) (start m .args .standards .now) (start m .args .edge) (start m .args .edge2) (start m .args .trail .delta))) at (c .delta-after .ensures)
+abbrev deltaHere : tie.Start → ℤ
+deltaHere s = deltaAfter (s .args .mode .dim) (s .args .anchor) (s .args .trail .delta) (stemHere s .delta)
+
+delta-is : (c : tie.After-delta-after) → c .delta-after .result ≡ deltaHere (start (c .before .before .before))
+delta-is c =
+    let m = c .before .before .before in
+    let a = start m .args in
+    let move = stem-delta-range (a .mode .dim) (a .mode .«stem_adjust») (a .mode .rule) (a .standards .now) (a .edge) (a .edge2) (a .trail .delta) in
+    rw (stem-is m, units-read _ (start m .pre .1 .2), move-read _ move) at (c .delta-after .ensures)
 
 stem-plan-requires : tie.Need-stem-plan-requires
 stem-plan-requires c κs =

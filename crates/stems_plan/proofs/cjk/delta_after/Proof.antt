@@ -17,7 +17,10 @@ enum-told-2 c = search needs
 
 returns : tie.Need-returns
 unfolding deltaAfter
-returns c = let s = c .before .before .before in rw (c .before .enum-told .given .1) (rw (is (got w32 (c .delta-beside .result) (c .delta-beside .ok))) (rw (is (s .fits .passed), is (s .fits .delta)) at (c .delta-beside .ensures)))
+returns c =
+    let s = c .before .before .before in
+    rw (c .before .enum-told .given .1)
+    (rw (is (got w32 (c .delta-beside .result) (c .delta-beside .ok))) (rw (is (s .fits .passed), is (s .fits .delta)) at (c .delta-beside .ensures)))
 
 returns-2 : tie.Need-returns-2
 unfolding deltaAfter

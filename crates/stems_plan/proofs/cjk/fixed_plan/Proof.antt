@@ -7,7 +7,13 @@ use Rattle.stems_plan.proofs.cjk.fixed_plan.Statement.{statement}
 use Rattle.stems_plan.proofs.cjk.fixed_plan.Tie as tie
 
 returns : tie.Need-returns
-returns c = let f = c .fits in λ i. record { first = is (f .first) i; second = Fixed (is (f .second) i); bounded = false; anchors = true; trail = record { last = At (is (f .second) i); delta = is (f .delta) i } }
+returns c = let f = c .fits in λ i. record {
+  first = is (f .first) i;
+  second = Fixed (is (f .second) i);
+  bounded = false;
+  anchors = true;
+  trail = record { last = At (is (f .second) i); delta = is (f .delta) i };
+}
 
 pub fixed-plan-spec : {M : Type 1} → statement M
 fixed-plan-spec = tie.close (tie.spec returns)

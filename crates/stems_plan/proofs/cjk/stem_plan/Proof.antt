@@ -21,7 +21,8 @@ returns c =
     let t = c .before .before in
     let u = t .before .before .before .before .before in
     let s = u .before .before in
-    rw (rw (units-read _ (s .pre .0 .0 .opos), units-read _ (s .pre .0 .1 .opos)) at (t .if1 .taken)) (rw (is (add-upper u), start-read _ (s .pre .1 .0), width-read _ (s .pre .1 .1), is (s .fits .delta)) at (c .fixed-plan .ensures))
+    rw (rw (units-read _ (s .pre .0 .0 .opos), units-read _ (s .pre .0 .1 .opos)) at (t .if1 .taken))
+    (rw (is (add-upper u), start-read _ (s .pre .1 .0), width-read _ (s .pre .1 .1), is (s .fits .delta)) at (c .fixed-plan .ensures))
 
 fixed-plan-requires-2 : tie.Need-fixed-plan-requires-2
 fixed-plan-requires-2 c κs = search needs
@@ -32,7 +33,8 @@ returns-2 c =
     let t = c .before .before in
     let u = t .before .before .before .before .before in
     let s = u .before .before in
-    rw (rw (units-read _ (s .pre .0 .0 .opos), units-read _ (s .pre .0 .1 .opos)) at (t .if1 .left)) (rw (is (add-upper u), start-read _ (s .pre .1 .0), width-read _ (s .pre .1 .1), is (s .fits .delta)) at (c .fixed-plan2 .ensures))
+    rw (rw (units-read _ (s .pre .0 .0 .opos), units-read _ (s .pre .0 .1 .opos)) at (t .if1 .left))
+    (rw (is (add-upper u), start-read _ (s .pre .1 .0), width-read _ (s .pre .1 .1), is (s .fits .delta)) at (c .fixed-plan2 .ensures))
 
 pub stem-plan-spec : {M : Type 1} → statement M
 stem-plan-spec =

@@ -41,7 +41,9 @@ add-end : tie.Need-add-end
 add-end c = let h = last-within c in let k = fits-in w32 h tt tt in fits (omega (arith, signed))
 
 -- an edge is less than 64 behind that, by the test of the bits
-behind : (c : tie.After-known-told) (e : Edge) → InReach e → ltZ (toZ w32 (ofZ w32 (e .pos))) (toZ w32 (ofZ w32 (toZ w32 (ofZ w32 (c .before .last .given .0 .0)) +ℤ pos 64))) ≡ ltZ (e .pos) (c .before .last .given .0 .0 +ℤ pos 64)
+behind : (c : tie.After-known-told) (e : Edge) → InReach e
+    → ltZ (toZ w32 (ofZ w32 (e .pos))) (toZ w32 (ofZ w32 (toZ w32 (ofZ w32 (c .before .last .given .0 .0)) +ℤ pos 64)))
+    ≡ ltZ (e .pos) (c .before .last .given .0 .0 +ℤ pos 64)
 behind c e h = by₂ ltZ refl (reach-read _ (h .pos)) (by₂ _+ℤ_ (is (add-end c)) (is (fits-in w32 (last-within c) tt tt)) refl)
 
 returns-2 : tie.Need-returns-2
@@ -57,7 +59,8 @@ returns-3 c =
     let o = c .before .before in
     let u = o .before .before .before in
     let s = start u in
-    second-decides _ _ (sym (behind u (s .args .edge) (s .pre .1)) ∙ o .if1 .left) (behind u (s .args .edge2) (s .pre .2)) ∙ ap (λ (l : LastStem). isClose l (s .args .edge) (s .args .edge2)) (sym (u .before .last .given .1))
+    second-decides _ _ (sym (behind u (s .args .edge) (s .pre .1)) ∙ o .if1 .left) (behind u (s .args .edge2) (s .pre .2))
+    ∙ ap (λ (l : LastStem). isClose l (s .args .edge) (s .args .edge2)) (sym (u .before .last .given .1))
 
 pub is-close-spec : {M : Type 1} → statement M
 is-close-spec =

@@ -48,7 +48,11 @@ centred-plan-requires c κs =
     let e = s .pre .1 .0 in
     let f = s .pre .1 .1 in
     let a = s .pre .1 .2 in
-    rw (start-is c, length-is l, width-is w) (omega (arith, a .pos, a .opos, e .opos, add-law (s .args .anchor .pos) (s .args .edge .opos -ℤ s .args .anchor .opos), sub-law (s .args .edge .opos) (s .args .anchor .opos)), omega (arith, e .opos, f .opos, sub-law (s .args .edge2 .opos) (s .args .edge .opos)), width-range _ _ _ _ (e .opos) (f .opos))
+    let shift = add-law (s .args .anchor .pos) (s .args .edge .opos -ℤ s .args .anchor .opos) in
+    let apart = sub-law (s .args .edge .opos) (s .args .anchor .opos) in
+    let len = sub-law (s .args .edge2 .opos) (s .args .edge .opos) in
+    rw (start-is c, length-is l, width-is w)
+    (omega (arith, a .pos, a .opos, e .opos, shift, apart), omega (arith, e .opos, f .opos, len), width-range _ _ _ _ (e .opos) (f .opos))
 
 returns-2 : tie.Need-returns-2
 unfolding anchoredPlan

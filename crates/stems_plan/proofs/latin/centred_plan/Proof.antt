@@ -18,11 +18,17 @@ anchored-second-requires : tie.Need-anchored-second-requires
 anchored-second-requires c κs = (search needs, is (got w32 (c .anchored-first .result) (c .anchored-first .ok)) ∙ c .anchored-first .ensures)
 
 -- the positions, read back
-first-is : (c : tie.After-anchored-first) → toZ w32 (ofZ w32 (c .anchored-first .result)) ≡ anchoredFirst (c .before .args .start) (c .before .args .org-len) (c .before .args .width)
-first-is c = let f = c .before .fits in is (got w32 (c .anchored-first .result) (c .anchored-first .ok)) ∙ by₃ anchoredFirst (c .anchored-first .ensures) (is (f .start)) (is (f .org-len)) (is (f .width))
+first-is : (c : tie.After-anchored-first)
+    → toZ w32 (ofZ w32 (c .anchored-first .result)) ≡ anchoredFirst (c .before .args .start) (c .before .args .org-len) (c .before .args .width)
+first-is c =
+    let f = c .before .fits in
+    is (got w32 (c .anchored-first .result) (c .anchored-first .ok)) ∙ by₃ anchoredFirst (c .anchored-first .ensures) (is (f .start)) (is (f .org-len)) (is (f .width))
 
-second-is : (c : tie.After-anchored-second) → toZ w32 (ofZ w32 (c .anchored-second .result)) ≡ anchoredSecond (c .before .before .args .start) (c .before .before .args .org-len) (c .before .before .args .width)
-second-is c = let f = c .before .before .fits in is (got w32 (c .anchored-second .result) (c .anchored-second .ok)) ∙ by₃ anchoredSecond (c .anchored-second .ensures) (is (f .start)) (is (f .org-len)) (is (f .width))
+second-is : (c : tie.After-anchored-second)
+    → toZ w32 (ofZ w32 (c .anchored-second .result)) ≡ anchoredSecond (c .before .before .args .start) (c .before .before .args .org-len) (c .before .before .args .width)
+second-is c =
+    let f = c .before .before .fits in
+    is (got w32 (c .anchored-second .result) (c .anchored-second .ok)) ∙ by₃ anchoredSecond (c .anchored-second .ensures) (is (f .start)) (is (f .org-len)) (is (f .width))
 
 returns : tie.Need-returns
 returns c = λ i. record { first = first-is (c .before) i; second = Fixed (second-is c i); bounded = true; anchors = false; trail = c .before .before .args .trail }

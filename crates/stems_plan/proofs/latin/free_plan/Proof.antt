@@ -1,13 +1,13 @@
 -- `stems_plan::latin::free_plan` meets its contract. Assumes nothing.
 use mathlib.Core.Path.{_≡_}
 use native.Mathlib.Omega.{arith}
-use lib.IntN.{_+ℤ_, _-ℤ_}
+use lib.IntN.{ℤ, _+ℤ_, _-ℤ_}
 use mir.Syntax.{w32}
 use mir.Val.{toZ, ofZ}
-use Rattle.signed.specs.Range.{Between}
 use Rattle.signed.proofs.Signed.{fits-in, is, got, add-law, sub-law}
+use Rattle.axis.specs.Limits.{mostUnits}
 use Rattle.stem_latin.specs.Latin.{freeFirst}
-use Rattle.stem_latin.proofs.Moves.{free-ends, free-second-range}
+use Rattle.stem_latin.proofs.Moves.{Placed, free-ends, free-second-range}
 use Rattle.placing.specs.Placing.{linkedPos}
 use Rattle.placing.proofs.Reach.{units-read, width-range}
 use Rattle.stems_plan.specs.Visit.{originalLen, widthOf}
@@ -37,17 +37,26 @@ free-first-requires c κs =
     let s = w .before in
     let e = s .pre .1 .0 .opos in
     let f = s .pre .1 .1 .opos in
-    rw (units-read _ e, length-is l, width-is w) (e, omega (arith, e, f, sub-law (s .args .edge2 .opos) (s .args .edge .opos)), width-range _ _ _ _ e f, omega (arith, e, f, add-law (s .args .edge .opos) (s .args .edge2 .opos -ℤ s .args .edge .opos), sub-law (s .args .edge2 .opos) (s .args .edge .opos)))
+    let len = sub-law (s .args .edge2 .opos) (s .args .edge .opos) in
+    let end = add-law (s .args .edge .opos) (s .args .edge2 .opos -ℤ s .args .edge .opos) in
+    rw (units-read _ e, length-is l, width-is w) (e, omega (arith, e, f, len), width-range _ _ _ _ e f, omega (arith, e, f, end, len))
 
--- the first edge's place, read back
-free-is : (c : tie.After-free-first) → toZ w32 (ofZ w32 (c .free-first .result)) ≡ freeFirst (c .before .before .before .before .args .edge .opos) (originalLen (c .before .before .before .before .args .edge) (c .before .before .before .before .args .edge2)) (widthOf (c .before .before .before .before .args .mode .rule) (c .before .before .before .before .args .standards .now) (c .before .before .before .before .args .edge) (c .before .before .before .before .args .edge2))
+-- the stem's width, and its first edge's place
+abbrev width : tie.Start → ℤ
+width s = widthOf (s .args .mode .rule) (s .args .standards .now) (s .args .edge) (s .args .edge2)
+
+abbrev first : tie.Start → ℤ
+first s = freeFirst (s .args .edge .opos) (originalLen (s .args .edge) (s .args .edge2)) (width s)
+
+-- that place, read back
+free-is : (c : tie.After-free-first) → toZ w32 (ofZ w32 (c .free-first .result)) ≡ first (c .before .before .before .before)
 free-is c =
     let l = c .before .before in
     let w = l .before in
     rw (is (got w32 (c .free-first .result) (c .free-first .ok))) (rw (units-read _ (w .before .pre .1 .0 .opos), length-is l, width-is w) at (c .free-first .ensures))
 
 -- where the second edge goes
-second-within : (c : tie.Start) → Between 49197 49197 (freeFirst (c .args .edge .opos) (originalLen (c .args .edge) (c .args .edge2)) (widthOf (c .args .mode .rule) (c .args .standards .now) (c .args .edge) (c .args .edge2)) +ℤ widthOf (c .args .mode .rule) (c .args .standards .now) (c .args .edge) (c .args .edge2))
+second-within : (c : tie.Start) → Placed mostUnits (first c +ℤ width c)
 second-within c =
     let e = c .pre .1 .0 .opos in
     let f = c .pre .1 .1 .opos in

@@ -14,7 +14,10 @@ stem-width-requires : tie.Need-stem-width-requires
 stem-width-requires c κs = search needs
 
 returns : tie.Need-returns
-returns c = let s = c .before .before .before .before .before in rw (is (got w32 (c .stem-width .result) (c .stem-width .ok))) (rw (is (sub-stem-width (c .before)), units-read _ (s .pre .1 .0 .opos), units-read _ (s .pre .1 .1 .opos)) at (c .stem-width .ensures))
+returns c =
+    let s = c .before .before .before .before .before in
+    rw (is (got w32 (c .stem-width .result) (c .stem-width .ok)))
+    (rw (is (sub-stem-width (c .before)), units-read _ (s .pre .1 .0 .opos), units-read _ (s .pre .1 .1 .opos)) at (c .stem-width .ensures))
 
 pub width-of-spec : {M : Type 1} → statement M
 width-of-spec =

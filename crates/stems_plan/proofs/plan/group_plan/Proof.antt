@@ -21,14 +21,14 @@ cjk-plan-requires c κs = search needs
 returns : tie.Need-returns
 unfolding groupPlan
 returns c =
-    let s = c .before .before .before in
-    c .latin-plan .ensures ∙ ap (λ (g : Group). groupPlan g (s .args .mode) (s .args .standards .now) (s .args .edge) (s .args .edge2) (s .args .base) (s .args .anchor) (s .args .is-before) (s .args .trail)) (sym (c .before .enum-told .given .1))
+    let a = c .before .before .before .args in
+    c .latin-plan .ensures ∙ ap (λ (g : Group). groupPlan g (a .mode) (a .standards .now) (a .edge) (a .edge2) (a .base) (a .anchor) (a .is-before) (a .trail)) (sym (c .before .enum-told .given .1))
 
 returns-2 : tie.Need-returns-2
 unfolding groupPlan
 returns-2 c =
-    let s = c .before .before .before in
-    c .cjk-plan .ensures ∙ ap (λ (g : Group). groupPlan g (s .args .mode) (s .args .standards .now) (s .args .edge) (s .args .edge2) (s .args .base) (s .args .anchor) (s .args .is-before) (s .args .trail)) (sym (c .before .enum-told2 .given .1))
+    let a = c .before .before .before .args in
+    c .cjk-plan .ensures ∙ ap (λ (g : Group). groupPlan g (a .mode) (a .standards .now) (a .edge) (a .edge2) (a .base) (a .anchor) (a .is-before) (a .trail)) (sym (c .before .enum-told2 .given .1))
 
 pub group-plan-spec : {M : Type 1} → statement M
 group-plan-spec =

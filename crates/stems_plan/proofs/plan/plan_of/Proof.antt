@@ -21,14 +21,14 @@ linked-plan-requires c κs = search needs
 returns : tie.Need-returns
 unfolding zonePlan
 returns c =
-    let s = c .before .before .before in
-    c .group-plan .ensures ∙ ap (λ (b : Blue). zonePlan b (s .args .mode) (s .args .standards .now) (s .args .edge) (s .args .edge2) (s .args .base) (s .args .anchor) (s .args .is-before) (s .args .trail)) (sym (c .before .enum-told .given .1))
+    let a = c .before .before .before .args in
+    c .group-plan .ensures ∙ ap (λ (b : Blue). zonePlan b (a .mode) (a .standards .now) (a .edge) (a .edge2) (a .base) (a .anchor) (a .is-before) (a .trail)) (sym (c .before .enum-told .given .1))
 
 returns-2 : tie.Need-returns-2
 unfolding zonePlan
 returns-2 c =
-    let s = c .before .before .before .before in
-    c .linked-plan .ensures ∙ ap (λ (b : Blue). zonePlan b (s .args .mode) (s .args .standards .now) (s .args .edge) (s .args .edge2) (s .args .base) (s .args .anchor) (s .args .is-before) (s .args .trail)) (sym (c .before .before .blue .given .1))
+    let a = c .before .before .before .before .args in
+    c .linked-plan .ensures ∙ ap (λ (b : Blue). zonePlan b (a .mode) (a .standards .now) (a .edge) (a .edge2) (a .base) (a .anchor) (a .is-before) (a .trail)) (sym (c .before .before .blue .given .1))
 
 pub plan-of-spec : {M : Type 1} → statement M
 plan-of-spec =

@@ -1,6 +1,6 @@
 -- `stems_plan::store::first_edge` meets its contract. Assumes nothing.
 use mathlib.Core.Path.{ap, _∙_}
-use Rattle.stems_plan.specs.Visit.{fixedAt}
+use Rattle.axis.specs.Edge.{fixedAt}
 use Rattle.stems_plan.proofs.Ranges.{place-read}
 use borrow.Author.Needs.{needs}
 use Rattle.stems_plan.proofs.store.first_edge.Statement.{statement}

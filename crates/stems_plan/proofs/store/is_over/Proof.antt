@@ -16,7 +16,8 @@ returns c =
     let t = c .before .before .before in
     let p = t .before in
     let s = p .before .before .before in
-    rw (sym (rw (reach-read _ (s .pre .0 .pos), reach-read _ (s .pre .1 .pos)) at (p .has-passed .ensures)) ∙ t .if1 .taken) (rw (reach-read _ (s .pre .1 .pos), reach-read _ (s .pre .2 .pos)) at (c .is-far .ensures))
+    rw (sym (rw (reach-read _ (s .pre .0 .pos), reach-read _ (s .pre .1 .pos)) at (p .has-passed .ensures)) ∙ t .if1 .taken)
+    (rw (reach-read _ (s .pre .1 .pos), reach-read _ (s .pre .2 .pos)) at (c .is-far .ensures))
 
 returns-2 : tie.Need-returns-2
 returns-2 c =

@@ -2,7 +2,8 @@
 use borrow.Author.Needs.{needs}
 use native.Mathlib.Omega.{arith}
 use mathlib.Core.Path.{_≡_}
-use Prim.Native.Nat.{_-_, _≤_}
+use Prim.Native.Nat.{_-_, _≤_, _<_}
+use Rattle.axis.specs.Limits.{mostSegments}
 use Rattle.words.specs.Segment.{segmentsTo}
 use Rattle.words.proofs.Segments.{segments-none, segments-more, segments-all}
 use Rattle.words.proofs.segment.segments_run.Statement.{statement}
@@ -47,7 +48,8 @@ loop-less c = omega arith
 loop-again : tie.Need-loop-again Inv-loop μ-loop
 loop-again c = let l = c .before .before .loop in
     let s = c .before .before .before .before .before .args in
-    (omega arith, segments-more (s .words .now) (s .first) (l .table) (l .i) (c .segment-from .result) (l .inv .1) (omega (arith, c .before .before .before .before .least .ensures)) (c .segment-from .ensures))
+    let few : l .i < mostSegments = omega (arith, c .before .before .before .before .least .ensures) in
+    (omega arith, segments-more (s .words .now) (s .first) (l .table) (l .i) (c .segment-from .result) (l .inv .1) few (c .segment-from .ensures))
 
 returns : tie.Need-returns Inv-loop μ-loop
 returns c = let l = c .before .loop in

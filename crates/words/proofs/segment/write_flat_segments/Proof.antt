@@ -5,7 +5,7 @@ use mathlib.Core.Path.{_≡_, ap, _∙_}
 use Prim.Native.Nat.{ℕ, _+_, _≤_}
 use lib.ListN.{length}
 use Rattle.words.specs.Word.{written, joined}
-use Rattle.words.specs.Segment.{segmentWordsAt, segmentsOver}
+use Rattle.words.specs.Segment.{segmentSize, segmentWordsAt, segmentsOver}
 use Rattle.words.proofs.Writing.{written-length}
 use Rattle.words.proofs.Tables.{joined-length}
 use Rattle.words.proofs.Segments.{segment-lengths}
@@ -23,7 +23,8 @@ same-length c =
     let l = c .before .before .before in
     let a = l .before .args in
     ap length (c .before .write-run .ensures)
-    ∙ written-length (a .out .now) (joined (segmentWordsAt (a .table)) (l .least .result)) 0 (omega (arith, joined-length (segmentWordsAt (a .table)) 15 (segment-lengths (a .table)) (l .least .result), l .least .ensures))
+    ∙ written-length (a .out .now) (joined (segmentWordsAt (a .table)) (l .least .result)) 0
+    (omega (arith, joined-length (segmentWordsAt (a .table)) segmentSize (segment-lengths (a .table)) (l .least .result), l .least .ensures))
 
 returns : tie.Need-returns
 unfolding segmentsOver

@@ -2,7 +2,8 @@
 use borrow.Author.Needs.{needs}
 use native.Mathlib.Omega.{arith}
 use Prim.Native.Nat.{_-_}
-use Rattle.words.specs.Segment.{segmentWordsAt}
+use Rattle.axis.specs.Limits.{mostSegments}
+use Rattle.words.specs.Segment.{segmentSize, segmentWordsAt}
 use Rattle.words.proofs.Tables.{Joined, joined-none, joined-more, joined-all}
 use Rattle.words.proofs.Segments.{segment-length, segment-lengths}
 use mathlib.Core.Path.{_≡_, sym, ap, _∙_}
@@ -18,7 +19,7 @@ abbrev μ-loop : tie.MeasureT-loop
 μ-loop out₀ first n table i₀ out i = n - i
 
 -- the segments that the table holds
-few : (c : tie.In-loop Inv-loop μ-loop) → c .before .loop .i < 512
+few : (c : tie.In-loop Inv-loop μ-loop) → c .before .loop .i < mostSegments
 few c = omega arith
 
 -- the buffer keeps its length
@@ -47,7 +48,9 @@ slice-aggregate-write-words : tie.Need-slice-aggregate-write-words Inv-loop μ-l
 slice-aggregate-write-words c = sym (ap length (c .before .before .segment-words .ensures) ∙ segment-length _)
 
 write-words-requires : tie.Need-write-words-requires Inv-loop μ-loop
-write-words-requires c κs = omega (arith, few (c .before .before .before .before), begun (c .before .before .before .before .before), ap length (c .before .before .segment-words .ensures) ∙ segment-length _)
+write-words-requires c κs =
+    omega
+    (arith, few (c .before .before .before .before), begun (c .before .before .before .before .before), ap length (c .before .before .segment-words .ensures) ∙ segment-length _)
 
 add-i : tie.Need-add-i Inv-loop μ-loop
 add-i c = omega arith
@@ -59,7 +62,8 @@ loop-again : tie.Need-loop-again Inv-loop μ-loop
 loop-again c = let w = c .before .before .before .before in
     let l = w .before .before .before in
     let s = l .before in
-    joined-more (segmentWordsAt (s .args .t3)) 15 (segment-lengths (s .args .t3)) (w .segment-words .result) (l .loop .inv) (omega arith) (omega arith) (w .segment-words .ensures) (c .before .write-words .ensures)
+    joined-more (segmentWordsAt (s .args .t3)) segmentSize (segment-lengths (s .args .t3)) (w .segment-words .result) (l .loop .inv) (omega arith) (omega arith)
+    (w .segment-words .ensures) (c .before .write-words .ensures)
 
 same-length : tie.Need-same-length Inv-loop μ-loop
 same-length c = begun (c .before)

@@ -1,0 +1,2 @@
+-- What the refusals of every call are.
+pub mod Refusal

@@ -1,0 +1,27 @@
+// The numbers of refusals, and the tests of a call one behind the other.
+ghost use mathlib.Core.Path.{_≡_};
+ghost use Rattle.refusals.specs.Refusal.{orRefused};
+
+// Document 01's numbers of the refusals.
+pub const TOO_LONG: u8 = 1;
+
+pub const BAD_PARAMETER: u8 = 2;
+
+pub const BAD_INDEX: u8 = 3;
+
+pub const OUT_OF_RANGE: u8 = 4;
+
+pub const NO_ROOM: u8 = 5;
+
+// The refusal so far, or, where there is none, that of one test more.
+pub fn or_refused(answer: u8, holds: bool, number: u8) -> u8
+    ensures { λ r. ⌜ r ≡ orRefused answer holds number ⌝ }
+{
+    if 0 < answer {
+        return answer;
+    }
+    if holds {
+        return 0;
+    }
+    number
+}
