@@ -20,7 +20,22 @@ use Rattle.axis.specs.declared.segment.Segments.{Segments}
 use Rattle.axis.specs.Edge.{edgeAt}
 use Rattle.axis.specs.Segment.{segmentAt}
 use Rattle.axis.specs.Limits.{mostSegments, mostEdges, mostUnits, mostPos, mostScore}
-use Rattle.axis.specs.Refusals.{inside, within, linkHolds, blueHolds, edgeIndices, edgeNumbers, edgesIndices, edgesNumbers, segmentIndices, segmentNext, segmentNumbers, segmentsIndices, segmentsNexts, segmentsNumbers}
+use Rattle.axis.specs.Refusals.{
+  inside,
+  within,
+  linkHolds,
+  blueHolds,
+  edgeIndices,
+  edgeNumbers,
+  edgesIndices,
+  edgesNumbers,
+  segmentIndices,
+  segmentNext,
+  segmentNumbers,
+  segmentsIndices,
+  segmentsNexts,
+  segmentsNumbers,
+}
 use Rattle.axis.specs.Accepted.{Below, InZone, EdgeWithin, AxisWithin, SegmentWithin, SegmentsWithin}
 use Rattle.refusals.proofs.Tests.{and-first, and-second}
 use Rattle.axis.proofs.Tests.{every-at}

@@ -1,6 +1,8 @@
--- The laws by subject, each over plain variables: `Tests`, tests of numbers and of every place; `Acceptance`, from tests that hold to facts; `Rings`, walks along rings; `Visits`,
--- the visits of a pass.
+-- The laws by subject, each over plain variables: `Tests`, tests of numbers and of every place; `Acceptance`, from tests that hold to facts; `Accepting`, and back; `Rings`,
+-- walks along rings; `Visits`, the visits of a pass; `Only`, changes of edges.
 pub mod Tests
 pub mod Acceptance
+pub mod Accepting
 pub mod Rings
 pub mod Visits
+pub mod Only

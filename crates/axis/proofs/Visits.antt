@@ -25,3 +25,10 @@ pub visits-same : {S : Type 0} (f g : S → ℕ → S) → ((s : S) (i : ℕ) �
 unfolding visits
 visits-same f g h zero i s = refl
 visits-same f g h (suc n) i s = ap (visits f n (i + 1)) (h s i) ∙ visits-same f g h n (i + 1) (g s i)
+
+-- what each visit of the first n places keeps, the pass keeps
+pub visits-keep : {S : Type 0} (P : S → Type 0) (f : S → ℕ → S) (n : ℕ) → ((s : S) (i : ℕ) → i < n → P s → P (f s i))
+    → (m i : ℕ) (s : S) → i + m ≤ n → P s → P (visits f m i s)
+unfolding visits
+visits-keep P f n h zero i s l p = p
+visits-keep P f n h (suc m) i s l p = visits-keep P f n h m (i + 1) (f s i) (omega arith) (h s i (omega arith) p)

@@ -9,3 +9,5 @@ pub mod Refusals
 pub mod Accepted
 pub mod Ring
 pub mod Visits
+pub mod Handed
+pub mod Changes

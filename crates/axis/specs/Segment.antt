@@ -10,7 +10,23 @@ use Rattle.axis.specs.Flags.{normal}
 
 -- the segment of an unused place
 abbrev pub emptySegment : Segment
-emptySegment = record { flags = normal; dir = Directions.None; pos = pos 0; delta = pos 0; «min_coord» = pos 0; «max_coord» = pos 0; height = pos 0; score = pos 0; len = pos 0; link = Links.None; serif = Links.None; first = 0; last = 0; edge = Links.None; next = Links.None }
+emptySegment = record {
+  flags = normal;
+  dir = Directions.None;
+  pos = pos 0;
+  delta = pos 0;
+  «min_coord» = pos 0;
+  «max_coord» = pos 0;
+  height = pos 0;
+  score = pos 0;
+  len = pos 0;
+  link = Links.None;
+  serif = Links.None;
+  first = 0;
+  last = 0;
+  edge = Links.None;
+  next = Links.None;
+}
 
 -- a table without segments
 abbrev pub emptySegments : Segments

@@ -16,7 +16,21 @@ ghost use mathlib.Core.Path.{_≡_};
 ghost use Prim.Native.Nat.{min};
 ghost use lib.Dec.{leb};
 ghost use Rattle.axis.specs.Limits.{mostEdges, mostSegments};
-ghost use Rattle.axis.specs.Refusals.{inside, linkHolds, blueHolds, edgeIndices, edgeNumbers, edgesIndices, edgesNumbers, segmentIndices, segmentNext, segmentNumbers, segmentsIndices, segmentsNexts, segmentsNumbers};
+ghost use Rattle.axis.specs.Refusals.{
+  inside,
+  linkHolds,
+  blueHolds,
+  edgeIndices,
+  edgeNumbers,
+  edgesIndices,
+  edgesNumbers,
+  segmentIndices,
+  segmentNext,
+  segmentNumbers,
+  segmentsIndices,
+  segmentsNexts,
+  segmentsNumbers,
+};
 
 // Whether a number is from one limit to another.
 pub fn is_inside(x: i32, low: i32, high: i32) -> bool

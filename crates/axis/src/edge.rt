@@ -5,6 +5,7 @@ use super::kinds::Blue;
 use super::kinds::Dimension;
 use super::kinds::Direction;
 use super::kinds::Link;
+use super::limits::MOST_EDGES;
 ghost use mathlib.Core.Path.{_≡_};
 ghost use Rattle.axis.specs.Edge.{emptyAxis, placed, finished, fixedAt};
 
@@ -26,7 +27,7 @@ pub struct Edge {
 pub struct Axis {
     pub dim: Dimension,
     pub major_dir: Direction,
-    pub edges: [Edge; 128],
+    pub edges: [Edge; MOST_EDGES],
     pub len: usize,
 }
 
@@ -51,7 +52,7 @@ pub fn empty_axis(dim: Dimension, major_dir: Direction) -> Axis
     Axis {
         dim,
         major_dir,
-        edges: [EMPTY_EDGE; 128],
+        edges: [EMPTY_EDGE; MOST_EDGES],
         len: 0,
     }
 }

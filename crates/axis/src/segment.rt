@@ -3,6 +3,7 @@ use super::flags::Flags;
 use super::flags::NORMAL;
 use super::kinds::Direction;
 use super::kinds::Link;
+use super::limits::MOST_SEGMENTS;
 ghost use mathlib.Core.Path.{_≡_};
 ghost use Rattle.axis.specs.Segment.{emptySegments};
 
@@ -27,7 +28,7 @@ pub struct Segment {
 
 // The segments of an axis are the first `len` of the working table.
 pub struct Segments {
-    pub segments: [Segment; 512],
+    pub segments: [Segment; MOST_SEGMENTS],
     pub len: usize,
 }
 
@@ -55,7 +56,7 @@ pub fn empty_segments() -> Segments
     ensures { λ r. ⌜ r ≡ emptySegments ⌝ }
 {
     Segments {
-        segments: [EMPTY_SEGMENT; 512],
+        segments: [EMPTY_SEGMENT; MOST_SEGMENTS],
         len: 0,
     }
 }

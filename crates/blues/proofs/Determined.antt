@@ -6,8 +6,8 @@ use Rattle.fixed.specs.declared.width.WidthRule.{WidthRule}
 use Rattle.axis.specs.declared.kinds.Group.{Group}
 use Rattle.axis.specs.declared.edge.Axis.{Axis}
 use Rattle.blues_pass.specs.declared.pass.Anchored.{Anchored}
-use Rattle.blues.specs.Zones.{alignEdgesToBlues}
+use Rattle.blues.specs.Zones.{AlignsEdgesToBlues}
 
 pub determined : (axis : Axis) (group : Group) (rule : WidthRule) (xs : List ℤ) {r s : Anchored}
-    → r ≡ alignEdgesToBlues axis group rule xs → s ≡ alignEdgesToBlues axis group rule xs → r ≡ s
+    → AlignsEdgesToBlues axis group rule xs r → AlignsEdgesToBlues axis group rule xs s → r ≡ s
 determined axis group rule xs p q = p ∙ sym q

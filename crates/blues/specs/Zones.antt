@@ -1,4 +1,5 @@
 -- The call that puts edges on their blue zones (document 01, module 5): its refusal, then the visits of `blues_pass` where the group has blue zones.
+use mathlib.Core.Path.{_≡_}
 use mathlib.Core.Bool.{Bool, true, false, cond}
 use mathlib.Core.List.{List, [], _∷_}
 use lib.IntN.{ℤ}
@@ -34,3 +35,7 @@ unfoldable pub alignEdgesToBlues : Axis → Group → WidthRule → List ℤ →
 alignEdgesToBlues axis group rule xs =
     answered (refusal (bluesTests axis rule xs)) (anchored axis Links.None)
     (cond (hasBlues group (axis .dim)) (bluesOf rule xs axis) (anchored axis Links.None 0))
+
+-- what the call owes its caller: the answer, the anchor and the axis
+abbrev pub AlignsEdgesToBlues : Axis → Group → WidthRule → List ℤ → Anchored → Type 0
+AlignsEdgesToBlues axis group rule xs r = r ≡ alignEdgesToBlues axis group rule xs

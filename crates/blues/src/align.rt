@@ -17,7 +17,7 @@ use refusals::order::TOO_LONG;
 use refusals::order::or_refused;
 ghost use mathlib.Core.Path.{_≡_};
 ghost use Rattle.refusals.specs.Refusal.{refusal};
-ghost use Rattle.blues.specs.Zones.{isVertical, hasBlues, bluesTests, alignEdgesToBlues};
+ghost use Rattle.blues.specs.Zones.{isVertical, hasBlues, bluesTests, AlignsEdgesToBlues};
 
 // Whether an axis is vertical.
 fn is_vertical(dim: Dimension) -> bool
@@ -56,7 +56,7 @@ pub fn align_edges_to_blues(
     rule: WidthRule,
     standards: &[i32],
 ) -> Anchored
-    ensures { λ r. ⌜ r ≡ alignEdgesToBlues axis group rule (now (standards .entry)) ⌝ }
+    ensures { λ r. ⌜ AlignsEdgesToBlues axis group rule (now (standards .entry)) r ⌝ }
 {
     let answer = blues_refusal(axis, rule, standards);
     if 0 < answer {

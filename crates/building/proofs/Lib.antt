@@ -6,4 +6,5 @@ pub mod Handing
 pub mod Calls
 pub mod Outcomes
 pub mod Rings
+pub mod Handed
 pub mod Worked

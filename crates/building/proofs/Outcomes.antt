@@ -1,12 +1,11 @@
--- The outcome of the call: for refused segments, for accepted ones, what it hands on, and that the promise determines it.
+-- The outcome of the call: for refused segments, for accepted ones, what is built within its limits, and that the promise determines the outcome.
 use mathlib.Core.Path.{_≡_, refl, sym, _∙_}
-use mathlib.Core.Bool.{Bool, false, not}
+use mathlib.Core.Bool.{Bool, not}
 use mathlib.Core.List.{List, [], _∷_}
 use Prim.Native.Nat.{ℕ, suc, _<_}
 use native.Mathlib.Omega.{arith}
 use lib.IntN.{ℤ, pos}
 use Rattle.signed.specs.Range.{Between}
-use Rattle.signed.proofs.Choices.{cond-false}
 use Rattle.refusals.specs.Refusal.{refusal}
 use Rattle.fixed.specs.Point.{mulFix}
 use Rattle.axis.specs.declared.edge.Axis.{Axis}
@@ -29,8 +28,7 @@ use Rattle.properties.specs.Properties.{edgeProperties}
 use Rattle.properties.proofs.Kept.{within-kept}
 use Rattle.building.specs.declared.build.Built.{Built}
 use Rattle.building.specs.declared.numbers.Thresholds.{Thresholds}
-use Rattle.building.specs.Building.{buildingTests, isCjk, rulesOf, lastState, builtSegments, builtEdges, beside, built, computeEdges}
-use Rattle.building.proofs.Calls.{accepted, joinable}
+use Rattle.building.specs.Building.{buildingTests, isCjk, rulesOf, lastState, builtSegments, builtEdges, beside, built, computeEdges, ComputesEdges}
 use Rattle.building.proofs.Handing.{built-rows, few-edges, ready}
 use Rattle.building.proofs.Joins.{last-good}
 
@@ -45,7 +43,7 @@ edge-within t scale n (m ∷ ms) h =
     record { opos = b; pos = omega arith; blue = no-blue; link = below-none n; serif = below-none n }
 
 module _ (t : Segments) (r : Rules) (W : SegmentsWithin t) (J : Joinable t r) where
-  segments-within : SegmentsWithin (builtSegments t (lastState t r))
+  pub segments-within : SegmentsWithin (builtSegments t (lastState t r))
   segments-within =
       let R = built-rows t r (shown t r (lastState t r)) refl W in
       record {
@@ -69,7 +67,7 @@ module _ (t : Segments) (r : Rules) (W : SegmentsWithin t) (J : Joinable t r) wh
             (edge-within t (r .scale) (j .axis .len) (group s k) (λ x p. J .opos x (members-below t r (not (r .cjk)) s (t .len) k (W .few) (last-good t r (W .few)) l x p)));
       }
 
-  properties-within : AxisWithin mostPos (edgeProperties (builtEdges t r (lastState t r)) (builtSegments t (lastState t r)))
+  pub properties-within : AxisWithin mostPos (edgeProperties (builtEdges t r (lastState t r)) (builtSegments t (lastState t r)))
   properties-within = within-kept _ _ (ready t r (shown t r (lastState t r)) refl W) mostPos edges-within
 
 module _ (t : Segments) (old : Axis) (group : Group) (down : Bool) (scale : ℤ) (by : Thresholds) where
@@ -82,25 +80,10 @@ module _ (t : Segments) (old : Axis) (group : Group) (down : Bool) (scale : ℤ)
   refused k e = rw e
 
   -- an accepted call hands back what is built
-  pub done : refusal (buildingTests t (old .len) scale by) ≡ 0 → computeEdges t old group down scale by ≡ built t old rules (lastState t rules)
+  pub not-refused : refusal (buildingTests t (old .len) scale by) ≡ 0 → computeEdges t old group down scale by ≡ built t old rules (lastState t rules)
   unfolding computeEdges
-  done e = rw e
+  not-refused e = rw e
 
   -- two outcomes that the promise of `compute_edges` allows coincide
-  pub determined : (a b : Built) → a ≡ computeEdges t old group down scale by → b ≡ computeEdges t old group down scale by → a ≡ b
+  pub determined : (a b : Built) → ComputesEdges t old group down scale by a → ComputesEdges t old group down scale by b → a ≡ b
   determined a b p q = p ∙ sym q
-
-  -- what it hands on passes the tests of every later call: each link and serif is below its count, and each number within the table
-  module _ (e : refusal (buildingTests t (old .len) scale by) ≡ 0) (room : lastState t rules .full ≡ false) where
-    A : SegmentsWithin t × Joinable t rules
-    A = let a = accepted t (old .len) scale by 0 (sym e) (omega arith) in (a .within, joinable t scale by a _ _ _ _ rules refl)
-
-    outcome : computeEdges t old group down scale by ≡ beside (builtSegments t (lastState t rules)) (edgeProperties (builtEdges t rules (lastState t rules)) (builtSegments t (lastState t rules))) 0
-    unfolding built
-    outcome = done e ∙ cond-false _ _ _ room
-
-    pub segments-handed-on : SegmentsWithin (computeEdges t old group down scale by .segments)
-    segments-handed-on = rw outcome (segments-within t rules (A .0) (A .1))
-
-    pub edges-handed-on : AxisWithin mostPos (computeEdges t old group down scale by .axis)
-    edges-handed-on = rw outcome (properties-within t rules (A .0) (A .1))

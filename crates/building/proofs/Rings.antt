@@ -17,6 +17,7 @@ use Rattle.axis.specs.declared.segment.Segment.{Segment}
 use Rattle.axis.specs.declared.segment.Segments.{Segments}
 use Rattle.axis.specs.Accepted.{SegmentsWithin}
 use Rattle.axis.specs.Edge.{edgeAt}
+use Rattle.axis.specs.Handed.{Typed}
 use Rattle.axis.specs.Limits.{mostSegments}
 use Rattle.axis.specs.Ring.{walk, nextOf, members, times, Sound}
 use Rattle.axis.specs.Segment.{emptySegment, segmentAt, putSegment}
@@ -131,7 +132,7 @@ chain-last next f m [] r = r .0
 chain-last next f m (x ∷ ms) r = chain-last next f x ms (r .1)
 
 -- ---- the theorem
-module _ (t : Segments) (r : Rules) (W : SegmentsWithin t) (whole : length (t .segments) ≡ mostSegments) where
+module _ (t : Segments) (r : Rules) (W : SegmentsWithin t) (T : Typed t) where
   abbrev s : State
   s = lastState t r
 
@@ -142,7 +143,7 @@ module _ (t : Segments) (r : Rules) (W : SegmentsWithin t) (whole : length (t .s
   below k h = members-below t r (not (r .cjk)) s (t .len) k (W .few) G h
 
   member : (k : ℕ) → k < s .count → (x : ℕ) → 0 < times x (group s k) → Member (s .next) k x (groupMarks s (s .count) (cleared t))
-  member k h x p = groups-in t s whole (G .once) k x (lt-of-lt-of-le (below k h x p) (W .few)) p (s .count) h
+  member k h x p = groups-in t s (T .places) (G .once) k x (lt-of-lt-of-le (below k h x p) (W .few)) p (s .count) h
 
   first-is : (k : ℕ) → edgeAt (builtEdges t r s) k .first ≡ headOr 0 (group s k)
   first-is k = of-first t r s (shown t r s .full) (shown t r s .axis) (shown t r s .next) refl k
@@ -183,7 +184,7 @@ module _ (t : Segments) (r : Rules) (W : SegmentsWithin t) (whole : length (t .s
   -- and no others have
   every-one : (k i : ℕ) → i < builtSegments t s .len → segmentAt (builtSegments t s) i .edge ≡ Links.To k → 0 < times i (group s k)
   unfolding builtSegments
-  every-one k i l e = let size = rows t s (λ k x h p. below k h x p) .size in groups-own t s whole k i (lt-of-lt-of-le (rw size at l) (W .few)) (rw size at l) (s .count) e
+  every-one k i l e = let size = rows t s (λ k x h p. below k h x p) .size in groups-own t s (T .places) k i (lt-of-lt-of-le (rw size at l) (W .few)) (rw size at l) (s .count) e
 
   -- every ring is sound
   pub sound : (k : ℕ) → k < s .count → Sound (builtEdges t r s) (builtSegments t s) k

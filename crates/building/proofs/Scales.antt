@@ -9,7 +9,7 @@ use mir.Syntax.{w32}
 use mir.Val.{SFits}
 use Rattle.signed.specs.Range.{Between}
 use Rattle.signed.proofs.Signed.{signed, range, one-zero, natAbs-is}
-use Rattle.fixed.specs.Point.{near, mulFix, divFix}
+use Rattle.fixed.specs.Point.{rounded, mulFix, divFix}
 use Rattle.fixed.proofs.Rounding.{mul-fits, div-abs}
 use Rattle.refusals.proofs.Tests.{and-first, and-second}
 use Rattle.axis.specs.declared.kinds.Dimension.{Dimension}
@@ -55,7 +55,7 @@ both : (n : ℕ) (z : ℤ) → Between 0 n z → Between n n z
 both n z h = omega arith
 
 pub scaled-fits : (first scale : ℤ) → Between 0 mostScore first → Between 0 mostScale scale → SFits w32 (mulFix first scale)
-unfolding near
+unfolding rounded
 scaled-fits first scale a b = mul-fits (both mostScore first a) (both mostScale scale b) tt
 
 -- a quotient of 32-bit numbers is far from the ends of 64

@@ -1,11 +1,10 @@
--- Document 01's row, and edges worked out by hand.
+-- Edges worked out by hand.
 use mathlib.Core.Path.{_≡_, refl}
 use mathlib.Core.Bool.{Bool, true, false}
 use mathlib.Core.List.{List, [], _∷_}
 use Prim.Native.Nat.{ℕ}
 use lib.IntN.{pos}
 use lib.ListN.{length}
-use Rattle.fixed.specs.Point.{near, nearZ, mulFix, divFix}
 use Rattle.axis.specs.declared.kinds.Dimension.the-variants as Dimensions
 use Rattle.axis.specs.declared.kinds.Direction.{Direction}
 use Rattle.axis.specs.declared.kinds.Direction.the-variants as Directions
@@ -16,17 +15,8 @@ use Rattle.axis.specs.declared.segment.Segments.{Segments}
 use Rattle.axis.specs.Direction.{same}
 use Rattle.axis.specs.Flags.{normal}
 use Rattle.joining.specs.declared.rules.Rules.{Rules}
-use Rattle.joining.specs.Joining.{passedOver, skips, fits, fitsIn, linksNear, agrees, stopsBehind, settle, group, start, seek, mayJoin, behind, placeOf, create, placed, visit, after, begun}
-use Rattle.building.specs.Building.{distanceThreshold, lastState}
-
--- ---- document 01's row: scale 32,768 and first threshold 21
-row-latin : distanceThreshold false (pos 21) (pos 32768) ≡ pos 22
-unfolding distanceThreshold mulFix divFix nearZ near
-row-latin = refl
-
-row-cjk : distanceThreshold true (pos 21) (pos 32768) ≡ pos 21
-unfolding distanceThreshold mulFix divFix nearZ near
-row-cjk = refl
+use Rattle.joining.specs.Joining.{passedOver, skips, fits, fitsIn, linksNear, agrees, stopsBehind, settle, group, start, seek, mayJoin, behind, placeOf, create, joinOrCreate, visit, after, begun}
+use Rattle.building.specs.Building.{lastState}
 
 -- ---- groups of segments
 abbrev segment : ℕ → Direction → Link → Segment
@@ -67,39 +57,39 @@ down p = segment p Directions.Down Links.None
 
 -- edges stand in the order of their positions, and a segment joins the first edge that is near
 in-order : pairs (up 100 ∷ up 50 ∷ up 109 ∷ []) false false ≡ (1 ∷ []) ∷ (0 ∷ 2 ∷ []) ∷ []
-unfolding same passedOver skips fits fitsIn stopsBehind settle start seek mayJoin behind placeOf create placed visit after begun
+unfolding same passedOver skips fits fitsIn stopsBehind settle start seek mayJoin behind placeOf create joinOrCreate visit after begun
 in-order = refl
 
 -- or the other way round, top to bottom
 top-to-bottom : pairs (up 50 ∷ up 100 ∷ []) false true ≡ (1 ∷ []) ∷ (0 ∷ []) ∷ []
-unfolding same passedOver skips fits fitsIn stopsBehind settle start seek mayJoin behind placeOf create placed visit after begun
+unfolding same passedOver skips fits fitsIn stopsBehind settle start seek mayJoin behind placeOf create joinOrCreate visit after begun
 top-to-bottom = refl
 
 -- at one position the edge in the major direction is the second
 major-second : pairs (up 50 ∷ down 50 ∷ []) false false ≡ (1 ∷ []) ∷ (0 ∷ []) ∷ []
-unfolding same passedOver skips fits fitsIn stopsBehind settle start seek mayJoin behind placeOf create placed visit after begun
+unfolding same passedOver skips fits fitsIn stopsBehind settle start seek mayJoin behind placeOf create joinOrCreate visit after begun
 major-second = refl
 
 -- 10 away is not near
 apart : pairs (up 100 ∷ up 110 ∷ []) false false ≡ (0 ∷ []) ∷ (1 ∷ []) ∷ []
-unfolding same passedOver skips fits fitsIn stopsBehind settle start seek mayJoin behind placeOf create placed visit after begun
+unfolding same passedOver skips fits fitsIn stopsBehind settle start seek mayJoin behind placeOf create joinOrCreate visit after begun
 apart = refl
 
 -- between two edges Latin takes the first and CJK the nearest
 latin-first : pairs (up 100 ∷ up 112 ∷ up 107 ∷ []) false false ≡ (0 ∷ 2 ∷ []) ∷ (1 ∷ []) ∷ []
-unfolding same passedOver skips fits fitsIn stopsBehind settle start seek mayJoin behind placeOf create placed visit after begun
+unfolding same passedOver skips fits fitsIn stopsBehind settle start seek mayJoin behind placeOf create joinOrCreate visit after begun
 latin-first = refl
 
 cjk-nearest : pairs (up 100 ∷ up 112 ∷ up 107 ∷ []) true false ≡ (0 ∷ []) ∷ (1 ∷ 2 ∷ []) ∷ []
-unfolding same passedOver skips fits fitsIn linksNear agrees stopsBehind settle start seek mayJoin behind placeOf create placed visit after begun
+unfolding same passedOver skips fits fitsIn linksNear agrees stopsBehind settle start seek mayJoin behind placeOf create joinOrCreate visit after begun
 cjk-nearest = refl
 
 -- one whose link is far from those of an edge's segments makes an edge of its own in CJK
 links-apart : pairs (segment 100 Directions.Up (Links.To 2) ∷ segment 104 Directions.Up (Links.To 3) ∷ down 300 ∷ down 400 ∷ []) true false ≡ (0 ∷ []) ∷ (1 ∷ []) ∷ []
-unfolding same passedOver skips fits fitsIn linksNear agrees stopsBehind settle start seek mayJoin behind placeOf create placed visit after begun
+unfolding same passedOver skips fits fitsIn linksNear agrees stopsBehind settle start seek mayJoin behind placeOf create joinOrCreate visit after begun
 links-apart = refl
 
 -- Latin's second loop finds an edge for a segment without direction
 undirected : pairs (segment 103 Directions.None Links.None ∷ up 100 ∷ []) false false ≡ (1 ∷ 0 ∷ []) ∷ [] ∷ []
-unfolding same passedOver skips fits fitsIn stopsBehind settle start seek mayJoin behind placeOf create placed visit after begun
+unfolding same passedOver skips fits fitsIn stopsBehind settle start seek mayJoin behind placeOf create joinOrCreate visit after begun
 undirected = refl

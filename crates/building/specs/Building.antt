@@ -1,4 +1,5 @@
 -- Building (document 01, module 4): the refusals, then edges from segments, in groups (`joining`), and their properties (`properties`).
+use mathlib.Core.Path.{_≡_}
 use mathlib.Core.Bool.{Bool, true, false, cond, not, _&&_}
 use mathlib.Core.List.{List, [], _∷_}
 use Prim.Native.Nat.{ℕ}
@@ -109,3 +110,7 @@ unfoldable pub computeEdges : Segments → Axis → Group → Bool → ℤ → T
 computeEdges t old group down scale by =
     answered (refusal (buildingTests t (old .len) scale by)) (beside t old)
     (built t old (rulesOf (old .dim) (old .«major_dir») (isCjk group) down scale by) (lastState t (rulesOf (old .dim) (old .«major_dir») (isCjk group) down scale by)))
+
+-- what the call owes its caller: the answer, the segments and the axis
+abbrev pub ComputesEdges : Segments → Axis → Group → Bool → ℤ → Thresholds → Built → Type 0
+ComputesEdges t old group down scale by r = r ≡ computeEdges t old group down scale by

@@ -31,7 +31,7 @@ ghost use Rattle.refusals.specs.Refusal.{refusal};
 ghost use Rattle.axis.specs.Accepted.{SegmentsWithin};
 ghost use Rattle.joining.specs.Joining.{shown};
 ghost use Rattle.joining.specs.Walks.{Joinable};
-ghost use Rattle.building.specs.Building.{isCjk, buildingTests, goesDown, numbersHold, rulesOf, lastState, computeEdges};
+ghost use Rattle.building.specs.Building.{isCjk, buildingTests, goesDown, numbersHold, rulesOf, lastState, ComputesEdges};
 
 // The answer, 0 or document 01's number of the refusal, the segments and the edges.
 pub struct Built {
@@ -131,7 +131,7 @@ pub fn compute_edges(
     scale: i32,
     thresholds: Thresholds,
 ) -> Built
-    ensures { λ r. ⌜ r ≡ computeEdges segments old group «top_to_bottom» scale thresholds ⌝ }
+    ensures { λ r. ⌜ ComputesEdges segments old group «top_to_bottom» scale thresholds r ⌝ }
 {
     let answer = building_refusal(segments, old.len, scale, thresholds);
     if 0 < answer {

@@ -25,7 +25,7 @@ use Rattle.axis.specs.declared.kinds.Dimension.the-variants.{Horizontal, Vertic
 use Rattle.axis.specs.declared.edge.Edge.{Edge}
 use Rattle.placing.specs.Steps.{InReach}
 use Rattle.placing.proofs.Reach.{width-range}
-use Rattle.cjk_numbers.specs.Cjk.{mostWidth, mostMove, mostStart, maxGap, gapOf, bothRound, pixelOffset, narrowDelta, isBlocked, downOrUp, smallerOf, shortestMove, wideDelta, offsetsDelta}
+use Rattle.cjk_numbers.specs.Cjk.{mostWidth, mostMove, mostCjkStart, maxGap, gapOf, bothRound, pixelOffset, narrowDelta, isBlocked, downOrUp, smallerOf, shortestMove, wideDelta, offsetsDelta}
 use Rattle.cjk_numbers.specs.Cjk.{startOf, clamped, deltaOf, stemAt, stemOf}
 
 -- a move, up or down
@@ -114,7 +114,7 @@ threshold-range adjust dim round = omega (arith, gap-range adjust dim round, sub
 
 -- the place of a stem's lower edge, its width, and what it is moved by
 pub stem-pos-range : (dim : Dimension) (adjust : Bool) (rule : WidthRule) (xs : List ℤ) (e e2 : Edge) (d : ℤ) → InReach e → InReach e2 → Between mostUnits mostUnits d
-    → Between mostStart mostStart (stemOf dim adjust rule xs e e2 d .pos)
+    → Between mostCjkStart mostCjkStart (stemOf dim adjust rule xs e e2 d .pos)
 unfolding stemOf stemAt
 stem-pos-range dim adjust rule xs e e2 d h g k =
     let w = width-range rule xs (e .opos) (e2 .opos) (h .opos) (g .opos) in
@@ -133,7 +133,7 @@ unfolding stemOf stemAt
 stem-delta-range dim adjust rule xs e e2 d = delta-range adjust _ _ _ (threshold-range adjust dim (bothRound e e2))
 
 -- a stem's numbers are read back from their bits
-pub start-read : (z : ℤ) → Between mostStart mostStart z → toZ w32 (ofZ w32 z) ≡ z
+pub start-read : (z : ℤ) → Between mostCjkStart mostCjkStart z → toZ w32 (ofZ w32 z) ≡ z
 start-read z h = is (fits-in w32 h tt tt)
 
 pub width-read : (z : ℤ) → Between mostWidth mostWidth z → toZ w32 (ofZ w32 z) ≡ z

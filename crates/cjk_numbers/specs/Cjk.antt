@@ -73,8 +73,8 @@ offsetsDelta d1 d2 w t =
 
 -- ---- where the stem comes to lie
 -- what the start of a stem can be, before and after it is moved
-abbrev pub mostStart : ℕ
-mostStart = 65536
+abbrev pub mostCjkStart : ℕ
+mostCjkStart = 65536
 
 -- both edges are round
 abbrev pub bothRound : Edge → Edge → Bool

@@ -12,7 +12,7 @@ ghost use Rattle.signed.specs.Range.{Between};
 ghost use Rattle.axis.specs.Limits.{mostUnits};
 ghost use Rattle.fixed.specs.Width.{ruleHolds};
 ghost use Rattle.placing.specs.Steps.{InReach};
-ghost use Rattle.cjk_numbers.specs.Cjk.{bothRound, startOf, clamped, deltaOf, stemAt, stemOf, mostWidth, mostStart};
+ghost use Rattle.cjk_numbers.specs.Cjk.{bothRound, startOf, clamped, deltaOf, stemAt, stemOf, mostWidth, mostCjkStart};
 
 // The largest move without STEM_ADJUST.
 const MAX_DELTA_ABS: i32 = 14;
@@ -39,8 +39,8 @@ fn start_of(opos1: i32, opos2: i32, width: i32, delta: i32) -> i32
     requires { ⌜ Between mostUnits mostUnits opos1 × Between mostUnits mostUnits opos2 × Between mostWidth mostWidth width × Between mostUnits mostUnits delta ⌝ }
     ensures { λ r. ⌜ r ≡ startOf opos1 opos2 width delta ⌝ }
 {
-    let center = (opos1 + opos2) / 2 + delta;
-    center - width / 2
+    let centre = (opos1 + opos2) / 2 + delta;
+    centre - width / 2
 }
 
 // The move, at most 14 either way without STEM_ADJUST.
@@ -61,7 +61,7 @@ fn clamp(stem_adjust: bool, delta: i32) -> i32
 
 // What a stem from a start, of a width, is moved by.
 fn delta_of(stem_adjust: bool, start: i32, width: i32, threshold: i32) -> i32
-    requires { ⌜ Between mostStart mostStart start × Between mostWidth mostWidth width × Between 0 64 threshold ⌝ }
+    requires { ⌜ Between mostCjkStart mostCjkStart start × Between mostWidth mostWidth width × Between 0 64 threshold ⌝ }
     ensures { λ r. ⌜ r ≡ deltaOf «stem_adjust» start width threshold ⌝ }
 {
     let d_off1 = pixel_offset(start);

@@ -10,7 +10,7 @@ use lib.ListN.{getD}
 use Rattle.signed.proofs.Signed.{lt-or-le}
 use Rattle.contours.specs.Contour.{firstTouched, lastTouched, Contour, touchedBefore, touchedBehind, References, refs, paired, references}
 use Rattle.contours.specs.Steps.{Clear}
-use Rattle.contours.proofs.Searches.{Last, last-some, last-none, last-is, last-clear, First, first-some, first-none, first-is, first-clear, found-by}
+use Rattle.contours.proofs.Searches.{Last, last-some, last-none, last-is, last-clear, First, first-some, first-none, first-is, first-clear, found-by, not-found}
 
 -- ---- the references of a point in each place of a contour
 module _ (t : List ℕ) (k : Contour) (i : ℕ) (inside : k .start ≤ i) (below : i < k .end) where
@@ -86,6 +86,22 @@ module _ (t : List ℕ) (k : Contour) (i : ℕ) (inside : k .start ≤ i) (below
       (λ a. inr (rw from-on at (first-clear t (suc i) (k .end - suc i) (a .0)), rw all at (first-is t (k .start) (k .end - k .start) p (a .1))))
       (found-by (firstTouched t (suc i) (k .end - suc i)) (firstTouched t (k .start) (k .end - k .start)) p e)
 
+  -- both are touched points of the contour
+  before-on : (p : ℕ) → touchedBefore t k i ≡ some p → (k .start ≤ p) × (p < k .end) × (0 < getD t p 0)
+  before-on p e = ⊎-elim (λ l. (l .low, omega (arith, l .high), l .mark)) (λ l. (l .1 .low, l .1 .high, l .1 .mark)) (before-cases p e)
+
+  behind-on : (p : ℕ) → touchedBehind t k i ≡ some p → (k .start ≤ p) × (p < k .end) × (0 < getD t p 0)
+  behind-on p e = ⊎-elim (λ f. (omega (arith, f .low), f .high, f .mark)) (λ f. (f .1 .low, f .1 .high, f .1 .mark)) (behind-cases p e)
+
+  -- where none was found, no point of the contour is touched
+  before-none : touchedBefore t k i ≡ none → Clear t (k .start) (k .end)
+  unfolding touchedBefore
+  before-none e = rw all at (last-clear t (k .start) (k .end - k .start) (not-found (lastTouched t (k .start) (i - k .start)) (lastTouched t (k .start) (k .end - k .start)) e))
+
+  behind-none : touchedBehind t k i ≡ none → Clear t (k .start) (k .end)
+  unfolding touchedBehind
+  behind-none e = rw all at (first-clear t (k .start) (k .end - k .start) (not-found (firstTouched t (suc i) (k .end - suc i)) (firstTouched t (k .start) (k .end - k .start)) e))
+
   -- i itself is untouched, and z is a touched point of the contour
   module _ (free : getD t i 0 ≡ 0) (z : ℕ) (start : k .start ≤ z) (end : z < k .end) (mark : 0 < getD t z 0) where
     -- a point in front of i and a point behind it are the cases of z
@@ -101,6 +117,30 @@ module _ (t : List ℕ) (k : Contour) (i : ℕ) (inside : k .start ≤ i) (below
         by (inl l) (inr g) = pinch t z p mark (λ y. g .1 .clear z y start) (λ y. beside (λ x. l .clear z x y) (λ x. g .0 z end x))
         by (inr l) (inl g) = pinch t z p mark (λ y. beside (λ x. l .0 z x start) (λ x. g .clear z y x)) (λ y. l .1 .clear z end y)
         by (inr l) (inr g) = absurd (omega (arith, beside (λ x. l .0 z x start) (λ x. g .0 z end x)))
+
+  -- the references are touched points of the contour
+  pub refs-on : (r : References) → references t k i ≡ some r
+      → ((k .start ≤ r .before) × (r .before < k .end) × (0 < getD t (r .before) 0)) × ((k .start ≤ r .behind) × (r .behind < k .end) × (0 < getD t (r .behind) 0))
+  unfolding references
+  refs-on r e = by (touchedBefore t k i) (touchedBehind t k i) refl refl e
+    where
+      by : (x y : Option ℕ) → touchedBefore t k i ≡ x → touchedBehind t k i ≡ y → paired x y ≡ some r
+          → ((k .start ≤ r .before) × (r .before < k .end) × (0 < getD t (r .before) 0)) × ((k .start ≤ r .behind) × (r .behind < k .end) × (0 < getD t (r .behind) 0))
+      by none y ex ey q = let w : _≡_ {A = ℕ} 0 1 = cc in absurd (omega arith)
+      by (some a) none ex ey q = let w : _≡_ {A = ℕ} 0 1 = cc in absurd (omega arith)
+      by (some a) (some b) ex ey q =
+          let g : refs a b ≡ r = cc in
+          (before-on (r .before) (ex ∙ ap (λ (r : References). some (r .before)) g), behind-on (r .behind) (ey ∙ ap (λ (r : References). some (r .behind)) g))
+
+  -- where there are none, no point is touched
+  pub refs-missing : references t k i ≡ none → Clear t (k .start) (k .end)
+  unfolding references
+  refs-missing e = by (touchedBefore t k i) (touchedBehind t k i) refl refl e
+    where
+      by : (x y : Option ℕ) → touchedBefore t k i ≡ x → touchedBehind t k i ≡ y → paired x y ≡ none → Clear t (k .start) (k .end)
+      by none y ex ey q = before-none ex
+      by (some p) none ex ey q = behind-none ey
+      by (some p) (some u) ex ey q = let z : _≡_ {A = ℕ} 0 1 = cc in absurd (omega arith)
 
   -- where they are the same point, no other is touched
   pub refs-same : (p : ℕ) → getD t i 0 ≡ 0 → references t k i ≡ some (refs p p) → (z : ℕ) → k .start ≤ z → z < k .end → 0 < getD t z 0 → z ≡ p

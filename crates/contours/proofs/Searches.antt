@@ -139,3 +139,8 @@ first-clear t a (suc n) e = by (isTouched t a) refl (first-clear t (suc a) n)
 pub found-by : (x y : Option ℕ) (p : ℕ) → orElse x y ≡ some p → (x ≡ some p) ⊎ ((x ≡ none) × (y ≡ some p))
 found-by none y p e = inr (refl, e)
 found-by (some q) y p e = inl e
+
+-- and where neither finds one, the second does not
+pub not-found : (x y : Option ℕ) → orElse x y ≡ none → y ≡ none
+not-found none y e = e
+not-found (some q) y e = let z : _≡_ {A = ℕ} 0 1 = cc in absurd (omega arith)

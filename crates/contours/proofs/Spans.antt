@@ -72,7 +72,7 @@ module _ (v v1 u1 v2 u2 : ℤ) where
         by : (b : Bool) → eqZ u1 u2 ≡ b → interpolated v v1 u1 v2 u2 ≡ u1 +ℤ mulFix (v -ℤ v1) (divFix (u2 -ℤ u1) (v2 -ℤ v1))
         by true e =
             let q = eqZ-true u1 u2 e in
-            let f = between-law h .faithful in
+            let f = between-law h .along in
             interpolated-level q ∙ same (omega (arith, signed, sub-law u2 u1, one-zero (u2 -ℤ u1), f .not-above, f .not-below))
         by false e = interpolated-between (λ q. eqZ-apart u1 u2 e q)
 

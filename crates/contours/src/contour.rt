@@ -26,7 +26,8 @@ fn align_gaps(originals: &[i32], currents: &mut [i32], touched: &[u8], first: us
     requires { ⌜ (length (now currents) ≡ length (now originals)) × (length (now touched) ≡ length (now originals)) ⌝ }
     requires { ⌜ (first < length (now originals)) × (0 < getD (now touched) first 0) ⌝ }
     requires { ⌜ Coordinates (now originals) × Coordinates (now currents) ⌝ }
-    ensures { λ r. ⌜ Upto (now (originals .entry)) (now (currents .entry)) (now (touched .entry)) first r (now (currents .exit)) × Next (now (touched .entry)) (r + 1) (length (now (touched .entry))) ⌝ }
+    ensures { λ r. ⌜ Upto (now (originals .entry)) (now (currents .entry)) (now (touched .entry)) first r (now (currents .exit))
+        × Next (now (touched .entry)) (r + 1) (length (now (touched .entry))) ⌝ }
 {
     let n = touched.len();
     let mut last = first;

@@ -1,2 +1,4 @@
--- `Determined`: each promise determines its outcome.
+-- `Determined`: each promise determines its outcome. `Changed`: what each call changes. `Handed`: each call accepts what others hand on.
 pub mod Determined
+pub mod Changed
+pub mod Handed

@@ -1,4 +1,5 @@
 -- The calls that place one edge (document 01, module 5): by its link, by its serif, by its neighbours. Each is its refusal, then one step of `placing`.
+use mathlib.Core.Path.{_≡_}
 use mathlib.Core.Bool.{Bool}
 use mathlib.Core.List.{List, [], _∷_}
 use Prim.Native.Nat.{ℕ}
@@ -31,7 +32,7 @@ serifTests axis base serif = edgesShort axis ∷ edgesIndexed axis ∷ badIndex 
 abbrev pub edgeTests : Axis → ℕ → List Test
 edgeTests axis i = edgesShort axis ∷ edgesIndexed axis ∷ badIndex unless ltb i (axis .len) ∷ edgesInRange axis ∷ []
 
--- ---- the calls
+-- ---- the calls, and what each owes its caller
 -- an answer and an axis
 abbrev pub fitted : Axis → ℕ → Fitted
 fitted axis k = record { answer = k; axis = axis }
@@ -42,11 +43,17 @@ alignLinkedEdge axis rule xs base stem =
     answered (refusal (linkedTests axis rule xs base stem)) (fitted axis)
     (fitted (putEdge axis stem (linkedEdge rule xs (edgeAt axis base) (edgeAt axis stem))) 0)
 
+abbrev pub AlignsLinkedEdge : Axis → WidthRule → List ℤ → ℕ → ℕ → Fitted → Type 0
+AlignsLinkedEdge axis rule xs base stem r = r ≡ alignLinkedEdge axis rule xs base stem
+
 -- `align_serif_edge`: the refusal and the axis as it came, or 0 and the axis with the serif edge placed by the base edge
 unfoldable pub alignSerifEdge : Axis → ℕ → ℕ → Fitted
 alignSerifEdge axis base serif =
     answered (refusal (serifTests axis base serif)) (fitted axis)
     (fitted (putEdge axis serif (serifEdge (edgeAt axis base) (edgeAt axis serif))) 0)
+
+abbrev pub AlignsSerifEdge : Axis → ℕ → ℕ → Fitted → Type 0
+AlignsSerifEdge axis base serif r = r ≡ alignSerifEdge axis base serif
 
 -- an answer and two bounds
 abbrev pub bounds : Link → Link → ℕ → Bounds
@@ -57,6 +64,12 @@ unfoldable pub latinRemainingBounds : Axis → ℕ → Bounds
 latinRemainingBounds axis i =
     answered (refusal (edgeTests axis i)) (bounds Links.None Links.None) (bounds (lowerBound i) (upperBound axis i) 0)
 
+abbrev pub FindsLatinRemainingBounds : Axis → ℕ → Bounds → Type 0
+FindsLatinRemainingBounds axis i r = r ≡ latinRemainingBounds axis i
+
 -- `adjust_link`: the refusal and the axis as it came, or 0 and the axis with the edge adjusted, moved or not
 unfoldable pub adjustLink : Axis → ℕ → LinkDir → Bool → Fitted
 adjustLink axis i dir ttb = answered (refusal (edgeTests axis i)) (fitted axis) (fitted (adjusted axis i dir ttb) 0)
+
+abbrev pub AdjustsLink : Axis → ℕ → LinkDir → Bool → Fitted → Type 0
+AdjustsLink axis i dir ttb r = r ≡ adjustLink axis i dir ttb

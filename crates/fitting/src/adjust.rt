@@ -4,12 +4,11 @@ use super::refusal::edge_refusal;
 use axis::edge::Axis;
 use placing::adjust::LinkDir;
 use placing::adjust::adjust;
-ghost use mathlib.Core.Path.{_≡_};
-ghost use Rattle.fitting.specs.Fitting.{adjustLink};
+ghost use Rattle.fitting.specs.Fitting.{AdjustsLink};
 
 // Adjusts an edge's position where it has passed its neighbour.
 pub fn adjust_link(axis: Axis, edge: usize, dir: LinkDir, top_to_bottom: bool) -> Fitted
-    ensures { λ r. ⌜ r ≡ adjustLink axis edge dir «top_to_bottom» ⌝ }
+    ensures { λ r. ⌜ AdjustsLink axis edge dir «top_to_bottom» r ⌝ }
 {
     let answer = edge_refusal(axis, edge);
     if 0 < answer {

@@ -4,8 +4,7 @@ use axis::edge::Axis;
 use axis::kinds::Link;
 use placing::bounds::lower_bound;
 use placing::bounds::upper_bound;
-ghost use mathlib.Core.Path.{_≡_};
-ghost use Rattle.fitting.specs.Fitting.{latinRemainingBounds};
+ghost use Rattle.fitting.specs.Fitting.{FindsLatinRemainingBounds};
 
 // An answer, 0 or the refusal, and the two bounds.
 pub struct Bounds {
@@ -16,7 +15,7 @@ pub struct Bounds {
 
 // The edges that an edge left over is kept between.
 pub fn latin_remaining_bounds(axis: Axis, edge: usize) -> Bounds
-    ensures { λ r. ⌜ r ≡ latinRemainingBounds axis edge ⌝ }
+    ensures { λ r. ⌜ FindsLatinRemainingBounds axis edge r ⌝ }
 {
     let answer = edge_refusal(axis, edge);
     if 0 < answer {

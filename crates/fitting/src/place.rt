@@ -5,8 +5,7 @@ use axis::edge::Axis;
 use fixed::width::WidthRule;
 use placing::place::linked_edge;
 use placing::place::serif_edge;
-ghost use mathlib.Core.Path.{_≡_};
-ghost use Rattle.fitting.specs.Fitting.{alignLinkedEdge, alignSerifEdge};
+ghost use Rattle.fitting.specs.Fitting.{AlignsLinkedEdge, AlignsSerifEdge};
 
 // An answer, 0 or the refusal, and the axis.
 pub struct Fitted {
@@ -22,7 +21,7 @@ pub fn align_linked_edge(
     base: usize,
     stem: usize,
 ) -> Fitted
-    ensures { λ r. ⌜ r ≡ alignLinkedEdge axis rule (now (standards .entry)) base stem ⌝ }
+    ensures { λ r. ⌜ AlignsLinkedEdge axis rule (now (standards .entry)) base stem r ⌝ }
 {
     let answer = linked_refusal(axis, rule, standards, base, stem);
     if 0 < answer {
@@ -38,7 +37,7 @@ pub fn align_linked_edge(
 
 // Shifts the serif edge by what the base edge was moved by.
 pub fn align_serif_edge(axis: Axis, base: usize, serif: usize) -> Fitted
-    ensures { λ r. ⌜ r ≡ alignSerifEdge axis base serif ⌝ }
+    ensures { λ r. ⌜ AlignsSerifEdge axis base serif r ⌝ }
 {
     let answer = serif_refusal(axis, base, serif);
     if 0 < answer {

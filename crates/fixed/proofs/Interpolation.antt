@@ -10,39 +10,39 @@ use mir.Val.{SFits}
 use Rattle.signed.specs.Parts.{up, dn}
 use Rattle.signed.specs.Range.{Between}
 use Rattle.signed.proofs.Signed.{natAbs-is, one-zero, sub-law, times-up, times-dn, fits-abs, to-sfits, abs-of}
-use Rattle.fixed.specs.Point.{near, mulFix, divFix}
-use Rattle.fixed.proofs.Rounding.{near-law, near-zero, near-grows, div-abs, div-up, div-dn, mul-fix-up, mul-fix-dn}
+use Rattle.fixed.specs.Point.{rounded, mulFix, divFix}
+use Rattle.fixed.proofs.Rounding.{rounded-law, rounded-zero, rounded-grows, div-abs, div-up, div-dn, mul-fix-up, mul-fix-dn}
 
 -- ---- magnitudes
 unfoldable pub interp : ℕ → ℕ → ℕ → ℕ
-interp d c s = near (d * near (c * 65536) s) 65536
+interp d c s = rounded (d * rounded (c * 65536) s) 65536
 
 -- each rounding adds at most a half: 131,072·|s·r − d·c| ≤ s·(d + 65,536)
 module _ (d c s : ℕ) (positive : 0 < s) where
   pub not-far-above : 131072 * (s * interp d c s) ≤ 131072 * (d * c) + s * (d + 65536)
   unfolding interp
   not-far-above =
-      let q = near-law (c * 65536) s positive in
-      let r = near-law (d * near (c * 65536) s) 65536 (omega arith) in
+      let q = rounded-law (c * 65536) s positive in
+      let r = rounded-law (d * rounded (c * 65536) s) 65536 (omega arith) in
       omega (arith, mul-le-mul-right d (q .not-above), mul-le-mul-right s (r .not-above))
 
   pub not-far-below : 131072 * (d * c) ≤ 131072 * (s * interp d c s) + s * (d + 65536)
   unfolding interp
   not-far-below =
-      let q = near-law (c * 65536) s positive in
-      let r = near-law (d * near (c * 65536) s) 65536 (omega arith) in
+      let q = rounded-law (c * 65536) s positive in
+      let r = rounded-law (d * rounded (c * 65536) s) 65536 (omega arith) in
       omega (arith, mul-le-mul-right d (q .not-below), mul-le-mul-right s (r .not-below))
 
   -- at a span below 65,536 it does not pass c
   pub not-past : d ≤ s → s < 65536 → interp d c s ≤ c
-  unfolding interp near
+  unfolding interp rounded
   not-past h small =
-      let q = near-law (c * 65536) s positive in
-      omega (arith, mul-le-mul-right (near (c * 65536) s) h, q .not-above)
+      let q = rounded-law (c * 65536) s positive in
+      omega (arith, mul-le-mul-right (rounded (c * 65536) s) h, q .not-above)
 
 pub interp-grows : (d e c s : ℕ) → d ≤ e → interp d c s ≤ interp e c s
 unfolding interp
-interp-grows d e c s h = near-grows (d * near (c * 65536) s) (e * near (c * 65536) s) 65536 (omega arith) (mul-le-mul-right (near (c * 65536) s) h)
+interp-grows d e c s h = rounded-grows (d * rounded (c * 65536) s) (e * rounded (c * 65536) s) 65536 (omega arith) (mul-le-mul-right (rounded (c * 65536) s) h)
 
 -- ---- signed numbers, with d and s not below zero
 -- the parts of r are what the parts of c give
@@ -65,7 +65,7 @@ module _ (k d s : ℕ) (small : 2 * d + 131072 < k * 65536) (positive : 0 < s) w
 
   interp-zero : interp d 0 s ≡ 0
   unfolding interp
-  interp-zero = rw (near-zero s positive, mul-zero d) (near-zero 65536 (omega arith))
+  interp-zero = rw (rounded-zero s positive, mul-zero d) (rounded-zero 65536 (omega arith))
 
   close : (c r : ℤ) → up r ≡ interp d (up c) s → dn r ≡ interp d (dn c) s → natAbs (pos 4 *ℤ pos s *ℤ r -ℤ pos 4 *ℤ pos d *ℤ c) < k * s
   close c r p n =
@@ -88,13 +88,14 @@ module _ (k d s : ℕ) (small : 2 * d + 131072 < k * 65536) (positive : 0 < s) w
       -- what remains of the two parts, of which one is 0
       by :
           (c : ℤ)
-          → (4 * s * interp d (up c) s + 4 * d * dn c < 4 * s * interp d (dn c) s + 4 * d * up c + k * s) × (4 * s * interp d (dn c) s + 4 * d * up c < 4 * s * interp d (up c) s + 4 * d * dn c + k * s)
+          → (4 * s * interp d (up c) s + 4 * d * dn c < 4 * s * interp d (dn c) s + 4 * d * up c + k * s)
+          × (4 * s * interp d (dn c) s + 4 * d * up c < 4 * s * interp d (up c) s + 4 * d * dn c + k * s)
       by (pos n) = rw interp-zero (omega (arith, close-above n, close-below n))
       by (negsuc n) = rw interp-zero (omega (arith, close-above (suc n), close-below (suc n)))
 
 -- demand 3 of a point that is d behind the first of two references, where the second is s behind it, their currents are c apart, and the point ends r
 -- behind the first's current
-pub record Faithful (d c s r : ℤ) : Type 0 where
+pub record AlongLine (d c s r : ℤ) : Type 0 where
   -- less than 3/4 unit from the straight line, both sides times 4 spans
   pub close : natAbs (pos 4 *ℤ s *ℤ r -ℤ pos 4 *ℤ d *ℤ c) < 3 * natAbs s
   -- not outside the references' currents: r lies between 0 and c
@@ -106,7 +107,7 @@ pub record Interpolation (d c s : ℤ) : Type 0 where
   pub divisor : 0 < natAbs s
   pub quotient : SFits w32 (divFix c s)
   pub product : SFits w32 (mulFix d (divFix c s))
-  pub faithful : Faithful d c s (mulFix d (divFix c s))
+  pub along : AlongLine d c s (mulFix d (divFix c s))
 
 -- 0 ≤ d < s ≤ 32,766 and |c| ≤ 32,766
 pub interpolation : (d c s : ℤ) → dn d ≤ up d → up d + dn s < up s + dn d → up s ≤ dn s + 32766 → Between 32766 32766 c → Interpolation d c s
@@ -120,7 +121,7 @@ interpolation (pos d) c (pos s) h k l b =
       divisor = positive;
       quotient = fits-abs (omega (arith, div-abs c (pos s) positive, abs-of b));
       product = to-sfits w32 (mulFix (pos d) (divFix c (pos s))) (omega (arith, b, one-zero c));
-      faithful = record { close = close 3 d s (omega arith) positive c (mulFix (pos d) (divFix c (pos s))) p n; not-above = above; not-below = below };
+      along = record { close = close 3 d s (omega arith) positive c (mulFix (pos d) (divFix c (pos s))) p n; not-above = above; not-below = below };
     }
 interpolation (pos d) c (negsuc s) h k l b = absurd (omega arith)
 interpolation (negsuc d) c s h k l b = absurd (omega arith)

@@ -3,7 +3,7 @@ use mathlib.Core.Path.{_≡_, refl}
 use mathlib.Core.List.{List, [], _∷_, map}
 use Prim.Native.Nat.{ℕ}
 use lib.IntN.{ℤ, pos, negℤ}
-use Rattle.fixed.specs.Point.{near, nearZ, mulFix, divFix, derived}
+use Rattle.fixed.specs.Point.{rounded, roundedZ, mulFix, divFix, derived}
 use Rattle.fixed.specs.Pixel.{pixFloor, pixRound}
 use Rattle.fixed.specs.Width.{noBetter, isNearest, standardThat, nearest, withSign, settled, snapped, fittedWidth}
 use Rattle.fixed.specs.declared.width.WidthRule.the-variants.{Keep, Snap}
@@ -65,5 +65,5 @@ rows =
 
 -- each row holds
 pub worked : map (λ (r : Row). r .gives) rows ≡ map (λ (r : Row). r .value) rows
-unfolding near nearZ mulFix divFix derived pixFloor pixRound noBetter isNearest standardThat nearest withSign settled snapped fittedWidth rows
+unfolding rounded roundedZ mulFix divFix derived pixFloor pixRound noBetter isNearest standardThat nearest withSign settled snapped fittedWidth rows
 worked = refl

@@ -5,8 +5,9 @@ use mathlib.Core.List.{List, [], _∷_}
 use Prim.Native.Nat.{ℕ, _≤_, _<_}
 use lib.Dec.{ltb, leb, eqb}
 use lib.ListN.{length, getD}
-use lib.IntN.{ℤ, pos, negsuc, negℤ, natAbs, _-ℤ_}
+use lib.IntN.{ℤ, pos, negsuc, negℤ, natAbs}
 use lib.Signed.{ltZ, leZ, _≤ℤ_, _<ℤ_}
+use Rattle.signed.specs.Distance.{distance}
 use Rattle.fixed.specs.declared.width.WidthRule.{WidthRule}
 use Rattle.fixed.specs.declared.width.WidthRule.the-variants.{Keep, Snap}
 
@@ -48,7 +49,7 @@ pub record Standards (xs : List ℤ) : Type 0 where
 -- ---- the nearest standard
 -- how far the standard s is from the magnitude m
 abbrev pub away : ℕ → ℤ → ℕ
-away m s = natAbs (s -ℤ pos m)
+away m s = distance s (pos m)
 
 -- t is not nearer to m than s, and not smaller where it is equally near
 unfoldable pub noBetter : ℕ → ℤ → ℤ → Bool

@@ -5,7 +5,7 @@ ghost use lib.IntN.{natAbs};
 ghost use mir.Syntax.{w32};
 ghost use mir.Val.{SFits};
 ghost use Rattle.signed.specs.Range.{Between};
-ghost use Rattle.fixed.specs.Point.{near, mulFix, divFix, derived};
+ghost use Rattle.fixed.specs.Point.{rounded, mulFix, divFix, derived};
 
 // The magnitude of x.
 pub fn magnitude(x: i64) -> u64
@@ -19,9 +19,9 @@ pub fn magnitude(x: i64) -> u64
 }
 
 // n / d rounded to nearest, a half upward.
-fn near_quotient(n: u64, d: u64) -> u64
+fn rounded_quotient(n: u64, d: u64) -> u64
     requires { ⌜ (0 < d) × (n ≤ 4611686018427387904) × (d ≤ 4611686018427387904) ⌝ }
-    ensures { λ r. ⌜ r ≡ near n d ⌝ }
+    ensures { λ r. ⌜ r ≡ rounded n d ⌝ }
 {
     (2 * n + d) / (2 * d)
 }
@@ -43,7 +43,7 @@ pub fn wide_div(a: i32, b: i32) -> i64
     ensures { λ r. ⌜ r ≡ divFix a b ⌝ }
 {
     let n = magnitude(a as i64) * 65536;
-    let q = near_quotient(n, magnitude(b as i64)) as i64;
+    let q = rounded_quotient(n, magnitude(b as i64)) as i64;
     if a < 0 {
         if b < 0 {
             return q;

@@ -1,7 +1,9 @@
 // Which call a word list is a job of.
+use super::first::MOST_LENT;
 use axis::accept::least;
 use axis::limits::MOST_EDGES;
 use axis::limits::MOST_SEGMENTS;
+use lines::limits::MOST_NUMBERS;
 use shape::element::Element;
 use shape::element::skip_elements;
 use shape::field::BYTE;
@@ -14,6 +16,7 @@ use shape::field::Range;
 use shape::field::WORD;
 use shape::field::skip_field;
 use words::word::count_at;
+use words::word::count_word;
 
 // The items of each call's job behind the call's word, by the digits of `skip_item`, the first item in the last digit. No item has digit 15, so nothing is a job of call 0.
 const FORMATS: [u64; 15] = [
@@ -35,8 +38,9 @@ const FORMATS: [u64; 15] = [
 ];
 
 // The place behind a list: its count, at most so much, and its elements, of which a job carries at most so many.
-fn skip_list(words: &[i32], at: usize, kind: Element, most: i32, carried: usize) -> Place {
-    let counts = Range { low: 0, high: most };
+fn skip_list(words: &[i32], at: usize, kind: Element, most: usize, carried: usize) -> Place {
+    let high = count_word(most);
+    let counts = Range { low: 0, high };
     let Place::At(next) = skip_field(words, at, counts) else {
         return Place::Nowhere;
     };
@@ -51,12 +55,18 @@ fn skip_item(words: &[i32], at: usize, item: u64) -> Place {
         3 => skip_field(words, at, CHOICE),
         4 => skip_field(words, at, DIRECTION),
         5 => skip_field(words, at, LINK),
-        6 => skip_list(words, at, Element::Number(WORD), 8191, 8191),
-        7 => skip_list(words, at, Element::Number(BYTE), 8191, 8191),
-        8 => skip_list(words, at, Element::Number(INDEX), 8191, 8191),
+        6 => skip_list(words, at, Element::Number(WORD), MOST_NUMBERS, MOST_NUMBERS),
+        7 => skip_list(words, at, Element::Number(BYTE), MOST_NUMBERS, MOST_NUMBERS),
+        8 => skip_list(
+            words,
+            at,
+            Element::Number(INDEX),
+            MOST_NUMBERS,
+            MOST_NUMBERS,
+        ),
         9 => skip_list(words, at, Element::Segment, 65535, MOST_SEGMENTS),
         10 => skip_list(words, at, Element::Edge, 65535, MOST_EDGES),
-        11 => skip_list(words, at, Element::LentEdge, 160, 160),
+        11 => skip_list(words, at, Element::LentEdge, MOST_LENT, MOST_LENT),
         _ => Place::Nowhere,
     }
 }

@@ -1,9 +1,10 @@
 // The lowercase m rule on a lent list, call 14: from the words of its job to those of its answer.
+use super::first::MOST_LENT;
+use super::first::hint_first;
 use super::list::put;
 use axis::accept::least;
 use axis::edge::EMPTY_EDGE;
 use axis::edge::Edge;
-use lowercase_m_list::first::hint_first;
 use words::edge::EDGE_WORDS;
 use words::edge::edge_from;
 use words::edge::edge_words;
@@ -13,12 +14,13 @@ use words::word::count_word;
 use words::word::word_at;
 ghost use Prim.Native.Nat.{_≤_};
 ghost use lib.ListN.{length};
+ghost use Rattle.jobs.specs.Limits.{mostLent};
 
 // The first n edges of a job.
-fn edges_from(words: &[i32], n: usize) -> [Edge; 160]
-    requires { ⌜ n ≤ 160 ⌝ }
+fn edges_from(words: &[i32], n: usize) -> [Edge; MOST_LENT]
+    requires { ⌜ n ≤ mostLent ⌝ }
 {
-    let mut edges = [EMPTY_EDGE; 160];
+    let mut edges = [EMPTY_EDGE; MOST_LENT];
     let mut i = 0;
     while i < n {
         let edge = edge_from(words, 2 + EDGE_WORDS * i);
@@ -29,8 +31,8 @@ fn edges_from(words: &[i32], n: usize) -> [Edge; 160]
 }
 
 // Writes the first n edges from a place on, and tells the place behind them.
-fn put_edges(out: &mut [i32], at: usize, edges: [Edge; 160], n: usize) -> usize
-    requires { ⌜ (n ≤ 160) × (at ≤ length (now out)) ⌝ }
+fn put_edges(out: &mut [i32], at: usize, edges: [Edge; MOST_LENT], n: usize) -> usize
+    requires { ⌜ (n ≤ mostLent) × (at ≤ length (now out)) ⌝ }
     ensures { λ r. ⌜ r ≤ length (now (out .entry)) ⌝ }
 {
     let mut here = at;
@@ -48,7 +50,7 @@ fn put_edges(out: &mut [i32], at: usize, edges: [Edge; 160], n: usize) -> usize
 pub fn answer_lent(words: &[i32], out: &mut [i32]) -> usize
     ensures { λ r. ⌜ r ≤ length (now (out .entry)) ⌝ }
 {
-    let n = least(count_at(words, 1), 160);
+    let n = least(count_at(words, 1), MOST_LENT);
     let group = group_of(word_at(words, 2 + EDGE_WORDS * n));
     let edges = edges_from(words, n);
     let hinted = hint_first(edges, n, group);

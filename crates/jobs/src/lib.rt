@@ -1,6 +1,7 @@
 // Jobs: one word list for every public call, and its answer, by the functions that gateways link. A tool, for comparisons: proved safe. Lines of text are the part of `lines` and of `replay`.
 pub mod answer;
 pub mod call;
+mod first;
 mod lent;
 pub mod list;
 mod table;

@@ -1,10 +1,12 @@
 // Parts of word lists, read and written. Where there is no room nothing is, so that these ask nothing of who calls them.
 use axis::accept::least;
+use lines::limits::MOST_NUMBERS;
 use words::word::count_at;
 use words::word::count_word;
 use words::word::write_words;
 ghost use Prim.Native.Nat.{_≤_};
 ghost use lib.ListN.{length};
+ghost use Rattle.lines.specs.Limits.{mostNumbers};
 
 // The n words from a place on, and none where there are not as many.
 pub fn part(words: &[i32], at: usize, n: usize) -> &[i32]
@@ -30,9 +32,9 @@ pub fn tail(words: &[i32], at: usize) -> &[i32] {
 // The numbers of the list whose count stands at a place.
 pub fn list_at(words: &[i32], at: usize) -> &[i32]
     requires { ⌜ at ≤ 65536 ⌝ }
-    ensures { λ r. ⌜ length (now r) ≤ 8191 ⌝ }
+    ensures { λ r. ⌜ length (now r) ≤ mostNumbers ⌝ }
 {
-    part(words, at + 1, least(count_at(words, at), 8191))
+    part(words, at + 1, least(count_at(words, at), MOST_NUMBERS))
 }
 
 // Writes words from a place on, and tells the place behind them; where there is no room it writes nothing and tells 0.

@@ -25,6 +25,7 @@ use words::word::count_word;
 use words::word::word_at;
 ghost use Prim.Native.Nat.{_+_, _*_, _≤_};
 ghost use lib.ListN.{length};
+ghost use Rattle.jobs.specs.Limits.{longest};
 ghost use Rattle.axis.specs.Limits.{mostSegments};
 ghost use Rattle.words.specs.Segment.{segmentSize};
 
@@ -213,7 +214,7 @@ fn answer_call(
 
 // The answer to a job of a call on a table; the call is lent the answer's table. Of more records than its limit it is lent one more than that, which is empty.
 pub fn answer_table(call: usize, words: &[i32], out: &mut [i32]) -> usize
-    requires { ⌜ 9091 ≤ length (now out) ⌝ }
+    requires { ⌜ longest ≤ length (now out) ⌝ }
     ensures { λ r. ⌜ r ≤ length (now (out .entry)) ⌝ }
 {
     let count = count_at(words, 1);

@@ -5,18 +5,21 @@ use super::list::put_list;
 use super::list::tail;
 use axis::accept::least;
 use khsaemudol::khs_align_weak_points;
+use lines::limits::MOST_NUMBERS;
 use words::field::index_of;
 use words::word::count_at;
 use words::word::word_at;
 ghost use Prim.Native.Nat.{_≤_};
 ghost use lib.ListN.{length};
+ghost use Rattle.lines.specs.Limits.{mostNumbers};
+ghost use Rattle.jobs.specs.Limits.{longest};
 
 // Writes the touch marks and the contour ends that two lists give.
 fn copy(marks: &[i32], ends: &[i32], touched: &mut [u8], contours: &mut [u16])
-    requires { ⌜ (length (now marks) ≤ 8191) × (length (now ends) ≤ 8191) ⌝ }
-    requires { ⌜ (8191 ≤ length (now touched)) × (8191 ≤ length (now contours)) ⌝ }
+    requires { ⌜ (length (now marks) ≤ mostNumbers) × (length (now ends) ≤ mostNumbers) ⌝ }
+    requires { ⌜ (mostNumbers ≤ length (now touched)) × (mostNumbers ≤ length (now contours)) ⌝ }
 {
-    let n = least(marks.len() + ends.len(), 8191);
+    let n = least(marks.len() + ends.len(), MOST_NUMBERS);
     let mut i = 0;
     while i < n {
         touched[i] = (count_at(marks, i) % 256) as u8;
@@ -27,10 +30,10 @@ fn copy(marks: &[i32], ends: &[i32], touched: &mut [u8], contours: &mut [u16])
 
 // Aligns the outline that four lists give.
 fn ask(originals: &[i32], currents: &mut [i32], marks: &[i32], ends: &[i32]) -> u8
-    requires { ⌜ (length (now marks) ≤ 8191) × (length (now ends) ≤ 8191) ⌝ }
+    requires { ⌜ (length (now marks) ≤ mostNumbers) × (length (now ends) ≤ mostNumbers) ⌝ }
 {
-    let mut touched = [0u8; 8191];
-    let mut contours = [0u16; 8191];
+    let mut touched = [0u8; MOST_NUMBERS];
+    let mut contours = [0u16; MOST_NUMBERS];
     copy(marks, ends, &mut touched, &mut contours);
     let k = marks.len();
     let m = ends.len();
@@ -39,7 +42,7 @@ fn ask(originals: &[i32], currents: &mut [i32], marks: &[i32], ends: &[i32]) -> 
 
 // The answer to a job of weak points, whose four lists stand one behind the other; the call is lent the answer's currents.
 pub fn answer_weak(words: &[i32], out: &mut [i32]) -> usize
-    requires { ⌜ 9091 ≤ length (now out) ⌝ }
+    requires { ⌜ longest ≤ length (now out) ⌝ }
     ensures { λ r. ⌜ r ≤ length (now (out .entry)) ⌝ }
 {
     let originals = list_at(words, 1);

@@ -21,7 +21,27 @@ use Rattle.axis.specs.Limits.{mostEdges, mostSegments}
 use Rattle.axis.specs.Ring.{walk, ends, times}
 use Rattle.axis.specs.Segment.{segmentAt}
 use Rattle.joining.specs.declared.rules.Rules.{Rules}
-use Rattle.joining.specs.Joining.{stopsBehind, settle, passedOver, skips, headOr, lastIn, edgeOf, State, group, start, join, overfull, create, placeOf, placed, visit, after, begun, stateAt}
+use Rattle.joining.specs.Joining.{
+  stopsBehind,
+  settle,
+  passedOver,
+  skips,
+  headOr,
+  lastIn,
+  edgeOf,
+  State,
+  group,
+  start,
+  join,
+  overfull,
+  create,
+  placeOf,
+  joinOrCreate,
+  visit,
+  after,
+  begun,
+  stateAt,
+}
 use Rattle.joining.specs.Walks.{nextIn, Latin}
 use Rattle.joining.proofs.Members.{times-nil, Once, last-in, times-snoc, times-one, times-self, few}
 use Rattle.joining.proofs.Rings.{Chain, chain-none, chain-other, ring-one, ring-more, ring-apart, walk-ring, ends-ring}
@@ -81,8 +101,10 @@ module _ (t : Segments) (r : Rules) (second : Bool) (s : State) (i : ℕ) (long 
 
     rings-join : (j : ℕ) → j < mostEdges → Chain (join s k i .next) (headOr 0 (group (join s k i) j)) (group (join s k i) j)
     rings-join = set-all (λ (g : List ℕ). Chain (join s k i .next) (headOr 0 g) g) [] (s .groups) k mostEdges new (rw (G .places) (omega (arith, G .room)))
-        (ring-more (s .next) (group s k) i (G .used k hk) (λ x. omega (arith, G .once x, total-at x (s .groups) k)) (omega (arith, none, total-at i (s .groups) k)) (rw (G .nexts) (omega arith)) (rw (G .nexts) (omega (arith, last-below k hk))) (G .rings k (omega (arith, G .room))))
-        (λ j hj e. ring-apart (s .next) (headOr 0 (group s j)) (headOr 0 (group s k)) (lastIn (group s k)) i (group s j) (omega (arith, none, total-at i (s .groups) j)) (omega (arith, G .once (lastIn (group s k)), last-in (group s k) (G .used k hk), total-two (lastIn (group s k)) (s .groups) j k e)) (G .rings j hj))
+        (ring-more (s .next) (group s k) i (G .used k hk) (λ x. omega (arith, G .once x, total-at x (s .groups) k)) (omega (arith, none, total-at i (s .groups) k))
+        (rw (G .nexts) (omega arith)) (rw (G .nexts) (omega (arith, last-below k hk))) (G .rings k (omega (arith, G .room))))
+        (λ j hj e. ring-apart (s .next) (headOr 0 (group s j)) (headOr 0 (group s k)) (lastIn (group s k)) i (group s j) (omega (arith, none, total-at i (s .groups) j))
+        (omega (arith, G .once (lastIn (group s k)), last-in (group s k) (G .used k hk), total-two (lastIn (group s k)) (s .groups) j k e)) (G .rings j hj))
 
     good-join : Good t r second (join s k i) (i + 1)
     good-join = record {
@@ -157,7 +179,7 @@ module _ (t : Segments) (r : Rules) (second : Bool) (s : State) (i : ℕ) (long 
 
   -- The visit of segment i.
   good-visit : Good t r second (visit t r second s i) (i + 1)
-  unfolding visit placed create
+  unfolding visit joinOrCreate create
   good-visit =
       either-way P (s .full) _ _ good-same
       (cond-cases P (skips r second (segmentAt t i)) _ _
@@ -244,7 +266,8 @@ module _ (t : Segments) (r : Rules) (second : Bool) (s : State) (i k : ℕ) (lon
   members-once x = omega (arith, G .once x, total-at x (s .groups) k)
 
   -- and the walk from the first to the last visits them in joining order, and ends
-  pub ring-walk : (walk (nextIn (s .next)) (lastIn (group s k)) mostSegments (headOr 0 (group s k)) ≡ group s k) × (ends (nextIn (s .next)) mostSegments (lastIn (group s k)) mostSegments (headOr 0 (group s k)) ≡ true)
+  pub ring-walk : (walk (nextIn (s .next)) (lastIn (group s k)) mostSegments (headOr 0 (group s k)) ≡ group s k)
+      × (ends (nextIn (s .next)) mostSegments (lastIn (group s k)) mostSegments (headOr 0 (group s k)) ≡ true)
   ring-walk = go (group s k) (G .used k hk) members-once (λ x h. lt-of-lt-of-le (members-below x h) long) (G .rings k (omega (arith, G .room)))
     where
       go : (g : List ℕ) → 0 < length g → Once g → ((x : ℕ) → 0 < times x g → x < mostSegments) → Chain (s .next) (headOr 0 g) g

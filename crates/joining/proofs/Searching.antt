@@ -4,28 +4,29 @@ use mathlib.Core.Bool.{Bool, true, false, cond, _&&_}
 use Prim.Native.Nat.{ℕ, zero, suc, _+_, _-_, _≤_, _<_}
 use native.Mathlib.Omega.{arith}
 use borrow.Author.Tests.{le-ltb, lt-ltb}
+use Rattle.signed.specs.Distance.{distance}
 use Rattle.axis.specs.declared.edge.Edge.{Edge}
 use Rattle.axis.specs.declared.segment.Segment.{Segment}
 use Rattle.axis.specs.Direction.{same}
-use Rattle.joining.specs.Joining.{gap, fits, fitsIn, seek}
+use Rattle.joining.specs.Joining.{fits, fitsIn, seek}
 
 -- ---- whether a segment goes with an edge, by its distance d
-module _ (second : Bool) (limit d : ℕ) (s : Segment) (e : Edge) (p : d ≡ gap (s .pos) (e .fpos)) where
+module _ (second : Bool) (limit d : ℕ) (s : Segment) (e : Edge) (p : d ≡ distance (s .pos) (e .fpos)) where
   pub fits-far : limit ≤ d → false ≡ fitsIn second limit s e
   unfolding fitsIn fits
   fits-far h = by second
     where
       by : (b : Bool) → false ≡ fitsIn b limit s e
-      by false = rw (le-ltb (gap (s .pos) (e .fpos)) limit (omega (arith, p)))
-      by true = sym (le-ltb (gap (s .pos) (e .fpos)) limit (omega (arith, p)))
+      by false = rw (le-ltb (distance (s .pos) (e .fpos)) limit (omega (arith, p)))
+      by true = sym (le-ltb (distance (s .pos) (e .fpos)) limit (omega (arith, p)))
 
   pub fits-near : d < limit → second ≡ true → true ≡ fitsIn second limit s e
   unfolding fitsIn
-  fits-near h b = rw b (sym (lt-ltb (gap (s .pos) (e .fpos)) limit (omega (arith, p))))
+  fits-near h b = rw b (sym (lt-ltb (distance (s .pos) (e .fpos)) limit (omega (arith, p))))
 
   pub fits-directed : d < limit → second ≡ false → (v : Bool) → v ≡ same (e .dir) (s .dir) → v ≡ fitsIn second limit s e
   unfolding fitsIn fits
-  fits-directed h b v q = rw (b, lt-ltb (gap (s .pos) (e .fpos)) limit (omega (arith, p))) q
+  fits-directed h b v q = rw (b, lt-ltb (distance (s .pos) (e .fpos)) limit (omega (arith, p))) q
 
 -- ---- two tests, one after the other
 pub test-no : (v a b : Bool) → v ≡ a → v ≡ false → false ≡ (a && b)

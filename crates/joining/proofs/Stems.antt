@@ -65,7 +65,11 @@ all-near : (t : Segments) (stems : List ℤ) (near j : ℕ) (a : ℤ) (ms : List
 unfolding stemsAgree agrees
 all-near t stems near j a [] S e h = refl
 all-near t stems near j a (m ∷ ms) S e h =
-    rw (stem-near t near j (segmentAt t m .link) a (getD stems m (pos 0)) e (S m (h m (omega (arith, times-head m ms)))), all-near t stems near j a ms S e (λ x p. h x (omega (arith, times-more x m ms))))
+    rw (
+      stem-near t near j (segmentAt t m .link) a (getD stems m (pos 0)) e (S m (h m (omega (arith, times-head m ms)))),
+      all-near t stems near j a ms S e
+          (λ x p. h x (omega (arith, times-more x m ms))),
+    )
 
 agrees-none : (t : Segments) (near : ℕ) (ms : List ℕ) → agrees t near Links.None ms ≡ true
 unfolding agrees linksNear
@@ -94,7 +98,7 @@ to-same j k e = cc
 -- the first i are filled in, the others hold the number for none
 pub record Filled (t : Segments) (stems : List ℤ) (i : ℕ) : Type 0 where
   pub size : length stems ≡ mostSegments
-  pub done : (k : ℕ) → k < i → StemAt t (segmentAt t k .link) (getD stems k (pos 0))
+  pub filled : (k : ℕ) → k < i → StemAt t (segmentAt t k .link) (getD stems k (pos 0))
   pub rest : (k : ℕ) → i ≤ k → k < mostSegments → getD stems k (pos 0) ≡ noStem
 
 replicate-at : (z d : ℤ) (n k : ℕ) → k < n → getD (replicate n z) k d ≡ z
@@ -103,7 +107,7 @@ replicate-at z d (suc n) zero h = refl
 replicate-at z d (suc n) (suc k) h = replicate-at z d n k (omega arith)
 
 pub filled-none : (t : Segments) → Filled t (replicate mostSegments noStem) 0
-filled-none t = record { size = refl; done = λ k h. absurd (omega arith); rest = λ k h g. replicate-at noStem (pos 0) mostSegments k g }
+filled-none t = record { size = refl; filled = λ k h. absurd (omega arith); rest = λ k h g. replicate-at noStem (pos 0) mostSegments k g }
 
 module _ (t : Segments) (stems : List ℤ) (i : ℕ) (hi : i < mostSegments) (F : Filled t stems i) where
   none-at : segmentAt t i .link ≡ Links.None → StemAt t (segmentAt t i .link) (getD stems i (pos 0))
@@ -113,7 +117,7 @@ module _ (t : Segments) (stems : List ℤ) (i : ℕ) (hi : i < mostSegments) (F 
   pub filled-skip : segmentAt t i .link ≡ Links.None → Filled t stems (i + 1)
   filled-skip e = record {
     size = F .size;
-    done = λ k h. ⊎-elim (λ (w : k ≡ i). rw w (none-at e)) (λ (w : k < i). F .done k w) (eq-or-lt-of-le (omega arith));
+    filled = λ k h. ⊎-elim (λ (w : k ≡ i). rw w (none-at e)) (λ (w : k < i). F .filled k w) (eq-or-lt-of-le (omega arith));
     rest = λ k h g. F .rest k (omega arith) g;
   }
 
@@ -121,7 +125,8 @@ module _ (t : Segments) (stems : List ℤ) (i : ℕ) (hi : i < mostSegments) (F 
   pub filled-more : (j : ℕ) (z : ℤ) → segmentAt t i .link ≡ Links.To j → z ≡ segmentAt t j .pos → SFits w16 z → Filled t (set stems i z) (i + 1)
   filled-more j z e p f = record {
     size = length-set stems i z ∙ F .size;
-    done = λ k h. ⊎-elim (λ (w : k ≡ i). rw w (rw (getD-set-same stems i z (pos 0) (rw (F .size) hi)) here)) (λ (w : k < i). rw (getD-set-other stems i k z (pos 0) (λ (q : k ≡ i). omega arith)) (F .done k w)) (eq-or-lt-of-le (omega arith));
+    filled = λ k h. ⊎-elim (λ (w : k ≡ i). rw w (rw (getD-set-same stems i z (pos 0) (rw (F .size) hi)) here))
+        (λ (w : k < i). rw (getD-set-other stems i k z (pos 0) (λ (q : k ≡ i). omega arith)) (F .filled k w)) (eq-or-lt-of-le (omega arith));
     rest = λ k h g. getD-set-other stems i k z (pos 0) (λ (q : k ≡ i). omega arith) ∙ F .rest k (omega arith) g;
   }
     where
@@ -133,4 +138,4 @@ pub stems-none : (t : Segments) (cjk : Bool) → cjk ≡ false → t .len ≤ mo
 stems-none t cjk e h = record { at = λ q. absurd (let z : _≡_ {A = ℕ} 0 1 = cc in omega arith); none = λ q i l. replicate-at noStem (pos 0) mostSegments i (omega arith) }
 
 pub stems-all : (t : Segments) (cjk : Bool) (stems : List ℤ) (i : ℕ) → cjk ≡ true → t .len ≤ i → Filled t stems i → StemsOf t cjk stems
-stems-all t cjk stems i e h F = record { at = λ q k l. F .done k (omega arith); none = λ q. absurd (let z : _≡_ {A = ℕ} 0 1 = cc in omega arith) }
+stems-all t cjk stems i e h F = record { at = λ q k l. F .filled k (omega arith); none = λ q. absurd (let z : _≡_ {A = ℕ} 0 1 = cc in omega arith) }

@@ -19,7 +19,7 @@ use Rattle.axis.specs.Limits.{mostEdges}
 use Rattle.axis.specs.Segment.{segmentAt}
 use Rattle.joining.specs.declared.join.Joined.{Joined}
 use Rattle.joining.specs.declared.rules.Rules.{Rules}
-use Rattle.joining.specs.Joining.{stopsBehind, settle, skips, headOr, lastOf, lastIn, edgeOf, appended, State, group, join, overfull, shown, create, placeOf, placed, visit, after}
+use Rattle.joining.specs.Joining.{stopsBehind, settle, skips, headOr, lastOf, lastIn, edgeOf, appended, State, group, join, overfull, shown, create, placeOf, joinOrCreate, visit, after}
 use Rattle.joining.proofs.Settling.{map-set, settle-map}
 
 -- the state with a new group for segment i
@@ -43,16 +43,16 @@ module _ (t : Segments) (r : Rules) (second : Bool) (s : State) (i : ℕ) (go : 
   unfolding visit
   visit-skip h = rw (go, h)
 
-  visit-on : skips r second (segmentAt t i) ≡ false → (k : ℕ) → placeOf t r second s i ≡ k → visit t r second s i ≡ placed t r second s i k
+  visit-on : skips r second (segmentAt t i) ≡ false → (k : ℕ) → placeOf t r second s i ≡ k → visit t r second s i ≡ joinOrCreate t r second s i k
   unfolding visit
   visit-on h k e = rw (e, h, go)
 
   pub visit-join : skips r second (segmentAt t i) ≡ false → (k : ℕ) → placeOf t r second s i ≡ k → k < s .count → visit t r second s i ≡ join s k i
-  unfolding placed
+  unfolding joinOrCreate
   visit-join h k e l = visit-on h k e ∙ rw (lt-ltb k (s .count) l)
 
   visit-off : skips r second (segmentAt t i) ≡ false → (k : ℕ) → placeOf t r second s i ≡ k → s .count ≤ k → visit t r second s i ≡ cond second s (create t r second s i)
-  unfolding placed
+  unfolding joinOrCreate
   visit-off h k e l = visit-on h k e ∙ rw (le-ltb k (s .count) l)
 
   pub visit-none : skips r second (segmentAt t i) ≡ false → (k : ℕ) → placeOf t r second s i ≡ k → s .count ≤ k → second ≡ true → visit t r second s i ≡ s

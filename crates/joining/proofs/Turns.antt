@@ -8,6 +8,7 @@ use native.Mathlib.Omega.{arith}
 use borrow.Author.Tests.{le-ltb}
 use lib.IntN.{ℤ}
 use lib.ListN.{set, replicate}
+use Rattle.signed.specs.Distance.{distance}
 use Rattle.axis.specs.declared.edge.Axis.{Axis}
 use Rattle.axis.specs.declared.edge.Edge.{Edge}
 use Rattle.axis.specs.declared.segment.Segment.{Segment}
@@ -18,13 +19,54 @@ use Rattle.axis.specs.Ring.{walk, ends}
 use Rattle.axis.specs.Segment.{segmentAt}
 use Rattle.joining.specs.declared.join.Joined.{Joined}
 use Rattle.joining.specs.declared.rules.Rules.{Rules}
-use Rattle.joining.specs.Joining.{gap, fits, fitsIn, stopsBehind, settle, skips, edgeOf, appended, State, group, overfull, start, unjoined, shown, limitBehind, seek, mayJoin, behind, placeOf, visit, after, begun, stateAt}
+use Rattle.joining.specs.Joining.{
+  fits,
+  fitsIn,
+  stopsBehind,
+  settle,
+  skips,
+  edgeOf,
+  appended,
+  State,
+  group,
+  overfull,
+  start,
+  unjoined,
+  shown,
+  limitBehind,
+  seek,
+  mayJoin,
+  behind,
+  placeOf,
+  visit,
+  after,
+  begun,
+  stateAt,
+}
 use Rattle.joining.specs.Walks.{nextIn, Latin, StemsOf, stemsGo}
 use Rattle.signed.proofs.By.{by₂}
 use Rattle.joining.proofs.Members.{first-in}
 use Rattle.joining.proofs.Stems.{stems-agree}
 use Rattle.joining.proofs.Good.{Good, good, last-below, members-below, ring-walk}
-use Rattle.joining.proofs.Steps.{tables, visit-skip, visit-join, visit-none, visit-full, visit-made, of-len, of-full, of-next, of-edge, of-first, of-last, again-join, again-made, again-full, after-next, after-stuck}
+use Rattle.joining.proofs.Steps.{
+  tables,
+  visit-skip,
+  visit-join,
+  visit-none,
+  visit-full,
+  visit-made,
+  of-len,
+  of-full,
+  of-next,
+  of-edge,
+  of-first,
+  of-last,
+  again-join,
+  again-made,
+  again-full,
+  after-next,
+  after-stuck,
+}
 use Rattle.joining.proofs.Searching.{seek-no, seek-yes, seek-end, seek-stop}
 
 -- the tables are those of the state before segment i
@@ -47,7 +89,8 @@ map-replicate {A} {B} f (suc n) a = ap (λ (l : List B). f a ∷ l) (map-replica
 pub none-begun : (t : Segments) (r : Rules) (j : Joined) → j ≡ unjoined (r .dim) (r .«major_dir») → j ≡ shown t r (begun t r false)
 unfolding begun start shown
 none-begun t r j e =
-    e ∙ ap (λ (es : List Edge). record { full = false; axis = record { dim = r .dim; «major_dir» = r .«major_dir»; edges = es; len = 0 }; next = replicate mostSegments 0 }) (sym (map-replicate (edgeOf t (r .scale)) mostEdges []))
+    e ∙ ap (λ (es : List Edge). record { full = false; axis = record { dim = r .dim; «major_dir» = r .«major_dir»; edges = es; len = 0 }; next = replicate mostSegments 0 })
+    (sym (map-replicate (edgeOf t (r .scale)) mostEdges []))
 
 -- the first loop is everyone's
 pub latin-first : (r : Rules) → Latin r false
@@ -61,8 +104,8 @@ stands-begun t r second j e f = ap (λ (b : Bool). record { full = b; axis = j .
 -- nothing is nearer than 0
 never-0 : (second : Bool) (s : Segment) (e : Edge) → fitsIn second 0 s e ≡ false
 unfolding fitsIn fits
-never-0 false s e = rw (le-ltb (gap (s .pos) (e .fpos)) 0 (omega arith))
-never-0 true s e = le-ltb (gap (s .pos) (e .fpos)) 0 (omega arith)
+never-0 false s e = rw (le-ltb (distance (s .pos) (e .fpos)) 0 (omega arith))
+never-0 true s e = le-ltb (distance (s .pos) (e .fpos)) 0 (omega arith)
 
 module _ (t : Segments) (r : Rules) (second : Bool) (i : ℕ) (axis : Axis) (next : List ℕ) (long : t .len ≤ mostSegments) (latin : Latin r second) (J : Stands t r second i false axis next) where
   abbrev s : State
@@ -106,7 +149,12 @@ module _ (t : Segments) (r : Rules) (second : Bool) (i : ℕ) (axis : Axis) (nex
       pub turn-ring : (edgeAt axis k .first < mostSegments) × (ends (nextIn next) mostSegments (edgeAt axis k .last) mostSegments (edgeAt axis k .first) ≡ true)
       turn-ring =
           let w = ring-walk t r second s i k long G in-count in
-          let f : edgeAt axis k .first < mostSegments = omega (arith, of-first t r s false axis next J k, members-below t r second s i k long G in-count _ (first-in (group s k) (G .used k in-count))) in
+          let f : edgeAt axis k .first < mostSegments = omega (
+            arith,
+            of-first t r s false axis next J k,
+            members-below t r second s i k long G in-count _
+                (first-in (group s k) (G .used k in-count)),
+          ) in
           (f, rw (of-first t r s false axis next J k, of-last t r s false axis next J k, of-next t r s false axis next J) (w .1))
 
       ring-is : walk (nextIn next) (edgeAt axis k .last) mostSegments (edgeAt axis k .first) ≡ group s k
@@ -129,9 +177,9 @@ module _ (t : Segments) (r : Rules) (second : Bool) (i : ℕ) (axis : Axis) (nex
         pub search-no : v ≡ false → left t r second i (axis .len) (k + 1) best limit ≡ x
         search-no e = seek-no _ _ (axis .len) k best limit x p hk (sym said ∙ e)
 
-        pub search-yes : v ≡ true → (l : ℕ) → l ≡ limitBehind (r .cjk) (gap (segmentAt t i .pos) (edgeAt axis k .fpos)) → left t r second i (axis .len) (k + 1) k l ≡ x
+        pub search-yes : v ≡ true → (l : ℕ) → l ≡ limitBehind (r .cjk) (distance (segmentAt t i .pos) (edgeAt axis k .fpos)) → left t r second i (axis .len) (k + 1) k l ≡ x
         unfolding behind
-        search-yes e l g = seek-yes _ _ (axis .len) k best limit x p hk (sym said ∙ e) l (g ∙ ap (λ (y : Edge). limitBehind (r .cjk) (gap (segmentAt t i .pos) (y .fpos))) edge-is)
+        search-yes e l g = seek-yes _ _ (axis .len) k best limit x p hk (sym said ∙ e) l (g ∙ ap (λ (y : Edge). limitBehind (r .cjk) (distance (segmentAt t i .pos) (y .fpos))) edge-is)
 
     pub search-end : (k best limit x : ℕ) → left t r second i (axis .len) k best limit ≡ x → axis .len ≤ k → x ≡ best
     search-end k best limit x p h = seek-end _ _ (axis .len) k best limit x p h

@@ -4,9 +4,10 @@ use mathlib.Core.Bool.{Bool, true, false, cond, not, _&&_, _||_}
 use mathlib.Core.List.{List, [], _∷_, _++_, map}
 use Prim.Native.Nat.{ℕ, zero, suc, _+_}
 use lib.Dec.{ltb}
-use lib.IntN.{ℤ, pos, natAbs, _-ℤ_, _*ℤ_}
+use lib.IntN.{ℤ, pos, _*ℤ_}
 use lib.ListN.{getD, set, replicate}
 use lib.Signed.{ltZ}
+use Rattle.signed.specs.Distance.{distance}
 use Rattle.fixed.specs.Point.{mulFix}
 use Rattle.axis.specs.declared.edge.Edge.{Edge}
 use Rattle.axis.specs.declared.kinds.Dimension.{Dimension}
@@ -25,10 +26,6 @@ use Rattle.joining.specs.declared.join.Joined.{Joined}
 use Rattle.joining.specs.declared.rules.Rules.{Rules}
 
 -- ---- one segment
--- how far two positions are apart
-abbrev pub gap : ℤ → ℤ → ℕ
-gap a b = natAbs (a -ℤ b)
-
 -- Latin passes a segment over: too short, too wide, without direction, or a serif shorter than one and a half times the length threshold
 unfoldable pub passedOver : Rules → Segment → Bool
 passedOver r s =
@@ -45,12 +42,12 @@ skips r true s = not (same (s .dir) Directions.None)
 -- ---- a segment and an edge
 -- nearer than the limit, and in its direction
 unfoldable pub fits : ℕ → Segment → Edge → Bool
-fits limit s e = ltb (gap (s .pos) (e .fpos)) limit && same (e .dir) (s .dir)
+fits limit s e = ltb (distance (s .pos) (e .fpos)) limit && same (e .dir) (s .dir)
 
 -- the same in the second loop, which asks for no direction
 unfoldable pub fitsIn : Bool → ℕ → Segment → Edge → Bool
 fitsIn false limit s e = fits limit s e
-fitsIn true limit s e = ltb (gap (s .pos) (e .fpos)) limit
+fitsIn true limit s e = ltb (distance (s .pos) (e .fpos)) limit
 
 -- the edge of segment i alone
 abbrev pub newEdge : Segment → ℤ → ℕ → Edge
@@ -61,7 +58,7 @@ newEdge s scale i = freshEdge (s .pos) (mulFix (s .pos) scale) (s .dir) i
 unfoldable pub linksNear : Segments → ℕ → Link → Link → Bool
 linksNear t near Links.None l = true
 linksNear t near (Links.To a) Links.None = true
-linksNear t near (Links.To a) (Links.To b) = ltb (gap (segmentAt t a .pos) (segmentAt t b .pos)) near
+linksNear t near (Links.To a) (Links.To b) = ltb (distance (segmentAt t a .pos) (segmentAt t b .pos)) near
 
 -- so it is for a link and every one of these segments
 unfoldable pub agrees : Segments → ℕ → Link → List ℕ → Bool
@@ -155,7 +152,7 @@ module _ (t : Segments) (r : Rules) (second : Bool) where
 
   -- the limit behind edge k
   unfoldable pub behind : State → ℕ → ℕ → ℕ
-  behind s i k = limitBehind (r .cjk) (gap (segmentAt t i .pos) (edgeOf t (r .scale) (group s k) .fpos))
+  behind s i k = limitBehind (r .cjk) (distance (segmentAt t i .pos) (edgeOf t (r .scale) (group s k) .fpos))
 
   -- the edge that segment i joins, or the number of edges
   unfoldable pub placeOf : State → ℕ → ℕ
@@ -174,12 +171,12 @@ module _ (t : Segments) (r : Rules) (second : Bool) where
       (overfull s)
 
   -- segment i joins the edge in this place, or makes one where there is none; the second loop makes none
-  unfoldable pub placed : State → ℕ → ℕ → State
-  placed s i k = cond (ltb k (s .count)) (join s k i) (cond second s (create s i))
+  unfoldable pub joinOrCreate : State → ℕ → ℕ → State
+  joinOrCreate s i k = cond (ltb k (s .count)) (join s k i) (cond second s (create s i))
 
   -- the visit of segment i; nothing changes after a 129th edge was called for
   unfoldable pub visit : State → ℕ → State
-  visit s i = cond (s .full) s (cond (skips r second (segmentAt t i)) s (placed s i (placeOf s i)))
+  visit s i = cond (s .full) s (cond (skips r second (segmentAt t i)) s (joinOrCreate s i (placeOf s i)))
 
   -- the first i visits from s on
   unfoldable pub after : State → ℕ → State

@@ -9,6 +9,7 @@ use lib.ListN.{getD}
 use lib.Signed.{leZ}
 use mir.Syntax.{w16}
 use mir.Val.{SFits}
+use Rattle.signed.specs.Distance.{distance}
 use Rattle.signed.specs.Range.{Between}
 use Rattle.fixed.specs.Point.{mulFix}
 use Rattle.axis.specs.declared.kinds.Link.{Link}
@@ -17,7 +18,6 @@ use Rattle.axis.specs.declared.segment.Segments.{Segments}
 use Rattle.axis.specs.Limits.{mostSegments, mostUnits, mostScore}
 use Rattle.axis.specs.Segment.{segmentAt}
 use Rattle.joining.specs.declared.rules.Rules.{Rules}
-use Rattle.joining.specs.Joining.{gap}
 
 -- ---- walks
 -- the segment behind segment i, by `next`
@@ -42,7 +42,7 @@ pub record StemsOf (t : Segments) (cjk : Bool) (stems : List ℤ) : Type 0 where
 
 -- a link, where there is one, is nearer than a limit to a stem
 unfoldable pub stemNear : ℕ → ℤ → ℤ → Bool
-stemNear near a b = leZ noStem b || ltb (gap a b) near
+stemNear near a b = leZ noStem b || ltb (distance a b) near
 
 -- so it is for those of all these segments
 unfoldable pub stemsAgree : List ℤ → ℕ → ℤ → List ℕ → Bool

@@ -15,22 +15,24 @@ use axis::edge::empty_axis;
 use axis::kinds::Dimension;
 use axis::kinds::Direction;
 use axis::limits::MOST_EDGES;
+use axis::limits::MOST_SEGMENTS;
 use axis::segment::Segment;
 use axis::segment::Segments;
 ghost use mathlib.Core.Path.{_≡_};
 ghost use mathlib.Core.Bool.{true, false, _&&_};
 ghost use Prim.Native.Nat.{_<_};
+ghost use Rattle.signed.specs.Distance.{distance};
 ghost use Rattle.signed.specs.Range.{Between};
 ghost use Rattle.axis.specs.Limits.{mostSegments, mostScore};
 ghost use Rattle.axis.specs.Ring.{walk, ends};
-ghost use Rattle.joining.specs.Joining.{gap, skips as skipped, fitsIn, limitBehind, unjoined, shown, begun, stateAt};
+ghost use Rattle.joining.specs.Joining.{skips as skipped, fitsIn, limitBehind, unjoined, shown, begun, stateAt};
 ghost use Rattle.joining.specs.Walks.{nextIn, stemsGo, Latin, Joinable, StemsOf};
 
 // Whether a 129th edge was called for, the edges, and the next of each segment that has joined one.
 pub struct Joined {
     pub full: bool,
     pub axis: Axis,
-    pub next: [u16; 512],
+    pub next: [u16; MOST_SEGMENTS],
 }
 
 // No edge yet.
@@ -38,7 +40,7 @@ pub fn none_joined(dim: Dimension, major_dir: Direction) -> Joined
     ensures { λ r. ⌜ r ≡ unjoined dim «major_dir» ⌝ }
 {
     let axis = empty_axis(dim, major_dir);
-    let next = [0u16; 512];
+    let next = [0u16; MOST_SEGMENTS];
     Joined {
         full: false,
         axis,
@@ -63,8 +65,8 @@ fn skips(segment: Segment, rules: Rules, second: bool) -> bool
 
 // Whether segment i may join an edge: it fits, and in CJK all linked segments of the edge agree with its link.
 fn may_join(
-    next: &[u16; 512],
-    stems: &[i32; 512],
+    next: &[u16; MOST_SEGMENTS],
+    stems: &[i32; MOST_SEGMENTS],
     i: usize,
     segment: Segment,
     edge: Edge,
@@ -83,7 +85,7 @@ fn may_join(
 
 // What an edge must be nearer than to be taken in the place of this one: CJK takes the nearest, Latin stays with the first.
 fn limit_behind(segment: Segment, edge: Edge, cjk: bool) -> u64
-    ensures { λ r. ⌜ r ≡ limitBehind cjk (gap (segment .pos) (edge .fpos)) ⌝ }
+    ensures { λ r. ⌜ r ≡ limitBehind cjk (distance (segment .pos) (edge .fpos)) ⌝ }
 {
     if cjk {
         return distance_to(segment, edge);
@@ -94,7 +96,7 @@ fn limit_behind(segment: Segment, edge: Edge, cjk: bool) -> u64
 // One loop: a segment joins the edge that it goes with, or makes one; in Latin's second loop segments without direction join, and make none.
 pub fn join_segments(
     segments: Segments,
-    stems: &[i32; 512],
+    stems: &[i32; MOST_SEGMENTS],
     rules: Rules,
     second: bool,
     joined: Joined,

@@ -1,6 +1,7 @@
 // Rings while they are built: `next` has for each segment of an edge the one behind it, and for the last the first.
 use super::rules::distance;
 use axis::kinds::Link;
+use axis::limits::MOST_SEGMENTS;
 use axis::segment::Segments;
 ghost use mathlib.Core.Path.{_≡_};
 ghost use mathlib.Core.Bool.{true, _||_};
@@ -16,7 +17,7 @@ ghost use Rattle.joining.specs.Walks.{nextIn, noStem, stemNear, stemsAgr
 const NO_STEM: i32 = 65536;
 
 // Segment i behind the last of the ring from first to last.
-pub fn append(next: &mut [u16; 512], first: u16, last: u16, i: u16)
+pub fn append(next: &mut [u16; MOST_SEGMENTS], first: u16, last: u16, i: u16)
     requires { ⌜ (i < mostSegments) × (last < mostSegments) ⌝ }
     ensures { λ r. ⌜ now (next .exit) ≡ appended (now (next .entry)) first last i ⌝ }
 {
@@ -27,12 +28,12 @@ pub fn append(next: &mut [u16; 512], first: u16, last: u16, i: u16)
 }
 
 // The position of each segment's link, for CJK; Latin asks for none.
-pub fn stems_of(segments: Segments, cjk: bool) -> [i32; 512]
+pub fn stems_of(segments: Segments, cjk: bool) -> [i32; MOST_SEGMENTS]
     requires { ⌜ SegmentsWithin segments ⌝ }
     ensures { λ r. ⌜ StemsOf segments cjk r ⌝ }
 {
     let count = segments.len;
-    let mut stems = [NO_STEM; 512];
+    let mut stems = [NO_STEM; MOST_SEGMENTS];
     if !cjk {
         return stems;
     }
@@ -61,8 +62,8 @@ fn stem_near(stem: i32, other: i32, near: u64) -> bool
 
 // Whether every linked segment of a ring has its link near a stem, where there is one: then all of them can make a single edge.
 pub fn ring_agrees(
-    next: &[u16; 512],
-    stems: &[i32; 512],
+    next: &[u16; MOST_SEGMENTS],
+    stems: &[i32; MOST_SEGMENTS],
     first: u16,
     last: u16,
     stem: i32,

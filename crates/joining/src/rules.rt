@@ -14,10 +14,11 @@ ghost use mir.Val.{SFits};
 ghost use lib.IntN.{pos, _*ℤ_};
 ghost use lib.Signed.{ltZ};
 ghost use Rattle.fixed.specs.Point.{mulFix};
+ghost use Rattle.signed.specs.Distance.{distance as distanceOf};
 ghost use Rattle.signed.specs.Range.{Between};
 ghost use Rattle.axis.specs.Edge.{withLast};
 ghost use Rattle.axis.specs.Limits.{mostScore};
-ghost use Rattle.joining.specs.Joining.{gap, passedOver, fitsIn, stopsBehind, newEdge};
+ghost use Rattle.joining.specs.Joining.{passedOver, fitsIn, stopsBehind, newEdge};
 
 // What building is told beside the segments. `near` is the distance below which a segment joins an edge, `length` and `width` are Latin's thresholds.
 pub struct Rules {
@@ -33,14 +34,14 @@ pub struct Rules {
 
 // How far two positions are apart.
 pub fn distance(a: i32, b: i32) -> u64
-    ensures { λ r. ⌜ r ≡ gap a b ⌝ }
+    ensures { λ r. ⌜ r ≡ distanceOf a b ⌝ }
 {
     magnitude((a as i64) - (b as i64))
 }
 
 // How far a segment is from an edge.
 pub fn distance_to(segment: Segment, edge: Edge) -> u64
-    ensures { λ r. ⌜ r ≡ gap (segment .pos) (edge .fpos) ⌝ }
+    ensures { λ r. ⌜ r ≡ distanceOf (segment .pos) (edge .fpos) ⌝ }
 {
     distance(segment.pos as i32, edge.fpos as i32)
 }

@@ -1,6 +1,7 @@
 // A glyph on its way through the chain.
 use axis::accept::least;
 use axis::limits::MOST_EDGES;
+use lines::limits::MOST_WORDS;
 use words::edge::EDGE_WORDS;
 use words::edge::TABLE_WORDS;
 ghost use Prim.Native.Nat.{_≤_};
@@ -9,7 +10,7 @@ ghost use Rattle.words.specs.Edge.{tableSize};
 // What the steps hand on: the words of the job that has the segments, as the last step left them; the words of the edges, and how many there are; the anchor; and
 // whether a step refused what it was given.
 pub struct Glyph {
-    pub topo: [i32; 32769],
+    pub topo: [i32; MOST_WORDS],
     pub edges: [i32; TABLE_WORDS],
     pub count: usize,
     pub anchor: i32,
@@ -20,7 +21,7 @@ impl Glyph {
     // A glyph of which nothing is known yet.
     pub fn new() -> Glyph {
         Glyph {
-            topo: [0; 32769],
+            topo: [0; MOST_WORDS],
             edges: [0; TABLE_WORDS],
             count: 0,
             anchor: -1,

@@ -9,6 +9,7 @@ mod topo;
 
 use glyph::Glyph;
 use libc::STDIN_FILENO;
+use lines::limits::MOST_WORDS;
 use lines::line::Line;
 use lines::line::feed;
 use lines::line::words_of;
@@ -16,10 +17,11 @@ use print::text;
 use step::step;
 ghost use Prim.Native.Nat.{_≤_};
 ghost use lib.ListN.{length};
+ghost use Rattle.lines.specs.Limits.{mostWords};
 
 // The line with one byte more. A line that is not of words, as a title, is copied from the byte on that is no digit.
 fn take(words: &mut [i32], line: Line, byte: u8) -> Line
-    requires { ⌜ 32769 ≤ length (now words) ⌝ }
+    requires { ⌜ mostWords ≤ length (now words) ⌝ }
 {
     let next = feed(words, line, byte);
     if next.broken {
@@ -34,7 +36,7 @@ fn main() {
         b"The sample label, fitted. Positions and widths are in pixels and 64ths of a pixel, before and after a step.\n",
     );
     let mut byte = [0u8; 1];
-    let mut words = [0i32; 32769];
+    let mut words = [0i32; MOST_WORDS];
     let mut line = Line::new();
     let mut glyph = Glyph::new();
     let mut turns: u64 = 18446744073709551615;

@@ -11,12 +11,14 @@ use super::print::text;
 use super::topo::tail;
 use axis::accept::least;
 use khsaemudol::khs_align_weak_points;
+use lines::limits::MOST_NUMBERS;
 use words::field::index_of;
 use words::segment::SEGMENT_WORDS;
 use words::word::count_word;
 use words::word::size_of;
 use words::word::word_at;
 ghost use Prim.Native.Nat.{_≤_};
+ghost use Rattle.lines.specs.Limits.{mostNumbers};
 
 // A point before it is aligned: where it is, 1 where its edge placed it, and the contour end that stands at its number.
 struct Point {
@@ -27,7 +29,7 @@ struct Point {
 
 // Point i of a job with n points. Its mark is the number of the segment that it is on, counted from 1; where the segment's edge is done, the point is placed with it.
 fn point_of(words: &[i32], n: usize, i: usize, glyph: Glyph) -> Point
-    requires { ⌜ (n ≤ 8191) × (i ≤ 8191) ⌝ }
+    requires { ⌜ (n ≤ mostNumbers) × (i ≤ mostNumbers) ⌝ }
     ensures { λ r. ⌜ r .touched ≤ 1 ⌝ }
 {
     let topo = glyph.topo;
@@ -65,8 +67,8 @@ fn cell(i: usize, column: usize, touched: u8, original: i32, current: i32) -> us
 }
 
 // Writes those of n points that are not touched.
-fn cells(words: &[i32], n: usize, currents: [i32; 8191], touched: [u8; 8191])
-    requires { ⌜ n ≤ 8191 ⌝ }
+fn cells(words: &[i32], n: usize, currents: [i32; MOST_NUMBERS], touched: [u8; MOST_NUMBERS])
+    requires { ⌜ n ≤ mostNumbers ⌝ }
 {
     let mut column = 0;
     let mut i = 0;
@@ -84,11 +86,11 @@ fn align(
     words: &[i32],
     n: usize,
     placed: usize,
-    mut currents: [i32; 8191],
-    touched: [u8; 8191],
-    ends: [u16; 8191],
+    mut currents: [i32; MOST_NUMBERS],
+    touched: [u8; MOST_NUMBERS],
+    ends: [u16; MOST_NUMBERS],
 ) -> bool
-    requires { ⌜ n ≤ 8191 ⌝ }
+    requires { ⌜ n ≤ mostNumbers ⌝ }
 {
     let originals = tail(words, 2);
     let m = least(n, originals.len());
@@ -113,10 +115,10 @@ fn align(
 
 // Fits the outline of a job, whose originals are where its points start.
 pub fn weak(words: &[i32], glyph: Glyph) -> Glyph {
-    let n = least(size_of(word_at(words, 1)), 8191);
-    let mut currents = [0i32; 8191];
-    let mut touched = [0u8; 8191];
-    let mut ends = [0u16; 8191];
+    let n = least(size_of(word_at(words, 1)), MOST_NUMBERS);
+    let mut currents = [0i32; MOST_NUMBERS];
+    let mut touched = [0u8; MOST_NUMBERS];
+    let mut ends = [0u16; MOST_NUMBERS];
     let mut placed = 0;
     let mut i = 0;
     while i < n {

@@ -7,8 +7,10 @@ use super::points::weak;
 use super::print::text;
 use super::topo::build;
 use super::topo::link;
+use lines::limits::MOST_WORDS;
 use words::word::word_at;
 ghost use Prim.Native.Nat.{_≤_};
+ghost use Rattle.lines.specs.Limits.{mostWords};
 
 // The glyph after a step that fits its edges or its points.
 fn fit(words: &[i32], glyph: Glyph) -> Glyph {
@@ -25,8 +27,8 @@ fn fit(words: &[i32], glyph: Glyph) -> Glyph {
 }
 
 // The glyph behind the end of a line of n words: a new one where there are none, else the glyph after the step that they ask for. Nothing more is done once a step was refused.
-pub fn step(words: [i32; 32769], n: usize, glyph: Glyph) -> Glyph
-    requires { ⌜ n ≤ 32769 ⌝ }
+pub fn step(words: [i32; MOST_WORDS], n: usize, glyph: Glyph) -> Glyph
+    requires { ⌜ n ≤ mostWords ⌝ }
 {
     if n == 0 {
         text(b"\n");

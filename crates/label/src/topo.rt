@@ -9,6 +9,7 @@ use axis::accept::least;
 use axis::limits::MOST_SEGMENTS;
 use khsaemudol::khs_compute_edges;
 use khsaemudol::khs_link_segments_cjk;
+use lines::limits::MOST_WORDS;
 use words::edge::TABLE_WORDS;
 use words::segment::SEGMENT_WORDS;
 use words::word::count_word;
@@ -57,7 +58,7 @@ fn pairs(words: &[i32]) {
 }
 
 // The glyph of the segments that were linked, which are written.
-fn paired(topo: [i32; 32769]) -> Glyph {
+fn paired(topo: [i32; MOST_WORDS]) -> Glyph {
     show(b"# segments", &[word_at(&topo, 1)]);
     pairs(&topo);
     text(b"\n");
@@ -71,7 +72,7 @@ fn paired(topo: [i32; 32769]) -> Glyph {
 }
 
 // Links the segments of a job.
-pub fn link(words: [i32; 32769], glyph: Glyph) -> Glyph {
+pub fn link(words: [i32; MOST_WORDS], glyph: Glyph) -> Glyph {
     let mut topo = words;
     let end = 2 + SEGMENT_WORDS * segments(&words);
     let numbers = tail(&words, end);
@@ -88,7 +89,7 @@ pub fn link(words: [i32; 32769], glyph: Glyph) -> Glyph {
 }
 
 // The words that have the segments: the job's, or those that linking handed on where the job has none.
-fn topo_of(words: [i32; 32769], glyph: Glyph) -> [i32; 32769] {
+fn topo_of(words: [i32; MOST_WORDS], glyph: Glyph) -> [i32; MOST_WORDS] {
     if segments(&words) == 0 {
         let topo = glyph.topo;
         return topo;
@@ -97,7 +98,7 @@ fn topo_of(words: [i32; 32769], glyph: Glyph) -> [i32; 32769] {
 }
 
 // The glyph of the edges that were built, which are written.
-fn built(topo: [i32; 32769], edges: [i32; TABLE_WORDS], count: i32) -> Glyph {
+fn built(topo: [i32; MOST_WORDS], edges: [i32; TABLE_WORDS], count: i32) -> Glyph {
     show(b"# segments make # edges, at", &[word_at(&topo, 1), count]);
     let n = size_of(count);
     changes(&[], &edges, n);
@@ -112,7 +113,7 @@ fn built(topo: [i32; 32769], edges: [i32; TABLE_WORDS], count: i32) -> Glyph {
 }
 
 // Builds the edges of a glyph. The job has no old edges.
-pub fn build(words: [i32; 32769], glyph: Glyph) -> Glyph {
+pub fn build(words: [i32; MOST_WORDS], glyph: Glyph) -> Glyph {
     let mut topo = topo_of(words, glyph);
     let end = 2 + SEGMENT_WORDS * segments(&topo);
     let numbers = tail(&words, 3 + SEGMENT_WORDS * segments(&words));

@@ -1,2 +1,3 @@
 // Lines of text as words, for the programs that read jobs.
+pub mod limits;
 pub mod line;

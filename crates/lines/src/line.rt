@@ -1,7 +1,9 @@
 // A line of text as it is read: words of eight upper-case hexadecimal digits, nothing between them.
+use super::limits::MOST_WORDS;
 use middle::bits::signed_of;
 ghost use Prim.Native.Nat.{_≤_};
 ghost use lib.ListN.{length};
+ghost use Rattle.lines.specs.Limits.{mostWords};
 
 // What has been read of a line: whether anything was, whether it can still be a job, its whole words, and the digits of the word that has begun.
 pub struct Line {
@@ -47,7 +49,7 @@ fn digit(byte: u8) -> u32 {
 
 // The line with one byte more. A line of more words than the longest job has is broken.
 pub fn feed(words: &mut [i32], line: Line, byte: u8) -> Line
-    requires { ⌜ 32769 ≤ length (now words) ⌝ }
+    requires { ⌜ mostWords ≤ length (now words) ⌝ }
 {
     let d = digit(byte);
     if line.broken {
@@ -58,7 +60,7 @@ pub fn feed(words: &mut [i32], line: Line, byte: u8) -> Line
     }
     let value = line.value % 268435456 * 16 + d;
     let at = line.words;
-    if 32769 <= at {
+    if MOST_WORDS <= at {
         return broken();
     }
     if line.digits < 7 {
@@ -82,7 +84,7 @@ pub fn feed(words: &mut [i32], line: Line, byte: u8) -> Line
 
 // How many words a line has where it is whole, and 0, which is no job, where it is not.
 pub fn words_of(line: Line) -> usize
-    ensures { λ r. ⌜ r ≤ 32769 ⌝ }
+    ensures { λ r. ⌜ r ≤ mostWords ⌝ }
 {
     if line.broken {
         return 0;
@@ -91,7 +93,7 @@ pub fn words_of(line: Line) -> usize
         return 0;
     }
     let n = line.words;
-    if 32769 < n {
+    if MOST_WORDS < n {
         return 0;
     }
     n

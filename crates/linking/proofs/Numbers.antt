@@ -4,12 +4,12 @@ use mathlib.Core.Bool.{true}
 use Prim.Native.Nat.{_<_, _≤_, zero-le}
 use native.Mathlib.Omega.{arith}
 use lib.IntN.{ℤ, pos, negsuc, natAbs, _*ℤ_}
-use lib.Signed.{leZ, quotZ}
+use lib.Signed.{leZ, quotZ, _≤ℤ_}
 use mir.Syntax.{w32}
 use mir.Val.{SFits}
 use Rattle.signed.specs.Parts.{up, dn}
 use Rattle.signed.specs.Range.{Between}
-use Rattle.signed.proofs.Signed.{signed, fits-abs, natAbs-is, times-up, times-dn}
+use Rattle.signed.proofs.Signed.{signed, atmost, fits-abs, natAbs-is, times-up, times-dn}
 use Rattle.fixed.specs.Point.{divFix, derived}
 use Rattle.fixed.proofs.Rounding.{div-abs}
 use Rattle.axis.specs.Limits.{leastUnitsPerEm, mostUnitsPerEm, leastScale, mostScore}
@@ -49,6 +49,6 @@ module _ (upem scale : ℤ) (h : numbersHold upem scale ≡ true) where
   dist-fits = fits-abs (omega (arith, div-abs (pos 192) scale scale-some))
 
   -- the overlap asked for is not negative
-  pub len-not-below-0 : dn (thresholdsOf upem scale .len) ≤ up (thresholdsOf upem scale .len)
+  pub len-not-below-0 : pos 0 ≤ℤ thresholdsOf upem scale .len
   unfolding thresholdsOf derived
-  len-not-below-0 = quot-not-below-0 (pos 8 *ℤ upem) (let b = em-between in omega (arith, times-up 8 upem, times-dn 8 upem))
+  len-not-below-0 = let q = quot-not-below-0 (pos 8 *ℤ upem) (let b = em-between in omega (arith, times-up 8 upem, times-dn 8 upem)) in atmost (omega (arith, signed))

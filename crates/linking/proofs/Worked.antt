@@ -5,7 +5,7 @@ use Prim.Native.Nat.{ℕ, _-_}
 use lib.IntN.{pos}
 use lib.ListN.{length, replicate}
 use Rattle.refusals.specs.Refusal.{refusal}
-use Rattle.fixed.specs.Point.{near, nearZ, divFix, derived}
+use Rattle.fixed.specs.Point.{rounded, roundedZ, divFix, derived}
 use Rattle.axis.specs.declared.kinds.Direction.{Direction}
 use Rattle.axis.specs.declared.kinds.Direction.the-variants.{Right, Up, Down}
 use Rattle.axis.specs.declared.kinds.Link.{Link}
@@ -132,5 +132,8 @@ rows =
 
 -- each row holds
 pub worked : map (λ (r : Row). r .gives) rows ≡ map (λ (r : Row). r .value) rows
-unfolding near nearZ divFix derived D.same D.opposite linksTo R.linkHolds R.every R.segmentIndices R.segmentNext R.segmentNumbers R.segmentsIndices R.segmentsNexts R.segmentsNumbers refusal turns till P.maxZ P.minZ P.gapOf P.facing P.checkSeg P.improvedBy P.nearStem P.encloses P.muchLonger P.rewritten P.staysSerif P.settled Q.improvePair Q.pairTurn Q.majorTurn Q.pairRound Q.rewriteTurn Q.rewriteAll Q.unlink Q.heldTo Q.givenUpTo Q.holdTurn Q.givenUp Q.hold Q.serifTo Q.serifTurn Q.serifRound Q.lastTo Q.lastTurn Q.lastRound Q.linked L.thresholdsOf L.numbersHold L.linkSegmentsCjk rows
+unfolding rounded roundedZ divFix derived D.same D.opposite linksTo R.linkHolds R.every R.segmentIndices R.segmentNext R.segmentNumbers R.segmentsIndices R.segmentsNexts
+    R.segmentsNumbers refusal turns till P.maxZ P.minZ P.gapOf P.facing P.checkSeg P.improvedBy P.nearStem P.encloses P.muchLonger P.rewritten P.staysSerif P.settled Q.improvePair
+    Q.pairTurn Q.majorTurn Q.pairRound Q.rewriteTurn Q.rewriteAll Q.unlink Q.heldTo Q.givenUpTo Q.holdTurn Q.givenUp Q.hold Q.serifTo Q.serifTurn Q.serifRound Q.lastTo Q.lastTurn
+    Q.lastRound Q.linked L.thresholdsOf L.numbersHold L.linkSegmentsCjk rows
 worked = refl

@@ -1,4 +1,5 @@
 -- CJK linking (document 01, module 3): the refusal, and the three rounds at the thresholds of the call.
+use mathlib.Core.Path.{_≡_}
 use mathlib.Core.Bool.{Bool, _&&_}
 use mathlib.Core.List.{List, [], _∷_}
 use Prim.Native.Nat.{ℕ}
@@ -33,3 +34,7 @@ beside t k = record { answer = k; segments = t }
 -- what the call hands back: the three rounds' table beside 0, or the table as it was beside the refusal
 unfoldable pub linkSegmentsCjk : Segments → Direction → ℤ → ℤ → Linked
 linkSegmentsCjk t major upem scale = answered (refusal (linkingTests t upem scale)) (beside t) (beside (linked major (thresholdsOf upem scale) t) 0)
+
+-- what the call owes its caller: the answer and the table
+abbrev pub LinksSegmentsCjk : Segments → Direction → ℤ → ℤ → Linked → Type 0
+LinksSegmentsCjk t major upem scale r = r ≡ linkSegmentsCjk t major upem scale

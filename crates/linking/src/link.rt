@@ -17,7 +17,7 @@ use refusals::order::TOO_LONG;
 use refusals::order::or_refused;
 ghost use mathlib.Core.Path.{_≡_};
 ghost use Rattle.refusals.specs.Refusal.{refusal};
-ghost use Rattle.linking.specs.Linking.{linkingTests, linkSegmentsCjk};
+ghost use Rattle.linking.specs.Linking.{linkingTests, LinksSegmentsCjk};
 
 // The answer, 0 or document 01's number of the refusal, and the segments.
 pub struct Linked {
@@ -43,7 +43,7 @@ pub fn link_segments_cjk(
     units_per_em: i32,
     scale: i32,
 ) -> Linked
-    ensures { λ r. ⌜ r ≡ linkSegmentsCjk segments «major_dir» «units_per_em» scale ⌝ }
+    ensures { λ r. ⌜ LinksSegmentsCjk segments «major_dir» «units_per_em» scale r ⌝ }
 {
     let answer = linking_refusal(segments, units_per_em, scale);
     if 0 < answer {

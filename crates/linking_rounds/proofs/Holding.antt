@@ -11,9 +11,9 @@ use Rattle.linking_rounds.specs.declared.thresholds.Thresholds.{Threshol
 use Rattle.linking_rounds.specs.Loops.{till}
 use Rattle.linking_rounds.specs.Pairs.{unlinked, encloses, muchLonger}
 use Rattle.linking_rounds.specs.Rounds.{rewriteAll, unlink, heldTo, givenUpTo, holdTurn, givenUp, hold}
-use Rattle.linking_rounds.specs.Steps.{Closed}
+use Rattle.linking_rounds.proofs.Kept.{Every}
 use Rattle.linking_rounds.proofs.Loops.{till-on, till-last, till-end, till-start}
-use Rattle.linking_rounds.proofs.Closed.{closed-hold}
+use Rattle.linking_rounds.proofs.Within.{Within, hold-within}
 
 -- ---- a turn by the link of its segment, and whether it is the last
 module _ (a b : Segment) (i k : ℕ) where
@@ -40,21 +40,21 @@ module _ (a b : Segment) (i k : ℕ) where
   unfolding heldTo givenUpTo
   made-last j m l t v e h g p = record { table = rw (e, h, g) p; ends = rw (e, h, g) }
 
--- before the turn j, u is a table of n segments from which the rest of the loop makes what the whole makes of t
+-- before the turn j, u is a table of n segments within the table's limits, from which the rest of the loop makes what the whole makes of t
 pub record Held (n : ℕ) (a b : Segment) (i k : ℕ) (t : Segments) (j : ℕ) (u : Segments) : Type 0 where
-  pub closed : Closed n u
+  pub within : Every n (Within n) u
   pub rest : till (givenUp a b i k) (holdTurn a b i k) (n - j) j u ≡ hold a b i k n t
 
 module _ (by : Thresholds) (n : ℕ) (a b : Segment) (i k : ℕ) (x : i < n) (y : k < n) (t : Segments) where
-  pub start : Closed n t → Held n a b i k t 0 t
+  pub start : Every n (Within n) t → Held n a b i k t 0 t
   unfolding hold
-  start h = record { closed = h; rest = till-start (givenUp a b i k) (holdTurn a b i k) n t }
+  start h = record { within = h; rest = till-start (givenUp a b i k) (holdTurn a b i k) n t }
 
   step : (j : ℕ) (u v : Segments) → Held n a b i k t j u → j < n → Made a b i k j (segmentAt u j .link) u v false → Held n a b i k t (j + 1) v
   unfolding holdTurn givenUp
   step j u v h p q =
       record {
-        closed = rw (q .table) (closed-hold n by a b i k j u x y (h .closed));
+        within = rw (q .table) (hold-within n by a b i k j u x y (h .within));
         rest = till-on (givenUp a b i k) (holdTurn a b i k) n j u v (hold a b i k n t) p (q .ends) (q .table) (h .rest);
       }
 

@@ -22,9 +22,8 @@ use Rattle.axis.specs.Segment.{emptySegment, segmentAt, putSegment}
 use Rattle.axis.proofs.Acceptance.{below-to}
 use Rattle.linking_rounds.specs.declared.thresholds.Thresholds.{Thresholds}
 use Rattle.linking_rounds.specs.Loops.{turns}
-use Rattle.linking_rounds.specs.Pairs.{gapOf, facing, checkSeg, joinedTo, improvedBy, serifOf, unlinked, nearStem, encloses, muchLonger, rewritten, staysSerif, settled}
+use Rattle.linking_rounds.specs.Pairs.{gapOf, facing, checkSeg, linkedBy, improvedBy, serifOf, unlinked, nearStem, encloses, muchLonger, rewritten, staysSerif, settled}
 use Rattle.linking_rounds.specs.Rounds.{improvePair, pairTurn, majorTurn, pairRound, rewriteTurn, rewriteAll, unlink, heldTo, holdTurn, givenUp, hold, serifTo, serifTurn, serifRound, lastTo, lastTurn, lastRound, linked}
-use Rattle.linking_rounds.specs.Steps.{Every, Inside}
 use Rattle.linking_rounds.proofs.Loops.{keeps, till-keeps}
 
 -- ---- a place that is written
@@ -35,12 +34,22 @@ same-place t i s =
     (λ (h : length (t .segments) ≤ i). inr (rw set-out))
     (lt-or-le i (length (t .segments)))
 
+-- ---- what holds of every segment
+-- a table of n segments, each of which has the property P of its place
+pub record Every (n : ℕ) (P : ℕ → Segment → Type 0) (t : Segments) : Type 0 where
+  pub size : t .len ≡ n
+  pub each : (i : ℕ) → i < n → P i (segmentAt t i)
+
+-- link and serif of a segment are below n, whatever its place
+pub record Inside (n i : ℕ) (s : Segment) : Type 0 where
+  pub link : Below n (s .link)
+  pub serif : Below n (s .serif)
+
 -- ---- one property
 module _ (n : ℕ) (by : Thresholds) (P : ℕ → Segment → Type 0)
     (inside : (i : ℕ) (s : Segment) → i < n → P i s → Inside n i s)
-    (loosed : (i : ℕ) (s : Segment) (l : Link) → i < n → Below n l → P i s → P i (serifOf s l))
-    (joined : (before seg1 seg2 : Segment) (i j : ℕ) → i < n → j < n → P i before → P i seg1 → P j seg2 → facing by seg1 seg2 i j (gapOf before seg1 seg2) ≡ true → P i (joinedTo seg1 (gapOf before seg1 seg2) j) × P j (joinedTo seg2 (gapOf before seg1 seg2) i)) where
-  put : (i : ℕ) (t : Segments) (s : Segment) → Every n P t → P i s → Every n P (putSegment t i s)
+    (loosed : (i : ℕ) (s : Segment) (l : Link) → i < n → Below n l → P i s → P i (serifOf s l)) where
+  pub put : (i : ℕ) (t : Segments) (s : Segment) → Every n P t → P i s → Every n P (putSegment t i s)
   put i t s h p = record { size = h .size; each = λ k l. by-place k l (eqb k i) refl }
     where
       by-place : (k : ℕ) → k < n → (b : Bool) → eqb k i ≡ b → P k (segmentAt (putSegment t i s) k)
@@ -51,37 +60,6 @@ module _ (n : ℕ) (by : Thresholds) (P : ℕ → Segment → Type 0)
           (λ (w : segmentAt (putSegment t i s) i ≡ segmentAt t i). subst (P i) (sym w) (h .each i (let q = eqb-true k i e in omega arith)))
           (same-place t i s))
       by-place k l false e = subst (P k) (sym (getD-set-other (t .segments) i k s emptySegment (eqb-false k i e))) (h .each k l)
-
-  -- ---- the pair round
-  improved : (before seg1 seg2 : Segment) (i j : ℕ) → i < n → j < n → P i before → P i seg1 → P j seg2 → facing by seg1 seg2 i j (gapOf before seg1 seg2) ≡ true
-      → P i (improvedBy seg1 (gapOf before seg1 seg2) j) × P j (improvedBy seg2 (gapOf before seg1 seg2) i)
-  unfolding improvedBy
-  improved before seg1 seg2 i j x y p q r e =
-      let g = gapOf before seg1 seg2 in
-      let z = joined before seg1 seg2 i j x y p q r e in
-      (either-way (P i) (checkSeg seg1 g) (joinedTo seg1 g j) seg1 (z .0) q, either-way (P j) (checkSeg seg2 g) (joinedTo seg2 g i) seg2 (z .1) r)
-
-  pair : (before : Segment) (i j : ℕ) (t : Segments) → i < n → j < n → P i before → Every n P t → Every n P (pairTurn by before i j t)
-  unfolding pairTurn improvePair
-  pair before i j t x y p h =
-      let seg1 = segmentAt t i in
-      let seg2 = segmentAt t j in
-      let g = gapOf before seg1 seg2 in
-      cond-cases (Every n P) (facing by seg1 seg2 i j g) (putSegment (putSegment t i (improvedBy seg1 g j)) j (improvedBy seg2 g i)) t
-      (λ (e : facing by seg1 seg2 i j g ≡ true).
-      let z = improved before seg1 seg2 i j x y p (h .each i x) (h .each j y) e in
-      put j (putSegment t i (improvedBy seg1 g j)) (improvedBy seg2 g i) (put i t (improvedBy seg1 g j) h (z .0)) (z .1))
-      (λ (e : facing by seg1 seg2 i j g ≡ false). h)
-
-  major : (dir : Direction) (i : ℕ) (t : Segments) → i < n → Every n P t → Every n P (majorTurn dir by n i t)
-  unfolding majorTurn
-  major dir i t x h =
-      either-way (Every n P) (same (segmentAt t i .dir) dir) (turns (pairTurn by (segmentAt t i) i) n t) t
-      (keeps (Every n P) (pairTurn by (segmentAt t i) i) n n t (λ j u y g. pair (segmentAt t i) i j u x y (h .each i x) g) (omega arith) h) h
-
-  pub pairs-kept : (dir : Direction) (t : Segments) → Every n P t → Every n P (pairRound dir by t)
-  unfolding pairRound
-  pairs-kept dir t h = subst (λ (m : ℕ). Every n P (turns (majorTurn dir by m) m t)) (sym (h .size)) (keeps (Every n P) (majorTurn dir by n) n n t (major dir) (omega arith) h)
 
   -- ---- the serif round
   rewrite : (j l m i x : ℕ) (t : Segments) → l < n → i < n → x < n → Every n P t → Every n P (rewriteTurn j l m i x t)
@@ -159,7 +137,41 @@ module _ (n : ℕ) (by : Thresholds) (P : ℕ → Segment → Type 0)
   unfolding lastRound
   lasts-kept t h = subst (λ (m : ℕ). Every n P (turns (lastTurn by) m t)) (sym (h .size)) (keeps (Every n P) (lastTurn by) n n t last-kept (omega arith) h)
 
-  -- ---- the whole
-  pub linked-kept : (dir : Direction) (t : Segments) → Every n P t → Every n P (linked dir by t)
-  unfolding linked
-  linked-kept dir t h = lasts-kept (serifRound by (pairRound dir by t)) (serifs-kept (pairRound dir by t) (pairs-kept dir t h))
+  -- ---- a property that a better stem keeps too
+  module _ (joined : (before seg1 seg2 : Segment) (i j : ℕ) → i < n → j < n → P i before → P i seg1 → P j seg2 → facing by seg1 seg2 i j (gapOf before seg1 seg2) ≡ true
+      → P i (linkedBy seg1 (gapOf before seg1 seg2) j) × P j (linkedBy seg2 (gapOf before seg1 seg2) i)) where
+    -- ---- the pair round
+    improved : (before seg1 seg2 : Segment) (i j : ℕ) → i < n → j < n → P i before → P i seg1 → P j seg2 → facing by seg1 seg2 i j (gapOf before seg1 seg2) ≡ true
+        → P i (improvedBy seg1 (gapOf before seg1 seg2) j) × P j (improvedBy seg2 (gapOf before seg1 seg2) i)
+    unfolding improvedBy
+    improved before seg1 seg2 i j x y p q r e =
+        let g = gapOf before seg1 seg2 in
+        let z = joined before seg1 seg2 i j x y p q r e in
+        (either-way (P i) (checkSeg seg1 g) (linkedBy seg1 g j) seg1 (z .0) q, either-way (P j) (checkSeg seg2 g) (linkedBy seg2 g i) seg2 (z .1) r)
+
+    pair : (before : Segment) (i j : ℕ) (t : Segments) → i < n → j < n → P i before → Every n P t → Every n P (pairTurn by before i j t)
+    unfolding pairTurn improvePair
+    pair before i j t x y p h =
+        let seg1 = segmentAt t i in
+        let seg2 = segmentAt t j in
+        let g = gapOf before seg1 seg2 in
+        cond-cases (Every n P) (facing by seg1 seg2 i j g) (putSegment (putSegment t i (improvedBy seg1 g j)) j (improvedBy seg2 g i)) t
+        (λ (e : facing by seg1 seg2 i j g ≡ true).
+        let z = improved before seg1 seg2 i j x y p (h .each i x) (h .each j y) e in
+        put j (putSegment t i (improvedBy seg1 g j)) (improvedBy seg2 g i) (put i t (improvedBy seg1 g j) h (z .0)) (z .1))
+        (λ (e : facing by seg1 seg2 i j g ≡ false). h)
+
+    major : (dir : Direction) (i : ℕ) (t : Segments) → i < n → Every n P t → Every n P (majorTurn dir by n i t)
+    unfolding majorTurn
+    major dir i t x h =
+        either-way (Every n P) (same (segmentAt t i .dir) dir) (turns (pairTurn by (segmentAt t i) i) n t) t
+        (keeps (Every n P) (pairTurn by (segmentAt t i) i) n n t (λ j u y g. pair (segmentAt t i) i j u x y (h .each i x) g) (omega arith) h) h
+
+    pub pairs-kept : (dir : Direction) (t : Segments) → Every n P t → Every n P (pairRound dir by t)
+    unfolding pairRound
+    pairs-kept dir t h = subst (λ (m : ℕ). Every n P (turns (majorTurn dir by m) m t)) (sym (h .size)) (keeps (Every n P) (majorTurn dir by n) n n t (major dir) (omega arith) h)
+
+    -- ---- the whole
+    pub linked-kept : (dir : Direction) (t : Segments) → Every n P t → Every n P (linked dir by t)
+    unfolding linked
+    linked-kept dir t h = lasts-kept (serifRound by (pairRound dir by t)) (serifs-kept (pairRound dir by t) (pairs-kept dir t h))

@@ -22,8 +22,8 @@ unfoldable pub minZ : ℤ → ℤ → ℤ
 minZ a b = cond (ltZ a b) a b
 
 -- the segment with another score, len, link and serif; the rounds change nothing else
-abbrev pub changed : Segment → ℤ → ℤ → Link → Link → Segment
-changed s score len link serif = record {
+abbrev pub relinked : Segment → ℤ → ℤ → Link → Link → Segment
+relinked s score len link serif = record {
   flags = s .flags;
   dir = s .dir;
   pos = s .pos;
@@ -55,17 +55,17 @@ unfoldable pub checkSeg : Segment → Gap → Bool
 checkSeg seg gap = ltZ (gap .dist *ℤ pos 8) (seg .score *ℤ pos 9) && (ltZ (gap .dist *ℤ pos 8) (seg .score *ℤ pos 7) || ltZ (seg .len) (gap .len))
 
 -- the segment linked to ix by a stem of this gap
-abbrev pub joinedTo : Segment → Gap → ℕ → Segment
-joinedTo seg gap ix = changed seg (gap .dist) (gap .len) (Links.To ix) (seg .serif)
+abbrev pub linkedBy : Segment → Gap → ℕ → Segment
+linkedBy seg gap ix = relinked seg (gap .dist) (gap .len) (Links.To ix) (seg .serif)
 
 -- the same where that is better
 unfoldable pub improvedBy : Segment → Gap → ℕ → Segment
-improvedBy seg gap ix = cond (checkSeg seg gap) (joinedTo seg gap ix) seg
+improvedBy seg gap ix = cond (checkSeg seg gap) (linkedBy seg gap ix) seg
 
 -- ---- the serif round
 -- the segment without a link, a serif of what `serif` names
 abbrev pub serifOf : Segment → Link → Segment
-serifOf seg serif = changed seg (seg .score) (seg .len) Links.None serif
+serifOf seg serif = relinked seg (seg .score) (seg .len) Links.None serif
 
 -- the segment without a link
 abbrev pub unlinked : Segment → Segment

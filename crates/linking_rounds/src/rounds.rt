@@ -15,14 +15,18 @@ use axis::kinds::Link;
 use axis::segment::Segments;
 ghost use mathlib.Core.Path.{_≡_};
 ghost use Prim.Native.Nat.{_≤_};
+ghost use lib.IntN.{pos};
+ghost use lib.Signed.{_≤ℤ_};
+ghost use Rattle.axis.specs.Accepted.{SegmentsWithin};
 ghost use Rattle.axis.specs.Limits.{mostSegments};
 ghost use Rattle.linking_rounds.specs.Rounds.{pairRound, rewriteAll, serifRound, lastRound};
-ghost use Rattle.linking_rounds.specs.Steps.{Closed};
 
 // The pair round: each segment in the major direction against each other one. Both are read anew at each turn.
 pub fn pair_round(segments: Segments, major_dir: Direction, thresholds: Thresholds) -> Segments
-    requires { ⌜ segments .len ≤ mostSegments ⌝ }
+    requires { ⌜ SegmentsWithin segments ⌝ }
+    requires { ⌜ pos 0 ≤ℤ thresholds .len ⌝ }
     ensures { λ r. ⌜ r ≡ pairRound «major_dir» thresholds segments ⌝ }
+    ensures { λ r. ⌜ SegmentsWithin r ⌝ }
 {
     let count = segments.len;
     let mut table = segments;
@@ -62,7 +66,7 @@ fn rewrite_links(segments: Segments, ix2: u16, link1_ix: u16, link2_ix: u16, ix1
 
 // The serif round: near stems against those that enclose them. seg1 and link1 are copies from before the inner loop.
 pub fn serif_round(segments: Segments, thresholds: Thresholds) -> Segments
-    requires { ⌜ (segments .len ≤ mostSegments) × Closed (segments .len) segments ⌝ }
+    requires { ⌜ SegmentsWithin segments ⌝ }
     ensures { λ r. ⌜ r ≡ serifRound thresholds segments ⌝ }
 {
     let count = segments.len;
@@ -105,7 +109,7 @@ pub fn serif_round(segments: Segments, thresholds: Thresholds) -> Segments
 
 // The last round: links that are not returned go, and leave serifs or nothing.
 pub fn last_round(segments: Segments, thresholds: Thresholds) -> Segments
-    requires { ⌜ (segments .len ≤ mostSegments) × Closed (segments .len) segments ⌝ }
+    requires { ⌜ SegmentsWithin segments ⌝ }
     ensures { λ r. ⌜ r ≡ lastRound thresholds segments ⌝ }
 {
     let count = segments.len;

@@ -10,6 +10,8 @@ ghost use lib.Dec.{eqb};
 ghost use lib.IntN.{pos, _*ℤ_};
 ghost use lib.Signed.{ltZ, leZ};
 ghost use Rattle.signed.specs.Equality.{eqZ};
+ghost use Rattle.signed.specs.Range.{Between};
+ghost use Rattle.axis.specs.Limits.{mostScore};
 ghost use Rattle.axis.specs.Link.{linksTo};
 ghost use Rattle.linking_rounds.specs.Pairs.{serifOf, unlinked as unlinkedAs, nearStem, encloses as enclosesOf, muchLonger, rewritten as rewrittenAs, staysSerif, settled as settledAs};
 
@@ -79,12 +81,13 @@ fn coincide(seg1: Segment, link1: Segment, seg2: Segment, link2: Segment) -> boo
 
 // Whether seg2's score is above seg1's, and below four times that.
 fn little_worse(seg1: Segment, seg2: Segment) -> bool
+    requires { ⌜ Between 0 mostScore (seg1 .score) ⌝ }
     ensures { λ r. ⌜ r ≡ ltZ (seg1 .score) (seg2 .score) && ltZ (seg2 .score) (seg1 .score *ℤ pos 4) ⌝ }
 {
     if seg2.score <= seg1.score {
         return false;
     }
-    (seg2.score as i64) < times(seg1.score, 4)
+    seg2.score < times(seg1.score, 4)
 }
 
 // Whether the stem of segment ix2 and link2 encloses that of segment ix1 and link1, does not coincide with it, and is a little worse.
@@ -96,6 +99,7 @@ pub fn encloses(
     ix1: u16,
     ix2: u16,
 ) -> bool
+    requires { ⌜ Between 0 mostScore (seg1 .score) ⌝ }
     ensures { λ r. ⌜ r ≡ enclosesOf seg1 link1 seg2 link2 ix1 ix2 ⌝ }
 {
     if !starts_outside(seg1, seg2, ix1, ix2) {
@@ -112,9 +116,10 @@ pub fn encloses(
 
 // Whether seg1 is at least three times as long as seg2.
 pub fn is_much_longer(seg1: Segment, seg2: Segment) -> bool
+    requires { ⌜ Between 0 mostScore (seg2 .len) ⌝ }
     ensures { λ r. ⌜ r ≡ muchLonger seg1 seg2 ⌝ }
 {
-    times(seg2.len, 3) <= seg1.len as i64
+    times(seg2.len, 3) <= seg1.len
 }
 
 // What was linked to ix2 becomes a serif of link1_ix; what was linked to link2_ix, a serif of ix1.
@@ -133,16 +138,18 @@ pub fn rewritten(seg: Segment, ix2: u16, link1_ix: u16, link2_ix: u16, ix1: u16)
 
 // Whether seg1, whose link to seg2 is lost, is a serif of what seg2 is linked to.
 fn stays_serif(thresholds: Thresholds, seg1: Segment, seg2: Segment) -> bool
+    requires { ⌜ Between 0 mostScore (seg2 .score) ⌝ }
     ensures { λ r. ⌜ r ≡ staysSerif thresholds seg1 seg2 ⌝ }
 {
     if seg2.score < thresholds.dist {
         return true;
     }
-    (seg1.score as i64) < times(seg2.score, 4)
+    seg1.score < times(seg2.score, 4)
 }
 
 // Segment ix1, linked to seg2, after the last round.
 pub fn settled(thresholds: Thresholds, seg1: Segment, seg2: Segment, ix1: u16) -> Segment
+    requires { ⌜ Between 0 mostScore (seg2 .score) ⌝ }
     ensures { λ r. ⌜ r ≡ settledAs thresholds seg1 seg2 ix1 ⌝ }
 {
     let back = seg2.link;

@@ -9,7 +9,8 @@ ghost use mathlib.Core.Path.{_≡_};
 ghost use lib.IntN.{pos, _*ℤ_};
 ghost use lib.Signed.{ltZ};
 ghost use Rattle.signed.specs.Range.{Between};
-ghost use Rattle.linking_rounds.specs.Pairs.{facing, checkSeg, joinedTo, improvedBy};
+ghost use Rattle.axis.specs.Limits.{mostScore};
+ghost use Rattle.linking_rounds.specs.Pairs.{facing, checkSeg, linkedBy, improvedBy};
 
 // Whether segments ix1 and ix2 can be a stem: different ones, in opposite directions, the second not before the first, with enough overlap.
 pub fn can_be_stem(
@@ -38,6 +39,8 @@ pub fn can_be_stem(
 
 // Whether dist times 8 is below score times k.
 fn is_below(dist: i32, score: i32, k: i32) -> bool
+    requires { ⌜ Between 0 mostScore dist ⌝ }
+    requires { ⌜ Between 0 mostScore score ⌝ }
     requires { ⌜ Between 0 9 k ⌝ }
     ensures { λ r. ⌜ r ≡ ltZ (dist *ℤ pos 8) (score *ℤ k) ⌝ }
 {
@@ -46,6 +49,8 @@ fn is_below(dist: i32, score: i32, k: i32) -> bool
 
 // Whether a stem of this gap is better than the one that the segment has.
 fn check_seg(seg: Segment, gap: Gap) -> bool
+    requires { ⌜ Between 0 mostScore (seg .score) ⌝ }
+    requires { ⌜ Between 0 mostScore (gap .dist) ⌝ }
     ensures { λ r. ⌜ r ≡ checkSeg seg gap ⌝ }
 {
     if !is_below(gap.dist, seg.score, 9) {
@@ -59,7 +64,7 @@ fn check_seg(seg: Segment, gap: Gap) -> bool
 
 // The segment linked to ix by a stem of this gap.
 fn joined(seg: Segment, gap: Gap, ix: u16) -> Segment
-    ensures { λ r. ⌜ r ≡ joinedTo seg gap ix ⌝ }
+    ensures { λ r. ⌜ r ≡ linkedBy seg gap ix ⌝ }
 {
     Segment {
         score: gap.dist,
@@ -71,6 +76,8 @@ fn joined(seg: Segment, gap: Gap, ix: u16) -> Segment
 
 // The segment linked to ix, where that is better.
 pub fn improved(seg: Segment, gap: Gap, ix: u16) -> Segment
+    requires { ⌜ Between 0 mostScore (seg .score) ⌝ }
+    requires { ⌜ Between 0 mostScore (gap .dist) ⌝ }
     ensures { λ r. ⌜ r ≡ improvedBy seg gap ix ⌝ }
 {
     if check_seg(seg, gap) {

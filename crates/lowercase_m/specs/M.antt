@@ -1,8 +1,10 @@
 -- The lowercase m rule (document 01, module 6): which edges it is given to, and which of them it moves.
+use mathlib.Core.Path.{_≡_}
 use mathlib.Core.Bool.{Bool, true, cond, _&&_, _||_}
 use mathlib.Core.List.{List, [], _∷_}
 use Prim.Native.Nat.{ℕ, _+_}
 use lib.Dec.{ltb, eqb}
+use lib.ListN.{getD}
 use lib.IntN.{ℤ, pos, natAbs, _-ℤ_, _*ℤ_}
 use Rattle.refusals.specs.Refusal.{Test, _unless_, refusal, answered, badParameter}
 use Rattle.axis.specs.declared.kinds.Link.{Link}
@@ -11,9 +13,10 @@ use Rattle.axis.specs.declared.kinds.Group.{Group}
 use Rattle.axis.specs.declared.kinds.Group.the-variants.{Default, Cjk}
 use Rattle.axis.specs.declared.edge.Edge.{Edge}
 use Rattle.axis.specs.declared.edge.Axis.{Axis}
-use Rattle.axis.specs.Edge.{edgeAt, putEdge, placed, finished}
+use Rattle.axis.specs.Edge.{emptyEdge, edgeAt, putEdge, placed, finished}
 use Rattle.axis.specs.Link.{linksTo}
 use Rattle.axis.specs.Refusals.{edgesShort, edgesIndexed, edgesInRange}
+use Rattle.axis.specs.Changes.{Extent, nothing, position, place}
 use Rattle.lowercase_m.specs.declared.stems.Stems.{Stems}
 use Rattle.lowercase_m.specs.declared.hint.Hinted.{Hinted}
 
@@ -98,3 +101,20 @@ hinted axis k = record { answer = k; axis = axis }
 -- the refusal and the axis as it came, or 0 and the axis after the rule
 unfoldable pub hintLowercaseM : Axis → Group → Hinted
 hintLowercaseM axis group = answered (refusal (mTests axis)) (hinted axis) (hinted (aligned group axis (stemsOf (axis .len))) 0)
+
+-- what the call owes its caller: the answer and the axis
+abbrev pub HintsLowercaseM : Axis → Group → Hinted → Type 0
+HintsLowercaseM axis group r = r ≡ hintLowercaseM axis group
+
+-- ---- what the rule may change, of n edges
+-- the third stem, and the edge that it is linked to
+abbrev pub isStem : List Edge → ℕ → ℕ → Bool
+isStem edges n i = eqb i (stemsOf n .third) || linksTo (getD edges (stemsOf n .third) emptyEdge .link) i
+
+-- a serif of twelve edges
+abbrev pub isSerif : ℕ → ℕ → Bool
+isSerif n i = eqb n 12 && (eqb i 8 || eqb i 11)
+
+-- the place of the former, the position of the latter, and nothing of the other edges
+abbrev pub mExtent : List Edge → ℕ → ℕ → Extent
+mExtent edges n i = cond (isStem edges n i) place (cond (isSerif n i) position nothing)

@@ -19,7 +19,7 @@ ghost use mathlib.Core.Path.{_≡_};
 ghost use Rattle.refusals.specs.Refusal.{refusal};
 ghost use Rattle.axis.specs.Limits.{mostPos};
 ghost use Rattle.axis.specs.Accepted.{AxisWithin};
-ghost use Rattle.lowercase_m.specs.M.{linkedOn, groupHolds, aligned, countHolds, mTests, hintLowercaseM};
+ghost use Rattle.lowercase_m.specs.M.{linkedOn, groupHolds, aligned, countHolds, mTests, HintsLowercaseM};
 ghost use Rattle.lowercase_m.specs.Steps.{StemsOf};
 
 // An answer, 0 or the refusal, and the axis.
@@ -99,7 +99,7 @@ fn m_refusal(axis: Axis) -> u8
 
 // Makes sure that a lowercase m stays symmetric: its third stem comes to the same distance as its second.
 pub fn hint_lowercase_m(axis: Axis, group: Group) -> Hinted
-    ensures { λ r. ⌜ r ≡ hintLowercaseM axis group ⌝ }
+    ensures { λ r. ⌜ HintsLowercaseM axis group r ⌝ }
 {
     let answer = m_refusal(axis);
     if 0 < answer {

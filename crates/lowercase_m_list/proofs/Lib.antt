@@ -1,8 +1,11 @@
--- The laws by subject, each over plain variables; then `Worked`, the definition on values, and `Determined`, that the promise determines the outcome.
+-- The laws by subject, each over plain variables; then `Worked`, the definition on values, `Determined`, that the promise determines the outcome, `Handed`, where
+-- positions come to, and `Changed`, what the call changes.
 pub mod Copies
 pub mod Arrays
 pub mod Shared
+pub mod Tabled
 pub mod Outcomes
-pub mod Lengths
 pub mod Worked
 pub mod Determined
+pub mod Handed
+pub mod Changed

@@ -4,6 +4,7 @@ use mathlib.Core.List.{List, [], _∷_}
 use Prim.Native.Nat.{ℕ}
 use lib.IntN.{pos}
 use lib.ListN.{replicate}
+use Rattle.axis.specs.Limits.{mostEdges}
 use Rattle.refusals.specs.Refusal.{refusal}
 use Rattle.axis.specs.declared.kinds.Link.{Link}
 use Rattle.axis.specs.declared.kinds.Link.the-variants.{None, To}
@@ -15,7 +16,7 @@ use Rattle.axis.specs.Edge.{freshEdge, emptyEdge, placed, finished, joinedTo}
 use Rattle.axis.specs.Link.{linksTo}
 use Rattle.axis.specs.Refusals as R
 use Rattle.lowercase_m.specs.M as M
-use Rattle.lowercase_m_list.specs.M.{axisOf, Hinted, hinted, hintLowercaseMList}
+use Rattle.lowercase_m_list.specs.M.{Hinted, hinted, hintLowercaseMList}
 
 -- a group and a list, and what the call should hand back
 pub record Row : Type 0 where
@@ -49,7 +50,7 @@ worked =
     ∷ same Cjk (six None (far 207)) 0
     ∷ same Default [] 2
     ∷ same Default (replicate 5 emptyEdge) 2
-    ∷ same Default (replicate 128 emptyEdge) 2
+    ∷ same Default (replicate mostEdges emptyEdge) 2
     ∷ same Default (replicate 129 emptyEdge) 1
     ∷ same Default (six (To 6) (far 207)) 3
     ∷ same Default (six None (far 16384)) 4
@@ -61,5 +62,6 @@ All [] = Unit {0}
 All (r ∷ rs) = (hintLowercaseMList (r .list) (r .group) ≡ r .value) × All rs
 
 pub all-worked : All worked
-unfolding hintLowercaseMList axisOf M.hintLowercaseM M.aligned M.applies M.groupHolds M.linkedOn M.moveStem M.moveSerifs M.moveLink M.moveDone M.moveOnly linksTo refusal R.edgesIndices R.edgesNumbers R.edgeIndices R.edgeNumbers R.linkHolds R.blueHolds R.every
+unfolding hintLowercaseMList M.hintLowercaseM M.aligned M.applies M.groupHolds M.linkedOn M.moveStem M.moveSerifs M.moveLink M.moveDone M.moveOnly linksTo refusal R.edgesIndices
+    R.edgesNumbers R.edgeIndices R.edgeNumbers R.linkHolds R.blueHolds R.every
 all-worked = (refl, (refl, (refl, (refl, (refl, (refl, (refl, (refl, (refl, tt)))))))))

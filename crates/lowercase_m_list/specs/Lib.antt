@@ -1,4 +1,3 @@
 -- What the contracts of `lowercase_m_list` cite.
 pub mod Table
 pub mod M
-pub mod First

@@ -6,19 +6,20 @@ use axis::edge::Edge;
 use axis::kinds::Dimension;
 use axis::kinds::Direction;
 use axis::kinds::Group;
+use axis::limits::MOST_EDGES;
 ghost use mathlib.Core.Path.{_≡_};
-ghost use Rattle.lowercase_m_list.specs.M.{Outcome};
+ghost use Rattle.lowercase_m_list.specs.M.{HintsLowercaseMList};
 ghost use Rattle.lowercase_m_list.specs.Table.{hintTable};
 
 // An answer, 0 or the refusal, and how many edges of the table are to be put back.
 struct Table {
     pub answer: u8,
     pub count: usize,
-    pub edges: [Edge; 128],
+    pub edges: [Edge; MOST_EDGES],
 }
 
 // The table form on a list's table and length.
-fn hint_table(edges: [Edge; 128], len: usize, group: Group) -> Table
+fn hint_table(edges: [Edge; MOST_EDGES], len: usize, group: Group) -> Table
     ensures { λ r. ⌜ r ≡ hintTable edges len group ⌝ }
 {
     let axis = Axis {
@@ -47,7 +48,7 @@ fn hint_table(edges: [Edge; 128], len: usize, group: Group) -> Table
 
 // Makes sure that a lowercase m stays symmetric: its third stem comes to the same distance as its second.
 pub fn hint_lowercase_m(edges: &mut [Edge], group: Group) -> u8
-    ensures { λ r. ⌜ Outcome (now (edges .entry)) group r (now (edges .exit)) ⌝ }
+    ensures { λ r. ⌜ HintsLowercaseMList (now (edges .entry)) group r (now (edges .exit)) ⌝ }
 {
     let len = edges.len();
     let table = load(edges);

@@ -10,14 +10,14 @@ ghost use Rattle.axis.specs.Limits.{mostEdges};
 ghost use Rattle.lowercase_m_list.specs.Table.{emptyTable, copied};
 
 // A table of empty edges.
-pub fn empty_table() -> [Edge; 128]
+pub fn empty_table() -> [Edge; MOST_EDGES]
     ensures { λ r. ⌜ r ≡ emptyTable ⌝ }
 {
-    [EMPTY_EDGE; 128]
+    [EMPTY_EDGE; MOST_EDGES]
 }
 
 // The table with the first edges of a list in it, as many as it has places.
-pub fn load(edges: &[Edge]) -> [Edge; 128]
+pub fn load(edges: &[Edge]) -> [Edge; MOST_EDGES]
     ensures { λ r. ⌜ r ≡ copied (min (length (now (edges .entry))) mostEdges) (now (edges .entry)) emptyTable ⌝ }
 {
     let n = least(edges.len(), MOST_EDGES);
@@ -31,7 +31,7 @@ pub fn load(edges: &[Edge]) -> [Edge; 128]
 }
 
 // Puts the first n edges of a table into a list.
-pub fn store(edges: &mut [Edge], table: [Edge; 128], n: usize)
+pub fn store(edges: &mut [Edge], table: [Edge; MOST_EDGES], n: usize)
     requires { ⌜ (n ≤ length (now edges)) × (n ≤ mostEdges) ⌝ }
     ensures { λ _. ⌜ now (edges .exit) ≡ copied n table (now (edges .entry)) ⌝ }
 {

@@ -1,6 +1,7 @@
 // Segments learn their edges (the Rust's `link_segments_to_edges`), once these have their places.
 use axis::edge::Axis;
 use axis::kinds::Link;
+use axis::limits::MOST_SEGMENTS;
 use axis::segment::Segment;
 use axis::segment::Segments;
 ghost use mathlib.Core.Path.{_≡_};
@@ -46,7 +47,11 @@ fn member_of(segment: Segment, edge: u16, next: u16) -> Segment
 }
 
 // Each segment of an edge's ring gets the edge's index and its next; the others have neither.
-pub fn link_segments_to_edges(segments: Segments, edges: Axis, next: [u16; 512]) -> Segments
+pub fn link_segments_to_edges(
+    segments: Segments,
+    edges: Axis,
+    next: [u16; MOST_SEGMENTS],
+) -> Segments
     requires { ⌜ (segments .len ≤ mostSegments) × (edges .len ≤ mostEdges) × Ended next edges ⌝ }
     ensures { λ r. ⌜ r ≡ marked next edges (edges .len) (cleared segments) ⌝ }
 {

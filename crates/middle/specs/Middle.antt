@@ -1,4 +1,5 @@
 -- The middle of two 32-bit coordinates and half their difference, with the wraps that document 01 asks for.
+use mathlib.Core.Path.{_≡_}
 use Prim.Native.Nat.{ℕ, suc, _-_, _%_, _^_}
 use lib.IntN.{ℤ, pos, negsuc, _+ℤ_, _-ℤ_}
 use lib.Signed.{shrZ}
@@ -18,6 +19,13 @@ wrapZ w z = toZ w (residue z (2 ^ bits w))
 unfoldable pub midPos : ℤ → ℤ → ℤ
 midPos min max = wrapZ w16 (shrZ (wrapZ w32 (min +ℤ max)) 2)
 
+-- what it owes its caller: the answer r
+abbrev pub ComputesMidPos : ℤ → ℤ → ℤ → Type 0
+ComputesMidPos min max r = r ≡ midPos min max
+
 -- `compute_mid_delta`: the same of the difference
 unfoldable pub midDelta : ℤ → ℤ → ℤ
 midDelta min max = wrapZ w16 (shrZ (wrapZ w32 (max -ℤ min)) 2)
+
+abbrev pub ComputesMidDelta : ℤ → ℤ → ℤ → Type 0
+ComputesMidDelta min max r = r ≡ midDelta min max

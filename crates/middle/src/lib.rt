@@ -7,7 +7,7 @@ ghost use mathlib.Core.Path.{_≡_};
 ghost use lib.IntN.{_+ℤ_, _-ℤ_};
 ghost use lib.Signed.{shrZ};
 ghost use mir.Syntax.{w16, w32};
-ghost use Rattle.middle.specs.Middle.{wrapZ, midPos, midDelta};
+ghost use Rattle.middle.specs.Middle.{wrapZ, ComputesMidPos, ComputesMidDelta};
 
 // a + b, wrapped around at 32 bits.
 fn wrapping_add(a: i32, b: i32) -> i32
@@ -43,14 +43,14 @@ fn low_16(x: i32) -> i16
 
 // The middle of min and max: their sum wraps around at 32 bits, is halved downward, and its low 16 bits are read as signed.
 pub fn compute_mid_pos(min: i32, max: i32) -> i16
-    ensures { λ r. ⌜ r ≡ midPos min max ⌝ }
+    ensures { λ r. ⌜ ComputesMidPos min max r ⌝ }
 {
     low_16(half_down(wrapping_add(min, max)))
 }
 
 // Half of max - min, the same way.
 pub fn compute_mid_delta(min: i32, max: i32) -> i16
-    ensures { λ r. ⌜ r ≡ midDelta min max ⌝ }
+    ensures { λ r. ⌜ ComputesMidDelta min max r ⌝ }
 {
     low_16(half_down(wrapping_sub(max, min)))
 }

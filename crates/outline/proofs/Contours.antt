@@ -92,12 +92,12 @@ pub record Sofar (o c : List ℤ) (t es : List ℕ) (d : List ℤ) (s k : ℕ) :
   pub ends : endsHold s (length o) (drop k es) ≡ true
   pub search : (i : ℕ) → s ≤ i → contourOf 0 es i ≡ contourOf s (drop k es) i
   pub rest : drop s d ≡ drop s c
-  pub done : (i : ℕ) → i < s → at d i ≡ alignedAt o c t es i
+  pub aligned : (i : ℕ) → i < s → at d i ≡ alignedAt o c t es i
 
 -- before the first turn
 pub sofar-none : (o c : List ℤ) (t es : List ℕ) → endsHold 0 (length o) es ≡ true → Sofar o c t es c 0 0
 sofar-none o c t es r =
-    record { count = omega arith; within = omega arith; len = refl; ends = r; search = λ i h. refl; rest = refl; done = λ i h. absurd (omega arith) }
+    record { count = omega arith; within = omega arith; len = refl; ends = r; search = λ i h. refl; rest = refl; aligned = λ i h. absurd (omega arith) }
 
 -- one turn
 module _ (o c : List ℤ) (t es : List ℕ) (lc : length c ≡ length o) (lt : length t ≡ length o) (k s e : ℕ) (d own : List ℤ) (q : e ≡ getD es k 0) (h : k < length es) (j : Sofar o c t es d s k)
@@ -129,9 +129,9 @@ module _ (o c : List ℤ) (t es : List ℕ) (lc : length c ≡ length o) (lt : l
       ap (λ (x : ℕ). drop x d) (sym m) ∙ sym (drop-drop (e + 1 - s) s d) ∙ ap (drop (e + 1 - s)) (j .rest) ∙ drop-drop (e + 1 - s) s c ∙ ap (λ (x : ℕ). drop x c) m
 
   -- all up to its end is aligned
-  next-done : (i : ℕ) → i < e + 1 → Dec (i < s) → at (putMid s (e + 1 - s) d own) i ≡ alignedAt o c t es i
-  next-done i g (yes a) = let b = bounds in put-below s (e + 1) d own (omega arith) (omega (arith, j .len)) own-length i a ∙ j .done i a
-  next-done i g (no n) =
+  next-aligned : (i : ℕ) → i < e + 1 → Dec (i < s) → at (putMid s (e + 1 - s) d own) i ≡ alignedAt o c t es i
+  next-aligned i g (yes a) = let b = bounds in put-below s (e + 1) d own (omega arith) (omega (arith, j .len)) own-length i a ∙ j .aligned i a
+  next-aligned i g (no n) =
       let b = bounds in
       let f : s + (i - s) ≡ i = omega arith in
       rw f at (put-inside s (e + 1) d own (omega arith) (omega (arith, j .len)) own-length (i - s) (omega arith) ∙ own-at (i - s) (omega arith))
@@ -146,14 +146,14 @@ module _ (o c : List ℤ) (t es : List ℕ) (lc : length c ≡ length o) (lt : l
         ends = rw q (b .rest);
         search = λ i g. j .search i (omega arith) ∙ contour-later s es k i h (omega arith) ∙ rw (← q, ← add-one e);
         rest = drop-put s (e + 1) d own (omega arith) (omega (arith, j .len)) own-length ∙ next-rest;
-        done = λ i g. next-done i g (decLt i s);
+        aligned = λ i g. next-aligned i g (decLt i s);
       }
 
 -- behind the last contour the points stay
 module _ (o c d : List ℤ) (t es : List ℕ) (s k : ℕ) (j : Sofar o c t es d s k) (all : length es ≤ k) where
   each : (i : ℕ) → Dec (i < s) → at d i ≡ alignedAt o c t es i
   unfolding alignedAt onContour contourOf
-  each i (yes h) = j .done i h
+  each i (yes h) = j .aligned i h
   each i (no n) =
       let f : s + (i - s) ≡ i = omega arith in
       let g : at d i ≡ at c i = rw f at (sym (getD-drop s d (i - s) (pos 0)) ∙ ap (λ (l : List ℤ). at l (i - s)) (j .rest) ∙ getD-drop s c (i - s) (pos 0)) in

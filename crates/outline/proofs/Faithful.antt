@@ -1,9 +1,9 @@
 -- Demand 3, for every outcome that the promise of `align_weak_points` allows with answer 0, so for every accepted outline: d are the currents at the end.
-use mathlib.Core.Path.{_≡_, sym, _∙_, ap}
+use mathlib.Core.Path.{_≡_, refl, sym, _∙_, ap}
 use mathlib.Core.Bool.{false}
 use mathlib.Core.List.{List}
 use mathlib.Core.Logic.{⊎-elim}
-use mathlib.Core.Option.{some}
+use mathlib.Core.Option.{Option, some, none}
 use Prim.Native.Nat.{ℕ}
 use native.Mathlib.Omega.{arith}
 use lib.ListN.{length}
@@ -13,13 +13,13 @@ use Rattle.signed.proofs.Signed.{signed}
 use Rattle.contours.specs.Contour.{at, Contour, isTouched, References, refs, references, firstOf, secondOf, betweenAt, interpolated}
 use Rattle.outline.specs.Weak.{contourOf, onContour, alignedAt, Outcome}
 use Rattle.outline.specs.Steps.{Accepted}
-use Rattle.outline.specs.Faithful.{Follows, Faithful, Amid, InOrder}
+use Rattle.outline.specs.Faithful.{Led, Faithful, Follows, Amid, InOrder, Demand3}
 use Rattle.outline.proofs.Refusals.{accepted}
 use Rattle.contours.proofs.Searches.{unmarked}
 use Rattle.contours.proofs.Points.{weak-two}
-use Rattle.outline.proofs.Contours.{contour-holds}
+use Rattle.outline.proofs.Contours.{Holds, contour-holds}
 use Rattle.outline.proofs.Interpolated.{faithful-at, grows}
-use Rattle.outline.proofs.Neighbours.{refs-ordered, refs-differ, low, high, around, spanned, rising}
+use Rattle.outline.proofs.Neighbours.{refs-ordered, refs-there, before-touched, behind-touched, refs-differ, low, high, around, spanned, rising}
 use Rattle.outline.proofs.Outcomes.{result-at}
 
 module _ (o c d : List ℤ) (t es : List ℕ) (outcome : Outcome o c t es 0 d) where
@@ -36,16 +36,41 @@ module _ (o c d : List ℤ) (t es : List ℕ) (outcome : Outcome o c t es 0 d) w
       ap (λ (l : List ℤ). at l i) (outcome .currents) ∙ result-at o c t es (sym (outcome .answer)) i (omega (arith, h, good .currents-length))
       ∙ rw on (weak-two o c t k i (r .before) (r .behind) (unmarked t i un) by two)
 
-  -- (a) an untouched point, on a contour with two or more touched points, whose original lies strictly between its references' originals
-  pub faithful : (i : ℕ) (r : References) → Follows t es i r → at o (firstOf o r) <ℤ at o i → at o i <ℤ at o (secondOf o r)
-      → Faithful (at o i) (at o (firstOf o r)) (at c (firstOf o r)) (at o (secondOf o r)) (at c (secondOf o r)) (at d i)
-  unfolding betweenAt
-  faithful i r f low high =
-      let h = contour-holds 0 (length o) i es (f .contour) (omega arith) (good .ends) (f .on) in
-      let two = refs-differ t (f .contour) i (h .low) (h .high) (unmarked t i (f .untouched)) (f .more) r (f .by) in
-      let ordered = refs-ordered o c r (good .originals) (good .currents) in
-      rw (result-between i (f .contour) r (f .on) (f .untouched) (f .by) two)
-      (faithful-at (at o i) (at o (firstOf o r)) (at c (firstOf o r)) (at o (secondOf o r)) (at c (secondOf o r)) ordered (omega (arith, signed)) (omega (arith, signed)))
+  -- (a) an untouched point on a contour with two or more touched points
+  module _ (i : ℕ) (p : Led t es i) where
+    -- it lies on its contour
+    placed : Holds (length o) i (p .contour)
+    placed = contour-holds 0 (length o) i es (p .contour) (omega arith) (good .ends) (p .on)
+
+    module _ (r : References) (by : references t (p .contour) i ≡ some r) where
+      -- its references are two points
+      two : r .before ≡ r .behind → ⊥
+      two = refs-differ t (p .contour) i (placed .low) (placed .high) (p .more) r by (unmarked t i (p .untouched))
+
+      -- an original strictly between theirs
+      faithful : at o (firstOf o r) <ℤ at o i → at o i <ℤ at o (secondOf o r)
+          → Faithful (at o i) (at o (firstOf o r)) (at c (firstOf o r)) (at o (secondOf o r)) (at c (secondOf o r)) (at d i)
+      unfolding betweenAt
+      faithful low high =
+          let ordered = refs-ordered o c r (good .originals) (good .currents) in
+          rw (result-between i (p .contour) r (p .on) (p .untouched) by two)
+          (faithful-at (at o i) (at o (firstOf o r)) (at c (firstOf o r)) (at o (secondOf o r)) (at c (secondOf o r)) ordered (omega (arith, signed)) (omega (arith, signed)))
+
+    -- its references are there, and it follows them
+    follows : Follows o c t (p .contour) i (at d i)
+    follows = found (references t (p .contour) i) refl
+      where
+        found : (r : Option References) → references t (p .contour) i ≡ r → Follows o c t (p .contour) i (at d i)
+        found none e = absurd (refs-there t (p .contour) i (placed .low) (placed .high) (p .more) e)
+        found (some r) e =
+            record {
+              by = r;
+              nearest = e;
+              before = before-touched t (p .contour) i (placed .low) (placed .high) (p .more) r e;
+              behind = behind-touched t (p .contour) i (placed .low) (placed .high) (p .more) r e;
+              different = two r e;
+              faithful = faithful r e;
+            }
 
   -- (b) untouched points between two neighbouring touched points whose originals differ and whose currents are not in opposite order
   module _ (p q : ℕ) (ordered : InOrder o c p q) where
@@ -58,7 +83,7 @@ module _ (o c d : List ℤ) (t es : List ℕ) (outcome : Outcome o c t es 0 d) w
         (a .by)
 
     -- none ends above one of higher original, since what is not higher ends not higher
-    pub in-order : (i j : ℕ) → Amid t es p q i → Amid t es p q j → at o i ≤ℤ at o j → at d i ≤ℤ at d j
+    in-order : (i j : ℕ) → Amid t es p q i → Amid t es p q j → at o i ≤ℤ at o j → at d i ≤ℤ at d j
     in-order i j a b le =
         let refs-in-order = refs-ordered o c (refs p q) (good .originals) (good .currents) in
         rw (comes-to i a, comes-to j b)
@@ -66,5 +91,9 @@ module _ (o c d : List ℤ) (t es : List ℕ) (outcome : Outcome o c t es 0 d) w
         (omega (arith, signed, rising o c p q ordered)) (omega (arith, signed)))
 
     -- and equal originals end equal
-    pub equal : (i j : ℕ) → Amid t es p q i → Amid t es p q j → at o i ≡ at o j → at d i ≡ at d j
+    equal : (i j : ℕ) → Amid t es p q i → Amid t es p q j → at o i ≡ at o j → at d i ≡ at d j
     equal i j a b e = cc (comes-to i a, comes-to j b)
+
+  -- the demand
+  pub demand-3 : Demand3 o c t es d
+  demand-3 = record { follows = follows; in-order = in-order; equal = equal }

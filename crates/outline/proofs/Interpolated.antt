@@ -40,7 +40,7 @@ module _ (v v1 u1 v2 u2 : ℤ) (h : Ordered v1 u1 v2 u2) (above : up v1 + dn v <
   -- demand 3 (a) there
   pub faithful-at : Faithful v v1 u1 v2 u2 (interpolated v v1 u1 v2 u2)
   faithful-at =
-      let f = between-law v v1 u1 v2 u2 above below h .faithful in
+      let f = between-law v v1 u1 v2 u2 above below h .along in
       let k = sub-law u2 u1 also one-zero (u2 -ℤ u1) also f .not-above also f .not-below in
       record {
         close = rw step-is (f .close);
@@ -56,16 +56,16 @@ module _ (v w v1 u1 v2 u2 : ℤ) (h : Ordered v1 u1 v2 u2) (originals : up v1 + 
   grows-at : Place v v1 v2 → Place w v1 v2 → interpolated v v1 u1 v2 u2 ≤ℤ interpolated w v1 u1 v2 u2
   grows-at (low a) (low b) = rw (interpolated-low v v1 u1 v2 u2 a, interpolated-low w v1 u1 v2 u2 b) (atmost (omega (arith, signed)))
   grows-at (low a) (mid b c) =
-      let f = between-law w v1 u1 v2 u2 b c h .faithful in
+      let f = between-law w v1 u1 v2 u2 b c h .along in
       rw (interpolated-low v v1 u1 v2 u2 a, interpolated-is w v1 u1 v2 u2 b c h) (atmost (omega (arith, signed, sub-law u2 u1, one-zero (u2 -ℤ u1), f .not-below)))
   grows-at (low a) (high b c) = rw (interpolated-low v v1 u1 v2 u2 a, interpolated-high w v1 u1 v2 u2 b c) (atmost (omega (arith, signed)))
   grows-at (mid a b) (low c) = absurd (omega arith)
   grows-at (mid a b) (mid c d) =
-      let f = between-law w v1 u1 v2 u2 c d h .faithful in
+      let f = between-law w v1 u1 v2 u2 c d h .along in
       let g = interpolation-grows (v -ℤ v1) (w -ℤ v1) (u2 -ℤ u1) (v2 -ℤ v1) (omega (arith, sub-law v v1)) (omega (arith, sub-law v v1, sub-law w v1)) (omega (arith, sub-law v2 v1)) in
       rw (interpolated-is v v1 u1 v2 u2 a b h, interpolated-is w v1 u1 v2 u2 c d h) (atmost (omega (arith, signed, sub-law u2 u1, one-zero (u2 -ℤ u1), f .not-below)))
   grows-at (mid a b) (high c d) =
-      let f = between-law v v1 u1 v2 u2 a b h .faithful in
+      let f = between-law v v1 u1 v2 u2 a b h .along in
       rw (interpolated-is v v1 u1 v2 u2 a b h, interpolated-high w v1 u1 v2 u2 c d) (atmost (omega (arith, signed, sub-law u2 u1, one-zero (u2 -ℤ u1), f .not-above)))
   grows-at (high a b) (low c) = absurd (omega arith)
   grows-at (high a b) (mid c d) = absurd (omega arith)
@@ -80,7 +80,7 @@ module _ (v v1 u1 v2 u2 : ℤ) (h : Ordered v1 u1 v2 u2) (k : Coordinate v) wher
   bounded-at : Place v v1 v2 → Between mostResult mostResult (interpolated v v1 u1 v2 u2)
   bounded-at (low a) = rw (interpolated-low v v1 u1 v2 u2 a) (omega (arith, add-law v (u1 -ℤ v1), sub-law u1 v1))
   bounded-at (mid a b) =
-      let f = between-law v v1 u1 v2 u2 a b h .faithful in
+      let f = between-law v v1 u1 v2 u2 a b h .along in
       rw (interpolated-is v v1 u1 v2 u2 a b h)
       (omega (arith, add-law u1 (mulFix (v -ℤ v1) (divFix (u2 -ℤ u1) (v2 -ℤ v1))), sub-law u2 u1, one-zero (u2 -ℤ u1), f .not-above, f .not-below))
   bounded-at (high a b) = rw (interpolated-high v v1 u1 v2 u2 a b) (omega (arith, add-law v (u2 -ℤ v2), sub-law u2 v2))

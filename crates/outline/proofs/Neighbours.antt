@@ -1,8 +1,8 @@
--- The references of a point: in their order, and two of them where two points are touched.
+-- The references of a point: in their order, and two different touched points where two points are touched.
 use mathlib.Core.Path.{_≡_, refl, sym, _∙_, ap}
 use mathlib.Core.Bool.{Bool, true, false}
 use mathlib.Core.List.{List}
-use mathlib.Core.Option.{some}
+use mathlib.Core.Option.{some, none}
 use Prim.Native.Nat.{ℕ, _+_, _≤_, _<_}
 use native.Mathlib.Omega.{arith}
 use lib.ListN.{getD}
@@ -12,9 +12,9 @@ use Rattle.signed.specs.Parts.{up, dn}
 use Rattle.signed.proofs.Signed.{atmost, same, is-<ℤ, signed}
 use Rattle.contours.specs.Contour.{at, Contour, References, refs, references, firstOf, secondOf}
 use Rattle.contours.specs.Steps.{Coordinates, Ordered}
-use Rattle.outline.specs.Faithful.{TwoTouched, InOrder}
-use Rattle.contours.proofs.Searches.{marked}
-use Rattle.contours.proofs.References.{refs-same}
+use Rattle.outline.specs.Faithful.{TouchedOn, TwoTouched, InOrder}
+use Rattle.contours.proofs.Searches.{is-touched, marked}
+use Rattle.contours.proofs.References.{refs-on, refs-missing, refs-same}
 use Rattle.contours.proofs.Spans.{apart}
 
 -- the first has no larger original
@@ -31,13 +31,27 @@ pub refs-ordered : (o c : List ℤ) (r : References) → Coordinates o → Coord
 refs-ordered o c r ho hc =
     record { original1 = ho (firstOf o r); current1 = hc (firstOf o r); original2 = ho (secondOf o r); current2 = hc (secondOf o r); order = refs-order o r }
 
--- where a contour has two touched points, the references of an untouched one differ
-pub refs-differ : (t : List ℕ) (k : Contour) (i : ℕ) → k .start ≤ i → i < k .end → getD t i 0 ≡ 0 → TwoTouched t k → (r : References) → references t k i ≡ some r → r .before ≡ r .behind → ⊥
-refs-differ t k i inside below free w r e q =
-    let f = e ∙ ap (λ (b : ℕ). some (refs (r .before) b)) (sym q) in
-    w .different
-    (refs-same t k i inside below (r .before) free f (w .x) (w .x-on .0) (w .x-on .1) (marked t (w .x) (w .x-touched))
-    ∙ sym (refs-same t k i inside below (r .before) free f (w .y) (w .y-on .0) (w .y-on .1) (marked t (w .y) (w .y-touched))))
+-- ---- the references of an untouched point on a contour with two touched points
+module _ (t : List ℕ) (k : Contour) (i : ℕ) (inside : k .start ≤ i) (below : i < k .end) (w : TwoTouched t k) where
+  -- they are there
+  pub refs-there : references t k i ≡ none → ⊥
+  refs-there e = omega (arith, refs-missing t k i inside below e (w .x) (w .x-on .high) (w .x-on .low), marked t (w .x) (w .x-on .touched))
+
+  module _ (r : References) (e : references t k i ≡ some r) where
+    -- they are touched points of the contour
+    pub before-touched : TouchedOn t k (r .before)
+    before-touched = let a = refs-on t k i inside below r e .0 in record { low = a .0; high = a .1; touched = is-touched t (r .before) (a .2) }
+
+    pub behind-touched : TouchedOn t k (r .behind)
+    behind-touched = let a = refs-on t k i inside below r e .1 in record { low = a .0; high = a .1; touched = is-touched t (r .behind) (a .2) }
+
+    -- and they differ
+    pub refs-differ : getD t i 0 ≡ 0 → r .before ≡ r .behind → ⊥
+    refs-differ free q =
+        let f = e ∙ ap (λ (b : ℕ). some (refs (r .before) b)) (sym q) in
+        w .different
+        (refs-same t k i inside below (r .before) free f (w .x) (w .x-on .low) (w .x-on .high) (marked t (w .x) (w .x-on .touched))
+        ∙ sym (refs-same t k i inside below (r .before) free f (w .y) (w .y-on .low) (w .y-on .high) (marked t (w .y) (w .y-on .touched))))
 
 -- ---- two neighbouring touched points p and q
 -- the one of smaller original

@@ -1,12 +1,17 @@
 -- What the steps of fitting promise each other.
-use Prim.Native.Nat.{ℕ}
+use Prim.Native.Nat.{ℕ, _+_}
 use Rattle.signed.specs.Range.{Between}
+use Rattle.fixed.specs.Width.{mostAway}
 use Rattle.axis.specs.declared.edge.Edge.{Edge}
 use Rattle.axis.specs.Limits.{mostUnits}
 
--- what a fitted width can be: 16 more than the distance of two original positions
+-- what the original length of a stem can be, the distance of two original positions
+abbrev pub mostLength : ℕ
+mostLength = mostUnits + mostUnits
+
+-- what a fitted width can be, longer by what a standard can be away
 abbrev pub mostWidth : ℕ
-mostWidth = 32782
+mostWidth = mostLength + mostAway
 
 -- what an edge's position can come to while a pass places edges, twice document 01's limit: each of at most 128 visits adds at most 65,580
 abbrev pub mostReach : ℕ

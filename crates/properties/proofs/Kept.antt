@@ -7,10 +7,11 @@ use Prim.Native.Nat.{ℕ, zero, suc, _<_, _≤_}
 use native.Mathlib.Omega.{arith}
 use borrow.Author.Tests.{eqb-true, eqb-false, ltb-true}
 use lib.Dec.{eqb, ltb}
-use lib.IntN.{ℤ}
+use lib.IntN.{ℤ, pos}
 use lib.ListN.{length}
 use lib.Seq.{getD-set-same, getD-set-other, set-out}
 use lib.Signed.{ltZ}
+use Rattle.signed.specs.Distance.{distance}
 use Rattle.signed.proofs.Signed.{lt-or-le}
 use Rattle.signed.proofs.Choices.{either-way}
 use Rattle.axis.specs.declared.kinds.Link.{Link}
@@ -28,7 +29,26 @@ use Rattle.axis.specs.Segment.{segmentAt}
 use Rattle.axis.proofs.Acceptance.{below-none, below-to}
 use Rattle.refusals.proofs.Tests.{and-first, and-second}
 use Rattle.properties.specs.declared.join.Join.{Join}
-use Rattle.properties.specs.Properties.{dist, edgeOf, isOther, joinOf, joinAt, asSerif, chosen, putSerif, putLink, joinBy, member, visits, roundness, straightness, serifBeside, finished, visit, edges, edgeProperties}
+use Rattle.properties.specs.Properties.{
+  namedEdge,
+  isOther,
+  joinOf,
+  joinAt,
+  asSerif,
+  chosen,
+  putSerif,
+  putLink,
+  joinBy,
+  member,
+  visits,
+  roundness,
+  straightness,
+  serifBeside,
+  withProperties,
+  visit,
+  edges,
+  edgeProperties,
+}
 use Rattle.properties.specs.Outcomes.{heldBy, nearer, joinedBy}
 use Rattle.properties.specs.Steps.{Ready}
 
@@ -65,7 +85,7 @@ module _ (n : ℕ) (e₀ e : Edge) (h : KeptEdge n e₀ e) where
   unfolding nearer
   nearer-below e2 delta Links.None held p q = q
   nearer-below e2 delta (Links.To k) Links.None p q = p
-  nearer-below e2 delta (Links.To k) (Links.To o) p q = either-way (Below n) (ltZ delta (dist (e .fpos) (e2 .fpos))) (Links.To k) (Links.To o) p q
+  nearer-below e2 delta (Links.To k) (Links.To o) p q = either-way (Below n) (ltZ delta (pos (distance (e .fpos) (e2 .fpos)))) (Links.To k) (Links.To o) p q
 
   joined-kept : (e2 : Edge) (j : Join) → Below n (j .edge) → KeptEdge n e₀ (joinedBy e e2 j)
   unfolding joinedBy
@@ -77,11 +97,11 @@ module _ (n : ℕ) (e₀ e : Edge) (h : KeptEdge n e₀ e) where
   chosen-below : (axis : Axis) (delta : ℤ) (q : ℕ) (held : Link) → q < n → Below n held → Below n (Links.To (chosen axis e delta q held))
   unfolding chosen
   chosen-below axis delta q Links.None p b = below-to n q p
-  chosen-below axis delta q (Links.To o) p b = below-to n _ (either-way (λ (k : ℕ). k < n) (ltZ delta (dist (e .fpos) (edgeAt axis o .fpos))) q o p (b .at o refl))
+  chosen-below axis delta q (Links.To o) p b = below-to n _ (either-way (λ (k : ℕ). k < n) (ltZ delta (pos (distance (e .fpos) (edgeAt axis o .fpos)))) q o p (b .at o refl))
 
-  finished-kept : (round straight : ℕ) → KeptEdge n e₀ (finished round straight e)
-  unfolding finished
-  finished-kept round straight = let p = with-kept (e .link) (serifBeside (e .link) (e .serif)) (h .link) (beside (e .link) (e .serif) (h .serif)) in
+  with-properties-kept : (round straight : ℕ) → KeptEdge n e₀ (withProperties round straight e)
+  unfolding withProperties
+  with-properties-kept round straight = let p = with-kept (e .link) (serifBeside (e .link) (e .serif)) (h .link) (beside (e .link) (e .serif) (h .serif)) in
       record { fpos = p .fpos; opos = p .opos; pos = p .pos; dir = p .dir; blue = p .blue; first = p .first; last = p .last; link = p .link; serif = p .serif }
     where
       beside : (l s : Link) → Below n s → Below n (serifBeside l s)
@@ -117,7 +137,7 @@ put-kept axis₀ axis i e h p = record { dim = h .dim; major = h .major; len = h
 
 -- ---- the visits
 module _ (axis₀ : Axis) (t : Segments) (r : Ready axis₀ t) where
-  edge-below : (ix : ℕ) (l : Link) → Below (t .len) l → Below (axis₀ .len) (edgeOf l (segmentAt t (indexOr ix l)))
+  edge-below : (ix : ℕ) (l : Link) → Below (t .len) l → Below (axis₀ .len) (namedEdge l (segmentAt t (indexOr ix l)))
   edge-below ix Links.None b = below-none (axis₀ .len)
   edge-below ix (Links.To i) b = r .segment i (b .at i refl) .edge
 
@@ -127,7 +147,8 @@ module _ (axis₀ : Axis) (t : Segments) (r : Ready axis₀ t) where
   asked-below k ix h =
       let s = segmentAt t ix in
       let at = r .segment ix h in
-      either-way (λ (j : Join). Below (axis₀ .len) (j .edge)) (isOther k (edgeOf (s .serif) (segmentAt t (indexOr ix (s .serif))))) _ _ (edge-below ix (s .serif) (at .serif)) (edge-below ix (s .link) (at .link))
+      either-way (λ (j : Join). Below (axis₀ .len) (j .edge)) (isOther k (namedEdge (s .serif) (segmentAt t (indexOr ix (s .serif))))) _ _ (edge-below ix (s .serif) (at .serif))
+      (edge-below ix (s .link) (at .link))
 
   module _ (k : ℕ) (hk : k < axis₀ .len) where
     join-kept : (b : Bool) (delta : ℤ) (l : Link) (axis : Axis) → Below (axis₀ .len) l → Kept axis₀ axis → Kept axis₀ (joinBy k b delta l axis)
@@ -143,7 +164,8 @@ module _ (axis₀ : Axis) (t : Segments) (r : Ready axis₀ t) where
         let bw : Below n (Links.To w) = chosen-below n (edgeAt axis₀ k) e g axis delta q (e .link) (p .at q refl) (g .link) in
         let put = put-kept axis₀ axis k (joinedTo e (e .link) (Links.To v)) h (with-kept n (edgeAt axis₀ k) e g (e .link) (Links.To v) (g .link) bv) in
         either-way (Kept axis₀) b (putSerif k v axis) (putLink k w axis)
-        (put-kept axis₀ (putEdge axis k (joinedTo e (e .link) (Links.To v))) v (asSerif (edgeAt (putEdge axis k (joinedTo e (e .link) (Links.To v))) v)) put (flagged-kept n (edgeAt axis₀ v) (edgeAt (putEdge axis k (joinedTo e (e .link) (Links.To v))) v) (put .edge v (bv .at v refl)) _))
+        (put-kept axis₀ (putEdge axis k (joinedTo e (e .link) (Links.To v))) v (asSerif (edgeAt (putEdge axis k (joinedTo e (e .link) (Links.To v))) v)) put
+        (flagged-kept n (edgeAt axis₀ v) (edgeAt (putEdge axis k (joinedTo e (e .link) (Links.To v))) v) (put .edge v (bv .at v refl)) _))
         (put-kept axis₀ axis k (joinedTo e (Links.To w) (e .serif)) h (with-kept n (edgeAt axis₀ k) e g (Links.To w) (e .serif) bw (g .serif)))
 
     pub member-kept : (ix : ℕ) (axis : Axis) → ix < t .len → Kept axis₀ axis → Kept axis₀ (member t k ix axis)
@@ -156,7 +178,8 @@ module _ (axis₀ : Axis) (t : Segments) (r : Ready axis₀ t) where
     walk-kept last (suc n) ix axis p e h = go (eqb ix last) (walk-kept last n (nextOf t last ix) (member t k ix axis)) e
       where
         go : (b : Bool)
-            → (nextOf t last ix < t .len → ends (nextOf t last) (t .len) last n (nextOf t last ix) ≡ true → Kept axis₀ (member t k ix axis) → Kept axis₀ (visits t k (walk (nextOf t last) last n (nextOf t last ix)) (member t k ix axis)))
+            → (nextOf t last ix < t .len → ends (nextOf t last) (t .len) last n (nextOf t last ix) ≡ true → Kept axis₀ (member t k ix axis)
+            → Kept axis₀ (visits t k (walk (nextOf t last) last n (nextOf t last ix)) (member t k ix axis)))
             → cond b true (ltb (nextOf t last ix) (t .len) && ends (nextOf t last) (t .len) last n (nextOf t last ix)) ≡ true
             → Kept axis₀ (visits t k (cond b (ix ∷ []) (ix ∷ walk (nextOf t last) last n (nextOf t last ix))) axis)
         go true f z = member-kept ix axis p h
@@ -169,7 +192,8 @@ module _ (axis₀ : Axis) (t : Segments) (r : Ready axis₀ t) where
         let ring = r .rings .ring k hk in
         let ms = members axis t k in
         let v : Kept axis₀ (visits t k ms axis) = rw (g .first, g .last) (walk-kept (edgeAt axis₀ k .last) mostSegments (edgeAt axis₀ k .first) axis (ring .starts) (ring .stops) h) in
-        put-kept axis₀ (visits t k ms axis) k (finished (roundness t ms) (straightness t ms) (edgeAt (visits t k ms axis) k)) v (finished-kept (axis₀ .len) (edgeAt axis₀ k) (edgeAt (visits t k ms axis) k) (v .edge k hk) (roundness t ms) (straightness t ms))
+        put-kept axis₀ (visits t k ms axis) k (withProperties (roundness t ms) (straightness t ms) (edgeAt (visits t k ms axis) k)) v
+        (with-properties-kept (axis₀ .len) (edgeAt axis₀ k) (edgeAt (visits t k ms axis) k) (v .edge k hk) (roundness t ms) (straightness t ms))
 
   -- an axis that is kept is as ready
   pub ready-kept : (axis : Axis) → Kept axis₀ axis → Ready axis t
@@ -213,7 +237,7 @@ module _ (axis₀ : Axis) (t : Segments) (r : Ready axis₀ t) where
   edges-kept (suc k) h = visit-kept k (omega arith) (edges t k axis₀) (edges-kept k (omega arith))
 
   -- the whole
-  properties-kept : Kept axis₀ (edgeProperties axis₀ t)
+  pub properties-kept : Kept axis₀ (edgeProperties axis₀ t)
   unfolding edgeProperties
   properties-kept = edges-kept (axis₀ .len) (omega arith)
 

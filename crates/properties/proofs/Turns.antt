@@ -6,9 +6,10 @@ use Prim.Native.Nat.{ℕ, zero, suc, _+_, _<_, _≤_}
 use native.Mathlib.Omega.{arith}
 use native.Mathlib.Numerals.{add-one}
 use lib.Dec.{eqb}
-use lib.IntN.{ℤ}
+use lib.IntN.{ℤ, pos}
 use lib.ListN.{length, getD, set}
 use lib.Signed.{ltZ}
+use Rattle.signed.specs.Distance.{distance}
 use Rattle.axis.specs.declared.kinds.Link.{Link}
 use Rattle.axis.specs.declared.kinds.Link.the-variants as Links
 use Rattle.axis.specs.declared.edge.Axis.{Axis}
@@ -22,7 +23,7 @@ use Rattle.axis.specs.Ring.{nextOf, walk, ends, members, Walked}
 use Rattle.axis.specs.Segment.{segmentAt}
 use Rattle.axis.proofs.Rings.{walk-at, walk-passes, shorter, length-walk}
 use Rattle.properties.specs.declared.join.Join.{Join}
-use Rattle.properties.specs.Properties.{dist, edgeOf, isOther, joinOf, joinAt, chosen, joinBy, member, visits, roundness, straightness, finished, visit, edges}
+use Rattle.properties.specs.Properties.{namedEdge, isOther, joinOf, joinAt, chosen, joinBy, member, visits, roundness, straightness, withProperties, visit, edges}
 use Rattle.properties.specs.Outcomes.{heldBy, nearer, joinedBy, flaggedBy}
 
 -- ---- a place that is written with what it holds
@@ -38,7 +39,8 @@ put-own axis i = rw (set-own (axis .edges) i emptyEdge)
 -- where it is for a serif's edge, there is one
 serif-asks : (k : ℕ) (s serif link : Segment) → joinOf k s serif link .«is_serif» ≡ true → joinOf k s serif link .edge ≡ Links.None → ⊥
 unfolding joinOf
-serif-asks k s serif link h e = by-edge (edgeOf (s .serif) serif) (dist (s .pos) (serif .pos)) (record { «is_serif» = false; edge = edgeOf (s .link) link; delta = dist (s .pos) (link .pos) }) refl h e
+serif-asks k s serif link h e = by-edge (namedEdge (s .serif) serif) (pos (distance (s .pos) (serif .pos)))
+    (record { «is_serif» = false; edge = namedEdge (s .link) link; delta = pos (distance (s .pos) (link .pos)) }) refl h e
   where
     by-test : (b : Bool) (q : ℕ) (x : ℤ) (j : Join) → j .«is_serif» ≡ false → cond {A = Join} b (record { «is_serif» = true; edge = Links.To q; delta = x }) j .«is_serif» ≡ true
         → cond {A = Join} b (record { «is_serif» = true; edge = Links.To q; delta = x }) j .edge ≡ Links.None → ⊥
@@ -66,7 +68,7 @@ module _ (axis : Axis) (k : ℕ) where
   nearer-is : (e : Edge) (delta : ℤ) (q : ℕ) (held : Link) → nearer e (edgeAt axis (indexOr k held)) delta (Links.To q) held ≡ Links.To (chosen axis e delta q held)
   unfolding nearer chosen
   nearer-is e delta q Links.None = refl
-  nearer-is e delta q (Links.To o) = cond-to (ltZ delta (dist (e .fpos) (edgeAt axis o .fpos))) q o
+  nearer-is e delta q (Links.To o) = cond-to (ltZ delta (pos (distance (e .fpos) (edgeAt axis o .fpos)))) q o
 
   nearer-none : (e e2 : Edge) (delta : ℤ) (held : Link) → nearer e e2 delta Links.None held ≡ held
   unfolding nearer
@@ -77,7 +79,8 @@ module _ (axis : Axis) (k : ℕ) where
   unfolding joinBy joinedBy
   written-is true delta Links.None h = absurd (h refl refl)
   written-is false delta Links.None h =
-      rw (nearer-none (edgeAt axis k) (edgeAt axis (indexOr k (edgeAt axis k .link))) delta (edgeAt axis k .link)) (put-own (putEdge axis k (edgeAt axis k)) (indexOr k (edgeAt axis k .link)) ∙ put-own axis k)
+      rw (nearer-none (edgeAt axis k) (edgeAt axis (indexOr k (edgeAt axis k .link))) delta (edgeAt axis k .link))
+      (put-own (putEdge axis k (edgeAt axis k)) (indexOr k (edgeAt axis k .link)) ∙ put-own axis k)
   written-is true delta (Links.To q) h = rw (nearer-is (edgeAt axis k) delta q (edgeAt axis k .serif))
   written-is false delta (Links.To q) h = rw (nearer-is (edgeAt axis k) delta q (edgeAt axis k .link)) (put-own _ _)
 
@@ -135,7 +138,7 @@ module _ (t : Segments) (k last first : ℕ) (axis₀ axis : Axis) (ix r s : ℕ
       }
 
   -- at the last
-  pub along-end : (e : Edge) → ix ≡ last → e ≡ finished r′ s′ (edgeAt axis′ k) → putEdge axis′ k e ≡ visit t k (walk (nextOf t last) last mostSegments first) axis₀
+  pub along-end : (e : Edge) → ix ≡ last → e ≡ withProperties r′ s′ (edgeAt axis′ k) → putEdge axis′ k e ≡ visit t k (walk (nextOf t last) last mostSegments first) axis₀
   unfolding visit visits roundness straightness
   along-end e h q =
       let w = walk-at (nextOf t last) last mostSegments ix h in

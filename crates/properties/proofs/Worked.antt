@@ -89,13 +89,16 @@ rows =
     (call (bare 0 0 0 ∷ bare 100 1 2 ∷ []) (segment 0 false None None (To 0) (To 0) ∷ segment 100 false None (To 0) (To 1) (To 2) ∷ segment 100 false (To 0) None (To 1) (To 1) ∷ [])
     is axis (edge 0 0 0 (flags false true) None None ∷ edge 100 1 2 normal (To 0) None ∷ [])) ∷
     -- edge 0 is linked to edge 1, 100 away; its second segment has a link that is 35 away, and takes it to edge 2
-    (call (bare 0 0 1 ∷ bare 100 2 2 ∷ bare 40 3 3 ∷ []) (segment 0 false (To 2) None (To 0) (To 1) ∷ segment 5 false (To 3) None (To 0) (To 0) ∷ segment 100 false None None (To 1) (To 2) ∷ segment 40 false None None (To 2) (To 3) ∷ [])
+    (call (bare 0 0 1 ∷ bare 100 2 2 ∷ bare 40 3 3 ∷ []) (segment 0 false (To 2) None (To 0) (To 1) ∷ segment 5 false (To 3) None (To 0) (To 0)
+    ∷ segment 100 false None None (To 1) (To 2) ∷ segment 40 false None None (To 2) (To 3) ∷ [])
     is axis (edge 0 0 1 normal (To 2) None ∷ bare 100 2 2 ∷ bare 40 3 3 ∷ [])) ∷
     -- a link that is 100 away too does not
-    (call (bare 0 0 1 ∷ bare 100 2 2 ∷ bare 90 3 3 ∷ []) (segment 0 false (To 2) None (To 0) (To 1) ∷ segment 0 false (To 3) None (To 0) (To 0) ∷ segment 100 false None None (To 1) (To 2) ∷ segment 100 false None None (To 2) (To 3) ∷ [])
+    (call (bare 0 0 1 ∷ bare 100 2 2 ∷ bare 90 3 3 ∷ []) (segment 0 false (To 2) None (To 0) (To 1) ∷ segment 0 false (To 3) None (To 0) (To 0)
+    ∷ segment 100 false None None (To 1) (To 2) ∷ segment 100 false None None (To 2) (To 3) ∷ [])
     is axis (edge 0 0 1 normal (To 1) None ∷ bare 100 2 2 ∷ bare 90 3 3 ∷ [])) ∷
     -- as with the links, so with the serifs: edge 0 leaves edge 1 for edge 2, and both lose the flag
-    (call (bare 0 0 1 ∷ bare 100 2 2 ∷ bare 40 3 3 ∷ []) (segment 0 false None (To 2) (To 0) (To 1) ∷ segment 5 false None (To 3) (To 0) (To 0) ∷ segment 100 false None None (To 1) (To 2) ∷ segment 40 false None None (To 2) (To 3) ∷ [])
+    (call (bare 0 0 1 ∷ bare 100 2 2 ∷ bare 40 3 3 ∷ []) (segment 0 false None (To 2) (To 0) (To 1) ∷ segment 5 false None (To 3) (To 0) (To 0)
+    ∷ segment 100 false None None (To 1) (To 2) ∷ segment 40 false None None (To 2) (To 3) ∷ [])
     is axis (edge 0 0 1 normal None (To 2) ∷ bare 100 2 2 ∷ bare 40 3 3 ∷ [])) ∷
     -- a serif of the own edge is none, and the link counts
     (call (bare 0 0 0 ∷ bare 100 1 1 ∷ []) (segment 0 false (To 1) (To 0) (To 0) (To 0) ∷ segment 100 false None None (To 1) (To 1) ∷ [])
@@ -116,5 +119,5 @@ rows =
 
 -- each row holds
 pub worked : map (λ (r : Row). r .gives) rows ≡ map (λ (r : Row). r .value) rows
-unfolding walk P.dist P.joinOf P.joinAt P.chosen P.joinBy P.member P.visits P.roundness P.straightness P.finished P.visit P.edges P.edgeProperties rows
+unfolding walk P.joinOf P.joinAt P.chosen P.joinBy P.member P.visits P.roundness P.straightness P.withProperties P.visit P.edges P.edgeProperties rows
 worked = refl

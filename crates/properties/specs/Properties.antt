@@ -4,8 +4,9 @@ use mathlib.Core.Bool.{Bool, true, false, cond, not, _&&_}
 use mathlib.Core.List.{List, [], _∷_}
 use Prim.Native.Nat.{ℕ, zero, suc, _+_}
 use lib.Dec.{eqb, ltb, leb}
-use lib.IntN.{ℤ, _-ℤ_}
+use lib.IntN.{ℤ, pos}
 use lib.Signed.{ltZ}
+use Rattle.signed.specs.Distance.{distance}
 use Rattle.axis.specs.declared.kinds.Link.{Link}
 use Rattle.axis.specs.declared.kinds.Link.the-variants as Links
 use Rattle.axis.specs.declared.edge.Axis.{Axis}
@@ -19,14 +20,10 @@ use Rattle.axis.specs.Segment.{segmentAt}
 use Rattle.properties.specs.declared.join.Join.{Join}
 
 -- ---- what a segment asks of its edge
--- how far two font positions are apart
-unfoldable pub dist : ℤ → ℤ → ℤ
-dist a b = cond (ltZ a b) (b -ℤ a) (a -ℤ b)
-
 -- the edge of the segment that an index names, and none without an index
-abbrev pub edgeOf : Link → Segment → Link
-edgeOf Links.None named = Links.None
-edgeOf (Links.To ix) named = named .edge
+abbrev pub namedEdge : Link → Segment → Link
+namedEdge Links.None named = Links.None
+namedEdge (Links.To ix) named = named .edge
 
 -- an edge, and another one than k
 abbrev pub isOther : ℕ → Link → Bool
@@ -37,11 +34,11 @@ isOther k (Links.To e) = not (eqb e k)
 -- link's edge, if any
 unfoldable pub joinOf : ℕ → Segment → Segment → Segment → Join
 joinOf k s serif link =
-    cond (isOther k (edgeOf (s .serif) serif))
-    (record { «is_serif» = true; edge = edgeOf (s .serif) serif; delta = dist (s .pos) (serif .pos) })
-    (record { «is_serif» = false; edge = edgeOf (s .link) link; delta = dist (s .pos) (link .pos) })
+    cond (isOther k (namedEdge (s .serif) serif))
+    (record { «is_serif» = true; edge = namedEdge (s .serif) serif; delta = pos (distance (s .pos) (serif .pos)) })
+    (record { «is_serif» = false; edge = namedEdge (s .link) link; delta = pos (distance (s .pos) (link .pos)) })
 
--- the same of segment ix of a table; where it names none, it stands there itself, and `edgeOf` passes it over
+-- the same of segment ix of a table; where it names none, it stands there itself, and `namedEdge` passes it over
 unfoldable pub joinAt : Segments → ℕ → ℕ → Join
 joinAt t k ix = joinOf k (segmentAt t ix) (segmentAt t (indexOr ix (segmentAt t ix .serif))) (segmentAt t (indexOr ix (segmentAt t ix .link)))
 
@@ -53,7 +50,7 @@ asSerif e = flagged e (record { round = e .flags .round; serif = true; done = e 
 -- the edge q that is asked for, or the one that e has: q where it has none, or where the segments are nearer than the edges
 unfoldable pub chosen : Axis → Edge → ℤ → ℕ → Link → ℕ
 chosen axis e delta q Links.None = q
-chosen axis e delta q (Links.To o) = cond (ltZ delta (dist (e .fpos) (edgeAt axis o .fpos))) q o
+chosen axis e delta q (Links.To o) = cond (ltZ delta (pos (distance (e .fpos) (edgeAt axis o .fpos)))) q o
 
 -- SERIF is set on edge w
 abbrev pub setSerif : ℕ → Axis → Axis
@@ -105,13 +102,13 @@ serifBeside Links.None serif = serif
 serifBeside (Links.To k) serif = Links.None
 
 -- the edge at the end of its visit: of its flags only ROUND can be set, and a serif is dropped where a link is
-unfoldable pub finished : ℕ → ℕ → Edge → Edge
-finished round straight e =
+unfoldable pub withProperties : ℕ → ℕ → Edge → Edge
+withProperties round straight e =
     flagged (joinedTo e (e .link) (serifBeside (e .link) (e .serif))) (record { round = isRound round straight; serif = false; done = false; neutral = false })
 
 -- the visit of edge k by these segments
 unfoldable pub visit : Segments → ℕ → List ℕ → Axis → Axis
-visit t k ms axis = putEdge (visits t k ms axis) k (finished (roundness t ms) (straightness t ms) (edgeAt (visits t k ms axis) k))
+visit t k ms axis = putEdge (visits t k ms axis) k (withProperties (roundness t ms) (straightness t ms) (edgeAt (visits t k ms axis) k))
 
 -- ---- all edges
 -- the visits of the first k

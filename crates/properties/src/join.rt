@@ -3,8 +3,10 @@ use axis::kinds::Link;
 use axis::link::index_or;
 use axis::segment::Segment;
 ghost use mathlib.Core.Path.{_≡_};
+ghost use lib.IntN.{pos};
+ghost use Rattle.signed.specs.Distance.{distance as distanceOf};
 ghost use Rattle.axis.specs.Link.{indexOr};
-ghost use Rattle.properties.specs.Properties.{dist, edgeOf, isOther, joinOf};
+ghost use Rattle.properties.specs.Properties.{namedEdge, isOther, joinOf};
 
 // The edge that a segment asks its own to join, if any: as a serif of it or as its link, and how far the segment there is.
 pub struct Join {
@@ -15,7 +17,7 @@ pub struct Join {
 
 // How far two font positions are apart.
 pub fn distance(a: i16, b: i16) -> i32
-    ensures { λ r. ⌜ r ≡ dist a b ⌝ }
+    ensures { λ r. ⌜ r ≡ pos (distanceOf a b) ⌝ }
 {
     let x = a as i32;
     let y = b as i32;
@@ -50,8 +52,8 @@ pub fn next_at(segment: Segment, last: usize) -> usize
 }
 
 // The edge of the segment that an index names, and none without an index.
-fn edge_of(ix: Link, named: Segment) -> Link
-    ensures { λ r. ⌜ r ≡ edgeOf ix named ⌝ }
+fn named_edge(ix: Link, named: Segment) -> Link
+    ensures { λ r. ⌜ r ≡ namedEdge ix named ⌝ }
 {
     let edge = named.edge;
     match ix {
@@ -75,7 +77,7 @@ pub fn join_of(segment: Segment, serif: Segment, link: Segment, edge_ix: usize) 
     ensures { λ r. ⌜ r ≡ joinOf «edge_ix» segment serif link ⌝ }
 {
     let serif_ix = segment.serif;
-    let edge = edge_of(serif_ix, serif);
+    let edge = named_edge(serif_ix, serif);
     if is_other(edge, edge_ix) {
         let delta = distance(segment.pos, serif.pos);
         return Join {
@@ -85,7 +87,7 @@ pub fn join_of(segment: Segment, serif: Segment, link: Segment, edge_ix: usize) 
         };
     }
     let link_ix = segment.link;
-    let linked = edge_of(link_ix, link);
+    let linked = named_edge(link_ix, link);
     let delta = distance(segment.pos, link.pos);
     Join {
         is_serif: false,

@@ -9,7 +9,7 @@ use axis::link::index_or;
 ghost use mathlib.Core.Path.{_≡_};
 ghost use Rattle.axis.specs.Link.{indexOr};
 ghost use Rattle.properties.specs.Outcomes.{heldBy, nearer as nearerOf, joinedBy, flaggedBy};
-ghost use Rattle.properties.specs.Properties.{isRound, serifBeside, finished as finishedAs};
+ghost use Rattle.properties.specs.Properties.{isRound, serifBeside, withProperties};
 
 // The place of the edge that this one is joined to in the way of a join, or its own where there is none.
 pub fn edge2_at(edge: Edge, join: Join, own: usize) -> usize
@@ -87,8 +87,8 @@ fn serif_beside(link: Link, serif: Link) -> Link
 }
 
 // The edge at the end of its visit: flags anew, and no serif beside a link.
-pub fn finished(edge: Edge, roundness: usize, straightness: usize) -> Edge
-    ensures { λ r. ⌜ r ≡ finishedAs roundness straightness edge ⌝ }
+pub fn with_properties(edge: Edge, roundness: usize, straightness: usize) -> Edge
+    ensures { λ r. ⌜ r ≡ withProperties roundness straightness edge ⌝ }
 {
     let round = is_round(roundness, straightness);
     let flags = Flags { round, ..NORMAL };

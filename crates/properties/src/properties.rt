@@ -4,9 +4,9 @@ use super::join::link_at;
 use super::join::next_at;
 use super::join::serif_at;
 use super::outcome::edge2_at;
-use super::outcome::finished;
 use super::outcome::flagged;
 use super::outcome::joined_to;
+use super::outcome::with_properties;
 use axis::edge::Axis;
 use axis::segment::Segments;
 ghost use mathlib.Core.Path.{_≡_};
@@ -49,7 +49,7 @@ pub fn compute_edge_properties(axis: Axis, segments: Segments) -> Axis
             }
             segment_ix = next_at(segment, last_segment_ix);
         }
-        table.edges[edge_ix] = finished(table.edges[edge_ix], roundness, straightness);
+        table.edges[edge_ix] = with_properties(table.edges[edge_ix], roundness, straightness);
     }
     table
 }

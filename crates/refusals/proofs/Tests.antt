@@ -95,12 +95,12 @@ pub all-held : {ts : List Test} {k : ℕ} → Tested k ts → k ≤ 0 → AllHol
 all-held {ts} {k} t h = let z : k ≡ 0 = omega arith in all-hold ts (t .numbers) (sym (t .refused) ∙ z)
 
 -- ---- the outcome, as the code comes to it
-pub answered-no : {A : Type 0} (k j : ℕ) (refused : ℕ → A) (done : A) → k ≡ j → 0 < k → refused k ≡ answered j refused done
-answered-no {A} k j refused done e h = subst (λ (i : ℕ). refused k ≡ answered i refused done) e (go k h)
+pub answered-no : {A : Type 0} (k j : ℕ) (refused : ℕ → A) (result : A) → k ≡ j → 0 < k → refused k ≡ answered j refused result
+answered-no {A} k j refused result e h = subst (λ (i : ℕ). refused k ≡ answered i refused result) e (go k h)
   where
-    go : (k : ℕ) → 0 < k → refused k ≡ answered k refused done
+    go : (k : ℕ) → 0 < k → refused k ≡ answered k refused result
     go zero h = absurd (omega arith)
     go (suc k) h = refl
 
-pub answered-yes : {A : Type 0} (k j : ℕ) (refused : ℕ → A) (done x : A) → k ≡ j → k ≤ 0 → x ≡ done → x ≡ answered j refused done
-answered-yes {A} k j refused done x e h q = let z : j ≡ 0 = omega arith in subst (λ (i : ℕ). x ≡ answered i refused done) (sym z) q
+pub answered-yes : {A : Type 0} (k j : ℕ) (refused : ℕ → A) (result x : A) → k ≡ j → k ≤ 0 → x ≡ result → x ≡ answered j refused result
+answered-yes {A} k j refused result x e h q = let z : j ≡ 0 = omega arith in subst (λ (i : ℕ). x ≡ answered i refused result) (sym z) q

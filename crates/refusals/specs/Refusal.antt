@@ -48,5 +48,5 @@ orRefused (suc k) h n = suc k
 
 -- what a call hands back: the result of its work beside 0, or what was given beside the refusal
 abbrev pub answered : {A : Type 0} → ℕ → (ℕ → A) → A → A
-answered zero refused done = done
-answered (suc k) refused done = refused (suc k)
+answered zero refused result = result
+answered (suc k) refused result = refused (suc k)

@@ -5,16 +5,20 @@ use jobs::answer::LONGEST;
 use jobs::answer::answer;
 use libc::STDIN_FILENO;
 use libc::STDOUT_FILENO;
+use lines::limits::MOST_WORDS;
 use lines::line::Line;
 use lines::line::feed;
 use lines::line::words_of;
+use spell::MOST_TEXT;
 use spell::spell;
 ghost use Prim.Native.Nat.{_≤_};
 ghost use lib.ListN.{length};
+ghost use Rattle.lines.specs.Limits.{mostWords};
+ghost use Rattle.replay.specs.Limits.{mostText};
 
 // Writes the answer to the words that a line has.
 fn reply(words: &[i32], line: Line, out: &mut [i32], text: &mut [u8])
-    requires { ⌜ (32769 ≤ length (now words)) × (72729 ≤ length (now text)) ⌝ }
+    requires { ⌜ (mostWords ≤ length (now words)) × (mostText ≤ length (now text)) ⌝ }
 {
     let n = words_of(line);
     let count = answer(&words[..n], out);
@@ -31,7 +35,7 @@ fn feed_block(
     out: &mut [i32],
     text: &mut [u8],
 ) -> Line
-    requires { ⌜ (32769 ≤ length (now words)) × (72729 ≤ length (now text)) ⌝ }
+    requires { ⌜ (mostWords ≤ length (now words)) × (mostText ≤ length (now text)) ⌝ }
     requires { ⌜ n ≤ length (now block) ⌝ }
 {
     let mut line = begun;
@@ -51,9 +55,9 @@ fn feed_block(
 
 fn main() {
     let mut block = io::large_buffer();
-    let mut words = [0i32; 32769];
+    let mut words = [0i32; MOST_WORDS];
     let mut out = [0i32; LONGEST];
-    let mut text = [0u8; 72729];
+    let mut text = [0u8; MOST_TEXT];
     let mut line = Line::new();
     let mut turns: u64 = 18446744073709551615;
     while 0 < turns {

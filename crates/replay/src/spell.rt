@@ -1,7 +1,12 @@
 // An answer as a line of text.
+use jobs::answer::LONGEST;
 use middle::bits::bits_of;
 ghost use Prim.Native.Nat.{_≤_, _+_};
 ghost use lib.ListN.{length};
+ghost use Rattle.replay.specs.Limits.{mostText};
+
+// Bytes of the longest answer: eight digits a word, and a line feed.
+pub const MOST_TEXT: usize = 8 * LONGEST + 1;
 
 // The upper-case hexadecimal digit of a value, which counts modulo 16.
 fn letter(value: u32) -> u8 {
@@ -27,14 +32,14 @@ fn spell_word(text: &mut [u8], at: usize, word: i32)
     text[at + 7] = letter(bits);
 }
 
-// Writes the first n words, of which the longest answer has 9,091, and a line feed, and tells how many bytes that is.
+// Writes the first n words, of which the longest answer has the most, and a line feed, and tells how many bytes that is.
 pub fn spell(words: &[i32], n: usize, text: &mut [u8]) -> usize
-    requires { ⌜ 72729 ≤ length (now text) ⌝ }
-    ensures { λ r. ⌜ r ≤ 72729 ⌝ }
+    requires { ⌜ mostText ≤ length (now text) ⌝ }
+    ensures { λ r. ⌜ r ≤ mostText ⌝ }
 {
     let mut i = 0;
     while i < n {
-        if 9091 <= i {
+        if LONGEST <= i {
             return 0;
         }
         if words.len() <= i {

@@ -8,7 +8,7 @@ use Rattle.refusals.specs.Refusal.{refusal}
 use Rattle.fixed.specs.declared.width.WidthRule.the-variants.{Keep}
 use Rattle.fixed.specs.Pixel.{pixFloor, pixRound}
 use Rattle.fixed.specs.Width.{ruleHolds, fittedWidth}
-use Rattle.fixed.specs.Point.{near, nearZ, mulFix, divFix, derived}
+use Rattle.fixed.specs.Point.{rounded, roundedZ, mulFix, divFix, derived}
 use Rattle.contours.specs.Contour.{firstTouched, lastTouched, touchedBefore, touchedBehind, references, firstOf, secondOf, interpolated, betweenAt, shiftedAt, followed, weakAt}
 use Rattle.outline.specs.Weak.{endsHold, coordinateHolds, coordinatesHold, contourOf, onContour, alignedAt, listOf, result}
 use Rattle.axis.specs.declared.kinds.Dimension.the-variants.{Vertical}
@@ -114,7 +114,7 @@ table =
 -- every row holds
 pub rows-hold : All table
 unfolding
-    near nearZ mulFix divFix derived pixFloor pixRound ruleHolds fittedWidth
+    rounded roundedZ mulFix divFix derived pixFloor pixRound ruleHolds fittedWidth
     refusal linkHolds blueHolds every edgeIndices edgeNumbers edgesIndices edgesNumbers segmentIndices segmentNext segmentNumbers segmentsIndices segmentsNexts segmentsNumbers
     endsHold coordinateHolds coordinatesHold contourOf firstTouched lastTouched touchedBefore touchedBehind references firstOf secondOf interpolated betweenAt shiftedAt followed
     weakAt onContour alignedAt listOf result

@@ -5,15 +5,17 @@ use Prim.Native.Nat.{_<_, _^_}
 use native.Mathlib.Omega.{arith}
 use borrow.Author.Tests.{eqb-true, eqb-false}
 use lib.Dec.{eqb}
-use lib.IntN.{ℤ, _-ℤ_}
+use lib.IntN.{ℤ, pos, _-ℤ_}
 use lib.Signed.{ltZ, leZ, mag}
 use mir.Syntax.{Width, w16, w32, w64}
 use mir.Val.{SFits, toZ, ofZ, hbits}
+use Rattle.signed.specs.Distance.{distance}
 use Rattle.signed.specs.Equality.{eqZ}
 use Rattle.signed.specs.Range.{Between}
 use Rattle.signed.proofs.Equality.{eqZ-yes, eqZ-no}
 use Rattle.signed.proofs.Machine.{is, got}
-use Rattle.signed.proofs.Order.{to-lt-true, to-lt-false, to-le-true, to-le-false}
+use Rattle.signed.proofs.Operations.{one-zero, natAbs-is, sub-law}
+use Rattle.signed.proofs.Order.{to-≡, to-lt-true, to-lt-false, to-le-true, to-le-false}
 use Rattle.signed.proofs.Ranges.{range}
 use Rattle.signed.proofs.Rules.{signed, fits}
 
@@ -57,6 +59,15 @@ sub-fits x y p q = rw (back-16 x p, back-16 y q) (apart x y p q)
 -- and is read back
 pub sub-is : (x y : ℤ) → mag x < 2 ^ hbits w16 → mag y < 2 ^ hbits w16 → toZ w32 (ofZ w32 (toZ w32 (ofZ w32 (toZ w16 (ofZ w16 x))) -ℤ toZ w32 (ofZ w32 (toZ w16 (ofZ w16 y))))) ≡ x -ℤ y
 sub-is x y p q = rw (back-16 x p, back-16 y q) (is (apart x y p q))
+
+-- the difference that is not below zero is the distance
+pub distance-up : (a b : ℤ) → ltZ a b ≡ true → b -ℤ a ≡ pos (distance a b)
+distance-up a b e =
+    to-≡ (b -ℤ a) (pos (distance a b))
+    (omega (arith, signed, sub-law b a, sub-law a b, one-zero (b -ℤ a), one-zero (a -ℤ b), natAbs-is (a -ℤ b)))
+
+pub distance-down : (a b : ℤ) → ltZ a b ≡ false → a -ℤ b ≡ pos (distance a b)
+distance-down a b e = to-≡ (a -ℤ b) (pos (distance a b)) (omega (arith, signed, sub-law a b, one-zero (a -ℤ b), natAbs-is (a -ℤ b)))
 
 -- ---- tests
 -- one order test is the other turned round

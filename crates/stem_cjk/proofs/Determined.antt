@@ -7,8 +7,8 @@ use lib.IntN.{ℤ}
 use Rattle.fixed.specs.declared.width.WidthRule.{WidthRule}
 use Rattle.axis.specs.declared.edge.Axis.{Axis}
 use Rattle.stem_cjk.specs.declared.hint.StemCjk.{StemCjk}
-use Rattle.stem_cjk.specs.Cjk.{hintNormalStemCjk}
+use Rattle.stem_cjk.specs.Cjk.{HintsNormalStemCjk}
 
 pub determined : (axis : Axis) (adjust : Bool) (rule : WidthRule) (xs : List ℤ) (i j : ℕ) (d : ℤ) {r s : StemCjk}
-    → r ≡ hintNormalStemCjk axis adjust rule xs i j d → s ≡ hintNormalStemCjk axis adjust rule xs i j d → r ≡ s
+    → HintsNormalStemCjk axis adjust rule xs i j d r → HintsNormalStemCjk axis adjust rule xs i j d s → r ≡ s
 determined axis adjust rule xs i j d p q = p ∙ sym q

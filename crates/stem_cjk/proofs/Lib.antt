@@ -1,2 +1,4 @@
--- `Determined`: the promise determines the outcome.
+-- `Determined`: the promise determines the outcome. `Changed`: what the call changes. `Handed`: the call accepts what others hand on.
 pub mod Determined
+pub mod Changed
+pub mod Handed

@@ -1,4 +1,5 @@
 -- The call that places a CJK stem (document 01, module 5): its refusal, then the stem of `cjk_numbers`.
+use mathlib.Core.Path.{_≡_}
 use mathlib.Core.Bool.{Bool}
 use mathlib.Core.List.{List, [], _∷_}
 use Prim.Native.Nat.{ℕ}
@@ -30,3 +31,7 @@ unfoldable pub hintNormalStemCjk : Axis → Bool → WidthRule → List ℤ → 
 hintNormalStemCjk axis adjust rule xs i j d =
     answered (refusal (stemTests axis rule xs i j d)) (hinted axis (pos 0))
     (hinted (hintedStem axis i j (stemOf (axis .dim) adjust rule xs (edgeAt axis i) (edgeAt axis j) d)) (stemOf (axis .dim) adjust rule xs (edgeAt axis i) (edgeAt axis j) d .delta) 0)
+
+-- what the call owes its caller: the answer, the delta and the axis
+abbrev pub HintsNormalStemCjk : Axis → Bool → WidthRule → List ℤ → ℕ → ℕ → ℤ → StemCjk → Type 0
+HintsNormalStemCjk axis adjust rule xs i j d r = r ≡ hintNormalStemCjk axis adjust rule xs i j d

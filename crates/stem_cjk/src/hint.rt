@@ -23,8 +23,8 @@ ghost use Rattle.signed.specs.Range.{Between};
 ghost use Rattle.refusals.specs.Refusal.{refusal};
 ghost use Rattle.axis.specs.Limits.{mostEdges, mostPos};
 ghost use Rattle.axis.specs.Accepted.{AxisWithin};
-ghost use Rattle.cjk_numbers.specs.Cjk.{placedStem, hintedStem, mostWidth, mostStart};
-ghost use Rattle.stem_cjk.specs.Cjk.{stemTests, hintNormalStemCjk};
+ghost use Rattle.cjk_numbers.specs.Cjk.{placedStem, hintedStem, mostWidth, mostCjkStart};
+ghost use Rattle.stem_cjk.specs.Cjk.{stemTests, HintsNormalStemCjk};
 
 // An answer, 0 or the refusal, what the stem was moved by, and the axis.
 pub struct StemCjk {
@@ -36,7 +36,7 @@ pub struct StemCjk {
 // Places the lower edge of a stem, then the upper one.
 fn place_stem(axis: Axis, lower: usize, upper: usize, pos: i32, width: i32) -> Axis
     requires { ⌜ (lower < mostEdges) × (upper < mostEdges) ⌝ }
-    requires { ⌜ Between mostStart mostStart pos × Between mostWidth mostWidth width ⌝ }
+    requires { ⌜ Between mostCjkStart mostCjkStart pos × Between mostWidth mostWidth width ⌝ }
     ensures { λ r. ⌜ r ≡ placedStem axis lower upper pos width ⌝ }
 {
     let mut placed = axis;
@@ -48,7 +48,7 @@ fn place_stem(axis: Axis, lower: usize, upper: usize, pos: i32, width: i32) -> A
 // The axis with a stem placed, its edge of the smaller original position below.
 fn hint_stem(axis: Axis, edge: usize, edge2: usize, stem: Stem) -> Axis
     requires { ⌜ AxisWithin mostPos axis × (edge < axis .len) × (edge2 < axis .len) ⌝ }
-    requires { ⌜ Between mostStart mostStart (stem .pos) × Between mostWidth mostWidth (stem .width) ⌝ }
+    requires { ⌜ Between mostCjkStart mostCjkStart (stem .pos) × Between mostWidth mostWidth (stem .width) ⌝ }
     ensures { λ r. ⌜ r ≡ hintedStem axis edge edge2 stem ⌝ }
 {
     let edge1 = axis.edges[edge];
@@ -92,7 +92,7 @@ pub fn hint_normal_stem_cjk(
     edge2: usize,
     delta: i32,
 ) -> StemCjk
-    ensures { λ r. ⌜ r ≡ hintNormalStemCjk axis «stem_adjust» rule (now (standards .entry)) edge edge2 delta ⌝ }
+    ensures { λ r. ⌜ HintsNormalStemCjk axis «stem_adjust» rule (now (standards .entry)) edge edge2 delta r ⌝ }
 {
     let answer = stem_refusal(axis, rule, standards, edge, edge2, delta);
     if 0 < answer {

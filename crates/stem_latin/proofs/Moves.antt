@@ -4,6 +4,7 @@ use native.Mathlib.Omega.{arith}
 use lib.Dec.{ltb}
 use lib.IntN.{ℤ, pos, _+ℤ_, _-ℤ_}
 use lib.Signed.{ltZ, leZ, quotZ, shrZ}
+use Rattle.signed.specs.Distance.{distance}
 use Rattle.signed.specs.Parts.{up, dn}
 use Rattle.signed.specs.Range.{Between}
 use Rattle.signed.proofs.Operations.{quot-up, quot-dn}
@@ -13,7 +14,7 @@ use Rattle.fixed.specs.Pixel.{pixRound}
 use Rattle.fixed.proofs.Pixels.{round-law}
 use Rattle.axis.specs.Limits.{mostUnits}
 use Rattle.stem_latin.specs.Latin.{mostStart, mostLength, mostWidth, mostCentre}
-use Rattle.stem_latin.specs.Latin.{centreOf, lowerOffset, upperOffset, lowerCentre, upperCentre, distance, nearerCentre}
+use Rattle.stem_latin.specs.Latin.{centreOf, lowerOffset, upperOffset, lowerCentre, upperCentre, nearerCentre}
 use Rattle.stem_latin.specs.Latin.{thinCentre, thinFirst, thinSecond, byFirst, bySecond, centreMove, wideFirst, anchoredFirst, anchoredSecond, freeFirst}
 
 -- ---- the centre

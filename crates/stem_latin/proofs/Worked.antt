@@ -4,7 +4,22 @@ use mathlib.Core.List.{List, [], _∷_, map}
 use Prim.Native.Nat.{ℕ}
 use lib.IntN.{ℤ, pos, negℤ}
 use Rattle.fixed.specs.Pixel.{pixFloor, pixRound}
-use Rattle.stem_latin.specs.Latin.{centreOf, lowerOffset, upperOffset, nearerCentre, thinCentre, thinFirst, thinSecond, wideFirst, anchoredFirst, anchoredSecond, freeFirst}
+use Rattle.stem_latin.specs.Latin.{
+  mostStart,
+  mostLength,
+  mostWidth,
+  centreOf,
+  lowerOffset,
+  upperOffset,
+  nearerCentre,
+  thinCentre,
+  thinFirst,
+  thinSecond,
+  wideFirst,
+  anchoredFirst,
+  anchoredSecond,
+  freeFirst,
+}
 
 -- what a definition gives, and what it should
 pub record Row : Type 0 where
@@ -48,8 +63,8 @@ rows =
     (anchoredFirst (pos 20) (pos 120) (pos 101) is pos 27) ∷
     (anchoredSecond (pos 20) (pos 120) (pos 101) is pos 128) ∷
     -- the limits
-    (anchoredFirst (pos 34000000) (pos 32766) (pos 32782) is pos 33999986) ∷
-    (anchoredSecond (pos 34000000) (pos 32766) (pos 32782) is pos 34032768) ∷
+    (anchoredFirst (pos mostStart) (pos mostLength) (pos mostWidth) is pos 33999986) ∷
+    (anchoredSecond (pos mostStart) (pos mostLength) (pos mostWidth) is pos 34032768) ∷
     -- without an anchor: a tie, an odd width, width 95 and 96, a negative one at its limit
     (freeFirst (pos 87) (pos 70) (pos 70) is pos 119) ∷
     (freeFirst (pos 100) (pos 61) (pos 61) is pos 130) ∷

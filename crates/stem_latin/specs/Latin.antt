@@ -2,23 +2,17 @@
 use mathlib.Core.Bool.{cond}
 use Prim.Native.Nat.{ℕ, _+_}
 use lib.Dec.{ltb}
-use lib.IntN.{ℤ, pos, natAbs, _+ℤ_, _-ℤ_}
+use lib.IntN.{ℤ, pos, _+ℤ_, _-ℤ_}
 use lib.Signed.{ltZ, leZ, quotZ, shrZ}
+use Rattle.signed.specs.Distance.{distance}
 use Rattle.fixed.specs.Pixel.{pixRound}
 use Rattle.axis.specs.Limits.{mostUnits}
+pub use Rattle.placing.specs.Steps.{mostLength, mostWidth}
 
 -- ---- what the numbers of a stem can be
 -- the start that an anchor's shift gives it: an anchor within reach, and the distance of two original positions
 abbrev pub mostStart : ℕ
 mostStart = 34000000
-
--- its original length, the distance of two original positions
-abbrev pub mostLength : ℕ
-mostLength = mostUnits + mostUnits
-
--- its fitted width, at most 16 more
-abbrev pub mostWidth : ℕ
-mostWidth = mostLength + 16
 
 -- its centre, at most half a length from the start
 abbrev pub mostCentre : ℕ
@@ -43,10 +37,6 @@ lowerCentre c u = pixRound c -ℤ u
 -- the candidate above it, for an offset d
 abbrev pub upperCentre : ℤ → ℤ → ℤ
 upperCentre c d = pixRound c +ℤ d
-
--- how far a candidate is from the centre
-abbrev pub distance : ℤ → ℤ → ℕ
-distance c candidate = natAbs (c -ℤ candidate)
 
 -- the nearer candidate, the upper on a tie
 unfoldable pub nearerCentre : ℤ → ℤ → ℤ → ℤ
@@ -74,7 +64,7 @@ bySecond start l w = pixRound (start +ℤ l) -ℤ w
 
 -- how far a first edge at p and the width w, half of it rounded down, bring the stem from its centre c
 abbrev pub centreMove : ℤ → ℤ → ℤ → ℕ
-centreMove p w c = natAbs ((p +ℤ shrZ w 2) -ℤ c)
+centreMove p w c = distance (p +ℤ shrZ w 2) c
 
 -- the one of the smaller move, the second edge's on a tie
 unfoldable pub wideFirst : ℤ → ℤ → ℤ → ℤ

@@ -1,6 +1,6 @@
 // Document 01, module 5: the numbers of the Latin stem (the default group's branch of the Rust's `align_stem_edges`).
 pub mod anchored;
-mod center;
+mod centre;
 pub mod first;
 mod floor;
 mod nearer;

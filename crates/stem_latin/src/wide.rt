@@ -1,5 +1,5 @@
 // A stem of width 96 and more, by its edges.
-use super::center::center_of;
+use super::centre::centre_of;
 use super::floor::half;
 use super::nearer::nearer_of;
 use fixed::pixel::pix_round;
@@ -12,13 +12,13 @@ pub fn wide_first(start: i32, org_len: i32, width: i32) -> i32
     requires { ⌜ Between mostStart mostStart start × Between mostLength mostLength «org_len» × Between mostWidth mostWidth width ⌝ }
     ensures { λ r. ⌜ r ≡ wideFirst start «org_len» width ⌝ }
 {
-    let center = center_of(start, org_len);
+    let centre = centre_of(start, org_len);
     let half_width = half(width);
     let cur_pos1 = pix_round(start);
     let cur_pos2 = pix_round(start + org_len) - width;
     nearer_of(
-        cur_pos1 + half_width - center,
-        cur_pos2 + half_width - center,
+        cur_pos1 + half_width - centre,
+        cur_pos2 + half_width - centre,
         cur_pos1,
         cur_pos2,
     )

@@ -8,8 +8,8 @@ use Rattle.axis.specs.declared.kinds.Group.{Group}
 use Rattle.axis.specs.declared.kinds.Link.{Link}
 use Rattle.axis.specs.declared.edge.Axis.{Axis}
 use Rattle.stems.specs.declared.pass.Stems.{Stems}
-use Rattle.stems.specs.Stems.{alignStemEdges}
+use Rattle.stems.specs.Stems.{AlignsStemEdges}
 
 pub determined : (axis : Axis) (group : Group) (adjust ttb : Bool) (anchor : Link) (rule : WidthRule) (xs : List ℤ) {r s : Stems}
-    → r ≡ alignStemEdges axis group adjust ttb anchor rule xs → s ≡ alignStemEdges axis group adjust ttb anchor rule xs → r ≡ s
+    → AlignsStemEdges axis group adjust ttb anchor rule xs r → AlignsStemEdges axis group adjust ttb anchor rule xs s → r ≡ s
 determined axis group adjust ttb anchor rule xs p q = p ∙ sym q

@@ -26,7 +26,7 @@ use Rattle.placing.proofs.Reach.{width-range}
 use Rattle.stem_latin.specs.Latin.{mostLength}
 use Rattle.stem_latin.proofs.Moves.{mostShift, anchored-ends, first-range, second-range, free-ends, free-range, free-second-range}
 use Rattle.cjk_numbers.specs.declared.stem.Stem.{Stem}
-use Rattle.cjk_numbers.specs.Cjk.{mostStart, mostWidth, mostMove}
+use Rattle.cjk_numbers.specs.Cjk.{mostCjkStart, mostWidth, mostMove}
 use Rattle.cjk_numbers.proofs.Moves.{stem-pos-range, stem-width-range, stem-delta-range}
 use Rattle.stems_plan.specs.declared.kinds.Mode.{Mode}
 use Rattle.stems_plan.specs.declared.kinds.LastStem.the-variants as LastStems
@@ -44,7 +44,7 @@ mostGrowth = mostLength + mostShift
 
 -- where the second edge of a CJK stem can be: a width behind the first
 abbrev mostEnd : ℕ
-mostEnd = mostStart + mostWidth
+mostEnd = mostCjkStart + mostWidth
 
 -- ---- plans within b
 pub record SecondWithin (b : ℕ) (x : Second) : Type 0 where
@@ -158,7 +158,7 @@ module _ (b : ℕ) (r : Reached b) where
     trail = record { last = last-at q (omega (arith, g)); delta = k };
   }
 
-  stem-within : (e e2 : Edge) (s : Stem) (d : ℤ) → Between mostStart mostStart (s .pos) → Between mostWidth mostWidth (s .width) → Between mostUnits mostUnits d
+  stem-within : (e e2 : Edge) (s : Stem) (d : ℤ) → Between mostCjkStart mostCjkStart (s .pos) → Between mostWidth mostWidth (s .width) → Between mostUnits mostUnits d
       → PlanWithin (b + mostGrowth) (stemPlan e e2 s d)
   unfolding stemPlan
   stem-within e e2 s d h g k =

@@ -22,7 +22,6 @@ use Rattle.axis.specs.Visits.{visits}
 use Rattle.axis.specs.Accepted.{Below, EdgeWithin, AxisWithin}
 use Rattle.axis.proofs.Acceptance.{below-to, link-below, axis-within}
 use Rattle.axis.proofs.Visits.{turn}
-use Rattle.placing.specs.Steps.{mostReach}
 use Rattle.zone.proofs.Kept.{within-more, put-within, edge-at}
 use Rattle.stems_plan.specs.declared.kinds.Mode.{Mode}
 use Rattle.stems_plan.specs.declared.kinds.Second.{Second}
@@ -30,6 +29,7 @@ use Rattle.stems_plan.specs.declared.kinds.Second.the-variants.{Stays, Placed, 
 use Rattle.stems_plan.specs.declared.kinds.Plan.{Plan}
 use Rattle.stems_plan.specs.Visit.{tooClose}
 use Rattle.stems_plan.specs.Plan.{isBounded, isOver, secondEdge, heldEdge, anchorAfter}
+use Rattle.stems.specs.Handed.{mostFitted}
 use Rattle.stems.specs.Stems.{State, counted, begun, stems, stemsOf, modeOf, stemsTests, alignStemEdges}
 use Rattle.stems.specs.Steps.{planAt, firstPut, secondPut, heldPut, carriedOut, stepLink, step}
 use Rattle.stems.proofs.Straight.{steps-are}
@@ -189,10 +189,10 @@ steps-sound (suc j) i n m xs s h e g =
     let q : i < n = omega (arith, e) in
     steps-sound j (i + 1) n m xs (step m xs s i) h (omega (arith, e)) (turn-sound n i m xs s (step m xs s i) h q refl g)
 
--- the pass on an accepted axis: every position stays within twice document 01's limit, so that all sums fit 32 bits; no more edges are counted than visited;
--- and the anchor is an edge
+-- the pass on an accepted axis: every position stays within `mostFitted`, and so within the reach, in which all sums fit 32 bits; no more edges are counted than
+-- visited; and the anchor is an edge
 pub record PassKeeps (m : Mode) (xs : List ℤ) (anchor : Link) (axis : Axis) : Type 0 where
-  pub positions : AxisWithin mostReach (stemsOf m xs anchor axis .axis)
+  pub positions : AxisWithin mostFitted (stemsOf m xs anchor axis .axis)
   pub counts : stemsOf m xs anchor axis .count ≤ axis .len
   pub anchors : Below (axis .len) (stemsOf m xs anchor axis .anchor)
 
@@ -204,7 +204,7 @@ pass-keeps m xs anchor axis h g =
     let all = steps-sound n 0 n m xs (begun anchor axis) f (omega arith) (begun-sound anchor axis h g) in
     let s = subst (Sound (grown n) n n) (steps-are m xs n 0 (begun anchor axis)) all in
     record {
-      positions = within-more (grown n) mostReach _ (omega (arith, f)) (s .axis-in);
+      positions = within-more (grown n) mostFitted _ (omega (arith, f)) (s .axis-in);
       counts = s .count-in;
       anchors = s .anchor-in;
     }

@@ -1,7 +1,10 @@
--- The laws by subject, each over plain variables; passes worked out by hand; then `Determined`, that the promise determines the outcome.
+-- The laws by subject, each over plain variables; passes worked out by hand; then `Determined`, that the promise determines the outcome, `Changed`, what the call changes,
+-- and `Handed`, where positions come to and what the call accepts.
 pub mod Straight
 pub mod Growth
 pub mod Kept
 pub mod Turns
 pub mod Worked
 pub mod Determined
+pub mod Changed
+pub mod Handed

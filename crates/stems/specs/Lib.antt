@@ -1,3 +1,4 @@
--- What the contracts of `stems` cite: `Stems`, what the call does; `Steps`, the visit along one path, by its plan.
+-- What the contracts of `stems` cite: `Stems`, what the call does; `Steps`, the visit along one path, by its plan; `Handed`, where positions come to.
 pub mod Stems
 pub mod Steps
+pub mod Handed

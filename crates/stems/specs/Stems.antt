@@ -1,4 +1,5 @@
 -- The stem pass (document 01, module 5), as the Rust's `align_stem_edges` visits the edges.
+use mathlib.Core.Path.{_≡_}
 use mathlib.Core.Bool.{Bool, cond}
 use mathlib.Core.List.{List, [], _∷_}
 use Prim.Native.Nat.{ℕ, _+_}
@@ -141,8 +142,8 @@ abbrev pub stems : ℕ → Link → Axis → ℕ → Stems
 stems count anchor axis k = record { answer = k; count = count; anchor = anchor; axis = axis }
 
 -- answer 0 and what the visits came to
-abbrev pub done : State → Stems
-done s = stems (s .count) (s .anchor) (s .axis) 0
+abbrev pub outcome : State → Stems
+outcome s = stems (s .count) (s .anchor) (s .axis) 0
 
 -- at the start nothing is counted, there is no last stem, and the delta is 0
 abbrev pub begun : Link → Axis → State
@@ -150,7 +151,7 @@ begun anchor axis = record { axis = axis; count = 0; anchor = anchor; trail = re
 
 -- every edge visited
 unfoldable pub stemsOf : Mode → List ℤ → Link → Axis → Stems
-stemsOf m xs anchor axis = done (visits (visit m xs) (axis .len) 0 (begun anchor axis))
+stemsOf m xs anchor axis = outcome (visits (visit m xs) (axis .len) 0 (begun anchor axis))
 
 -- what is the same for every visit
 abbrev pub modeOf : Axis → Group → Bool → Bool → WidthRule → Mode
@@ -171,3 +172,7 @@ unfoldable pub alignStemEdges : Axis → Group → Bool → Bool → Link → Wi
 alignStemEdges axis group adjust ttb anchor rule xs =
     answered (refusal (stemsTests axis anchor rule xs)) (stems 0 Links.None axis)
     (stemsOf (modeOf axis group adjust ttb rule) xs anchor axis)
+
+-- what the call owes its caller: the answer, the count, the anchor and the axis
+abbrev pub AlignsStemEdges : Axis → Group → Bool → Bool → Link → WidthRule → List ℤ → Stems → Type 0
+AlignsStemEdges axis group adjust ttb anchor rule xs r = r ≡ alignStemEdges axis group adjust ttb anchor rule xs

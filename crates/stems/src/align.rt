@@ -18,7 +18,7 @@ use refusals::order::or_refused;
 use stems_plan::kinds::Mode;
 ghost use mathlib.Core.Path.{_≡_};
 ghost use Rattle.refusals.specs.Refusal.{refusal};
-ghost use Rattle.stems.specs.Stems.{stemsTests, alignStemEdges};
+ghost use Rattle.stems.specs.Stems.{stemsTests, AlignsStemEdges};
 
 // The refusal of the call, or 0.
 fn stems_refusal(axis: Axis, anchor: Link, rule: WidthRule, standards: &[i32]) -> u8
@@ -41,7 +41,7 @@ pub fn align_stem_edges(
     rule: WidthRule,
     standards: &[i32],
 ) -> Stems
-    ensures { λ r. ⌜ r ≡ alignStemEdges axis group «stem_adjust» «top_to_bottom» anchor rule (now (standards .entry)) ⌝ }
+    ensures { λ r. ⌜ AlignsStemEdges axis group «stem_adjust» «top_to_bottom» anchor rule (now (standards .entry)) r ⌝ }
 {
     let answer = stems_refusal(axis, anchor, rule, standards);
     if 0 < answer {

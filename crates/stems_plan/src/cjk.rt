@@ -16,7 +16,7 @@ ghost use Rattle.signed.specs.Range.{Between};
 ghost use Rattle.axis.specs.Limits.{mostUnits};
 ghost use Rattle.fixed.specs.Width.{ruleHolds};
 ghost use Rattle.placing.specs.Steps.{InReach};
-ghost use Rattle.cjk_numbers.specs.Cjk.{mostWidth, mostStart};
+ghost use Rattle.cjk_numbers.specs.Cjk.{mostWidth, mostCjkStart};
 ghost use Rattle.stems_plan.specs.Visit.{deltaBeside, deltaAfter};
 ghost use Rattle.stems_plan.specs.Plan.{fixedPlan, stemPlan, cjkPlan};
 
@@ -60,7 +60,7 @@ fn delta_after(dim: Dimension, anchor: Link, passed: i32, delta: i32) -> i32
 // The two edges of a stem: the one of the smaller original position is the lower one.
 fn stem_plan(edge: Edge, edge2: Edge, stem: Stem, delta: i32) -> Plan
     requires { ⌜ InReach edge × InReach edge2 ⌝ }
-    requires { ⌜ Between mostStart mostStart (stem .pos) × Between mostWidth mostWidth (stem .width) ⌝ }
+    requires { ⌜ Between mostCjkStart mostCjkStart (stem .pos) × Between mostWidth mostWidth (stem .width) ⌝ }
     ensures { λ r. ⌜ r ≡ stemPlan edge edge2 stem delta ⌝ }
 {
     let upper = stem.pos + stem.width;

@@ -5,3 +5,4 @@ pub mod Tables
 pub mod Edges
 pub mod Segments
 pub mod RoundTrip
+pub mod Typed

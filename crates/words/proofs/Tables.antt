@@ -12,7 +12,7 @@ use Rattle.words.specs.Word.{written, firsts, joined, table}
 use Rattle.words.proofs.Writing.{written-length, written-none, written-more}
 
 -- ---- filling
-firsts-length : {A : Type 0} (f : ℕ → A) (n : ℕ) → length (firsts f n) ≡ n
+pub firsts-length : {A : Type 0} (f : ℕ → A) (n : ℕ) → length (firsts f n) ≡ n
 unfolding firsts
 firsts-length f zero = refl
 firsts-length f (suc n) = length-append (firsts f n) (f n ∷ []) ∙ omega (arith, firsts-length f n)

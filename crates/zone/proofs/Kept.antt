@@ -59,7 +59,7 @@ pub choice-in : (n i k r : ℕ) (t : Bool) → i < n → k < n → r ≡ cond t 
 choice-in n i k r t h g e = subst (λ (x : ℕ). x < n) (sym e) (either-way (λ (x : ℕ). x < n) t i k h g)
 
 -- ---- zones
-no-zone : InZone Blues.None
+pub no-zone : InZone Blues.None
 no-zone = record { at = λ (z : ℤ) (e : Blues.None ≡ Blues.Fitted z). absurd (let n : _≡_ {A = ℕ} 0 1 = cc in omega arith) }
 
 thinned-within : (m n : ℕ) (skip : Bool) (e : Edge) → EdgeWithin m n e → EdgeWithin m n (thinned skip e)

@@ -2,3 +2,4 @@
 pub mod Kept
 pub mod Turns
 pub mod Straight
+pub mod Landed

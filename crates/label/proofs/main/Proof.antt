@@ -2,11 +2,12 @@
 use borrow.Author.Needs.{needs}
 use mathlib.Core.Path.{_≡_}
 use lib.ListN.{length}
+use Rattle.lines.specs.Limits.{mostWords}
 use Rattle.label.proofs.main.Statement.{statement}
 use Rattle.label.proofs.main.Tie as tie
 
 abbrev Inv-loop : tie.InvT-loop
-Inv-loop byte₀ words₀ line₀ glyph₀ turns₀ byte words line glyph turns = (length byte ≡ 1) × (length words ≡ 32769)
+Inv-loop byte₀ words₀ line₀ glyph₀ turns₀ byte words line glyph turns = (length byte ≡ 1) × (length words ≡ mostWords)
 
 abbrev μ-loop : tie.MeasureT-loop
 μ-loop byte₀ words₀ line₀ glyph₀ turns₀ byte words line glyph turns = turns

@@ -2,11 +2,14 @@
 use borrow.Author.Needs.{needs}
 use mathlib.Core.Path.{_≡_}
 use lib.ListN.{length}
+use Rattle.lines.specs.Limits.{mostWords}
+use Rattle.jobs.specs.Limits.{longest}
+use Rattle.replay.specs.Limits.{mostText}
 use Rattle.replay.proofs.main.Statement.{statement}
 use Rattle.replay.proofs.main.Tie as tie
 
 abbrev Inv-loop : tie.InvT-loop
-Inv-loop block₀ words₀ out₀ text₀ line₀ turns₀ block words out text line turns = (length block ≡ 65536) × ((length words ≡ 32769) × ((length out ≡ 9091) × (length text ≡ 72729)))
+Inv-loop block₀ words₀ out₀ text₀ line₀ turns₀ block words out text line turns = (length block ≡ 65536) × ((length words ≡ mostWords) × ((length out ≡ longest) × (length text ≡ mostText)))
 
 abbrev μ-loop : tie.MeasureT-loop
 μ-loop block₀ words₀ out₀ text₀ line₀ turns₀ block words out text line turns = turns

@@ -21,27 +21,31 @@ blue-holds-requires c κs = search needs
 
 -- the test of `opos` held
 opos-holds : (c : tie.Then1) → within mostUnits (c .before .before .before .args .edge .opos) ≡ true
-opos-holds c = tested (within mostUnits) (c .before .before .before .args .edge .opos) _ _ _ (is (got w32 _ (c .before .before .struct-told .given .1 .0 .1))) (c .before .is-inside .ensures) (c .if1 .taken)
+opos-holds c = tested (within mostUnits) (c .before .before .before .args .edge .opos) _ _ _ (is (got w32 _ (c .before .before .struct-told .given .1 .0 .1)))
+    (c .before .is-inside .ensures) (c .if1 .taken)
 
 returns : tie.Need-returns
 unfolding edgeNumbers
 returns c =
     let s = c .before in
     let o = s .before .before .before in
-    let p = tested (within mostPos) (o .before .before .before .args .edge .pos) _ _ _ (is (got w32 _ (s .before .before .struct-told2 .given .1 .1 .0 .1))) (s .before .is-inside2 .ensures) (s .if2 .taken) in
+    let p = tested (within mostPos) (o .before .before .before .args .edge .pos) _ _ _ (is (got w32 _ (s .before .before .struct-told2 .given .1 .1 .0 .1)))
+    (s .before .is-inside2 .ensures) (s .if2 .taken) in
     rw (opos-holds o, p) (c .blue-holds .ensures)
 
 returns-2 : tie.Need-returns-2
 unfolding edgeNumbers
 returns-2 c =
     let o = c .before .before .before in
-    let p = tested (within mostPos) (o .before .before .before .args .edge .pos) _ _ _ (is (got w32 _ (c .before .before .struct-told2 .given .1 .1 .0 .1))) (c .before .is-inside2 .ensures) (c .if2 .left) in
+    let p = tested (within mostPos) (o .before .before .before .args .edge .pos) _ _ _ (is (got w32 _ (c .before .before .struct-told2 .given .1 .1 .0 .1)))
+    (c .before .is-inside2 .ensures) (c .if2 .left) in
     rw (opos-holds o, p)
 
 returns-3 : tie.Need-returns-3
 unfolding edgeNumbers
 returns-3 c =
-    let o = tested (within mostUnits) (c .before .before .before .args .edge .opos) _ _ _ (is (got w32 _ (c .before .before .struct-told .given .1 .0 .1))) (c .before .is-inside .ensures) (c .if1 .left) in
+    let o = tested (within mostUnits) (c .before .before .before .args .edge .opos) _ _ _ (is (got w32 _ (c .before .before .struct-told .given .1 .0 .1)))
+    (c .before .is-inside .ensures) (c .if1 .left) in
     rw o
 
 pub edge-numbers-spec : {M : Type 1} → statement M

@@ -20,13 +20,15 @@ returns : tie.Need-returns
 unfolding segmentNumbers
 returns c =
     let o = c .before .before in
-    let h = tested (inside (pos 0) (pos mostScore)) (o .before .before .before .args .segment .score) _ _ _ (is (got w32 _ (o .before .before .struct-told .given .1 .1 .1 .1 .1 .1 .1 .0 .1))) (o .before .is-inside .ensures) (o .if1 .taken) in
+    let h = tested (inside (pos 0) (pos mostScore)) (o .before .before .before .args .segment .score) _ _ _
+    (is (got w32 _ (o .before .before .struct-told .given .1 .1 .1 .1 .1 .1 .1 .0 .1))) (o .before .is-inside .ensures) (o .if1 .taken) in
     rw h (c .is-inside2 .ensures ∙ ap (inside (pos 0) (pos mostScore)) (is (got w32 (o .before .before .before .args .segment .len) (c .before .struct-told2 .given .1 .1 .1 .1 .1 .1 .1 .1 .0 .1))))
 
 returns-2 : tie.Need-returns-2
 unfolding segmentNumbers
 returns-2 c =
-    let h = tested (inside (pos 0) (pos mostScore)) (c .before .before .before .args .segment .score) _ _ _ (is (got w32 _ (c .before .before .struct-told .given .1 .1 .1 .1 .1 .1 .1 .0 .1))) (c .before .is-inside .ensures) (c .if1 .left) in
+    let h = tested (inside (pos 0) (pos mostScore)) (c .before .before .before .args .segment .score) _ _ _
+    (is (got w32 _ (c .before .before .struct-told .given .1 .1 .1 .1 .1 .1 .1 .0 .1))) (c .before .is-inside .ensures) (c .if1 .left) in
     rw h
 
 pub segment-numbers-spec : {M : Type 1} → statement M

@@ -10,41 +10,41 @@ use Rattle.cjk_numbers.specs.Cjk.{startOf}
 use Rattle.cjk_numbers.proofs.stem.start_of.Statement.{statement}
 use Rattle.cjk_numbers.proofs.stem.start_of.Tie as tie
 
-add-center : tie.Need-add-center
-add-center c = fits (omega (arith, signed))
+add-centre : tie.Need-add-centre
+add-centre c = fits (omega (arith, signed))
 
 -- the two halves fit
-div-center : tie.Need-div-center
-div-center c = (omega arith, fits-quot _ _ (back-fits (add-center c)) tt)
+div-centre : tie.Need-div-centre
+div-centre c = (omega arith, fits-quot _ _ (back-fits (add-centre c)) tt)
 
-add-center-2 : tie.Need-add-center-2
-add-center-2 c = let k = add-center c also div-center c .1 in fits (omega (arith, signed))
+add-centre-2 : tie.Need-add-centre-2
+add-centre-2 c = let k = add-centre c also div-centre c .1 in fits (omega (arith, signed))
 
 div-result : tie.Need-div-result
 div-result c = (omega arith, fits-quot _ _ (back-fits (c .fits .width)) tt)
 
 sub-result : tie.Need-sub-result
-sub-result c = let k = add-center c also div-center c .1 also add-center-2 c also div-result c .1 in fits (omega (arith, signed))
+sub-result c = let k = add-centre c also div-centre c .1 also add-centre-2 c also div-result c .1 in fits (omega (arith, signed))
 
 -- the centre between the original positions, and half the width
-center-is : (c : tie.Start) → toZ w32 (ofZ w32 (quotZ (toZ w32 (ofZ w32 (toZ w32 (ofZ w32 (c .args .opos1)) +ℤ toZ w32 (ofZ w32 (c .args .opos2))))) (pos 2)))
+centre-is : (c : tie.Start) → toZ w32 (ofZ w32 (quotZ (toZ w32 (ofZ w32 (toZ w32 (ofZ w32 (c .args .opos1)) +ℤ toZ w32 (ofZ w32 (c .args .opos2))))) (pos 2)))
     ≡ quotZ (c .args .opos1 +ℤ c .args .opos2) (pos 2)
-center-is c = is (div-center c .1) ∙ ap (λ (z : ℤ). quotZ z (pos 2)) (is (add-center c) ∙ λ i. is (c .fits .opos1) i +ℤ is (c .fits .opos2) i)
+centre-is c = is (div-centre c .1) ∙ ap (λ (z : ℤ). quotZ z (pos 2)) (is (add-centre c) ∙ λ i. is (c .fits .opos1) i +ℤ is (c .fits .opos2) i)
 
 half-is : (c : tie.Start) → toZ w32 (ofZ w32 (quotZ (toZ w32 (ofZ w32 (c .args .width))) (pos 2))) ≡ quotZ (c .args .width) (pos 2)
 half-is c = is (div-result c .1) ∙ ap (λ (z : ℤ). quotZ z (pos 2)) (is (c .fits .width))
 
 returns : tie.Need-returns
 unfolding startOf
-returns c = is (sub-result c) ∙ λ i. (is (add-center-2 c) ∙ λ j. center-is c j +ℤ is (c .fits .delta) j) i -ℤ half-is c i
+returns c = is (sub-result c) ∙ λ i. (is (add-centre-2 c) ∙ λ j. centre-is c j +ℤ is (c .fits .delta) j) i -ℤ half-is c i
 
 pub start-of-spec : {M : Type 1} → statement M
 start-of-spec =
     tie.close
     (tie.spec
-    add-center
-    div-center
-    add-center-2
+    add-centre
+    div-centre
+    add-centre-2
     div-result
     sub-result
     returns)

@@ -145,7 +145,7 @@ add-result-3 c =
     let e = m .before .before .before .before in
     let s = start3 e in
     let k = whole s also got w32 (m .fixed-mul .result) (m .fixed-mul .ok) in
-    let f = law e .faithful in
+    let f = law e .along in
     fits (omega (arith, signed, ap up (product m), ap dn (product m), f .not-above, f .not-below, sub-law (u2 s) (u1 s), one-zero (u2 s -ℤ u1 s), s .pre .1 .ordered))
 
 returns-4 : tie.Need-returns-4

@@ -6,9 +6,9 @@ use lib.IntN.{ℤ, pos, negℤ, natAbs, _-ℤ_, +ℤ-idl}
 use mir.Syntax.{w64}
 use mir.Val.{toZ, ofZ}
 use Rattle.signed.proofs.Signed.{signed, fits, is, range, abs-of, between-sfits}
-use Rattle.fixed.specs.Point.{near}
+use Rattle.fixed.specs.Point.{rounded}
 use Rattle.signed.proofs.By.{by₂}
-use Rattle.fixed.proofs.Rounding.{near-at-most, div-pp, div-pn, div-np, div-nn}
+use Rattle.fixed.proofs.Rounding.{rounded-at-most, div-pp, div-pn, div-np, div-nn}
 use Rattle.fixed.proofs.point.wide_div.Statement.{statement}
 use Rattle.fixed.proofs.point.wide_div.Tie as tie
 
@@ -42,26 +42,26 @@ magnitude-requires-2 c κs = let k = cast-magnitude-2 c in omega (arith, signed,
 b-is : (c : tie.After-magnitude2) → c .magnitude2 .result ≡ natAbs (c .before .before .args .b)
 b-is c = c .magnitude2 .ensures ∙ ap natAbs (is (cast-magnitude-2 (c .before)) ∙ is (c .before .before .fits .b))
 
-near-quotient-requires : tie.Need-near-quotient-requires
-near-quotient-requires c κs =
+rounded-quotient-requires : tie.Need-rounded-quotient-requires
+rounded-quotient-requires c κs =
     let s = c .before .before in
     omega (arith, a-most (c .before), b-is c, s .pre, abs-of (between-sfits (s .fits .b)))
 
 -- the entry of a place behind the quotient
-abbrev start : tie.After-near-quotient → tie.Start
+abbrev start : tie.After-rounded-quotient → tie.Start
 start c = c .before .before .before
 
 -- the magnitude of the answer
-q-is : (c : tie.After-near-quotient) → c .near-quotient .result ≡ near (natAbs (start c .args .a) * 65536) (natAbs (start c .args .b))
-q-is c = by₂ near (c .near-quotient .ensures) (ap (λ (n : ℕ). n * 65536) (a-is (c .before .before))) (b-is (c .before))
+q-is : (c : tie.After-rounded-quotient) → c .rounded-quotient .result ≡ rounded (natAbs (start c .args .a) * 65536) (natAbs (start c .args .b))
+q-is c = by₂ rounded (c .rounded-quotient .ensures) (ap (λ (n : ℕ). n * 65536) (a-is (c .before .before))) (b-is (c .before))
 
 cast-q : tie.Need-cast-q
 cast-q c =
     let s = start c in
-    fits (omega (arith, q-is c, near-at-most (natAbs (s .args .a) * 65536) (natAbs (s .args .b)) (s .pre), abs-of (between-sfits (s .fits .a))))
+    fits (omega (arith, q-is c, rounded-at-most (natAbs (s .args .a) * 65536) (natAbs (s .args .b)) (s .pre), abs-of (between-sfits (s .fits .a))))
 
 -- the answer without its sign
-plain : (c : tie.After-near-quotient) → toZ w64 (ofZ w64 (pos (c .near-quotient .result))) ≡ pos (near (natAbs (start c .args .a) * 65536) (natAbs (start c .args .b)))
+plain : (c : tie.After-rounded-quotient) → toZ w64 (ofZ w64 (pos (c .rounded-quotient .result))) ≡ pos (rounded (natAbs (start c .args .a) * 65536) (natAbs (start c .args .b)))
 plain c = is (cast-q c) ∙ ap pos (q-is c)
 
 returns : tie.Need-returns
@@ -95,7 +95,7 @@ wide-div-spec =
     mul-n
     cast-magnitude-2
     magnitude-requires-2
-    near-quotient-requires
+    rounded-quotient-requires
     cast-q
     returns
     sub-result

@@ -7,7 +7,7 @@ use mir.Syntax.{w32, w64}
 use mir.Val.{toZ, ofZ, SFits}
 use Rattle.signed.specs.Range.{Between}
 use Rattle.signed.proofs.Signed.{signed, fits, is, range, fits-prod, fits-shr, between-prod, between-sfits, back-fits, _also_}
-use Rattle.fixed.specs.Point.{nearZ, mulFix}
+use Rattle.fixed.specs.Point.{roundedZ, mulFix}
 use Rattle.fixed.proofs.Rounding.{mul-shift-pos, mul-shift-neg}
 use Rattle.fixed.proofs.point.wide_mul.Statement.{statement}
 use Rattle.fixed.proofs.point.wide_mul.Tie as tie
@@ -40,7 +40,7 @@ returns c =
     let s = c .before in
     let k = mul-ab s also bounded s in
     is (fits-shr _ 65536 (back-fits (add-result c))) ∙ ap (λ (z : ℤ). shrZ z 65536) (is (add-result c) ∙ ap (λ (z : ℤ). z +ℤ pos 32767) (is (mul-ab s)))
-    ∙ mul-shift-neg (product s) (omega (arith, signed)) ∙ ap (λ (z : ℤ). nearZ z (pos 65536)) (product-is s)
+    ∙ mul-shift-neg (product s) (omega (arith, signed)) ∙ ap (λ (z : ℤ). roundedZ z (pos 65536)) (product-is s)
 
 add-result-2 : tie.Need-add-result-2
 add-result-2 c = let k = mul-ab (c .before) also bounded (c .before) in fits (omega (arith, signed))
@@ -51,7 +51,7 @@ returns-2 c =
     let s = c .before in
     let k = mul-ab s also bounded s in
     is (fits-shr _ 65536 (back-fits (add-result-2 c))) ∙ ap (λ (z : ℤ). shrZ z 65536) (is (add-result-2 c) ∙ ap (λ (z : ℤ). z +ℤ pos 32768) (is (mul-ab s)))
-    ∙ mul-shift-pos (product s) (omega (arith, signed)) ∙ ap (λ (z : ℤ). nearZ z (pos 65536)) (product-is s)
+    ∙ mul-shift-pos (product s) (omega (arith, signed)) ∙ ap (λ (z : ℤ). roundedZ z (pos 65536)) (product-is s)
 
 pub wide-mul-spec : {M : Type 1} → statement M
 wide-mul-spec = tie.close (tie.spec cast-ab cast-ab-2 mul-ab add-result returns add-result-2 returns-2)

@@ -3,11 +3,12 @@ use borrow.Author.Needs.{needs}
 use mathlib.Core.Path.{_≡_}
 use Prim.Native.Nat.{_≤_, _-_}
 use lib.ListN.{length}
+use Rattle.jobs.specs.Limits.{mostLent}
 use Rattle.jobs.proofs.lent.edges_from.Statement.{statement}
 use Rattle.jobs.proofs.lent.edges_from.Tie as tie
 
 abbrev Inv-loop : tie.InvT-loop
-Inv-loop words n edges₀ i₀ edges i = (i ≤ n) × (length edges ≡ 160)
+Inv-loop words n edges₀ i₀ edges i = (i ≤ n) × (length edges ≡ mostLent)
 
 abbrev μ-loop : tie.MeasureT-loop
 μ-loop words n edges₀ i₀ edges i = n - i

@@ -3,14 +3,15 @@ use borrow.Author.Needs.{needs}
 use mathlib.Core.Path.{_≡_}
 use Prim.Native.Nat.{_≤_, _-_}
 use lib.ListN.{length}
+use Rattle.lines.specs.Limits.{mostNumbers}
 use Rattle.jobs.proofs.weak.copy.Statement.{statement}
 use Rattle.jobs.proofs.weak.copy.Tie as tie
 
 abbrev Inv-loop : tie.InvT-loop
-Inv-loop marks ends touched₀ contours₀ n i₀ touched contours i = (i ≤ 8191) × ((length touched ≡ length touched₀) × (length contours ≡ length contours₀))
+Inv-loop marks ends touched₀ contours₀ n i₀ touched contours i = (i ≤ mostNumbers) × ((length touched ≡ length touched₀) × (length contours ≡ length contours₀))
 
 abbrev μ-loop : tie.MeasureT-loop
-μ-loop marks ends touched₀ contours₀ n i₀ touched contours i = 8191 - i
+μ-loop marks ends touched₀ contours₀ n i₀ touched contours i = mostNumbers - i
 
 add-least : tie.Need-add-least Inv-loop μ-loop
 add-least c = search needs

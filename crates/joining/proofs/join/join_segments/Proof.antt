@@ -16,7 +16,26 @@ use Rattle.axis.specs.Segment.{segmentAt}
 use Rattle.joining.specs.Joining.{stopsBehind, settle, skips, mayJoin, stateAt}
 use Rattle.signed.proofs.Reading.{back}
 use Rattle.joining.proofs.Settling.{settle-end, settle-stop, settle-on}
-use Rattle.joining.proofs.Turns.{Stands, place, left, stands-begun, turn-room, turn-skip, turn-last, turn-ring, may-said, search-start, search-no, search-yes, search-end, search-stop, turn-join, turn-none, turn-made, turn-full}
+use Rattle.joining.proofs.Turns.{
+  Stands,
+  place,
+  left,
+  stands-begun,
+  turn-room,
+  turn-skip,
+  turn-last,
+  turn-ring,
+  may-said,
+  search-start,
+  search-no,
+  search-yes,
+  search-end,
+  search-stop,
+  turn-join,
+  turn-none,
+  turn-made,
+  turn-full,
+}
 use Rattle.joining.proofs.join.join_segments.Statement.{statement}
 use Rattle.joining.proofs.join.join_segments.Tie as tie
 
@@ -41,41 +60,57 @@ Inv-loop stems rules second segments count axis₀ next₀ i₀ axis next i = (i
 abbrev μ-loop : tie.MeasureT-loop
 μ-loop stems rules second segments count axis₀ next₀ i₀ axis next i = count - i
 
+-- the call, from a turn of the outer loop; and that one, from a turn of the search
+abbrev start-of : tie.At-loop Inv-loop2 μ-loop2 Inv-loop3 μ-loop3 Inv-loop μ-loop → tie.Start Inv-loop2 μ-loop2 Inv-loop3 μ-loop3 Inv-loop μ-loop
+start-of c = c .before .before .before
+
+abbrev outer-of : tie.At-loop2 Inv-loop2 μ-loop2 Inv-loop3 μ-loop3 Inv-loop μ-loop → tie.At-loop Inv-loop2 μ-loop2 Inv-loop3 μ-loop3 Inv-loop μ-loop
+outer-of c = c .before .before .before .before .before
+
 -- the segment is asked for an edge
 free : (c : tie.Else1 Inv-loop2 μ-loop2 Inv-loop3 μ-loop3 Inv-loop μ-loop)
-    → skips (c .before .before .before .before .before .before .before .args .rules) (c .before .before .before .before .before .before .before .args .second) (segmentAt (c .before .before .before .before .before .before .before .args .t1) (c .before .before .before .before .loop .i))
-    ≡ false
+    → let outer = c .before .before .before .before in
+    let start = start-of outer in
+    skips (start .args .rules) (start .args .second) (segmentAt (start .args .t1) (outer .loop .i)) ≡ false
 free c = sym (c .before .skips .ensures) ∙ c .if1 .left
 
 -- what the test of an edge said
 said : (c : tie.After-may-join Inv-loop2 μ-loop2 Inv-loop3 μ-loop3 Inv-loop μ-loop)
-    → c .may-join .result
-    ≡ mayJoin (c .before .before .before .before .before .before .before .before .before .before .before .before .before .args .t1) (c .before .before .before .before .before .before .before .before .before .before .before .before .before .args .rules) (c .before .before .before .before .before .before .before .before .before .before .before .before .before .args .second) (stateAt (c .before .before .before .before .before .before .before .before .before .before .before .before .before .args .t1) (c .before .before .before .before .before .before .before .before .before .before .before .before .before .args .rules) (c .before .before .before .before .before .before .before .before .before .before .before .before .before .args .second) (c .before .before .before .before .before .before .before .before .before .before .loop .i)) (c .before .before .before .before .before .before .before .before .before .before .loop .i) (c .before .before .before .before .before .loop2 .k) (c .before .before .before .before .before .loop2 .limit)
+    → let inner = c .before .before .before .before .before in
+    let i = outer-of inner .loop .i in
+    let a = start-of (outer-of inner) .args in
+    c .may-join .result ≡ mayJoin (a .t1) (a .rules) (a .second) (stateAt (a .t1) (a .rules) (a .second) i) i (inner .loop2 .k) (inner .loop2 .limit)
 said c =
     let in-inner = c .before .before .before .before in
     let in-outer = in-inner .before .before .before .before .before in
     let outer = in-outer .before in
     let start = outer .before .before .before in
-    may-said (start .args .t1) (start .args .rules) (start .args .second) (outer .loop .i) (outer .loop .axis) (outer .loop .next) (start .pre .0 .0 .few) (start .pre .0 .2) (outer .loop .inv .1) (in-outer .loop-test .taken) _ (in-inner .loop2-test .taken) _ _ _ (start .pre .0 .1) (c .may-join .ensures)
+    may-said (start .args .t1) (start .args .rules) (start .args .second) (outer .loop .i) (outer .loop .axis) (outer .loop .next) (start .pre .0 .0 .few) (start .pre .0 .2)
+    (outer .loop .inv .1) (in-outer .loop-test .taken) _ (in-inner .loop2-test .taken) _ _ _ (start .pre .0 .1) (c .may-join .ensures)
 
 -- where the search ends, it has found the place
 found : (c : tie.Left-loop2 Inv-loop2 μ-loop2 Inv-loop3 μ-loop3 Inv-loop μ-loop)
-    → place (c .before .before .before .before .before .before .before .before .before .args .t1) (c .before .before .before .before .before .before .before .before .before .args .rules) (c .before .before .before .before .before .before .before .before .before .args .second) (c .before .before .before .before .before .before .loop .i)
-    ≡ c .before .loop2 .best
+    → let outer = outer-of (c .before) in
+    let a = start-of outer .args in
+    place (a .t1) (a .rules) (a .second) (outer .loop .i) ≡ c .before .loop2 .best
 found c =
     let inner = c .before in
     let in-outer = inner .before .before .before .before in
     let outer = in-outer .before in
     let start = outer .before .before .before in
     ⊎-elim
-    (λ w. search-end (start .args .t1) (start .args .rules) (start .args .second) (outer .loop .i) (outer .loop .axis) (outer .loop .next) (start .pre .0 .0 .few) (start .pre .0 .2) (outer .loop .inv .1) (in-outer .loop-test .taken) _ _ _ _ (inner .loop2 .inv .3) (w .left))
-    (λ w. search-stop (start .args .t1) (start .args .rules) (start .args .second) (outer .loop .i) (outer .loop .axis) (outer .loop .next) (start .pre .0 .0 .few) (start .pre .0 .2) (outer .loop .inv .1) (in-outer .loop-test .taken) _ _ _ _ (inner .loop2 .inv .3) (w .1 .taken))
+    (λ w. search-end (start .args .t1) (start .args .rules) (start .args .second) (outer .loop .i) (outer .loop .axis) (outer .loop .next) (start .pre .0 .0 .few) (start .pre .0 .2)
+    (outer .loop .inv .1) (in-outer .loop-test .taken) _ _ _ _ (inner .loop2 .inv .3) (w .left))
+    (λ w. search-stop (start .args .t1) (start .args .rules) (start .args .second) (outer .loop .i) (outer .loop .axis) (outer .loop .next) (start .pre .0 .0 .few) (start .pre .0 .2)
+    (outer .loop .inv .1) (in-outer .loop-test .taken) _ _ _ _ (inner .loop2 .inv .3) (w .1 .taken))
     (c .loop2-test .came)
 
 -- where the walk back ends, the edge is settled
 settled : (c : tie.Left-loop3 Inv-loop2 μ-loop2 Inv-loop3 μ-loop3 Inv-loop μ-loop)
-    → set (c .before .loop3 .axis .edges) (c .before .loop3 .ix) (c .before .before .new-edge .result)
-    ≡ settle (stopsBehind (c .before .before .before .before .before .before .before .before .before .before .before .before .before .before .before .before .args .rules) (c .before .before .new-edge .result)) emptyEdge (c .before .before .new-edge .result) (c .before .before .before .before .before .before .before .before .before .before .before .before .before .loop .axis .edges) (c .before .before .before .before .before .before .before .before .before .before .before .before .before .loop .axis .len)
+    → let made = c .before .before .new-edge .result in
+    let outer = c .before .before .before .before .before .before .before .before .before .before .before .before .before in
+    set (c .before .loop3 .axis .edges) (c .before .loop3 .ix) made
+    ≡ settle (stopsBehind (start-of outer .args .rules) made) emptyEdge made (outer .loop .axis .edges) (outer .loop .axis .len)
 settled c =
     let walk = c .before in
     ⊎-elim
@@ -114,14 +149,23 @@ loop-less c = omega arith
 loop-again : tie.Need-loop-again Inv-loop2 μ-loop2 Inv-loop3 μ-loop3 Inv-loop μ-loop
 loop-again c =
     let outer = c .before .before .before .before in
-    let start = outer .before .before .before in
-    (omega arith, turn-skip (start .args .t1) (start .args .rules) (start .args .second) (outer .loop .i) (outer .loop .axis) (outer .loop .next) (start .pre .0 .0 .few) (start .pre .0 .2) (outer .loop .inv .1) (sym (c .before .skips .ensures) ∙ c .if1 .taken))
+    let start = outer .before .before .before in (
+      omega arith,
+      turn-skip (start .args .t1) (start .args .rules) (start .args .second) (outer .loop .i) (outer .loop .axis) (outer .loop .next) (start .pre .0 .0 .few)
+          (start .pre .0 .2) (outer .loop .inv .1) (sym (c .before .skips .ensures) ∙ c .if1 .taken),
+    )
 
 loop2-holds : tie.Need-loop2-holds Inv-loop2 μ-loop2 Inv-loop3 μ-loop3 Inv-loop μ-loop
 loop2-holds c =
     let outer = c .before .before .before .before in
-    let start = outer .before .before .before in
-    (omega arith, turn-room (start .args .t1) (start .args .rules) (start .args .second) (outer .loop .i) (outer .loop .axis) (outer .loop .next) (start .pre .0 .0 .few) (start .pre .0 .2) (outer .loop .inv .1) (outer .loop .inv .0), omega arith, search-start (start .args .t1) (start .args .rules) (start .args .second) (outer .loop .i) (outer .loop .axis) (outer .loop .next) (start .pre .0 .0 .few) (start .pre .0 .2) (outer .loop .inv .1))
+    let start = outer .before .before .before in (
+      omega arith,
+      turn-room (start .args .t1) (start .args .rules) (start .args .second) (outer .loop .i) (outer .loop .axis) (outer .loop .next) (start .pre .0 .0 .few)
+          (start .pre .0 .2) (outer .loop .inv .1) (outer .loop .inv .0),
+      omega arith,
+      search-start (start .args .t1) (start .args .rules) (start .args .second) (outer .loop .i) (outer .loop .axis) (outer .loop .next) (start .pre .0 .0 .few) (start .pre .0 .2)
+          (outer .loop .inv .1),
+    )
 
 mul-edge : tie.Need-mul-edge Inv-loop2 μ-loop2 Inv-loop3 μ-loop3 Inv-loop μ-loop
 mul-edge c = omega arith
@@ -135,7 +179,8 @@ may-join-requires c κs =
     let in-outer = in-inner .before .before .before .before .before in
     let outer = in-outer .before in
     let start = outer .before .before .before in
-    let r = turn-ring (start .args .t1) (start .args .rules) (start .args .second) (outer .loop .i) (outer .loop .axis) (outer .loop .next) (start .pre .0 .0 .few) (start .pre .0 .2) (outer .loop .inv .1) (in-outer .loop-test .taken) _ (in-inner .loop2-test .taken) in
+    let r = turn-ring (start .args .t1) (start .args .rules) (start .args .second) (outer .loop .i) (outer .loop .axis) (outer .loop .next) (start .pre .0 .0 .few) (start .pre .0 .2)
+    (outer .loop .inv .1) (in-outer .loop-test .taken) _ (in-inner .loop2-test .taken) in
     (omega arith, r .0, r .1)
 
 add-k : tie.Need-add-k Inv-loop2 μ-loop2 Inv-loop3 μ-loop3 Inv-loop μ-loop
@@ -151,8 +196,14 @@ loop2-again c =
     let inner = in-inner .before in
     let in-outer = inner .before .before .before .before in
     let outer = in-outer .before in
-    let start = outer .before .before .before in
-    (omega arith, inner .loop2 .inv .1, inner .loop2 .inv .2, search-no (start .args .t1) (start .args .rules) (start .args .second) (outer .loop .i) (outer .loop .axis) (outer .loop .next) (start .pre .0 .0 .few) (start .pre .0 .2) (outer .loop .inv .1) (in-outer .loop-test .taken) _ (in-inner .loop2-test .taken) _ _ _ (inner .loop2 .inv .3) _ (said may-join) (not-true _ (c .if3 .taken)))
+    let start = outer .before .before .before in (
+      omega arith,
+      inner .loop2 .inv .1,
+      inner .loop2 .inv .2,
+      search-no (start .args .t1) (start .args .rules) (start .args .second) (outer .loop .i) (outer .loop .axis)
+          (outer .loop .next) (start .pre .0 .0 .few) (start .pre .0 .2) (outer .loop .inv .1) (in-outer .loop-test .taken) _ (in-inner .loop2-test .taken) _ _ _
+          (inner .loop2 .inv .3) _ (said may-join) (not-true _ (c .if3 .taken)),
+    )
 
 limit-behind-requires : tie.Need-limit-behind-requires Inv-loop2 μ-loop2 Inv-loop3 μ-loop3 Inv-loop μ-loop
 limit-behind-requires c κs = search needs
@@ -171,8 +222,14 @@ loop2-again-2 c =
     let inner = in-inner .before in
     let in-outer = inner .before .before .before .before in
     let outer = in-outer .before in
-    let start = outer .before .before .before in
-    (omega arith, inner .loop2 .inv .1, omega arith, search-yes (start .args .t1) (start .args .rules) (start .args .second) (outer .loop .i) (outer .loop .axis) (outer .loop .next) (start .pre .0 .0 .few) (start .pre .0 .2) (outer .loop .inv .1) (in-outer .loop-test .taken) _ (in-inner .loop2-test .taken) _ _ _ (inner .loop2 .inv .3) _ (said may-join) (not-false _ (else3 .if3 .left)) _ (c .limit-behind .ensures))
+    let start = outer .before .before .before in (
+      omega arith,
+      inner .loop2 .inv .1,
+      omega arith,
+      search-yes (start .args .t1) (start .args .rules) (start .args .second) (outer .loop .i) (outer .loop .axis) (outer .loop .next)
+          (start .pre .0 .0 .few) (start .pre .0 .2) (outer .loop .inv .1) (in-outer .loop-test .taken) _ (in-inner .loop2-test .taken) _ _ _ (inner .loop2 .inv .3) _ (said may-join)
+          (not-false _ (else3 .if3 .left)) _ (c .limit-behind .ensures),
+    )
 
 mul-edge-2 : tie.Need-mul-edge-2 Inv-loop2 μ-loop2 Inv-loop3 μ-loop3 Inv-loop μ-loop
 mul-edge-2 c = omega arith
@@ -188,8 +245,11 @@ append-requires c κs =
     let then4 = c .before .before in
     let in-outer = then4 .before .before .before .before .before .before in
     let outer = in-outer .before in
-    let start = outer .before .before .before in
-    (omega arith, turn-last (start .args .t1) (start .args .rules) (start .args .second) (outer .loop .i) (outer .loop .axis) (outer .loop .next) (start .pre .0 .0 .few) (start .pre .0 .2) (outer .loop .inv .1) (in-outer .loop-test .taken) _ (then4 .if4 .taken))
+    let start = outer .before .before .before in (
+      omega arith,
+      turn-last (start .args .t1) (start .args .rules) (start .args .second) (outer .loop .i) (outer .loop .axis) (outer .loop .next) (start .pre .0 .0 .few)
+          (start .pre .0 .2) (outer .loop .inv .1) (in-outer .loop-test .taken) _ (then4 .if4 .taken),
+    )
 
 cast-with-last : tie.Need-cast-with-last Inv-loop2 μ-loop2 Inv-loop3 μ-loop3 Inv-loop μ-loop
 cast-with-last c = omega arith
@@ -217,8 +277,11 @@ loop-again-2 c =
     let else1 = left-inner .before .before in
     let in-outer = else1 .before .before .before in
     let outer = in-outer .before in
-    let start = outer .before .before .before in
-    (omega arith, turn-join (start .args .t1) (start .args .rules) (start .args .second) (outer .loop .i) (outer .loop .axis) (outer .loop .next) (start .pre .0 .0 .few) (start .pre .0 .2) (outer .loop .inv .1) (in-outer .loop-test .taken) (free else1) _ (found left-inner) _ _ (then4 .if4 .taken) (c .with-last .ensures) (append .append .ensures))
+    let start = outer .before .before .before in (
+      omega arith,
+      turn-join (start .args .t1) (start .args .rules) (start .args .second) (outer .loop .i) (outer .loop .axis) (outer .loop .next) (start .pre .0 .0 .few)
+          (start .pre .0 .2) (outer .loop .inv .1) (in-outer .loop-test .taken) (free else1) _ (found left-inner) _ _ (then4 .if4 .taken) (c .with-last .ensures) (append .append .ensures),
+    )
 
 add-i-3 : tie.Need-add-i-3 Inv-loop2 μ-loop2 Inv-loop3 μ-loop3 Inv-loop μ-loop
 add-i-3 c = omega arith
@@ -233,8 +296,11 @@ loop-again-3 c =
     let else1 = left-inner .before .before in
     let in-outer = else1 .before .before .before in
     let outer = in-outer .before in
-    let start = outer .before .before .before in
-    (omega arith, turn-none (start .args .t1) (start .args .rules) (start .args .second) (outer .loop .i) (outer .loop .axis) (outer .loop .next) (start .pre .0 .0 .few) (start .pre .0 .2) (outer .loop .inv .1) (in-outer .loop-test .taken) (free else1) _ (found left-inner) (else4 .if4 .left) (c .if5 .taken))
+    let start = outer .before .before .before in (
+      omega arith,
+      turn-none (start .args .t1) (start .args .rules) (start .args .second) (outer .loop .i) (outer .loop .axis) (outer .loop .next) (start .pre .0 .0 .few)
+          (start .pre .0 .2) (outer .loop .inv .1) (in-outer .loop-test .taken) (free else1) _ (found left-inner) (else4 .if4 .left) (c .if5 .taken),
+    )
 
 returns : tie.Need-returns Inv-loop2 μ-loop2 Inv-loop3 μ-loop3 Inv-loop μ-loop
 returns c =
@@ -245,7 +311,8 @@ returns c =
     let in-outer = else1 .before .before .before in
     let outer = in-outer .before in
     let start = outer .before .before .before in
-    turn-full (start .args .t1) (start .args .rules) (start .args .second) (outer .loop .i) (outer .loop .axis) (outer .loop .next) (start .pre .0 .0 .few) (start .pre .0 .2) (outer .loop .inv .1) (in-outer .loop-test .taken) (free else1) _ (found left-inner) (else4 .if4 .left) (else5 .if5 .left) (c .if6 .taken)
+    turn-full (start .args .t1) (start .args .rules) (start .args .second) (outer .loop .i) (outer .loop .axis) (outer .loop .next) (start .pre .0 .0 .few) (start .pre .0 .2)
+    (outer .loop .inv .1) (in-outer .loop-test .taken) (free else1) _ (found left-inner) (else4 .if4 .left) (else5 .if5 .left) (c .if6 .taken)
 
 cast-new-edge : tie.Need-cast-new-edge Inv-loop2 μ-loop2 Inv-loop3 μ-loop3 Inv-loop μ-loop
 cast-new-edge c = omega arith
@@ -285,8 +352,15 @@ loop3-less c = omega arith
 loop3-again : tie.Need-loop3-again Inv-loop2 μ-loop2 Inv-loop3 μ-loop3 Inv-loop μ-loop
 loop3-again c =
     let in-walk = c .before .before .before in
-    let walk = in-walk .before in
-    (omega arith, walk .loop3 .inv .1, walk .loop3 .inv .2, walk .loop3 .inv .3, walk .loop3 .inv .4, settle-on _ _ _ _ _ (in-walk .loop3-test .taken) (sym (c .before .stops-behind .ensures) ∙ c .if7 .left) ∙ walk .loop3 .inv .5)
+    let walk = in-walk .before in (
+      omega arith,
+      walk .loop3 .inv .1,
+      walk .loop3 .inv .2,
+      walk .loop3 .inv .3,
+      walk .loop3 .inv .4,
+      settle-on _ _ _ _ _ (in-walk .loop3-test .taken)
+          (sym (c .before .stops-behind .ensures) ∙ c .if7 .left) ∙ walk .loop3 .inv .5,
+    )
 
 mul-edge-3 : tie.Need-mul-edge-3 Inv-loop2 μ-loop2 Inv-loop3 μ-loop3 Inv-loop μ-loop
 mul-edge-3 c = omega arith
@@ -323,8 +397,12 @@ loop-again-4 c =
     let else1 = left-inner .before .before in
     let in-outer = else1 .before .before .before in
     let outer = in-outer .before in
-    let start = outer .before .before .before in
-    (omega arith, rw (walk .loop3 .inv .3, walk .loop3 .inv .4) (turn-made (start .args .t1) (start .args .rules) (start .args .second) (outer .loop .i) (outer .loop .axis) (outer .loop .next) (start .pre .0 .0 .few) (start .pre .0 .2) (outer .loop .inv .1) (in-outer .loop-test .taken) (free else1) _ (found left-inner) (else4 .if4 .left) (else5 .if5 .left) (walk .loop3 .inv .1) _ _ _ (rw (back w32 (start .args .rules .scale) (told .struct-told .given .1 .1 .1 .1 .0 .1)) at (new-edge .new-edge .ensures)) (settled c) refl))
+    let start = outer .before .before .before in (
+      omega arith,
+      rw (walk .loop3 .inv .3, walk .loop3 .inv .4) (turn-made (start .args .t1) (start .args .rules) (start .args .second) (outer .loop .i) (outer .loop .axis)
+          (outer .loop .next) (start .pre .0 .0 .few) (start .pre .0 .2) (outer .loop .inv .1) (in-outer .loop-test .taken) (free else1) _ (found left-inner) (else4 .if4 .left)
+          (else5 .if5 .left) (walk .loop3 .inv .1) _ _ _ (rw (back w32 (start .args .rules .scale) (told .struct-told .given .1 .1 .1 .1 .0 .1)) at (new-edge .new-edge .ensures)) (settled c) refl),
+    )
 
 returns-2 : tie.Need-returns-2 Inv-loop2 μ-loop2 Inv-loop3 μ-loop3 Inv-loop μ-loop
 returns-2 c = let e : c .before .loop .i ≡ c .before .before .before .before .args .t1 .len = omega arith in rw e at (c .before .loop .inv .1)

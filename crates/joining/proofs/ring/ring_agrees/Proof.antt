@@ -52,8 +52,8 @@ stem-near-requires c κs = search needs
 
 -- what the test said of the member
 tested : (c : tie.After-stem-near Inv-loop μ-loop)
-    → c .stem-near .result
-    ≡ stemNear (c .before .before .before .before .args .near) (c .before .before .before .before .args .stem) (getD (c .before .before .before .before .args .stems .now) (c .before .before .loop .ix) (pos 0))
+    → let a = c .before .before .before .before .args in
+    c .stem-near .result ≡ stemNear (a .near) (a .stem) (getD (a .stems .now) (c .before .before .loop .ix) (pos 0))
 tested c =
     let start = c .before .before .before .before in
     rw (is (start .fits .stem), is (got w32 _ (c .before .stem-near-arg .given))) at (c .stem-near .ensures)
@@ -75,7 +75,8 @@ returns-3 c =
 
 -- one step on
 passes : (c : tie.Else3 Inv-loop μ-loop)
-    → Passes (nextIn (c .before .before .before .before .before .before .args .next .now)) mostSegments (c .before .before .before .before .before .before .args .last) mostSegments (c .before .before .before .before .loop .ix)
+    → let a = c .before .before .before .before .before .before .args in
+    Passes (nextIn (a .next .now)) mostSegments (a .last) mostSegments (c .before .before .before .before .loop .ix)
 passes c = walk-passes _ _ _ _ _ (c .if3 .left) (c .before .before .before .before .loop .inv .1)
 
 mul-ix : tie.Need-mul-ix Inv-loop μ-loop

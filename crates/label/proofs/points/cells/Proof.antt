@@ -1,11 +1,12 @@
 -- `label::points::cells` is safe.
 use borrow.Author.Needs.{needs}
 use Prim.Native.Nat.{_≤_, _-_}
+use Rattle.lines.specs.Limits.{mostNumbers}
 use Rattle.label.proofs.points.cells.Statement.{statement}
 use Rattle.label.proofs.points.cells.Tie as tie
 
 abbrev Inv-loop : tie.InvT-loop
-Inv-loop words n currents touched column₀ i₀ t9 column i = (i ≤ n) × (n ≤ 8191)
+Inv-loop words n currents touched column₀ i₀ t9 column i = (i ≤ n) × (n ≤ mostNumbers)
 
 abbrev μ-loop : tie.MeasureT-loop
 μ-loop words n currents touched column₀ i₀ t9 column i = n - i

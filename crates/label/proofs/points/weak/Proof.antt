@@ -1,11 +1,12 @@
 -- `label::points::weak` is safe.
 use borrow.Author.Needs.{needs}
 use Prim.Native.Nat.{_≤_, _-_}
+use Rattle.lines.specs.Limits.{mostNumbers}
 use Rattle.label.proofs.points.weak.Statement.{statement}
 use Rattle.label.proofs.points.weak.Tie as tie
 
 abbrev Inv-loop : tie.InvT-loop
-Inv-loop words glyph n currents₀ touched₀ ends₀ placed₀ i₀ currents touched ends placed i = (i ≤ n) × ((placed ≤ i) × (n ≤ 8191))
+Inv-loop words glyph n currents₀ touched₀ ends₀ placed₀ i₀ currents touched ends placed i = (i ≤ n) × ((placed ≤ i) × (n ≤ mostNumbers))
 
 abbrev μ-loop : tie.MeasureT-loop
 μ-loop words glyph n currents₀ touched₀ ends₀ placed₀ i₀ currents touched ends placed i = n - i

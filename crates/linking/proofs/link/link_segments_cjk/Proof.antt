@@ -4,14 +4,16 @@ use mathlib.Core.Path.{_≡_, sym, ap, _∙_}
 use lib.IntN.{ℤ}
 use Rattle.signed.proofs.Signed.{is}
 use Rattle.axis.specs.declared.segment.Segments.{Segments}
+use Rattle.axis.specs.Accepted.{SegmentsWithin}
 use Rattle.refusals.specs.Refusal.{refusal}
 use Rattle.refusals.proofs.Tests.{answered-no, answered-yes}
 use Rattle.linking_rounds.specs.declared.thresholds.Thresholds.{Thresholds}
 use Rattle.linking_rounds.specs.Rounds.{linked}
-use Rattle.linking_rounds.proofs.Handing.{Ready, start-ready, after-pairs, after-serifs, whole}
+use Rattle.linking_rounds.proofs.Handing.{after-serifs, whole}
 use Rattle.linking.specs.Linking as L
 use Rattle.signed.proofs.By.{by₂}
 use Rattle.linking.proofs.Calls.{Accepted, accepted}
+use Rattle.linking.proofs.Numbers.{len-not-below-0}
 use Rattle.linking.proofs.link.link_segments_cjk.Statement.{statement}
 use Rattle.linking.proofs.link.link_segments_cjk.Tie as tie
 
@@ -30,12 +32,9 @@ measured c =
     let start = c .before .before .before in
     by₂ L.thresholdsOf (c .thresholds-of .ensures) (is (start .fits .units-per-em)) (is (start .fits .scale))
 
--- what each round hands on
-paired : (c : tie.After-pair-round) → Ready (c .pair-round .result)
-paired c = after-pairs _ _ (start-ready _ (taken (c .before .before) .within)) _ _ (c .pair-round .ensures)
-
-held : (c : tie.After-serif-round) → Ready (c .serif-round .result)
-held c = after-serifs _ _ (paired (c .before)) _ (c .serif-round .ensures)
+-- what the first two rounds hand on
+held : (c : tie.After-serif-round) → SegmentsWithin (c .serif-round .result)
+held c = after-serifs _ _ _ (c .before .pair-round .ensures .1) (c .serif-round .ensures)
 
 linking-refusal-requires : tie.Need-linking-refusal-requires
 linking-refusal-requires c κs = search needs
@@ -52,13 +51,15 @@ thresholds-of-requires c κs =
     sym (by₂ L.numbersHold (sym (taken c .numbers)) (sym (is (start .fits .units-per-em))) (sym (is (start .fits .scale))))
 
 pair-round-requires : tie.Need-pair-round-requires
-pair-round-requires c κs = taken (c .before) .within .few
+pair-round-requires c κs =
+    let start = c .before .before .before in
+    (taken (c .before) .within, rw (measured c) (len-not-below-0 (start .args .units-per-em) (start .args .scale) (taken (c .before) .numbers)))
 
 serif-round-requires : tie.Need-serif-round-requires
-serif-round-requires c κs = let r = paired c in (r .few, r .closed)
+serif-round-requires c κs = c .pair-round .ensures .1
 
 last-round-requires : tie.Need-last-round-requires
-last-round-requires c κs = let r = held c in (r .few, r .closed)
+last-round-requires c κs = held c
 
 returns-2 : tie.Need-returns-2
 unfolding L.linkSegmentsCjk
@@ -69,7 +70,7 @@ returns-2 c =
     let linking-refusal = else1 .before in
     let start = linking-refusal .before in
     let s = start .args in
-    let t = whole _ _ _ _ _ _ (pair-round .pair-round .ensures) (c .before .serif-round .ensures) (c .last-round .ensures) in
+    let t = whole _ _ _ _ _ _ (pair-round .pair-round .ensures .0) (c .before .serif-round .ensures) (c .last-round .ensures) in
     answered-yes _ _ (L.beside (s .segments)) _ _ (answer-is linking-refusal) (else1 .if1 .left)
     (ap (λ (u : Segments). L.beside u 0) (t ∙ ap (λ (by : Thresholds). linked (s .major-dir) by (s .segments)) (measured thresholds-of)))
 

@@ -1,4 +1,4 @@
--- `linking_rounds::rounds::last_round` meets its contract: each turn settles one segment, and links stay in the table. Assumes nothing.
+-- `linking_rounds::rounds::last_round` meets its contract: each turn settles one segment, and segments stay within the table. Assumes nothing.
 use borrow.Author.Needs.{needs}
 use native.Mathlib.Omega.{arith}
 use native.Mathlib.Nat.{lt-of-lt-of-le}
@@ -8,7 +8,8 @@ use Rattle.axis.specs.Limits.{mostSegments}
 use Rattle.linking_rounds.specs.Loops.{turns}
 use Rattle.linking_rounds.specs.Rounds as R
 use Rattle.linking_rounds.proofs.Loops.{none, turn, end}
-use Rattle.linking_rounds.proofs.Closed.{last-closed, to-below}
+use Rattle.linking_rounds.proofs.Kept.{Every}
+use Rattle.linking_rounds.proofs.Within.{Within, last-within, every-within, to-below}
 use Rattle.linking_rounds.proofs.Turns.{last-none, last-go}
 use Rattle.linking_rounds.proofs.rounds.last_round.Statement.{statement}
 use Rattle.linking_rounds.proofs.rounds.last_round.Tie as tie
@@ -19,18 +20,24 @@ Inv-loop thresholds count table₀ ix1₀ table ix1 = (ix1 ≤ count) × (count 
 abbrev μ-loop : tie.MeasureT-loop
 μ-loop thresholds count table₀ ix1₀ table ix1 = count - ix1
 
+-- in the middle of the round, each segment is within the table
+whole : (c : tie.After-known-told Inv-loop μ-loop)
+    → Every (c .before .before .before .before .before .before .args .segments .len) (Within (c .before .before .before .before .before .before .args .segments .len)) (c .before .before .before .before .before .loop .table)
+whole c =
+    let outer = c .before .before .before .before .before in
+    let start = outer .before in
+    let o = outer .loop in
+    last-within _ (start .args .thresholds) (o .ix1) (start .args .segments) (o .table) (every-within _ (start .pre)) (o .inv .2) (o .inv .0)
+
 -- the link is to a segment of the table
 target : (c : tie.After-known-told Inv-loop μ-loop) → c .before .link .given .0 .0 < c .before .before .before .before .before .before .args .segments .len
 target c =
     let in-outer = c .before .before .before .before in
-    let outer = in-outer .before in
-    let start = outer .before in
-    let o = outer .loop in
-    let closed = last-closed _ (start .args .thresholds) (o .ix1) (start .args .segments) (o .table) (start .pre .1) (o .inv .2) (o .inv .0) in
-    to-below _ (o .ix1) _ (o .table) closed (in-outer .loop-test .taken) (c .before .link .given .1)
+    let o = in-outer .before .loop in
+    to-below _ (o .ix1) _ (o .table) (whole c) (in-outer .loop-test .taken) (c .before .link .given .1)
 
 loop-holds : tie.Need-loop-holds Inv-loop μ-loop
-loop-holds c = (omega arith, c .pre .0, none _ _)
+loop-holds c = (omega arith, c .pre .few, none _ _)
 
 mul-seg1 : tie.Need-mul-seg1 Inv-loop μ-loop
 mul-seg1 c = omega arith
@@ -69,13 +76,13 @@ mul-seg2 c = omega arith
 element-copy-out-seg2 : tie.Need-element-copy-out-seg2 Inv-loop μ-loop
 element-copy-out-seg2 c =
     let start = c .before .before .before .before .before .before in
-    lt-of-lt-of-le (target c) (start .pre .0)
+    lt-of-lt-of-le (target c) (start .pre .few)
 
 cast-settled : tie.Need-cast-settled Inv-loop μ-loop
 cast-settled c = omega arith
 
 settled-requires : tie.Need-settled-requires Inv-loop μ-loop
-settled-requires c κs = search needs
+settled-requires c κs = whole (c .before) .each _ (target (c .before)) .score
 
 mul-t12 : tie.Need-mul-t12 Inv-loop μ-loop
 mul-t12 c = omega arith

@@ -10,9 +10,9 @@ use Rattle.axis.specs.Segment.{segmentAt}
 use Rattle.axis.specs.Limits.{mostSegments}
 use Rattle.linking_rounds.specs.Loops.{turns}
 use Rattle.linking_rounds.specs.Rounds as R
-use Rattle.linking_rounds.specs.Steps.{Closed}
 use Rattle.linking_rounds.proofs.Loops.{none, turn, end}
-use Rattle.linking_rounds.proofs.Closed.{serif-closed, to-below}
+use Rattle.linking_rounds.proofs.Kept.{Every}
+use Rattle.linking_rounds.proofs.Within.{Within, serif-within, every-within, to-below}
 use Rattle.linking_rounds.proofs.Turns.{serif-none, serif-skip, serif-go}
 use Rattle.linking_rounds.proofs.Holding as H
 use Rattle.linking_rounds.proofs.rounds.serif_round.Statement.{statement}
@@ -31,14 +31,14 @@ Inv-loop thresholds count table₀ ix1₀ table ix1 = (ix1 ≤ count) × (count 
 abbrev μ-loop : tie.MeasureT-loop
 μ-loop thresholds count table₀ ix1₀ table ix1 = count - ix1
 
--- in the middle of the round, each link is to a segment of the table
+-- in the middle of the round, each segment is within the table
 whole : (c : tie.After-known-told Inv-loop2 μ-loop2 Inv-loop μ-loop)
-    → Closed (c .before .before .before .before .before .before .args .segments .len) (c .before .before .before .before .before .loop .table)
+    → Every (c .before .before .before .before .before .before .args .segments .len) (Within (c .before .before .before .before .before .before .args .segments .len)) (c .before .before .before .before .before .loop .table)
 whole c =
     let outer = c .before .before .before .before .before in
     let start = outer .before in
     let o = outer .loop in
-    serif-closed _ (start .args .thresholds) (o .ix1) (start .args .segments) (o .table) (start .pre .1) (o .inv .2) (o .inv .0)
+    serif-within _ (start .args .thresholds) (o .ix1) (start .args .segments) (o .table) (every-within _ (start .pre)) (o .inv .2) (o .inv .0)
 
 target : (c : tie.After-known-told Inv-loop2 μ-loop2 Inv-loop μ-loop) → c .before .first .given .0 .0 < c .before .before .before .before .before .before .args .segments .len
 target c =
@@ -53,21 +53,25 @@ target2 c =
     let in-inner = c .before .before .before .before in
     let inner = in-inner .before in
     let o = inner .loop2 in
-    to-below _ (o .ix2) _ (o .table) (o .inv .4 .closed) (in-inner .loop2-test .taken) (c .before .second .given .1)
+    to-below _ (o .ix2) _ (o .table) (o .inv .4 .within) (in-inner .loop2-test .taken) (c .before .second .given .1)
 
 -- what the inner loop leaves, by its end or by the break
 made : (c : tie.Left-loop2 Inv-loop2 μ-loop2 Inv-loop μ-loop)
-    → c .loop2-test .table
-    ≡ R.hold (segmentAt (c .before .before .before .before .before .before .before .before .before .before .loop .table) (c .before .before .before .before .before .before .before .before .before .before .loop .ix1)) (segmentAt (c .before .before .before .before .before .before .before .before .before .before .loop .table) (c .before .before .before .before .before .before .first .given .0 .0)) (c .before .before .before .before .before .before .before .before .before .before .loop .ix1) (c .before .before .before .before .before .before .first .given .0 .0) (c .before .before .before .before .before .before .before .before .before .before .before .args .segments .len) (c .before .before .before .before .before .before .before .before .before .before .loop .table)
+    → let outer = c .before .before .before .before .before .before .before .before .before .before in
+    let t = outer .loop .table in
+    let ix = outer .loop .ix1 in
+    let link = c .before .before .before .before .before .before .first .given .0 .0 in
+    c .loop2-test .table ≡ R.hold (segmentAt t ix) (segmentAt t link) ix link (outer .before .args .segments .len) t
 made c =
     let start = c .before .before .before .before .before .before .before .before .before .before .before in
     ⊎-elim
     (λ w. w .1 ∙ H.held-end (start .args .thresholds) _ _ _ _ _ (c .before .loop2 .inv .2) (c .before .loop2 .inv .3) _ _ _ (c .before .loop2 .inv .4) (w .0 .left))
-    (λ w. w .14 ∙ H.last-turn (start .args .thresholds) _ _ _ _ _ (c .before .loop2 .inv .2) (c .before .loop2 .inv .3) _ _ _ _ (c .before .loop2 .inv .4) (w .0 .taken) (w .3 .given .1) _ _ (sym (w .6 .ensures) ∙ not-false _ (w .7 .left)) (sym (w .8 .ensures) ∙ w .9 .left) (w .11 .ensures) (w .13 .ensures))
+    (λ w. w .14 ∙ H.last-turn (start .args .thresholds) _ _ _ _ _ (c .before .loop2 .inv .2) (c .before .loop2 .inv .3) _ _ _ _ (c .before .loop2 .inv .4) (w .0 .taken)
+    (w .3 .given .1) _ _ (sym (w .6 .ensures) ∙ not-false _ (w .7 .left)) (sym (w .8 .ensures) ∙ w .9 .left) (w .11 .ensures) (w .13 .ensures))
     (c .loop2-test .came)
 
 loop-holds : tie.Need-loop-holds Inv-loop2 μ-loop2 Inv-loop μ-loop
-loop-holds c = (omega arith, c .pre .0, none _ _)
+loop-holds c = (omega arith, c .pre .few, none _ _)
 
 mul-seg1 : tie.Need-mul-seg1 Inv-loop2 μ-loop2 Inv-loop μ-loop
 mul-seg1 c = omega arith
@@ -106,7 +110,7 @@ mul-link1 c = omega arith
 element-copy-out-link1 : tie.Need-element-copy-out-link1 Inv-loop2 μ-loop2 Inv-loop μ-loop
 element-copy-out-link1 c =
     let start = c .before .before .before .before .before .before in
-    lt-of-lt-of-le (target c) (start .pre .0)
+    lt-of-lt-of-le (target c) (start .pre .few)
 
 cast-is-near-stem : tie.Need-cast-is-near-stem Inv-loop2 μ-loop2 Inv-loop μ-loop
 cast-is-near-stem c = omega arith
@@ -192,7 +196,9 @@ cast-encloses-2 : tie.Need-cast-encloses-2 Inv-loop2 μ-loop2 Inv-loop μ-loop
 cast-encloses-2 c = omega arith
 
 encloses-requires : tie.Need-encloses-requires Inv-loop2 μ-loop2 Inv-loop μ-loop
-encloses-requires c κs = search needs
+encloses-requires c κs =
+    let known-told = c .before .before .before .before .before .before .before .before .before .before in
+    whole known-told .each _ (known-told .before .before .before .before .loop-test .taken) .score
 
 add-ix2-2 : tie.Need-add-ix2-2 Inv-loop2 μ-loop2 Inv-loop μ-loop
 add-ix2-2 c = omega arith
@@ -210,11 +216,14 @@ loop2-again-2 c =
       inner .loop2 .inv .1,
       inner .loop2 .inv .2,
       inner .loop2 .inv .3,
-      H.step-skip (start .args .thresholds) _ _ _ _ _ (inner .loop2 .inv .2) (inner .loop2 .inv .3) _ _ _ _ (inner .loop2 .inv .4) (in-inner .loop2-test .taken) (second .second .given .1) (sym (c .before .encloses .ensures) ∙ not-true _ (c .if2 .taken)),
+      H.step-skip (start .args .thresholds) _ _ _ _ _ (inner .loop2 .inv .2) (inner .loop2 .inv .3) _ _ _ _ (inner .loop2 .inv .4) (in-inner .loop2-test .taken)
+          (second .second .given .1) (sym (c .before .encloses .ensures) ∙ not-true _ (c .if2 .taken)),
     )
 
 is-much-longer-requires : tie.Need-is-much-longer-requires Inv-loop2 μ-loop2 Inv-loop μ-loop
-is-much-longer-requires c κs = search needs
+is-much-longer-requires c κs =
+    let in-inner = c .before .before .before .before .before .before .before in
+    in-inner .before .loop2 .inv .4 .within .each _ (in-inner .loop2-test .taken) .len
 
 cast-rewrite-links : tie.Need-cast-rewrite-links Inv-loop2 μ-loop2 Inv-loop μ-loop
 cast-rewrite-links c = omega arith
@@ -225,7 +234,7 @@ cast-rewrite-links-2 c = omega arith
 rewrite-links-requires : tie.Need-rewrite-links-requires Inv-loop2 μ-loop2 Inv-loop μ-loop
 rewrite-links-requires c κs =
     let inner = c .before .before .before .before .before .before .before .before .before .before in
-    omega (arith, inner .loop2 .inv .4 .closed .size)
+    omega (arith, inner .loop2 .inv .4 .within .size)
 
 add-ix2-3 : tie.Need-add-ix2-3 Inv-loop2 μ-loop2 Inv-loop μ-loop
 add-ix2-3 c = omega arith
@@ -246,7 +255,9 @@ loop2-again-3 c =
       inner .loop2 .inv .1,
       inner .loop2 .inv .2,
       inner .loop2 .inv .3,
-      H.step-serifs (start .args .thresholds) _ _ _ _ _ (inner .loop2 .inv .2) (inner .loop2 .inv .3) _ _ _ _ (inner .loop2 .inv .4) (in-inner .loop2-test .taken) (second .second .given .1) _ (sym (encloses .encloses .ensures) ∙ not-false _ (else2 .if2 .left)) (sym (is-much-longer .is-much-longer .ensures) ∙ c .before .if3 .taken) (c .rewrite-links .ensures),
+      H.step-serifs (start .args .thresholds) _ _ _ _ _ (inner .loop2 .inv .2) (inner .loop2 .inv .3) _ _ _ _ (inner .loop2 .inv .4) (in-inner .loop2-test .taken)
+          (second .second .given .1) _ (sym (encloses .encloses .ensures) ∙ not-false _ (else2 .if2 .left)) (sym (is-much-longer .is-much-longer .ensures) ∙ c .before .if3 .taken)
+          (c .rewrite-links .ensures),
     )
 
 mul-own : tie.Need-mul-own Inv-loop2 μ-loop2 Inv-loop μ-loop

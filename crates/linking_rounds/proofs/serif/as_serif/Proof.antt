@@ -12,7 +12,16 @@ returns c =
     let told2 = told3 .before in
     let told = told2 .before in
     let start = told .before .before in
-    rw (back w16 (start .args .seg .pos) (told .struct-told .given .1 .1 .0 .1), back w16 (start .args .seg .delta) (told2 .struct-told2 .given .1 .1 .1 .0 .1), back w16 (start .args .seg .«min_coord») (told3 .struct-told3 .given .1 .1 .1 .1 .0 .1), back w16 (start .args .seg .«max_coord») (told4 .struct-told4 .given .1 .1 .1 .1 .1 .0 .1), back w16 (start .args .seg .height) (told5 .struct-told5 .given .1 .1 .1 .1 .1 .1 .0 .1), back w32 (start .args .seg .score) (c .before .struct-told6 .given .1 .1 .1 .1 .1 .1 .1 .0 .1), back w32 (start .args .seg .len) (c .struct-told7 .given .1 .1 .1 .1 .1 .1 .1 .1 .0 .1))
+    rw (
+      back w16 (start .args .seg .pos) (told .struct-told .given .1 .1 .0 .1),
+      back w16 (start .args .seg .delta) (told2 .struct-told2 .given .1 .1 .1 .0 .1),
+      back w16
+          (start .args .seg .«min_coord») (told3 .struct-told3 .given .1 .1 .1 .1 .0 .1),
+      back w16 (start .args .seg .«max_coord») (told4 .struct-told4 .given .1 .1 .1 .1 .1 .0 .1),
+      back w16 (start .args .seg .height) (told5 .struct-told5 .given .1 .1 .1 .1 .1 .1 .0 .1),
+      back w32 (start .args .seg .score) (c .before .struct-told6 .given .1 .1 .1 .1 .1 .1 .1 .0 .1),
+      back w32 (start .args .seg .len) (c .struct-told7 .given .1 .1 .1 .1 .1 .1 .1 .1 .0 .1),
+    )
 
 pub as-serif-spec : {M : Type 1} → statement M
 as-serif-spec = tie.close (tie.spec returns)

@@ -19,7 +19,8 @@ returns-2 c =
     let told2 = else1 .before in
     let told = told2 .before .before in
     let start = told .before .before in
-    rw (sym (eq-same w16 (start .args .seg1 .pos) (start .args .seg2 .pos) (told .struct-told .given .1 .1 .0 .1) (told2 .struct-told2 .given .1 .1 .0 .1)) ∙ eq-eqb _ _ (else1 .if1 .left)) (eq-same w16 (start .args .link1 .pos) (start .args .link2 .pos) (told3 .struct-told3 .given .1 .1 .0 .1) (c .struct-told4 .given .1 .1 .0 .1))
+    rw (sym (eq-same w16 (start .args .seg1 .pos) (start .args .seg2 .pos) (told .struct-told .given .1 .1 .0 .1) (told2 .struct-told2 .given .1 .1 .0 .1))
+    ∙ eq-eqb _ _ (else1 .if1 .left)) (eq-same w16 (start .args .link1 .pos) (start .args .link2 .pos) (told3 .struct-told3 .given .1 .1 .0 .1) (c .struct-told4 .given .1 .1 .0 .1))
 
 pub coincide-spec : {M : Type 1} → statement M
 coincide-spec = tie.close (tie.spec returns returns-2)

@@ -33,10 +33,15 @@ returns-3 c =
     let ends-outside = else2 .before in
     let else1 = ends-outside .before in
     let starts-outside = else1 .before in
-    rw (sym (starts-outside .starts-outside .ensures) ∙ not-false _ (else1 .if1 .left), sym (ends-outside .ends-outside .ensures) ∙ not-false _ (else2 .if2 .left), sym (c .before .coincide .ensures) ∙ c .if3 .taken)
+    rw (
+      sym (starts-outside .starts-outside .ensures) ∙ not-false _ (else1 .if1 .left),
+      sym (ends-outside .ends-outside .ensures)
+          ∙ not-false _ (else2 .if2 .left),
+      sym (c .before .coincide .ensures) ∙ c .if3 .taken,
+    )
 
 little-worse-requires : tie.Need-little-worse-requires
-little-worse-requires c κs = search needs
+little-worse-requires c κs = c .before .before .before .before .before .before .pre
 
 returns-4 : tie.Need-returns-4
 unfolding P.encloses
@@ -46,7 +51,12 @@ returns-4 c =
     let ends-outside = else2 .before in
     let else1 = ends-outside .before in
     let starts-outside = else1 .before in
-    rw (sym (starts-outside .starts-outside .ensures) ∙ not-false _ (else1 .if1 .left), sym (ends-outside .ends-outside .ensures) ∙ not-false _ (else2 .if2 .left), sym (coincide .coincide .ensures) ∙ c .before .if3 .left) (c .little-worse .ensures)
+    rw (
+      sym (starts-outside .starts-outside .ensures) ∙ not-false _ (else1 .if1 .left),
+      sym (ends-outside .ends-outside .ensures)
+          ∙ not-false _ (else2 .if2 .left),
+      sym (coincide .coincide .ensures) ∙ c .before .if3 .left,
+    ) (c .little-worse .ensures)
 
 pub encloses-spec : {M : Type 1} → statement M
 encloses-spec =

@@ -19,7 +19,8 @@ returns-2 c =
     let else1 = told .before .before in
     let links-to = else1 .before in
     let start = links-to .before in
-    rw (sym (links-to .links-to .ensures) ∙ not-false _ (else1 .if1 .left)) (le-same w16 (start .args .link1 .pos) (start .args .link2 .pos) (told .struct-told .given .1 .1 .0 .1) (c .struct-told2 .given .1 .1 .0 .1))
+    rw (sym (links-to .links-to .ensures) ∙ not-false _ (else1 .if1 .left))
+    (le-same w16 (start .args .link1 .pos) (start .args .link2 .pos) (told .struct-told .given .1 .1 .0 .1) (c .struct-told2 .given .1 .1 .0 .1))
 
 pub ends-outside-spec : {M : Type 1} → statement M
 ends-outside-spec = tie.close (tie.spec links-to-requires returns returns-2)

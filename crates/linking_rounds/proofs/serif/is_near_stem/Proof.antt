@@ -25,7 +25,11 @@ returns-2 c =
     let told2 = else1 .before in
     let told = told2 .before .before in
     let start = told .before .before in
-    rw (le-turned w32 (start .args .thresholds .dist) (start .args .seg1 .score) (told .struct-told .given .1 .0 .1) (told2 .struct-told2 .given .1 .1 .1 .1 .1 .1 .1 .0 .1) (else1 .if1 .left), sym (c .before .links-to .ensures) ∙ not-true _ (c .if2 .taken))
+    rw (
+      le-turned w32 (start .args .thresholds .dist) (start .args .seg1 .score) (told .struct-told .given .1 .0 .1) (told2 .struct-told2 .given .1 .1 .1 .1 .1 .1 .1 .0 .1)
+          (else1 .if1 .left),
+      sym (c .before .links-to .ensures) ∙ not-true _ (c .if2 .taken),
+    )
 
 returns-3 : tie.Need-returns-3
 unfolding P.nearStem
@@ -37,7 +41,11 @@ returns-3 c =
     let told2 = else1 .before in
     let told = told2 .before .before in
     let start = told .before .before in
-    rw (le-turned w32 (start .args .thresholds .dist) (start .args .seg1 .score) (told .struct-told .given .1 .0 .1) (told2 .struct-told2 .given .1 .1 .1 .1 .1 .1 .1 .0 .1) (else1 .if1 .left), sym (links-to .links-to .ensures) ∙ not-false _ (else2 .if2 .left)) (lt-same w16 (start .args .seg1 .pos) (start .args .link1 .pos) (told3 .struct-told3 .given .1 .1 .0 .1) (c .struct-told4 .given .1 .1 .0 .1))
+    rw (
+      le-turned w32 (start .args .thresholds .dist) (start .args .seg1 .score) (told .struct-told .given .1 .0 .1) (told2 .struct-told2 .given .1 .1 .1 .1 .1 .1 .1 .0 .1)
+          (else1 .if1 .left),
+      sym (links-to .links-to .ensures) ∙ not-false _ (else2 .if2 .left),
+    ) (lt-same w16 (start .args .seg1 .pos) (start .args .link1 .pos) (told3 .struct-told3 .given .1 .1 .0 .1) (c .struct-told4 .given .1 .1 .0 .1))
 
 pub is-near-stem-spec : {M : Type 1} → statement M
 is-near-stem-spec = tie.close (tie.spec returns links-to-requires returns-2 returns-3)

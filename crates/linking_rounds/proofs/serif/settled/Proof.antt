@@ -13,7 +13,7 @@ unfolding P.settled
 returns c = rw (sym (c .before .links-to .ensures) ∙ c .if1 .taken)
 
 stays-serif-requires : tie.Need-stays-serif-requires
-stays-serif-requires c κs = search needs
+stays-serif-requires c κs = c .before .before .pre
 
 as-serif-requires : tie.Need-as-serif-requires
 as-serif-requires c κs = search needs

@@ -30,7 +30,12 @@ returns-3 c =
     let opposite = else2 .before in
     let else1 = opposite .before in
     let start = else1 .before in
-    rw (ne-eqb _ _ (else1 .if1 .left), sym (opposite .opposite .ensures) ∙ not-false _ (else2 .if2 .left), lt-turned w32 (start .args .gap .dist) (pos 0) (c .before .struct-told .given .0 .1) (omega arith) (c .if3 .taken))
+    rw (
+      ne-eqb _ _ (else1 .if1 .left),
+      sym (opposite .opposite .ensures)
+          ∙ not-false _ (else2 .if2 .left),
+      lt-turned w32 (start .args .gap .dist) (pos 0) (c .before .struct-told .given .0 .1) (omega arith) (c .if3 .taken),
+    )
 
 returns-4 : tie.Need-returns-4
 unfolding P.facing
@@ -42,7 +47,12 @@ returns-4 c =
     let opposite = else2 .before in
     let else1 = opposite .before in
     let start = else1 .before in
-    rw (ne-eqb _ _ (else1 .if1 .left), sym (opposite .opposite .ensures) ∙ not-false _ (else2 .if2 .left), lt-turned w32 (start .args .gap .dist) (pos 0) (told .struct-told .given .0 .1) (omega arith) (else3 .if3 .left)) (le-same w32 (start .args .thresholds .len) (start .args .gap .len) (told2 .struct-told2 .given .0 .1) (c .struct-told3 .given .1 .0 .1))
+    rw (
+      ne-eqb _ _ (else1 .if1 .left),
+      sym (opposite .opposite .ensures)
+          ∙ not-false _ (else2 .if2 .left),
+      lt-turned w32 (start .args .gap .dist) (pos 0) (told .struct-told .given .0 .1) (omega arith) (else3 .if3 .left),
+    ) (le-same w32 (start .args .thresholds .len) (start .args .gap .len) (told2 .struct-told2 .given .0 .1) (c .struct-told3 .given .1 .0 .1))
 
 pub can-be-stem-spec : {M : Type 1} → statement M
 can-be-stem-spec = tie.close (tie.spec returns opposite-requires returns-2 returns-3 returns-4)

@@ -15,7 +15,8 @@ nine : (c : tie.After-is-below) → ltZ ((c .before .before .before .args .gap .
 nine c =
     let told = c .before .before in
     let start = told .before in
-    sym (rw (back w32 (start .args .gap .dist) (told .struct-told .given .0 .1), back w32 (start .args .seg .score) (c .before .struct-told2 .given .1 .1 .1 .1 .1 .1 .1 .0 .1)) at (c .is-below .ensures))
+    sym (rw (back w32 (start .args .gap .dist) (told .struct-told .given .0 .1), back w32 (start .args .seg .score) (c .before .struct-told2 .given .1 .1 .1 .1 .1 .1 .1 .0 .1)) at
+    (c .is-below .ensures))
 
 -- the second, of seven times the score
 seven : (c : tie.After-is-below2)
@@ -24,17 +25,27 @@ seven : (c : tie.After-is-below2)
 seven c =
     let told3 = c .before .before in
     let start = told3 .before .before .before .before .before in
-    sym (rw (back w32 (start .args .gap .dist) (told3 .struct-told3 .given .0 .1), back w32 (start .args .seg .score) (c .before .struct-told4 .given .1 .1 .1 .1 .1 .1 .1 .0 .1)) at (c .is-below2 .ensures))
+    sym (rw (back w32 (start .args .gap .dist) (told3 .struct-told3 .given .0 .1), back w32 (start .args .seg .score) (c .before .struct-told4 .given .1 .1 .1 .1 .1 .1 .1 .0 .1)) at
+    (c .is-below2 .ensures))
 
 is-below-requires : tie.Need-is-below-requires
-is-below-requires c κs = search needs
+is-below-requires c κs =
+    let start = c .before .before in (
+      rw (back w32 (start .args .gap .dist) (c .before .struct-told .given .0 .1)) (start .pre .1),
+      (rw (back w32 (start .args .seg .score) (c .struct-told2 .given .1 .1 .1 .1 .1 .1 .1 .0 .1)) (start .pre .0), search needs),
+    )
 
 returns : tie.Need-returns
 unfolding P.checkSeg
 returns c = rw (nine (c .before) ∙ not-true _ (c .if1 .taken))
 
 is-below-requires-2 : tie.Need-is-below-requires-2
-is-below-requires-2 c κs = search needs
+is-below-requires-2 c κs =
+    let told3 = c .before in
+    let start = told3 .before .before .before .before .before in (
+      rw (back w32 (start .args .gap .dist) (told3 .struct-told3 .given .0 .1)) (start .pre .1),
+      (rw (back w32 (start .args .seg .score) (c .struct-told4 .given .1 .1 .1 .1 .1 .1 .1 .0 .1)) (start .pre .0), search needs),
+    )
 
 returns-2 : tie.Need-returns-2
 unfolding P.checkSeg
@@ -52,7 +63,8 @@ returns-3 c =
     let else1 = is-below2 .before .before .before in
     let is-below = else1 .before in
     let start = is-below .before .before .before in
-    rw (nine is-below ∙ not-false _ (else1 .if1 .left), seven is-below2 ∙ else2 .if2 .left) (lt-same w32 (start .args .seg .len) (start .args .gap .len) (told5 .struct-told5 .given .1 .1 .1 .1 .1 .1 .1 .1 .0 .1) (c .struct-told6 .given .1 .0 .1))
+    rw (nine is-below ∙ not-false _ (else1 .if1 .left), seven is-below2 ∙ else2 .if2 .left)
+    (lt-same w32 (start .args .seg .len) (start .args .gap .len) (told5 .struct-told5 .given .1 .1 .1 .1 .1 .1 .1 .1 .0 .1) (c .struct-told6 .given .1 .0 .1))
 
 pub check-seg-spec : {M : Type 1} → statement M
 check-seg-spec =

@@ -6,7 +6,7 @@ use Rattle.linking_rounds.proofs.stem.improved.Statement.{statement}
 use Rattle.linking_rounds.proofs.stem.improved.Tie as tie
 
 check-seg-requires : tie.Need-check-seg-requires
-check-seg-requires c κs = search needs
+check-seg-requires c κs = c .pre
 
 joined-requires : tie.Need-joined-requires
 joined-requires c κs = search needs

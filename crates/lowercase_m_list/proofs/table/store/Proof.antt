@@ -25,7 +25,38 @@ use contract.Monad.{Fun}
 use contract.Running.{givenOf, tables, tablesOf}
 use types.Kit.{Given, Item, Sq, runs, ‵, _⊛_, ⋆, anyQ, atRet, _$_, _∵_, !, qed, by, move, keep, drop, use1, split, join, rewrite, fsplit, fjoin, feqI, suffices, frame, done}
 use types.Part.{whole, sub, look-in}
-use types.Run.{look, look-raw, store, store-raw, init, forget, stop, hop, fld, from, load, lit, unit-lit, addr, of-opd, bin, assigns, assigns-last, stays, leaves-loop, returns, enter, alloc1, alloc0, params1, pass1, pass0, free1, free0, exec}
+use types.Run.{
+  look,
+  look-raw,
+  store,
+  store-raw,
+  init,
+  forget,
+  stop,
+  hop,
+  fld,
+  from,
+  load,
+  lit,
+  unit-lit,
+  addr,
+  of-opd,
+  bin,
+  assigns,
+  assigns-last,
+  stays,
+  leaves-loop,
+  returns,
+  enter,
+  alloc1,
+  alloc0,
+  params1,
+  pass1,
+  pass0,
+  free1,
+  free0,
+  exec,
+}
 use sound.Loop.{loop-rule}
 use sound.WpLaws.{WpFn-mono}
 use borrow.Author.Needs.{scaled-fits}
@@ -47,13 +78,14 @@ use denote.Triple.Spec.{Meets, tripleOf}
 use denote.Triple.Table.{entered}
 use denote.Triple.Walked.{says, needs, Stays, stay-slice, stay-none, walkOf, goes-slice, goes-none, Walks, ends-at, walked, walk-meets}
 use denote.Exit.{yes}
+use Rattle.axis.specs.Limits.{mostEdges}
 use Rattle.axis.specs.declared.edge.Edge.{Edge}
 use Rattle.axis.specs.Edge.{emptyEdge}
 use Rattle.axis.proofs.edge.Edge as T
 use Rattle.axis.proofs.edge.Edge.Laws as T′
 use Rattle.lowercase_m_list.specs.Table.{copied}
 use Rattle.lowercase_m_list.proofs.Copies.{copied-none, copied-more, copied-length}
-use Rattle.lowercase_m_list.proofs.Arrays.{holds, fails, vals, Edges, array, arr, tells, typed, makes, as-row, as-array}
+use Rattle.lowercase_m_list.proofs.Arrays.{edgeBytes, holds, fails, vals, Edges, array, arr, tells, typed, makes, as-row, as-array}
 use Rattle.lowercase_m_list.proofs.table.store.Key.{name as #store}
 use Rattle.lowercase_m_list.proofs.table.store as f
 use Rattle.lowercase_m_list.proofs.table.store.Statement as stated
@@ -61,7 +93,7 @@ use Rattle.lowercase_m_list.proofs.table.store.Code as code
 use Rattle.lowercase_m_list.proofs.table.store.Code.Mir as m
 
 abbrev stayed : Stays (f.ended .signature .params) (f.ended .kept)
-stayed = (stay-slice (0 ∷ []) tt (plain (λ _. T.the-row)), (stay-none (λ _. Edges 128) yes, (stay-none (λ _. usize) yes, tt)))
+stayed = (stay-slice (0 ∷ []) tt (plain (λ _. T.the-row)), (stay-none (λ _. Edges mostEdges) yes, (stay-none (λ _. usize) yes, tt)))
 
 -- the types of the locals
 abbrev word : Ty
@@ -71,10 +103,10 @@ abbrev slice : Ty
 slice = sliceTy (tyRef (named 0) mut (pointee (T.the-row .written)))
 
 abbrev tab : Ty
-tab = array 128
+tab = array mostEdges
 
 module _ {M : Type 1} (𝓤 : URA M) (H : Heap 𝓤) (A : Atoms 𝓤) (W : Given 𝓤 H A) (mem : Memory → SProp 𝓤) (run : Routine → Fun 𝓤) (κ : Lft) (q : Share) (b o : ℕ) (γ : GName) (ys es : List Edge) (n : ℕ)
-    (room : Room T.the-row (length ys)) (is-tab : Is (Edges 128) es (arr es)) (n-fits : n < 2 ^ 64) (few : (n ≤ length ys) × (n ≤ 128)) where
+    (room : Room T.the-row (length ys)) (is-tab : Is (Edges mostEdges) es (arr es)) (n-fits : n < 2 ^ 64) (few : (n ≤ length ys) × (n ≤ mostEdges)) where
   abbrev x : RefT (List Edge) × (List Edge × (ℕ × Unit {0}))
   x = (record { ptr = (b, o); name = γ; now = ys }, (es, (n, tt)))
 
@@ -94,13 +126,13 @@ module _ {M : Type 1} (𝓤 : URA M) (H : Heap 𝓤) (A : Atoms 𝓤) (W : Given
   abbrev Post : Val → SProp 𝓤
   Post = walkOf 𝓤 H A f.ended stayed (f.clauses 𝓤 H A mem run) .post (((κ, tt), (q, tt), tt, x, at), tt)
 
-  table-length : length es ≡ 128
+  table-length : length es ≡ mostEdges
   table-length = is-tab .1 .0 .1
 
   in-list : (i : ℕ) → i < n → i < length ys
   in-list i h = omega (arith, few .0)
 
-  in-table : (i : ℕ) → i < n → i < 128
+  in-table : (i : ℕ) → i < n → i < mostEdges
   in-table i h = omega (arith, few .1)
 
   at-table : (i : ℕ) → i < n → i < length es
@@ -132,8 +164,10 @@ module _ {M : Type 1} (𝓤 : URA M) (H : Heap 𝓤) (A : Atoms 𝓤) (W : Given
       qed W (Obs (zs n) ∷ Bor (zs n) ∷ ‵ (flft κ q) ∷ []) ∵
       suffices ! _ (ends-at 𝓤 H A f.ended stayed (f.clauses 𝓤 H A mem run) W (((κ, tt), (q, tt), tt, x, at), tt) vunit tt (zs n, (tt, (tt, tt))) (same, (tt, (tt, tt)))) $ says ! refl $
       nothing ! $ move ! (3 ∷ 0 ∷ []) $ join ! $ frame ! $
-      fjoin ! $ pureI ! (at-slice T.the-row (record { ptr = (b, o); name = γ; now = zs n }) (s ∷ [])) (tt, (tt, tt)) (ap (λ (m : ℕ). sliceVal (b, o) m ∷ []) (sym same), subst (Room T.the-row) (sym same) room) $ fjoin ! $
-      nothing ! $ owned ! usize (Is usize) (uint-makes 𝓤 H A W w64) n _ (refl, n-fits) $ fjoin ! $ owned ! (Edges 128) (Is (Edges 128)) (makes 𝓤 H A W 128) es _ is-tab $ fjoin ! $ move ! (1 ∷ 0 ∷ []) $ fjoin ! $
+      fjoin ! $ pureI ! (at-slice T.the-row (record { ptr = (b, o); name = γ; now = zs n }) (s ∷ [])) (tt, (tt, tt))
+      (ap (λ (m : ℕ). sliceVal (b, o) m ∷ []) (sym same), subst (Room T.the-row) (sym same) room) $ fjoin ! $
+      nothing ! $ owned ! usize (Is usize) (uint-makes 𝓤 H A W w64) n _ (refl, n-fits) $ fjoin ! $
+      owned ! (Edges mostEdges) (Is (Edges mostEdges)) (makes 𝓤 H A W mostEdges) es _ is-tab $ fjoin ! $ move ! (1 ∷ 0 ∷ []) $ fjoin ! $
       feqI ! (List Val) (vunit ∷ []) (vunit ∷ []) refl $ move ! (1 ∷ 0 ∷ []) $ done !
     where
       same : length (zs n) ≡ length ys
@@ -152,7 +186,8 @@ module _ {M : Type 1} (𝓤 : URA M) (H : Heap 𝓤) (A : Atoms 𝓤) (W : Given
     -- what no turn changes
     abbrev Frame : List (Item 𝓤)
     Frame = ‵ (fat fullShare slice l₁ 0 s) ∷ ‵ (froom tab l₂ 0) ∷ ‵ (fat fullShare word l₃ 0 (vint w64 n)) ∷ ‵ (froom tyUnit l₀ 0)
-        ∷ ‵ (fdies tyUnit l₀) ∷ ‵ (fdies slice l₁) ∷ ‵ (fdies tab l₂) ∷ ‵ (fdies word l₃) ∷ ‵ (fdies tab l₄) ∷ ‵ (fdies word l₅) ∷ ‵ (fdies tyBool l₆) ∷ ‵ (fdies word l₇) ∷ ‵ (fdies tyPtr l₈) ∷ ‵ (fdies tyPtr l₉)
+        ∷ ‵ (fdies tyUnit l₀) ∷ ‵ (fdies slice l₁) ∷ ‵ (fdies tab l₂) ∷ ‵ (fdies word l₃) ∷ ‵ (fdies tab l₄) ∷ ‵ (fdies word l₅) ∷ ‵ (fdies tyBool l₆) ∷ ‵ (fdies word l₇)
+        ∷ ‵ (fdies tyPtr l₈) ∷ ‵ (fdies tyPtr l₉)
         ∷ ‵ (fdies T′.mir l₁₀) ∷ ‵ (fdies word l₁₁) ∷ ‵ (fdies tyPtr l₁₂) ∷ []
 
     -- i edges are stored
@@ -183,23 +218,28 @@ module _ {M : Type 1} (𝓤 : URA M) (H : Heap 𝓤) (A : Atoms 𝓤) (W : Given
         rewrite ! 5 (λ (u : Bool). ‵ (fat fullShare tyBool l₆ 0 (vbool u))) (holds (ltb i n) (lt→ltb i n h)) refl $
         stays ! (load ! (from ! (stop !)) (look ! 5 refl)) $
         -- the place of table[i], and what lies there
-        assigns ! (bin ! (load ! (from ! (stop !)) (look ! 0 refl)) (lit ! tt) (scaled-fits i 128 40 (in-table i h) (lit< tt))) (from ! (stop !)) (init ! 6 refl (tt, scaled-fits i 128 40 (in-table i h) (lit< tt))) $
+        assigns ! (bin ! (load ! (from ! (stop !)) (look ! 0 refl)) (lit ! tt) (scaled-fits i mostEdges edgeBytes (in-table i h) (lit< tt))) (from ! (stop !))
+        (init ! 6 refl (tt, scaled-fits i mostEdges edgeBytes (in-table i h) (lit< tt))) $
         assigns ! (addr ! (from ! (stop !))) (from ! (stop !)) (init ! 7 refl (tt, tt)) $
         assigns ! (bin ! (load ! (from ! (stop !)) (look ! 7 refl)) (load ! (from ! (stop !)) (look ! 6 refl)) tt) (from ! (stop !)) (init ! 8 refl (tt, tt)) $
-        rewrite ! 8 (λ (p : ℕ). ‵ (fat fullShare tyPtr l₉ 0 (vptr l₄ p))) (sym (place-is 40 0 i)) refl $
+        rewrite ! 8 (λ (p : ℕ). ‵ (fat fullShare tyPtr l₉ 0 (vptr l₄ p))) (sym (place-is edgeBytes 0 i)) refl $
         move ! (4 ∷ []) $ elem-out ! T.the-row (Is T.the-row) (shows 𝓤 H A T.the-row) vals (LL.tells T.the-type T′.the-laws) fullShare es i emptyEdge l₄ 0 (at-table i h) (λ e.
         -- [table[i]; what it owns; the others; _5; obs; the borrow; the token; _6; _7; _8; _9; _10; …]
-        assigns ! (of-opd ! (load ! (from ! (hop ! (look ! 10 refl) (stop !))) (look-raw ! 0 refl))) (from ! (stop !)) (init ! 11 refl (LL.lawful T.the-type T′.the-laws 𝓤 H A W .typed (elem i) (vals (elem i)) e .0)) $
+        assigns ! (of-opd ! (load ! (from ! (hop ! (look ! 10 refl) (stop !))) (look-raw ! 0 refl))) (from ! (stop !))
+        (init ! 11 refl (LL.lawful T.the-type T′.the-laws 𝓤 H A W .typed (elem i) (vals (elem i)) e .0)) $
         elem-back ! T.the-row fullShare es i emptyEdge (vals (elem i)) l₄ 0 (at-table i h) $
         -- the place of edges[i]: [the row; _5; obs; the borrow; the token; _6; _7; _8; _9; _10; _11; _12; _1; …]
-        assigns ! (bin ! (load ! (from ! (stop !)) (look ! 1 refl)) (lit ! tt) (scaled-fits i (length ys) 40 (in-list i h) (room .1))) (from ! (stop !)) (init ! 10 refl (tt, scaled-fits i (length ys) 40 (in-list i h) (room .1))) $
+        assigns ! (bin ! (load ! (from ! (stop !)) (look ! 1 refl)) (lit ! tt) (scaled-fits i (length ys) edgeBytes (in-list i h) (room .1))) (from ! (stop !))
+        (init ! 10 refl (tt, scaled-fits i (length ys) edgeBytes (in-list i h) (room .1))) $
         assigns ! (bin ! (load ! (from ! (fld ! refl (stop !))) (look-in ! 12 (sub ! 0 refl (whole !)))) (load ! (from ! (stop !)) (look ! 10 refl)) tt) (from ! (stop !)) (init ! 11 refl (tt, tt)) $
-        rewrite ! 11 (λ (p : ℕ). ‵ (fat fullShare tyPtr l₁₂ 0 (vptr b p))) (sym (place-is 40 o i)) refl $
+        rewrite ! 11 (λ (p : ℕ). ‵ (fat fullShare tyPtr l₁₂ 0 (vptr b p))) (sym (place-is edgeBytes o i)) refl $
         move ! (2 ∷ 3 ∷ 4 ∷ []) $ opens-slice ! tt T.the-row (zs i) b o $
         elem-out ! T.the-row (Is T.the-row) (shows 𝓤 H A T.the-row) vals (LL.tells T.the-type T′.the-laws) fullShare (zs i) i emptyEdge b o (in-now i h) (λ _.
         -- [edges[i]; what it owns; the others; the open borrow; obs; auth; the row; _5; _6; _7; _8; _9; _10; _11; _12; …]
-        assigns ! (of-opd ! (load ! (from ! (stop !)) (look ! 12 refl))) (from ! (hop ! (look ! 14 refl) (stop !))) (store-raw ! 0 refl (LL.lawful T.the-type T′.the-laws 𝓤 H A W .typed (elem i) (vals (elem i)) e .0)) $
-        move ! (1 ∷ []) $ drop ! $ owned ! T.the-row (Is T.the-row) (LL.makes T.the-type T′.the-plain 𝓤 H A) (elem i) _ e $ move ! (1 ∷ 0 ∷ []) $ elem-put ! T.the-row fullShare (zs i) i (elem i) (vals (elem i)) b o (in-now i h) $
+        assigns ! (of-opd ! (load ! (from ! (stop !)) (look ! 12 refl))) (from ! (hop ! (look ! 14 refl) (stop !)))
+        (store-raw ! 0 refl (LL.lawful T.the-type T′.the-laws 𝓤 H A W .typed (elem i) (vals (elem i)) e .0)) $
+        move ! (1 ∷ []) $ drop ! $ owned ! T.the-row (Is T.the-row) (LL.makes T.the-type T′.the-plain 𝓤 H A) (elem i) _ e $ move ! (1 ∷ 0 ∷ []) $
+        elem-put ! T.the-row fullShare (zs i) i (elem i) (vals (elem i)) b o (in-now i h) $
         closes-slice ! tt T.the-row (zs i) (set (zs i) i (elem i)) (length-set (zs i) i (elem i)) b o $
         rewrite ! 0 Obs (list-more i h) refl $ rewrite ! 1 Bor (list-more i h) refl $
         -- [obs; the borrow; the token; the row; _5; _6; _7; _8; _9; _10; _11; _12; …]
@@ -217,7 +257,7 @@ module _ {M : Type 1} (𝓤 : URA M) (H : Heap 𝓤) (A : Atoms 𝓤) (W : Given
         rewrite ! 5 (λ (u : Bool). ‵ (fat fullShare tyBool l₆ 0 (vbool u))) (fails (ltb n n) (λ a. lt-irrefl n (ltb→lt n n a))) refl $
         leaves-loop ! (load ! (from ! (stop !)) (look ! 5 refl)) $ exec ! C Λ En m.t-4 (atRet En Post) $
         -- the row is a local array again: [_4; _5; obs; the borrow; the token; _6; …]
-        move ! (4 ∷ []) $ use1 W (‵ (Edges 128 .own es (arr es)) ⊛ ‵ (fat fullShare tab l₄ 0 (only (arr es)))) (as-array 𝓤 H A W 128 es l₄ table-length) $ split ! $ drop ! $
+        move ! (4 ∷ []) $ use1 W (‵ (Edges mostEdges .own es (arr es)) ⊛ ‵ (fat fullShare tab l₄ 0 (only (arr es)))) (as-array 𝓤 H A W mostEdges es l₄ table-length) $ split ! $ drop ! $
         assigns ! (of-opd ! (unit-lit !)) (from ! (stop !)) (init ! 15 refl (tt, tt)) $
         returns ! (look ! 15 refl) $ forget ! 0 refl $ forget ! 1 refl $ forget ! 5 refl $ forget ! 12 refl $ forget ! 14 refl $ forget ! 15 refl $
         move ! (15 ∷ 16 ∷ []) $ free1 ! $ move ! (12 ∷ 15 ∷ []) $ free1 ! $ move ! (12 ∷ 14 ∷ []) $ free1 ! $ move ! (12 ∷ 13 ∷ []) $ free1 ! $ move ! (0 ∷ 12 ∷ []) $ free1 ! $
@@ -251,16 +291,19 @@ module _ {M : Type 1} (𝓤 : URA M) (H : Heap 𝓤) (A : Atoms 𝓤) (W : Given
     -- the MIR, up to the loop
     walk : ent 𝓤 (onEntry 𝓤 H A f.signature (κ, tt) (q, tt) x at) (WpFn 𝓤 H (𝓣 .C) (𝓣 .Λ) code.function (s ∷ only (arr es) ∷ vint w64 n ∷ []) Post)
     walk =
-        qed W ((‵ (flft κ q) ⊛ ‵ ftrue) ∷ ‵ (owns (MutSlice (named 0) κ T.the-row ∷ Edges 128 ∷ usize ∷ []) x at) ∷ []) ∵ enter ! (𝓣 .C) (𝓣 .Λ) code.function (s ∷ only (arr es) ∷ vint w64 n ∷ []) _ $
-        alloc1 ! (λ l₀. alloc1 ! (λ l₁. alloc1 ! (λ l₂. alloc1 ! (λ l₃. alloc1 ! (λ l₄. alloc1 ! (λ l₅. alloc1 ! (λ l₆. alloc1 ! (λ l₇. alloc1 ! (λ l₈. alloc1 ! (λ l₉. alloc1 ! (λ l₁₀. alloc1 ! (λ l₁₁. alloc1 ! (λ l₁₂. alloc0 ! $ params1 ! $
-        pass1 ! (init ! 22 refl (tt, (tt, (record { fits = room .0 }, tt)))) $ pass1 ! (init ! 20 refl (typed 𝓤 H A W 128 es (only (arr es)) is-tab)) $ pass1 ! (init ! 18 refl (tt, record { fits = n-fits })) $ pass0 ! $
+        qed W ((‵ (flft κ q) ⊛ ‵ ftrue) ∷ ‵ (owns (MutSlice (named 0) κ T.the-row ∷ Edges mostEdges ∷ usize ∷ []) x at) ∷ []) ∵ enter ! (𝓣 .C) (𝓣 .Λ) code.function
+        (s ∷ only (arr es) ∷ vint w64 n ∷ []) _ $
+        alloc1 ! (λ l₀. alloc1 ! (λ l₁. alloc1 ! (λ l₂. alloc1 ! (λ l₃. alloc1 !
+        (λ l₄. alloc1 ! (λ l₅. alloc1 ! (λ l₆. alloc1 ! (λ l₇. alloc1 ! (λ l₈. alloc1 ! (λ l₉. alloc1 ! (λ l₁₀. alloc1 ! (λ l₁₁. alloc1 ! (λ l₁₂. alloc0 ! $ params1 ! $
+        pass1 ! (init ! 22 refl (tt, (tt, (record { fits = room .0 }, tt)))) $ pass1 ! (init ! 20 refl (typed 𝓤 H A W mostEdges es (only (arr es)) is-tab)) $
+        pass1 ! (init ! 18 refl (tt, record { fits = n-fits })) $ pass0 ! $
         -- [_12; …; _11; …; _10; …; _9; …; _8; …; _7; …; _6; …; _5; …; _4; …; _3; …; _2; …; _1; …; room for _0; …; the token; what edges, table and n own]
-        assigns ! (of-opd ! (load ! (from ! (stop !)) (look ! 20 refl))) (from ! (stop !)) (init ! 16 refl (typed 𝓤 H A W 128 es (only (arr es)) is-tab)) $
+        assigns ! (of-opd ! (load ! (from ! (stop !)) (look ! 20 refl))) (from ! (stop !)) (init ! 16 refl (typed 𝓤 H A W mostEdges es (only (arr es)) is-tab)) $
         assigns ! (of-opd ! (lit ! tt)) (from ! (stop !)) (init ! 14 refl (tt, record { fits = lit< tt })) $
         move ! (27 ∷ []) $ fsplit ! $ fsplit ! $ drop ! $ fsplit ! $ move ! (29 ∷ []) $ split ! $
         rewrite ! 2 Obs (sym (copied-none es ys)) refl $ rewrite ! 3 Bor (sym (copied-none es ys)) refl $
         -- the local array is a row: [the token; true; obs; the borrow; what table and n own; _12; …]
-        move ! (21 ∷ []) $ use1 W (Row l₄) (as-row 𝓤 H A W 128 es l₄ is-tab) $ forget ! 25 refl $
+        move ! (21 ∷ []) $ use1 W (Row l₄) (as-row 𝓤 H A W mostEdges es l₄ is-tab) $ forget ! 25 refl $
         -- [the row; the token; true; obs; the borrow; what table and n own; _12; …]
         keep ! (20 ∷ 3 ∷ 4 ∷ 1 ∷ 0 ∷ 18 ∷ 16 ∷ 14 ∷ 12 ∷ 10 ∷ 8 ∷ 6 ∷ 27 ∷ 25 ∷ 23 ∷ 29 ∷ 30 ∷ 28 ∷ 26 ∷ 24 ∷ 22 ∷ 21 ∷ 19 ∷ 17 ∷ 15 ∷ 13 ∷ 11 ∷ 9 ∷ 7 ∷ []) $
         resumes 𝓣 l₀ l₁ l₂ l₃ l₄ l₅ l₆ l₇ l₈ l₉ l₁₀ l₁₁ l₁₂)))))))))))))
@@ -268,13 +311,16 @@ module _ {M : Type 1} (𝓤 : URA M) (H : Heap 𝓤) (A : Atoms 𝓤) (W : Given
 module _ {M : Type 1} (𝓤 : URA M) (H : Heap 𝓤) (A : Atoms 𝓤) (W : Given 𝓤 H A) (mem : Memory → SProp 𝓤) (run : Routine → Fun 𝓤) (𝓣 : Tables 𝓤 H) where
   walks : Walks 𝓤 H A f.ended stayed (WpFn 𝓤 H (𝓣 .C) (𝓣 .Λ) code.function) (f.clauses 𝓤 H A mem run)
   walks = walked 𝓤 H A f.ended stayed (f.clauses 𝓤 H A mem run) (WpFn 𝓤 H (𝓣 .C) (𝓣 .Λ) code.function)
-      (λ κs. (slice-vals, (arr, (uint-vals w64, tt)))) (λ κs. (mut-slice-tells (named 0) (κs .0) T.the-row, (tells 128, (uint-tells w64, tt))))
-      (λ κs qs bounds a g are. needs 𝓤 ((a .1 .1 .0 ≤ length (a .0 .now)) × (a .1 .1 .0 ≤ 128)) _
+      (λ κs. (slice-vals, (arr, (uint-vals w64, tt)))) (λ κs. (mut-slice-tells (named 0) (κs .0) T.the-row, (tells mostEdges, (uint-tells w64, tt))))
+      (λ κs qs bounds a g are. needs 𝓤 ((a .1 .1 .0 ≤ length (a .0 .now)) × (a .1 .1 .0 ≤ mostEdges)) _
       (λ few. walk 𝓤 H A W mem run (κs .0) (qs .0) (a .0 .ptr .0) (a .0 .ptr .1) (a .0 .name) (a .0 .now) (a .1 .0) (a .1 .1 .0) (are .0 .0 .1) (are .1 .0) (are .1 .1 .0 .1) few 𝓣))
 
   store-meets : Meets 𝓤 H A f.signature (WpFn 𝓤 H (𝓣 .C) (𝓣 .Λ) code.function) (f.spec 𝓤 H A mem run)
   store-meets =
-      walk-meets 𝓤 H A f.ended stayed W (goes-slice 𝓤 H A W 1 0 tt (plain (λ _. T.the-row)), (goes-none 𝓤 H A W 1 (λ _. Edges 128) yes (λ κs x f. refl), (goes-none 𝓤 H A W 1 (λ _. usize) yes (λ κs x f. refl), tt))) (f.clauses 𝓤 H A mem run)
+      walk-meets 𝓤 H A f.ended stayed W (
+        goes-slice 𝓤 H A W 1 0 tt (plain (λ _. T.the-row)),
+        (goes-none 𝓤 H A W 1 (λ _. Edges mostEdges) yes (λ κs x f. refl), (goes-none 𝓤 H A W 1 (λ _. usize) yes (λ κs x f. refl), tt)),
+      ) (f.clauses 𝓤 H A mem run)
       (WpFn 𝓤 H (𝓣 .C) (𝓣 .Λ) code.function) (WpFn-mono 𝓤 H (W .laws) 𝓣 code.function) walks
 
 pub store-spec : {M : Type 1} → stated.statement M

@@ -29,7 +29,8 @@ ends-hold-requires c κs = search needs
 returns-4 : tie.Need-returns-4
 returns-4 c =
     let a = ends-start (c .before) .args in
-    sym (refused-ends (a .originals .now) (a .currents .now) (a .touched .now) (a .ends .now) (omega arith) (omega arith) (omega arith) (sym (c .before .ends-hold .ensures) ∙ not-true _ (c .if4 .taken)))
+    sym (refused-ends (a .originals .now) (a .currents .now) (a .touched .now) (a .ends .now) (omega arith) (omega arith) (omega arith)
+    (sym (c .before .ends-hold .ensures) ∙ not-true _ (c .if4 .taken)))
 
 coordinates-hold-requires : tie.Need-coordinates-hold-requires
 coordinates-hold-requires c κs = search needs

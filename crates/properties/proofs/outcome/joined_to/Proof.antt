@@ -17,7 +17,14 @@ returns c =
     let told = told2 .before in
     let nearer = told .before in
     let start = nearer .before .before in
-    rw (nearer .before .if1 .taken, is (got w16 (start .args .edge .fpos) (told .struct-told .given .0 .1)), is (got w32 (start .args .edge .opos) (told2 .struct-told2 .given .1 .0 .1)), is (got w32 (start .args .edge .pos) (told3 .struct-told3 .given .1 .1 .0 .1)), nearer .nearer .ensures)
+    rw (
+      nearer .before .if1 .taken,
+      is (got w16 (start .args .edge .fpos) (told .struct-told .given .0 .1)),
+      is
+          (got w32 (start .args .edge .opos) (told2 .struct-told2 .given .1 .0 .1)),
+      is (got w32 (start .args .edge .pos) (told3 .struct-told3 .given .1 .1 .0 .1)),
+      nearer .nearer .ensures,
+    )
 
 nearer-requires-2 : tie.Need-nearer-requires-2
 nearer-requires-2 c κs = search needs
@@ -30,7 +37,14 @@ returns-2 c =
     let told4 = told5 .before in
     let nearer = told4 .before in
     let start = nearer .before .before in
-    rw (nearer .before .if1 .left, is (got w16 (start .args .edge .fpos) (told4 .struct-told4 .given .0 .1)), is (got w32 (start .args .edge .opos) (told5 .struct-told5 .given .1 .0 .1)), is (got w32 (start .args .edge .pos) (told6 .struct-told6 .given .1 .1 .0 .1)), nearer .nearer2 .ensures)
+    rw (
+      nearer .before .if1 .left,
+      is (got w16 (start .args .edge .fpos) (told4 .struct-told4 .given .0 .1)),
+      is
+          (got w32 (start .args .edge .opos) (told5 .struct-told5 .given .1 .0 .1)),
+      is (got w32 (start .args .edge .pos) (told6 .struct-told6 .given .1 .1 .0 .1)),
+      nearer .nearer2 .ensures,
+    )
 
 pub joined-to-spec : {M : Type 1} → statement M
 joined-to-spec = tie.close (tie.spec nearer-requires returns nearer-requires-2 returns-2)

@@ -2,12 +2,13 @@
 use borrow.Author.Needs.{needs}
 use mathlib.Core.Path.{_≡_}
 use mathlib.Core.Bool.{Bool}
+use lib.IntN.{pos}
 use lib.Signed.{ltZ}
 use mir.Syntax.{w16, w32}
 use mir.Val.{toZ, ofZ}
+use Rattle.signed.specs.Distance.{distance}
 use Rattle.signed.proofs.Signed.{is, got}
 use Rattle.properties.specs.Outcomes as O
-use Rattle.properties.specs.Properties.{dist}
 use Rattle.properties.proofs.outcome.nearer.Statement.{statement}
 use Rattle.properties.proofs.outcome.nearer.Tie as tie
 
@@ -35,16 +36,21 @@ distance-requires : tie.Need-distance-requires
 distance-requires c κs = search needs
 
 -- the test of the two distances
+abbrev first : tie.After-struct-told3 → tie.Start
+first c = c .before .before .before .before .before .before .before .before .before
+
 tested : (c : tie.After-struct-told3) {v : Bool}
-    → ltZ (toZ w32 (ofZ w32 (c .before .before .before .before .before .before .before .before .before .args .join .delta))) (toZ w32 (ofZ w32 (c .before .before .distance .result))) ≡ v
-    → ltZ (c .before .before .before .before .before .before .before .before .before .args .join .delta) (dist (c .before .before .before .before .before .before .before .before .before .args .edge .fpos) (c .before .before .before .before .before .before .before .before .before .args .edge2 .fpos))
-    ≡ v
+    → ltZ (toZ w32 (ofZ w32 (first c .args .join .delta))) (toZ w32 (ofZ w32 (c .before .before .distance .result))) ≡ v
+    → ltZ (first c .args .join .delta) (pos (distance (first c .args .edge .fpos) (first c .args .edge2 .fpos))) ≡ v
 tested c e =
     let distance = c .before .before in
     let told2 = distance .before in
     let told = told2 .before in
-    let start = told .before .before .before .before .before in
-    let d = rw (is (got w16 (start .args .edge .fpos) (told .struct-told .given .0 .1)), is (got w16 (start .args .edge2 .fpos) (told2 .struct-told2 .given .0 .1))) at (distance .distance .ensures) in
+    let start = first c in
+    let d =
+    rw
+    (is (got w16 (start .args .edge .fpos) (told .struct-told .given .0 .1)), is (got w16 (start .args .edge2 .fpos) (told2 .struct-told2 .given .0 .1)))
+    at (distance .distance .ensures) in
     rw (is (got w32 (start .args .join .delta) (c .struct-told3 .given .1 .1 .0 .1)), is (got w32 (distance .distance .result) (distance .distance .ok)), d) at e
 
 returns-3 : tie.Need-returns-3

@@ -127,7 +127,8 @@ held-at-inside c =
     let outer = inner .before .before .before .before .before in
     let inv = inner .loop2 .inv in
     let less : outer .loop .edge-ix < outer .loop .table .len = omega (arith, inv .0, inv .3) in
-    held-inside _ _ (inv .4) (outer .loop .edge-ix) (c .edge2-at .result) (c .before .join-of .result .«is_serif») (edgeAt (inner .loop2 .table) (outer .loop .edge-ix)) less (inv .5 .edge (outer .loop .edge-ix) less) (c .edge2-at .ensures)
+    held-inside _ _ (inv .4) (outer .loop .edge-ix) (c .edge2-at .result) (c .before .join-of .result .«is_serif») (edgeAt (inner .loop2 .table) (outer .loop .edge-ix)) less
+    (inv .5 .edge (outer .loop .edge-ix) less) (c .edge2-at .ensures)
 
 mul-joined-to : tie.Need-mul-joined-to Inv-loop2 μ-loop2 Inv-loop μ-loop
 mul-joined-to c = omega (arith, held-at-inside c)
@@ -158,7 +159,8 @@ edge2-at-inside c =
     let outer = inner .before .before .before .before .before in
     let inv = inner .loop2 .inv in
     let less : outer .loop .edge-ix < outer .loop .table .len = omega (arith, inv .0, inv .3) in
-    joined-inside _ _ (inv .4) (inner .loop2 .table) (outer .loop .edge-ix) (inner .loop2 .segment-ix) _ _ _ _ _ _ less (inv .6 .inside) (inv .5) (serif-at .serif-at .ensures) (link-at .link-at .ensures) (join-of .join-of .ensures) (joined-to .joined-to .ensures) (c .edge2-at2 .ensures)
+    joined-inside _ _ (inv .4) (inner .loop2 .table) (outer .loop .edge-ix) (inner .loop2 .segment-ix) _ _ _ _ _ _ less (inv .6 .inside) (inv .5) (serif-at .serif-at .ensures)
+    (link-at .link-at .ensures) (join-of .join-of .ensures) (joined-to .joined-to .ensures) (c .edge2-at2 .ensures)
 
 mul-flagged : tie.Need-mul-flagged Inv-loop2 μ-loop2 Inv-loop μ-loop
 mul-flagged c = omega (arith, edge2-at-inside c)
@@ -184,7 +186,9 @@ inner-of c = c .before .before .before .before .before .before .before .before .
 
 -- the segment is counted
 counted : (c : tie.Joined1 Inv-loop2 μ-loop2 Inv-loop μ-loop)
-    → Counted (c .before .before .before .before .before .before .before .before .before .args .t2) (c .before .before .before .loop2 .segment-ix) (c .before .before .before .loop2 .roundness) (c .before .before .before .loop2 .straightness) (c .if1 .roundness) (c .if1 .straightness)
+    → let inner = c .before .before .before in
+    let t = inner .before .before .before .before .before .before .args .t2 in
+    Counted t (inner .loop2 .segment-ix) (inner .loop2 .roundness) (inner .loop2 .straightness) (c .if1 .roundness) (c .if1 .straightness)
 counted c =
     ⊎-elim
     (λ w. record { round = rw (w .0 .taken) (w .1); straight = rw (w .0 .taken) (omega (arith, w .2)) })
@@ -194,12 +198,14 @@ counted c =
 -- the table behind it
 abbrev now : tie.After-flagged Inv-loop2 μ-loop2 Inv-loop μ-loop → Axis
 now c =
-    putEdge (putEdge (inner-of c .loop2 .table) (inner-of c .before .before .before .before .before .loop .edge-ix) (c .before .before .before .joined-to .result)) (c .before .before .edge2-at2 .result) (c .flagged .result)
+    let inner = inner-of c in
+    let joined = putEdge (inner .loop2 .table) (inner .before .before .before .before .before .loop .edge-ix) (c .before .before .before .joined-to .result) in
+    putEdge joined (c .before .before .edge2-at2 .result) (c .flagged .result)
 
 -- is that of one visit
 visited : (c : tie.After-flagged Inv-loop2 μ-loop2 Inv-loop μ-loop)
-    → now c
-    ≡ P.member (inner-of c .before .before .before .before .before .before .args .t2) (inner-of c .before .before .before .before .before .loop .edge-ix) (inner-of c .loop2 .segment-ix) (inner-of c .loop2 .table)
+    → let inner = inner-of c in
+    now c ≡ P.member (inner .before .before .before .before .before .before .args .t2) (inner .before .before .before .before .before .loop .edge-ix) (inner .loop2 .segment-ix) (inner .loop2 .table)
 visited c =
     let edge2-at2 = c .before .before in
     let joined-to = edge2-at2 .before in
@@ -209,7 +215,8 @@ visited c =
     let serif-at = link-at .before in
     let inner = serif-at .before .before .before .before in
     let outer = inner .before .before .before .before .before in
-    member-is (outer .before .args .t2) (inner .loop2 .table) (outer .loop .edge-ix) (inner .loop2 .segment-ix) _ _ _ _ _ _ _ (serif-at .serif-at .ensures) (link-at .link-at .ensures) (join-of .join-of .ensures) (edge2-at .edge2-at .ensures) (joined-to .joined-to .ensures) (edge2-at2 .edge2-at2 .ensures) (c .flagged .ensures)
+    member-is (outer .before .args .t2) (inner .loop2 .table) (outer .loop .edge-ix) (inner .loop2 .segment-ix) _ _ _ _ _ _ _ (serif-at .serif-at .ensures) (link-at .link-at .ensures)
+    (join-of .join-of .ensures) (edge2-at .edge2-at .ensures) (joined-to .joined-to .ensures) (edge2-at2 .edge2-at2 .ensures) (c .flagged .ensures)
 
 loop2-less : tie.Need-loop2-less Inv-loop2 μ-loop2 Inv-loop μ-loop
 loop2-less c =
@@ -231,7 +238,9 @@ loop2-again c =
     let start = outer .before in
     let inv = inner .loop2 .inv in
     let less : outer .loop .edge-ix < outer .loop .table .len = omega (arith, inv .0, inv .3) in
-    let more = along-more (start .args .t2) (outer .loop .edge-ix) _ _ (outer .loop .table) (inner .loop2 .table) (inner .loop2 .segment-ix) (inner .loop2 .roundness) (inner .loop2 .straightness) (inv .6) (now flagged) _ _ (visited flagged) (counted (flagged .before .before .before .before .before .before .before .before .before .before .before)) (else2 .if2 .left) in (
+    let more = along-more (start .args .t2) (outer .loop .edge-ix) _ _ (outer .loop .table) (inner .loop2 .table) (inner .loop2 .segment-ix) (inner .loop2 .roundness)
+    (inner .loop2 .straightness) (inv .6) (now flagged) _ _ (visited flagged) (counted (flagged .before .before .before .before .before .before .before .before .before .before .before))
+    (else2 .if2 .left) in (
       inv .0,
       inv .1,
       omega (arith, more .inside, inv .4 .few-segments, c .next-at .ensures),
@@ -241,14 +250,14 @@ loop2-again c =
       rw (c .next-at .ensures) more,
     )
 
-mul-finished : tie.Need-mul-finished Inv-loop2 μ-loop2 Inv-loop μ-loop
-mul-finished c = let inv = inner-of (c .before) .loop2 .inv in omega (arith, inv .0, inv .1)
+mul-with-properties : tie.Need-mul-with-properties Inv-loop2 μ-loop2 Inv-loop μ-loop
+mul-with-properties c = let inv = inner-of (c .before) .loop2 .inv in omega (arith, inv .0, inv .1)
 
-element-copy-out-finished : tie.Need-element-copy-out-finished Inv-loop2 μ-loop2 Inv-loop μ-loop
-element-copy-out-finished c = let inv = inner-of (c .before) .loop2 .inv in omega (arith, inv .0, inv .1)
+element-copy-out-with-properties : tie.Need-element-copy-out-with-properties Inv-loop2 μ-loop2 Inv-loop μ-loop
+element-copy-out-with-properties c = let inv = inner-of (c .before) .loop2 .inv in omega (arith, inv .0, inv .1)
 
-finished-requires : tie.Need-finished-requires Inv-loop2 μ-loop2 Inv-loop μ-loop
-finished-requires c κs = search needs
+with-properties-requires : tie.Need-with-properties-requires Inv-loop2 μ-loop2 Inv-loop μ-loop
+with-properties-requires c κs = search needs
 
 mul-t52 : tie.Need-mul-t52 Inv-loop2 μ-loop2 Inv-loop μ-loop
 mul-t52 c = let inv = inner-of (c .before .before .before) .loop2 .inv in omega (arith, inv .0, inv .1)
@@ -273,15 +282,17 @@ loop-again c =
       omega (arith, inv .0),
       outer .loop .inv .1,
       edges-more (start .args .t2) (outer .loop .edge-ix) (start .args .axis) (outer .loop .table) _ (outer .loop .inv .2)
-          (along-end (start .args .t2) (outer .loop .edge-ix) _ _ (outer .loop .table) (inner .loop2 .table) (inner .loop2 .segment-ix) (inner .loop2 .roundness) (inner .loop2 .straightness) (inv .6) (now flagged) _ _ (visited flagged) (counted (flagged .before .before .before .before .before .before .before .before .before .before .before)) (c .finished .result) (then2 .if2 .taken) (c .finished .ensures)),
+          (along-end (start .args .t2) (outer .loop .edge-ix) _ _ (outer .loop .table) (inner .loop2 .table) (inner .loop2 .segment-ix) (inner .loop2 .roundness)
+          (inner .loop2 .straightness) (inv .6) (now flagged) _ _ (visited flagged)
+          (counted (flagged .before .before .before .before .before .before .before .before .before .before .before)) (c .with-properties .result) (then2 .if2 .taken) (c .with-properties .ensures)),
     )
 
 returns : tie.Need-returns Inv-loop2 μ-loop2 Inv-loop μ-loop
 unfolding P.edgeProperties
 returns c =
     let outer = c .before in
-    let done : outer .loop .edge-ix ≡ outer .before .args .axis .len = omega (arith, outer .loop .inv .0, c .loop-test .left) in
-    rw done at (outer .loop .inv .2)
+    let at-end : outer .loop .edge-ix ≡ outer .before .args .axis .len = omega (arith, outer .loop .inv .0, c .loop-test .left) in
+    rw at-end at (outer .loop .inv .2)
 
 pub compute-edge-properties-spec : {M : Type 1} → statement M
 compute-edge-properties-spec =
@@ -325,9 +336,9 @@ compute-edge-properties-spec =
     next-at-requires
     loop2-less
     loop2-again
-    mul-finished
-    element-copy-out-finished
-    finished-requires
+    mul-with-properties
+    element-copy-out-with-properties
+    with-properties-requires
     mul-t52
     element-set-from-table-2
     add-edge-ix

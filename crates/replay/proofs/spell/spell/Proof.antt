@@ -3,11 +3,12 @@ use native.Mathlib.Omega.{arith}
 use mathlib.Core.Path.{_≡_}
 use Prim.Native.Nat.{_≤_, _-_}
 use lib.ListN.{length, length-set}
+use Rattle.jobs.specs.Limits.{longest}
 use Rattle.replay.proofs.spell.spell.Statement.{statement}
 use Rattle.replay.proofs.spell.spell.Tie as tie
 
 abbrev Inv-loop : tie.InvT-loop
-Inv-loop words n text₀ i₀ text i = (i ≤ n) × ((i ≤ 9091) × (length text ≡ length text₀))
+Inv-loop words n text₀ i₀ text i = (i ≤ n) × ((i ≤ longest) × (length text ≡ length text₀))
 
 abbrev μ-loop : tie.MeasureT-loop
 μ-loop words n text₀ i₀ text i = n - i

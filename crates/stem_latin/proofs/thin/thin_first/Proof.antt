@@ -13,24 +13,24 @@ use borrow.Author.Needs.{needs}
 use Rattle.stem_latin.proofs.thin.thin_first.Statement.{statement}
 use Rattle.stem_latin.proofs.thin.thin_first.Tie as tie
 
-center-of-requires : tie.Need-center-of-requires
-center-of-requires c κs = search needs
+centre-of-requires : tie.Need-centre-of-requires
+centre-of-requires c κs = search needs
 
 -- the centre that the start and the length give
-center-is : (c : tie.After-center-of) → c .center-of .result ≡ centreOf (c .before .args .start) (c .before .args .org-len)
-center-is c = let f = c .before .fits in by₂ centreOf (c .center-of .ensures) (is (f .start)) (is (f .org-len))
+centre-is : (c : tie.After-centre-of) → c .centre-of .result ≡ centreOf (c .before .args .start) (c .before .args .org-len)
+centre-is c = let f = c .before .fits in by₂ centreOf (c .centre-of .ensures) (is (f .start)) (is (f .org-len))
 
-thin-center-requires : tie.Need-thin-center-requires
-thin-center-requires c κs =
+thin-centre-requires : tie.Need-thin-centre-requires
+thin-centre-requires c κs =
     let s = c .before in
-    let e = center-is c also got w32 (c .center-of .result) (c .center-of .ok) in
+    let e = centre-is c also got w32 (c .centre-of .result) (c .centre-of .ok) in
     omega (arith, signed, centre-range (s .args .start) (s .args .org-len) (s .pre .0) (s .pre .1))
 
 -- the centre chosen
-chosen-is : (c : tie.After-thin-center) → c .thin-center .result ≡ thinCentre (centreOf (c .before .before .args .start) (c .before .before .args .org-len)) (c .before .before .args .width)
+chosen-is : (c : tie.After-thin-centre) → c .thin-centre .result ≡ thinCentre (centreOf (c .before .before .args .start) (c .before .before .args .org-len)) (c .before .before .args .width)
 chosen-is c =
     let m = c .before in
-    by₂ thinCentre (c .thin-center .ensures) (is (got w32 (m .center-of .result) (m .center-of .ok)) ∙ center-is m) (is (m .before .fits .width))
+    by₂ thinCentre (c .thin-centre .ensures) (is (got w32 (m .centre-of .result) (m .centre-of .ok)) ∙ centre-is m) (is (m .before .fits .width))
 
 half-requires : tie.Need-half-requires
 half-requires c κs = search needs
@@ -43,7 +43,7 @@ sub-result : tie.Need-sub-result
 sub-result c =
     let m = c .before in
     let s = m .before .before in
-    let e = chosen-is m also got w32 (m .thin-center .result) (m .thin-center .ok) also half-is c also got w32 (c .half .result) (c .half .ok) in
+    let e = chosen-is m also got w32 (m .thin-centre .result) (m .thin-centre .ok) also half-is c also got w32 (c .half .result) (c .half .ok) in
     let r = centre-range (s .args .start) (s .args .org-len) (s .pre .0) (s .pre .1) in
     fits (omega (arith, signed, r, thin-near (centreOf (s .args .start) (s .args .org-len)) (s .args .width), quot-up (s .args .width) 2, quot-dn (s .args .width) 2))
 
@@ -51,14 +51,14 @@ returns : tie.Need-returns
 unfolding thinFirst
 returns c =
     let m = c .before in
-    by₂ _-ℤ_ (is (sub-result c)) (is (got w32 (m .thin-center .result) (m .thin-center .ok)) ∙ chosen-is m) (is (got w32 (c .half .result) (c .half .ok)) ∙ half-is c)
+    by₂ _-ℤ_ (is (sub-result c)) (is (got w32 (m .thin-centre .result) (m .thin-centre .ok)) ∙ chosen-is m) (is (got w32 (c .half .result) (c .half .ok)) ∙ half-is c)
 
 pub thin-first-spec : {M : Type 1} → statement M
 thin-first-spec =
     tie.close
     (tie.spec
-    center-of-requires
-    thin-center-requires
+    centre-of-requires
+    thin-centre-requires
     half-requires
     sub-result
     returns)

@@ -17,12 +17,12 @@ use borrow.Author.Needs.{needs}
 use Rattle.stem_latin.proofs.wide.wide_first.Statement.{statement}
 use Rattle.stem_latin.proofs.wide.wide_first.Tie as tie
 
-center-of-requires : tie.Need-center-of-requires
-center-of-requires c κs = search needs
+centre-of-requires : tie.Need-centre-of-requires
+centre-of-requires c κs = search needs
 
 -- the centre that the start and the length give
-center-is : (c : tie.After-center-of) → toZ w32 (ofZ w32 (c .center-of .result)) ≡ centreOf (c .before .args .start) (c .before .args .org-len)
-center-is c = let f = c .before .fits in is (got w32 (c .center-of .result) (c .center-of .ok)) ∙ by₂ centreOf (c .center-of .ensures) (is (f .start)) (is (f .org-len))
+centre-is : (c : tie.After-centre-of) → toZ w32 (ofZ w32 (c .centre-of .result)) ≡ centreOf (c .before .args .start) (c .before .args .org-len)
+centre-is c = let f = c .before .fits in is (got w32 (c .centre-of .result) (c .centre-of .ok)) ∙ by₂ centreOf (c .centre-of .ensures) (is (f .start)) (is (f .org-len))
 
 half-requires : tie.Need-half-requires
 half-requires c κs = search needs
@@ -75,7 +75,7 @@ add-nearer-of c =
 sub-nearer-of : tie.Need-sub-nearer-of
 sub-nearer-of c =
     let s = start c in
-    let k = start-round-is (c .before) also half-is (c .before .before) also add-nearer-of c also center-is (c .before .before .before) in
+    let k = start-round-is (c .before) also half-is (c .before .before) also add-nearer-of c also centre-is (c .before .before .before) in
     fits (omega (arith, signed, round-law (s .args .start), shr-law (s .args .width) 2 tt, centre-range (s .args .start) (s .args .org-len) (s .pre .0) (s .pre .1)))
 
 add-nearer-of-2 : tie.Need-add-nearer-of-2
@@ -87,7 +87,7 @@ add-nearer-of-2 c =
 sub-nearer-of-2 : tie.Need-sub-nearer-of-2
 sub-nearer-of-2 c =
     let s = start c in
-    let k = end-round-is c also half-is (c .before .before) also sub-cur-pos2 c also add-nearer-of-2 c also center-is (c .before .before .before) in
+    let k = end-round-is c also half-is (c .before .before) also sub-cur-pos2 c also add-nearer-of-2 c also centre-is (c .before .before .before) in
     let end = add-law (s .args .start) (s .args .org-len) in
     let centre = centre-range (s .args .start) (s .args .org-len) (s .pre .0) (s .pre .1) in
     fits (omega (arith, signed, round-law (s .args .start +ℤ s .args .org-len), end, shr-law (s .args .width) 2 tt, centre))
@@ -101,7 +101,7 @@ returns c =
     let e = c .before in
     let p = start-round-is (e .before) in
     let h = half-is (e .before .before) in
-    let m = center-is (e .before .before .before) in
+    let m = centre-is (e .before .before .before) in
     is (got w32 (c .nearer-of .result) (c .nearer-of .ok))
     ∙ by₄ (λ (a b p q : ℤ). cond (ltb (natAbs a) (natAbs b)) p q) (c .nearer-of .ensures)
     (by₂ _-ℤ_ (is (sub-nearer-of e)) (by₂ _+ℤ_ (is (add-nearer-of e)) p h) m)
@@ -113,7 +113,7 @@ pub wide-first-spec : {M : Type 1} → statement M
 wide-first-spec =
     tie.close
     (tie.spec
-    center-of-requires
+    centre-of-requires
     half-requires
     pix-round-requires
     add-pix-round

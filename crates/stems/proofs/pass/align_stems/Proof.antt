@@ -9,7 +9,7 @@ use Rattle.axis.specs.Accepted.{AxisWithin}
 use Rattle.axis.proofs.Visits.{visits-end}
 use Rattle.placing.specs.Steps.{InReach}
 use Rattle.zone.proofs.Kept.{within-more, reach-at}
-use Rattle.stems.specs.Stems.{State, done, stemsOf}
+use Rattle.stems.specs.Stems.{State, outcome, stemsOf}
 use Rattle.stems.specs.Steps.{planAt, firstPut, step}
 use Rattle.stems.proofs.Straight.{steps-are}
 use Rattle.stems.proofs.Growth.{mostGrowth, Reached, PlanWithin, edge-reach}
@@ -342,7 +342,7 @@ unfolding stemsOf
 returns c =
     let l = c .before in
     let a = l .before .args in
-    ap done (sym (visits-end (step (a .mode) (a .standards .now)) _ (l .loop .i) _ (c .loop-test .left)) ∙ l .loop .inv .rest ∙ steps-are (a .mode) (a .standards .now) _ 0 _)
+    ap outcome (sym (visits-end (step (a .mode) (a .standards .now)) _ (l .loop .i) _ (c .loop-test .left)) ∙ l .loop .inv .rest ∙ steps-are (a .mode) (a .standards .now) _ 0 _)
 
 pub align-stems-spec : {M : Type 1} → statement M
 align-stems-spec =

@@ -1,0 +1,154 @@
+-- Changes of edges: none, one after the other, in one place, by a call.
+use mathlib.Core.Path.{_≡_, refl, sym, ap, subst, _∙_}
+use mathlib.Core.Bool.{Bool, true, false, cond, _&&_, _||_}
+use mathlib.Core.List.{List, [], _∷_}
+use Prim.Native.Nat.{ℕ, zero, suc}
+use native.Mathlib.Omega.{arith}
+use lib.IntN.{ℤ}
+use lib.ListN.{getD, set, length-set}
+use Rattle.refusals.specs.Refusal.{answered}
+use Rattle.axis.specs.declared.kinds.Blue.{Blue}
+use Rattle.axis.specs.declared.kinds.Blue.the-variants as Blues
+use Rattle.axis.specs.declared.edge.Edge.{Edge}
+use Rattle.axis.specs.declared.edge.Axis.{Axis}
+use Rattle.axis.specs.Edge.{emptyEdge, edgeAt, putEdge, changed, placed, fixedAt}
+use Rattle.axis.specs.Changes.{Extent, nothing, position, place, zone, zoneLeft, Only, wherever, OnlyAxis, Changes}
+
+-- ---- flags and zones
+or-self : (a : Bool) → a ≡ (a || a)
+or-self true = refl
+or-self false = refl
+
+and-self : (a : Bool) → a ≡ (a && a)
+and-self true = refl
+and-self false = refl
+
+left-self : (b : Blue) → b ≡ zoneLeft b b
+left-self Blues.None = refl
+left-self (Blues.Fitted z) = refl
+
+pub or-true : (a : Bool) → true ≡ (a || true)
+or-true true = refl
+or-true false = refl
+
+or-then : (a b c : Bool) → b ≡ (a || b) → c ≡ (b || c) → (b || c) ≡ (a || c)
+or-then true b c p q = rw p
+or-then false true c p q = sym q
+or-then false false c p q = refl
+
+and-false : (a : Bool) → false ≡ (a && false)
+and-false true = refl
+and-false false = refl
+
+and-then : (a b c : Bool) → b ≡ (a && b) → c ≡ (b && c) → (b && c) ≡ (a && c)
+and-then true true c p q = refl
+and-then true false c p q = sym q
+and-then false b c p q = rw p
+
+left-then : (a b c : Blue) → b ≡ zoneLeft a b → c ≡ zoneLeft b c → zoneLeft b c ≡ zoneLeft a c
+left-then a b Blues.None p q = refl
+left-then a b (Blues.Fitted z) p q = p ∙ ap (zoneLeft a) (sym q)
+
+-- ---- one edge
+-- an edge at a position, with such a flag done and neutral, and a zone
+abbrev pub remade : Edge → ℤ → Bool → Bool → Blue → Edge
+remade e p done neutral b = changed e p (record { round = e .flags .round; serif = e .flags .serif; done = done; neutral = neutral }) b (e .link) (e .serif) (e .last)
+
+pub same-edge : (x : Extent) (e : Edge) → Only x e e
+same-edge nothing e = record { rest = refl }
+same-edge position e = record { rest = refl }
+same-edge place e = record { rest = λ i. remade e (e .pos) (or-self (e .flags .done) i) (e .flags .neutral) (e .blue) }
+same-edge zone e = record { rest = λ i. remade e (e .pos) (or-self (e .flags .done) i) (and-self (e .flags .neutral) i) (left-self (e .blue) i) }
+
+pub then-edge : (x : Extent) (a b c : Edge) → Only x a b → Only x b c → Only x a c
+then-edge nothing a b c p q = record { rest = q .rest ∙ p .rest }
+then-edge position a b c p q = record { rest = q .rest ∙ ap (λ (e : Edge). placed e (c .pos)) (p .rest) }
+then-edge place a b c p q =
+    let d = or-then (a .flags .done) (b .flags .done) (c .flags .done) (ap (λ (e : Edge). e .flags .done) (p .rest)) (ap (λ (e : Edge). e .flags .done) (q .rest)) in
+    record { rest = q .rest ∙ (λ i. remade (p .rest i) (c .pos) (d i) (p .rest i .flags .neutral) (p .rest i .blue)) }
+then-edge zone a b c p q =
+    let d = or-then (a .flags .done) (b .flags .done) (c .flags .done) (ap (λ (e : Edge). e .flags .done) (p .rest)) (ap (λ (e : Edge). e .flags .done) (q .rest)) in
+    let n = and-then (a .flags .neutral) (b .flags .neutral) (c .flags .neutral) (ap (λ (e : Edge). e .flags .neutral) (p .rest)) (ap (λ (e : Edge). e .flags .neutral) (q .rest)) in
+    let z = left-then (a .blue) (b .blue) (c .blue) (ap (λ (e : Edge). e .blue) (p .rest)) (ap (λ (e : Edge). e .blue) (q .rest)) in
+    record { rest = q .rest ∙ (λ i. remade (p .rest i) (c .pos) (d i) (n i) (z i)) }
+
+-- what changes less changes no more
+pub position-place : (a b : Edge) → Only position a b → Only place a b
+position-place a b p =
+    let d = or-self (a .flags .done) ∙ ap (λ (e : Edge). a .flags .done || e .flags .done) (sym (p .rest)) in
+    record { rest = p .rest ∙ (λ i. remade a (b .pos) (d i) (a .flags .neutral) (a .blue)) }
+
+pub place-zone : (a b : Edge) → Only place a b → Only zone a b
+place-zone a b p =
+    let n = and-self (a .flags .neutral) ∙ ap (λ (e : Edge). a .flags .neutral && e .flags .neutral) (sym (p .rest)) in
+    let z = left-self (a .blue) ∙ ap (λ (e : Edge). zoneLeft (a .blue) (e .blue)) (sym (p .rest)) in
+    record { rest = p .rest ∙ (λ i. remade a (b .pos) (a .flags .done || b .flags .done) (n i) (z i)) }
+
+-- an edge at another position, and one there for good
+pub placed-only : (e : Edge) (p : ℤ) → Only position e (placed e p)
+placed-only e p = record { rest = refl }
+
+pub fixed-only : (e : Edge) (p : ℤ) → Only place e (fixedAt e p)
+fixed-only e p = record { rest = λ i. remade e p (or-true (e .flags .done) i) (e .flags .neutral) (e .blue) }
+
+-- and one that is neutral no longer, and has no zone
+pub without-zone : (e : Edge) → Only zone e (remade e (e .pos) (e .flags .done) false Blues.None)
+without-zone e = record { rest = λ i. remade e (e .pos) (or-self (e .flags .done) i) (and-false (e .flags .neutral) i) Blues.None }
+
+-- the link stays, whatever else may be changed
+pub same-link : (x : Extent) (a b : Edge) → Only x a b → b .link ≡ a .link
+same-link nothing a b p = ap (λ (e : Edge). e .link) (p .rest)
+same-link position a b p = ap (λ (e : Edge). e .link) (p .rest)
+same-link place a b p = ap (λ (e : Edge). e .link) (p .rest)
+same-link zone a b p = ap (λ (e : Edge). e .link) (p .rest)
+
+-- ---- edges in their places
+-- one is stored
+set-only : (extent : ℕ → Extent) (l : List Edge) (i k : ℕ) (e : Edge) → Only (extent i) (getD l i emptyEdge) e → Only (extent k) (getD l k emptyEdge) (getD (set l i e) k emptyEdge)
+set-only extent [] i k e h = same-edge (extent k) emptyEdge
+set-only extent (x ∷ l) zero zero e h = h
+set-only extent (x ∷ l) zero (suc k) e h = same-edge (extent (suc k)) (getD l k emptyEdge)
+set-only extent (x ∷ l) (suc i) zero e h = same-edge (extent zero) x
+set-only extent (x ∷ l) (suc i) (suc k) e h = set-only (λ (j : ℕ). extent (suc j)) l i k e h
+
+module _ (extent : ℕ → Extent) where
+  pub same-axis : (axis : Axis) → OnlyAxis extent axis axis
+  same-axis axis = record { dim = refl; major = refl; len = refl; edges = record { size = refl; edge = λ (i : ℕ). same-edge (extent i) (edgeAt axis i) } }
+
+  pub then-axis : (a b c : Axis) → OnlyAxis extent a b → OnlyAxis extent b c → OnlyAxis extent a c
+  then-axis a b c p q = record {
+    dim = q .dim ∙ p .dim;
+    major = q .major ∙ p .major;
+    len = q .len ∙ p .len;
+    edges = record {
+      size = q .edges .size ∙ p .edges .size;
+      edge = λ (i : ℕ). then-edge (extent i) (edgeAt a i) (edgeAt b i) (edgeAt c i) (p .edges .edge i) (q .edges .edge i);
+    };
+  }
+
+  pub put-only : (axis : Axis) (i : ℕ) (e : Edge) → Only (extent i) (edgeAt axis i) e → OnlyAxis extent axis (putEdge axis i e)
+  put-only axis i e h = record {
+    dim = refl;
+    major = refl;
+    len = refl;
+    edges = record { size = length-set (axis .edges) i e; edge = λ (k : ℕ). set-only extent (axis .edges) i k e h };
+  }
+
+  -- another store, behind earlier changes
+  pub also-put : (old axis : Axis) (i : ℕ) (e : Edge) → OnlyAxis extent old axis → Only (extent i) (edgeAt axis i) e → OnlyAxis extent old (putEdge axis i e)
+  also-put old axis i e h p = then-axis old axis (putEdge axis i e) h (put-only axis i e p)
+
+  pub link-kept : (old axis : Axis) (i : ℕ) → OnlyAxis extent old axis → edgeAt axis i .link ≡ edgeAt old i .link
+  link-kept old axis i h = same-link (extent i) (edgeAt old i) (edgeAt axis i) (h .edges .edge i)
+
+-- a place that is named
+pub named : (names : ℕ → Bool) (x : Extent) (i : ℕ) (a b : Edge) → names i ≡ true → Only x a b → Only (wherever names x i) a b
+named names x i a b e h = subst (λ (t : Bool). Only (cond t x nothing) a b) (sym e) h
+
+-- ---- a call
+-- one that hands back what was given beside a refusal, or its work beside 0
+pub call-changes : {A R : Type 0} (Small : A → A → Type 0) (k : ℕ) (old : A) (refused : ℕ → R) (done : R) (answer : R → ℕ) (of : R → A)
+    → ((j : ℕ) → of (refused j) ≡ old) → Small old old → answer done ≡ 0 → (k ≡ 0 → Small old (of done))
+    → Changes Small (answer (answered k refused done)) old (of (answered k refused done))
+call-changes Small zero old refused done answer of given same accepted small = record { refused = λ h. absurd (omega (arith, accepted)); only = small refl }
+call-changes Small (suc k) old refused done answer of given same accepted small = record { refused = λ h. given (suc k); only = subst (Small old) (sym (given (suc k))) same }

@@ -1,0 +1,88 @@
+-- What a call hands back with answer 0 is accepted by the calls behind it, whose own parameters are right: linking, building, blue zones, stems, and the others beside.
+use mathlib.Core.Path.{_≡_}
+use mathlib.Core.Bool.{Bool, true, false, cond}
+use mathlib.Core.List.{List}
+use mathlib.Core.Logic.{_⊎_, inl, inr}
+use Prim.Native.Nat.{ℕ}
+use lib.Dec.{leb}
+use lib.IntN.{ℤ}
+use Rattle.refusals.specs.Refusal.{noRoom}
+use Rattle.fixed.specs.declared.width.WidthRule.{WidthRule}
+use Rattle.fixed.specs.Width.{ruleHolds}
+use Rattle.axis.specs.declared.edge.Axis.{Axis}
+use Rattle.axis.specs.declared.kinds.Direction.{Direction}
+use Rattle.axis.specs.declared.kinds.Group.{Group}
+use Rattle.axis.specs.declared.segment.Segments.{Segments}
+use Rattle.axis.specs.Handed.{EdgesAccepted, Typed}
+use Rattle.axis.specs.Limits.{mostEdges}
+use Rattle.linking.specs.Linking.{linkSegmentsCjk}
+use Rattle.linking.specs.Linking as L
+use Rattle.linking.proofs.Handed as Linking
+use Rattle.building.specs.declared.numbers.Thresholds.{Thresholds}
+use Rattle.building.specs.Building.{numbersHold, productsHold, isCjk, rulesOf, lastState, computeEdges}
+use Rattle.building.proofs.Handed as Building
+use Rattle.fitting.proofs.Handed as Fitting
+use Rattle.blues.specs.Zones.{alignEdgesToBlues}
+use Rattle.blues.proofs.Handed as Blues
+use Rattle.stem_cjk.proofs.Handed as Cjk
+use Rattle.stems.specs.Stems.{alignStemEdges}
+use Rattle.stems.proofs.Handed as Stems
+use Rattle.lowercase_m.proofs.Handed as M
+use Rattle.chain.specs.Accepts.{Accepts}
+
+-- ---- edges that are accepted
+accepts : (axis : Axis) → EdgesAccepted axis → Accepts axis
+accepts axis a = record {
+  blues = λ group rule xs r. Blues.accepts axis group rule xs a r;
+  linked = Fitting.linked-accepts axis a;
+  serif = Fitting.serif-accepts axis a;
+  bounds = Fitting.bounds-accepts axis a;
+  adjust = Fitting.adjust-accepts axis a;
+  cjk = λ adjust rule xs i j d r b w. Cjk.accepts axis adjust rule xs i j d a r b w;
+  stems = λ group adjust ttb anchor rule xs b r. Stems.accepts axis group adjust ttb anchor rule xs a b r;
+  m = λ group c. M.accepts axis group a c;
+}
+
+-- ---- linking
+roomy : (full : Bool) (k : ℕ) → k ≡ cond full noRoom 0 → (k ≡ 0) ⊎ (k ≡ noRoom)
+roomy true k e = inr e
+roomy false k e = inl e
+
+module _ (t : Segments) (dir : Direction) (upem scale : ℤ) (e : linkSegmentsCjk t dir upem scale .answer ≡ 0) (c : Typed t) where
+  abbrev linked : Segments
+  linked = linkSegmentsCjk t dir upem scale .segments
+
+  -- what linking hands back, building refuses by 5 alone
+  pub linked-built : (old : Axis) (group : Group) (down : Bool) (at : ℤ) (by : Thresholds)
+      → leb (old .len) mostEdges ≡ true → numbersHold at by ≡ true → productsHold (linkSegmentsCjk t dir upem scale .segments) at ≡ true
+      → (computeEdges (linkSegmentsCjk t dir upem scale .segments) old group down at by .answer ≡ 0)
+      ⊎ (computeEdges (linkSegmentsCjk t dir upem scale .segments) old group down at by .answer ≡ noRoom)
+  linked-built old group down at by few n p =
+      roomy (lastState linked (rulesOf (old .dim) (old .«major_dir») (isCjk group) down at by) .full) _
+      (Building.accepts linked old group down at by (Linking.handed-on t dir upem scale e c) few n p)
+
+  -- and linking accepts
+  pub linked-linked : (major : Direction) (em at : ℤ) → L.numbersHold em at ≡ true → linkSegmentsCjk (linkSegmentsCjk t dir upem scale .segments) major em at .answer ≡ 0
+  linked-linked major em at n = Linking.accepts linked major em at (Linking.handed-on t dir upem scale e c) (Linking.nexts-handed-on t dir upem scale e) n
+
+-- ---- building
+module _ (t : Segments) (old : Axis) (group : Group) (down : Bool) (scale : ℤ) (by : Thresholds) (e : computeEdges t old group down scale by .answer ≡ 0) where
+  -- the edges that building hands back, every call over edges accepts
+  pub built-accepted : Accepts (computeEdges t old group down scale by .axis)
+  built-accepted = accepts _ (Building.edges-handed-on t old group down scale by e)
+
+  -- and its segments linking
+  pub built-linked : (major : Direction) (em at : ℤ) → L.numbersHold em at ≡ true → linkSegmentsCjk (computeEdges t old group down scale by .segments) major em at .answer ≡ 0
+  built-linked major em at n =
+      Linking.accepts _ major em at (Building.segments-handed-on t old group down scale by e) (Building.nexts-handed-on t old group down scale by e) n
+
+-- ---- blue zones
+module _ (axis : Axis) (group : Group) (rule : WidthRule) (xs : List ℤ) (e : alignEdgesToBlues axis group rule xs .answer ≡ 0) where
+  -- the edges on their zones, every call over edges accepts
+  pub zoned-accepted : Accepts (alignEdgesToBlues axis group rule xs .axis)
+  zoned-accepted = accepts _ (Blues.handed-on axis group rule xs e)
+
+  -- and stems the anchor with them
+  pub zoned-stems : (g : Group) (adjust ttb : Bool) (by : WidthRule) (ys : List ℤ) → ruleHolds by ys ≡ true
+      → alignStemEdges (alignEdgesToBlues axis group rule xs .axis) g adjust ttb (alignEdgesToBlues axis group rule xs .anchor) by ys .answer ≡ 0
+  zoned-stems g adjust ttb by ys r = zoned-accepted .stems g adjust ttb _ by ys (Blues.anchor-handed-on axis group rule xs e) r

@@ -1,0 +1,35 @@
+-- Which calls answer edges by 0, with their own parameters right.
+use mathlib.Core.Path.{_≡_}
+use mathlib.Core.Bool.{Bool, true}
+use mathlib.Core.List.{List}
+use Prim.Native.Nat.{ℕ}
+use lib.Dec.{ltb}
+use lib.IntN.{ℤ}
+use Rattle.fixed.specs.declared.width.WidthRule.{WidthRule}
+use Rattle.fixed.specs.Width.{ruleHolds}
+use Rattle.axis.specs.declared.edge.Axis.{Axis}
+use Rattle.axis.specs.declared.kinds.Group.{Group}
+use Rattle.axis.specs.declared.kinds.Link.{Link}
+use Rattle.axis.specs.Accepted.{Below}
+use Rattle.axis.specs.Limits.{mostUnits}
+use Rattle.axis.specs.Refusals.{within}
+use Rattle.placing.specs.declared.adjust.LinkDir.{LinkDir}
+use Rattle.placing.specs.Placing.{bothBelow}
+use Rattle.fitting.specs.Fitting.{alignLinkedEdge, alignSerifEdge, adjustLink, latinRemainingBounds}
+use Rattle.blues.specs.Zones.{alignEdgesToBlues}
+use Rattle.stem_cjk.specs.Cjk.{hintNormalStemCjk}
+use Rattle.stems.specs.Stems.{alignStemEdges}
+use Rattle.lowercase_m.specs.M.{countHolds, hintLowercaseM}
+
+-- every call over edges accepts those of the axis
+pub record Accepts (axis : Axis) : Type 0 where
+  pub blues : (group : Group) (rule : WidthRule) (xs : List ℤ) → ruleHolds rule xs ≡ true → alignEdgesToBlues axis group rule xs .answer ≡ 0
+  pub linked : (rule : WidthRule) (xs : List ℤ) (base stem : ℕ) → ruleHolds rule xs ≡ true → bothBelow (axis .len) base stem ≡ true → alignLinkedEdge axis rule xs base stem .answer ≡ 0
+  pub serif : (base serif : ℕ) → bothBelow (axis .len) base serif ≡ true → alignSerifEdge axis base serif .answer ≡ 0
+  pub bounds : (i : ℕ) → ltb i (axis .len) ≡ true → latinRemainingBounds axis i .answer ≡ 0
+  pub adjust : (i : ℕ) (dir : LinkDir) (ttb : Bool) → ltb i (axis .len) ≡ true → adjustLink axis i dir ttb .answer ≡ 0
+  pub cjk : (adjust : Bool) (rule : WidthRule) (xs : List ℤ) (i j : ℕ) (d : ℤ) → ruleHolds rule xs ≡ true → bothBelow (axis .len) i j ≡ true → within mostUnits d ≡ true
+      → hintNormalStemCjk axis adjust rule xs i j d .answer ≡ 0
+  pub stems : (group : Group) (adjust ttb : Bool) (anchor : Link) (rule : WidthRule) (xs : List ℤ) → Below (axis .len) anchor → ruleHolds rule xs ≡ true
+      → alignStemEdges axis group adjust ttb anchor rule xs .answer ≡ 0
+  pub m : (group : Group) → countHolds (axis .len) ≡ true → hintLowercaseM axis group .answer ≡ 0

@@ -1,0 +1,3 @@
+-- What the contracts of `jobs` cite.
+pub mod First
+pub mod Limits

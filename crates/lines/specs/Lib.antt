@@ -1,0 +1,2 @@
+-- What contracts say of jobs.
+pub mod Limits

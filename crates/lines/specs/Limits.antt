@@ -1,0 +1,10 @@
+-- What a job can carry, each number named here alone.
+use Prim.Native.Nat.{ℕ, _+_, _*_}
+
+-- numbers of a list
+abbrev pub mostNumbers : ℕ
+mostNumbers = 8191
+
+-- words of a job: the longest has its call and four lists of numbers, each behind its count
+abbrev pub mostWords : ℕ
+mostWords = 1 + 4 * (1 + mostNumbers)

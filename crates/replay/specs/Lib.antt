@@ -1,0 +1,2 @@
+-- What contracts say of an answer's text.
+pub mod Limits
