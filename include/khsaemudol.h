@@ -1,18 +1,47 @@
-/* Khsaemudol: a grid-fitter whose every answer is proved. The calls of the static library libkhsaemudol.a, for C99 and later.
+/* Khsaemudol: a grid-fitter whose every answer is proved. The calls of the static library libkhsaemudol.a, for C99 and later, and for C++.
  *
- * Lengths and positions "in units" are 26.6: 64 units make a pixel. Font positions are whole design units. A scale is 16.16.
+ * Units. Lengths and positions "in units" are 26.6: 64 units make a pixel. Font positions are whole design units. A scale is 16.16 and takes design units to
+ * units: it is pixels per em * 64 * 65,536 / units per em.
+ *
+ * Axes. An outline is fitted one axis at a time. On the vertical axis positions are heights (y), segments run right or left, and a stem is a bar; on the
+ * horizontal axis positions are x, segments run up or down, and a stem is upright. The major direction is the one in which the lower or left side of a stem
+ * runs: linking takes a segment of that direction for the first side of a stem, and one of the opposite direction above or right of it for the second.
+ *
+ * The chain. An axis of a glyph goes through the calls so; examples/three.c does it for one glyph.
+ *   1. The caller finds the segments. Those of KHS_LATIN it links itself (link, serif); khs_link_segments_cjk links those of KHS_CJK.
+ *   2. khs_compute_edges makes edges of them, without blue zones.
+ *   3. The caller gives edges their zones: blue, blue_fitted, and KHS_FLAG_NEUTRAL where a zone is neutral. khs_align_edges_to_blues puts them there and
+ *      hands back the anchor.
+ *   4. khs_align_stem_edges places the stems, beginning with that anchor. khs_hint_lowercase_m evens out an m, on its horizontal axis.
+ *   5. The caller places what is left as it likes, by khs_align_serif_edge, khs_latin_remaining_bounds and khs_adjust_link: an edge without KHS_FLAG_DONE has
+ *      not been placed.
+ *   6. The caller moves the points of every segment whose edge is done to that edge's pos, and touches them. khs_align_weak_points moves the other points.
  *
  * Lists. A list is passed as a pointer to its first element and its length. Edges and segments are lists of 32-bit words: an edge has KHS_EDGE_WORDS
  * words and a segment KHS_SEGMENT_WORDS, in the order of struct khs_edge and struct khs_segment, and nothing stands in front of the first. An array of n
- * such structs is passed as `(int32_t *)array, n * KHS_EDGE_WORDS`: the length is in words. A list may have length 0; its pointer must still not be null.
- * Lists and places that one call is given must not overlap.
+ * such structs is passed as `(int32_t *)array, n * KHS_EDGE_WORDS`: the length is in words. Of every list and of every place for a result:
+ *   - NULL is none, not even an empty list: a list of length 0 has a pointer too, to anything of its type. That holds for standards with KHS_KEEP as well.
+ *   - Its pointer is aligned as C asks of its type: to 4 bytes for int32_t, 2 for uint16_t.
+ *   - It overlaps no other list or place of the same call, unless both are const.
+ * A call that is given anything else is undefined, as in C; everything else that can be passed is answered.
  *
- * Answers. Every call but the two of the middle returns KHS_DONE or why it refused (enum khs_answer). The numbers 1 to 5 are tested in their order, behind
- * KHS_NOT_WORDS. A refused call writes nothing: every list and every place holds what it held. With KHS_DONE a list of edges or segments that is not
- * const holds what the call made of it, every word within its field's values, and every place for a result holds the result.
+ * Answers. Every call but the two of the middle returns KHS_DONE or why it refused (enum khs_answer). A call over edges or segments tests in this order:
+ *   1. KHS_NOT_WORDS: the length of edges or segments is not that of whole records, or the room for built edges has not exactly its length.
+ *   2. KHS_TOO_LONG: there are more edges or segments than their limit. None of their words has been read then.
+ *   3. KHS_NOT_WORDS: a word is none of its field's values. Fields are those of the two structs, and of a call's numbers its directions, dimension, group,
+ *      rule and neighbour, and those that are 0 or 1.
+ *   4. KHS_BAD_PARAMETER, then KHS_BAD_INDEX, KHS_OUT_OF_RANGE and KHS_NO_ROOM.
+ * Every other number of a call takes every word: an edge named in a call, and an anchor other than KHS_NONE, is KHS_BAD_INDEX where it is not below the count
+ * of edges, whatever its word; scale, units per em, thresholds and standards are KHS_BAD_PARAMETER and a delta KHS_OUT_OF_RANGE outside of their limits.
+ * khs_align_weak_points has no such fields, and tests KHS_TOO_LONG, KHS_BAD_INDEX and KHS_OUT_OF_RANGE in this order.
  *
- * No call allocates, keeps a pointer, prints or fails otherwise. Each may be called from any thread. The tables stand on the stack: linking and building were
- * measured to need up to 185 KiB of it on aarch64, the other calls at most 128 KiB. */
+ * A refused call writes nothing: every list and every place holds what it held. With KHS_DONE a list of edges or segments that is not const holds what the
+ * call made of it, every word within its field's values, and every place for a result holds the result. Results may leave the limits of what is accepted, and
+ * are then refused if they are passed again.
+ *
+ * No call allocates, keeps a pointer, prints or fails otherwise. Each may be called from any thread, and on other lists at the same time. The tables stand on
+ * the stack, of which the x86-64 library was measured to use up to 158 KiB in linking and building, 41 KiB in the other calls over edges, and less than 1 KiB
+ * in the rest; the same code on aarch64 164 KiB, 41 KiB and 1 KiB. */
 #ifndef KHSAEMUDOL_H
 #define KHSAEMUDOL_H
 
@@ -35,17 +64,18 @@ enum khs_answer {
 };
 
 /* Words with few values. */
-enum { KHS_NONE = -1 };                                                                                       /* no index */
-enum { KHS_DIR_NONE = 0, KHS_DIR_RIGHT = 1, KHS_DIR_LEFT = 2, KHS_DIR_UP = 3, KHS_DIR_DOWN = 4 };             /* a direction */
-enum { KHS_HORIZONTAL = 0, KHS_VERTICAL = 1 };                                                                /* a dimension */
-enum { KHS_LATIN = 0, KHS_CJK = 1 };                                                                          /* a group of scripts */
-enum { KHS_KEEP = 0, KHS_SNAP = 1 };                                                                          /* a width rule */
-enum { KHS_PREVIOUS = 0, KHS_NEXT = 1 };                                                                      /* a neighbour */
-enum { KHS_FLAG_ROUND = 1, KHS_FLAG_SERIF = 2, KHS_FLAG_DONE = 4, KHS_FLAG_NEUTRAL = 8 };                     /* flags, added up */
+enum { KHS_NONE = -1 };                                                                           /* no index */
+enum { KHS_DIR_NONE = 0, KHS_DIR_RIGHT = 1, KHS_DIR_LEFT = 2, KHS_DIR_UP = 3, KHS_DIR_DOWN = 4 }; /* a direction */
+enum { KHS_HORIZONTAL = 0, KHS_VERTICAL = 1 };                                                    /* a dimension */
+enum { KHS_LATIN = 0, KHS_CJK = 1 };                                                              /* a group of scripts; Latin's is the default */
+enum { KHS_KEEP = 0, KHS_SNAP = 1 };                                                              /* a width rule */
+enum { KHS_PREVIOUS = 0, KHS_NEXT = 1 };                                                          /* a neighbour */
+enum { KHS_FLAG_ROUND = 1, KHS_FLAG_SERIF = 2, KHS_FLAG_DONE = 4, KHS_FLAG_NEUTRAL = 8 };         /* flags, added up */
 
 enum { KHS_EDGE_WORDS = 11, KHS_SEGMENT_WORDS = 15, KHS_MOST_EDGES = 128, KHS_MOST_SEGMENTS = 512 };
 
-/* The words of an edge. "Index" is 0 to 65,535, "link" an index or KHS_NONE. */
+/* The words of an edge. "Index" is 0 to 65,535, "link" an index or KHS_NONE. A word outside of what its line gives is KHS_NOT_WORDS, and one outside of what is
+ * "accepted" KHS_OUT_OF_RANGE. Link and serif are tested to be below the count of edges, else KHS_BAD_INDEX. */
 struct khs_edge {
     int32_t fpos;        /* position in design units, 16-bit signed */
     int32_t opos;        /* scaled position in units; accepted from -16,383 to 16,383 */
@@ -56,33 +86,36 @@ struct khs_edge {
     int32_t blue_fitted; /* the zone's fitted position in units, accepted from -16,383 to 16,383; 0 where there is no zone */
     int32_t link;        /* link: the edge on the other side of the stem */
     int32_t serif;       /* link: the edge that this one is a serif of */
-    int32_t first;       /* index of its first segment; not tested by calls that are given no segments */
+    int32_t first;       /* index of its first segment, as building wrote it; held against no list */
     int32_t last;        /* index of its last segment; the same */
 };
 
-/* The words of a segment. */
+/* The words of a segment, in the same way. Link and serif, and in linking also next, are tested to be below the count of segments. */
 struct khs_segment {
-    int32_t flags;     /* 0 to 15 */
-    int32_t dir;       /* a direction */
-    int32_t pos;       /* position in design units, 16-bit signed, as the next four */
-    int32_t delta;
-    int32_t min_coord;
-    int32_t max_coord;
-    int32_t height;
-    int32_t score;     /* accepted from 0 to 65,535 */
-    int32_t len;       /* accepted from 0 to 65,535 */
+    int32_t flags;     /* 0 to 15; KHS_FLAG_ROUND is read, by building */
+    int32_t dir;       /* the direction in which it runs; KHS_DIR_NONE for a single point */
+    int32_t pos;       /* its position on the axis in design units, 16-bit signed, as the next four */
+    int32_t delta;     /* how far its points are from pos */
+    int32_t min_coord; /* from where on the other axis */
+    int32_t max_coord; /* to where on the other axis */
+    int32_t height;    /* its length, as the caller measures it; building compares it with its length threshold */
+    int32_t score;     /* how bad its link is: 32,000 before linking; accepted from 0 to 65,535 */
+    int32_t len;       /* how far it and its link overlap: 0 before linking; accepted from 0 to 65,535 */
     int32_t link;      /* link: the segment on the other side of the stem */
     int32_t serif;     /* link: the segment that this one is a serif of */
-    int32_t first;     /* index of its first point; not tested */
-    int32_t last;      /* index of its last point; not tested */
-    int32_t edge;      /* link: the edge that it belongs to */
-    int32_t next;      /* link: the next segment of its edge */
+    int32_t first;     /* index of its first point, for the caller; held against no list */
+    int32_t last;      /* index of its last point; the same */
+    int32_t edge;      /* link: the edge that it belongs to, or KHS_NONE where building left it out */
+    int32_t next;      /* link: the next segment of its edge, which form a ring */
 };
 
 /* The width rule of the calls below is `rule`, KHS_KEEP or KHS_SNAP, with `standards`, the standard widths in units. Keep takes widths as they are and does
- * not read the standards. Snap wants 0 to 16 of them, strictly rising, each 1 to 16,383, else KHS_BAD_PARAMETER; a width then becomes the standard nearest
- * to its magnitude, the smaller on a tie, with the width's sign, where that is at most 16 units away, and else stays; 0 stays 0. An edge named in a call is
- * its index in the list, 0 to 65,535. */
+ * not read the standards: their list may be of any length, but is still not NULL. Snap wants 0 to 16 of them, strictly rising, each 1 to 16,383, else
+ * KHS_BAD_PARAMETER; a width then becomes the standard nearest to its magnitude, the smaller on a tie, with the width's sign, where that is at most 16 units
+ * away, and else stays; 0 stays 0.
+ *
+ * An edge named in a call (base, stem, serif, edge, edge2) is its index in the list. Two may be the same. A call over edges takes at most 128 of them. Fields
+ * of edges and segments that a call is not said to write hold what they held. */
 
 /* The middle of two coordinates: their sum wraps at 32 bits, is halved downward, and its low 16 bits are read as signed. For all pairs. */
 int16_t khs_compute_mid_pos(int32_t min, int32_t max);
@@ -91,8 +124,10 @@ int16_t khs_compute_mid_pos(int32_t min, int32_t max);
 int16_t khs_compute_mid_delta(int32_t min, int32_t max);
 
 /* Moves the untouched points of one axis of an outline with the touched ones around them.
- * originals, currents, touched: one entry for each point, at most 4,096, coordinates from -16,383 to 16,383; any nonzero mark means touched.
- * ends: the index of the last point of each contour, strictly rising, each below the count of points.
+ * originals, currents, touched: one entry for each point, at most 4,096. Originals are the scaled coordinates in units, currents where the points are now, both
+ * from -16,383 to 16,383; any nonzero mark means touched.
+ * ends: the index of the last point of each contour, strictly rising, each below the count of points. A contour starts behind the one before; points behind the
+ * last contour stay where they are, and so do those of a contour without a touched point.
  * Writes currents. Answers: KHS_DONE, KHS_TOO_LONG, KHS_BAD_INDEX, KHS_OUT_OF_RANGE. */
 uint8_t khs_align_weak_points(const int32_t *originals, size_t originals_len, int32_t *currents, size_t currents_len, const uint8_t *touched,
                               size_t touched_len, const uint16_t *ends, size_t ends_len);
@@ -103,57 +138,74 @@ uint8_t khs_align_weak_points(const int32_t *originals, size_t originals_len, in
 uint8_t khs_link_segments_cjk(int32_t *segments, size_t segments_len, int32_t major_dir, int32_t units_per_em, int32_t scale);
 
 /* Builds the edges of segments.
- * segments: at most 512; their old edge and next are forgotten. edges: room for KHS_MOST_EDGES edges, exactly 1,408 words, not read.
- * dim: a dimension. major_dir: a direction. group: a group. top_to_bottom: 0 or 1. scale: 1 to 16,777,216.
- * distance, length, width: the thresholds of edge distance, segment length and segment width, 0 to 65,535; pass 0 as length on the vertical axis.
- * Writes edge and next of segments; edges, the built ones first, in the order of their positions, and empty ones (0, links KHS_NONE) behind; count, how
- * many were built. Pass the first count * KHS_EDGE_WORDS words to the calls below. Answers: all of enum khs_answer. */
+ * segments: at most 512; their old edge and next are forgotten, and may be any link. edges: room for KHS_MOST_EDGES edges, exactly 1,408 words, not read.
+ * dim: a dimension. major_dir: a direction. group: a group. scale: 1 to 16,777,216; every segment's pos at that scale must be from -16,383 to 16,383 units.
+ * top_to_bottom: 0 or 1, the order of edges: by rising positions, or by falling ones with 1. On the horizontal axis and for KHS_CJK it is ignored, and they rise.
+ * distance, length, width: thresholds in design units, 0 to 65,535. Segments of one direction that are less than distance apart, of which at most a quarter of
+ * a pixel counts, share an edge. For KHS_LATIN a segment makes no edge if its height is below length, or below one and a half of it where it has a serif; if its
+ * delta is above width; or if it has no direction, and then it joins an edge near it where there is one. As length pass 0 on the vertical axis, and what makes a
+ * pixel on the horizontal one; as width what makes half a pixel, as the Rust does.
+ * Writes edge and next of segments; edges, the built ones first, in their order, and empty ones (0, links KHS_NONE) behind; count, how many were built. A built
+ * edge has opos and pos at the scaled position, no zone, and of the flags at most round and serif. Pass the first count * KHS_EDGE_WORDS words to the calls below.
+ * Answers: all of enum khs_answer. */
 uint8_t khs_compute_edges(int32_t *segments, size_t segments_len, int32_t *edges, size_t edges_len, int32_t dim, int32_t major_dir, int32_t group,
                           int32_t top_to_bottom, int32_t scale, int32_t distance, int32_t length, int32_t width, int32_t *count);
 
-/* Puts edges on their blue zones, and their linked edges behind them.
- * edges: at most 128. dim: a dimension. group: a group. rule, standards: the width rule.
- * Writes edges; anchor, the first edge whose visit found a zone, or KHS_NONE.
+/* Puts edges on their blue zones, and their linked edges behind them. Edges that are not done are visited one after the other: where an edge and its link both have
+ * a zone and one is neutral, that one first loses zone and flag, the link before the edge; then the edge goes to its own zone, or else its link to the link's,
+ * and the other of the two to its fitted width from it, unless it has a zone too. What is placed so is done.
+ * KHS_LATIN has zones on the vertical axis alone: on the horizontal one the answer is KHS_DONE behind the same refusals, the edges stay as they are, and the
+ * anchor is KHS_NONE.
+ * dim: a dimension. group: a group. rule, standards: the width rule.
+ * Writes pos, flags, blue and blue_fitted of edges; anchor, the first edge whose visit found a zone, its own or its link's, or KHS_NONE.
  * Answers: KHS_DONE, KHS_TOO_LONG, KHS_BAD_PARAMETER, KHS_BAD_INDEX, KHS_OUT_OF_RANGE, KHS_NOT_WORDS. */
 uint8_t khs_align_edges_to_blues(int32_t *edges, size_t edges_len, int32_t dim, int32_t group, int32_t rule, const int32_t *standards,
                                  size_t standards_len, int32_t *anchor);
 
-/* Places the edge stem by the edge base: its fitted width away.
+/* Places the edge stem by the edge base: its fitted width away from base's pos. Neither is made done.
  * Writes pos of the edge stem. Answers: KHS_DONE, KHS_TOO_LONG, KHS_BAD_PARAMETER, KHS_BAD_INDEX, KHS_OUT_OF_RANGE, KHS_NOT_WORDS. */
 uint8_t khs_align_linked_edge(int32_t *edges, size_t edges_len, int32_t rule, const int32_t *standards, size_t standards_len, int32_t base,
                               int32_t stem);
 
-/* Places the edge serif as far from the edge base as it was.
+/* Places the edge serif as far from the edge base as it was: base's pos and the distance of their opos. Neither is made done.
  * Writes pos of the edge serif. Answers: KHS_DONE, KHS_TOO_LONG, KHS_BAD_INDEX, KHS_OUT_OF_RANGE, KHS_NOT_WORDS. */
 uint8_t khs_align_serif_edge(int32_t *edges, size_t edges_len, int32_t base, int32_t serif);
 
-/* Gives an edge the position of its neighbour where it has passed it and its link is more than 16 units from the previous edge.
- * dir: KHS_PREVIOUS or KHS_NEXT. top_to_bottom: 0 or 1.
+/* Gives an edge the pos of its neighbour where it has passed it, and its link's pos is more than 16 units from the previous edge's, whichever the neighbour.
+ * dir: KHS_PREVIOUS, the edge before it in the list, or KHS_NEXT, the edge behind it. top_to_bottom: 0 or 1. With 0 an edge has passed the previous one where it
+ * is below it, and the next one where it is above it; with 1 the other way round.
+ * Edge 0 stays, whichever the neighbour, and so does an edge without link. Toward the next edge an edge stays where that one is not done, or is not there.
  * Writes pos of the edge, or nothing: KHS_DONE is the answer whether or not it moved.
  * Answers: KHS_DONE, KHS_TOO_LONG, KHS_BAD_INDEX, KHS_OUT_OF_RANGE, KHS_NOT_WORDS. */
 uint8_t khs_adjust_link(int32_t *edges, size_t edges_len, int32_t edge, int32_t dir, int32_t top_to_bottom);
 
-/* Finds what a remaining edge stands between: the edge before it, and the edge behind it where that is done.
+/* Finds what a remaining edge stands between: the edge before it, done or not, and the edge behind it where that is done.
  * Writes lower and upper, each an index or KHS_NONE. Answers: KHS_DONE, KHS_TOO_LONG, KHS_BAD_INDEX, KHS_OUT_OF_RANGE, KHS_NOT_WORDS. */
 uint8_t khs_latin_remaining_bounds(const int32_t *edges, size_t edges_len, int32_t edge, int32_t *lower, int32_t *upper);
 
-/* Places both edges of a CJK stem.
- * dim: a dimension. stem_adjust: 0 or 1. rule, standards: the width rule. edge, edge2: the stem's two edges. delta: the passed delta, -16,383 to 16,383.
+/* Places both edges of a CJK stem, at its fitted width, moved so that it meets the pixels. Neither is made done.
+ * dim: a dimension. stem_adjust: 0 or 1; with 0 a stem is moved by at most 14 units, and not at all where it is wide and a side of it is near a pixel's side already.
+ * rule, standards: the width rule. edge, edge2: the stem's two edges. delta: the passed delta, from -16,383 to 16,383 units, by which the stem's centre is shifted first.
  * Writes pos of both edges; own_delta, the stem's own delta, to which the passed one is not added.
  * Answers: KHS_DONE, KHS_TOO_LONG, KHS_BAD_PARAMETER, KHS_BAD_INDEX, KHS_OUT_OF_RANGE, KHS_NOT_WORDS. */
 uint8_t khs_hint_normal_stem_cjk(int32_t *edges, size_t edges_len, int32_t dim, int32_t stem_adjust, int32_t rule, const int32_t *standards,
                                  size_t standards_len, int32_t edge, int32_t edge2, int32_t delta, int32_t *own_delta);
 
-/* Aligns all stems that are not done. An edge without link, and a CJK stem too close to the last one, is passed over.
- * dim: a dimension. group: a group. stem_adjust, top_to_bottom: 0 or 1. anchor: an edge or KHS_NONE. rule, standards: the width rule.
- * Writes edges; count, how many edges were passed over; found, the anchor afterwards, or KHS_NONE.
+/* Aligns all stems that are not done, one edge after the other. An edge without link, and a CJK stem less than a pixel behind the last one, is passed over and
+ * counted; an edge that is done already is neither.
+ * dim: a dimension. group: a group. stem_adjust: 0 or 1, read for KHS_CJK. top_to_bottom: 0 or 1, the order in which the edges were built, read for KHS_LATIN.
+ * anchor: the edge that KHS_LATIN's stems are placed by, as khs_align_edges_to_blues hands it back, or KHS_NONE: then the first stem is placed by itself and is
+ * the anchor of the others. For KHS_CJK every stem that is placed with both its edges becomes the anchor. rule, standards: the width rule.
+ * Writes pos and flags of edges; count, how many edges were passed over; found, the anchor afterwards, or KHS_NONE.
  * Answers: KHS_DONE, KHS_TOO_LONG, KHS_BAD_PARAMETER, KHS_BAD_INDEX, KHS_OUT_OF_RANGE, KHS_NOT_WORDS. */
 uint8_t khs_align_stem_edges(int32_t *edges, size_t edges_len, int32_t dim, int32_t group, int32_t stem_adjust, int32_t top_to_bottom, int32_t anchor,
                              int32_t rule, const int32_t *standards, size_t standards_len, int32_t *count, int32_t *found);
 
-/* Evens out the three stems of a lowercase m by moving the third.
- * edges: 6 or 12. group: a group.
- * Writes pos and flags of the edges that move. Answers: KHS_DONE, KHS_TOO_LONG, KHS_BAD_PARAMETER, KHS_BAD_INDEX, KHS_OUT_OF_RANGE, KHS_NOT_WORDS. */
+/* Evens out the three stems of a lowercase m by moving the third to the distance that the first two have.
+ * edges: 6, whose stems begin at edges 0, 2 and 4, or 12, at edges 1, 5 and 9; else KHS_BAD_PARAMETER. group: a group.
+ * Nothing moves where the two distances of their opos differ by 8 units or more, or for KHS_CJK where a stem is not linked to the edge behind it.
+ * Writes pos and flags of the third stem and of its link, which are done then, and of twelve edges pos of edges 8 and 11.
+ * Answers: KHS_DONE, KHS_TOO_LONG, KHS_BAD_PARAMETER, KHS_BAD_INDEX, KHS_OUT_OF_RANGE, KHS_NOT_WORDS. */
 uint8_t khs_hint_lowercase_m(int32_t *edges, size_t edges_len, int32_t group);
 
 #ifdef __cplusplus

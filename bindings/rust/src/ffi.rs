@@ -1,11 +1,16 @@
-//! The library's functions, as include/khsaemudol.h declares them.
+//! The library's functions, as include/khsaemudol.h declares them, each behind a function of its name over slices. All that is unsafe stands here.
+//!
+//! What the functions ask of their caller holds by the types: each pointer and length is of one live slice, which is aligned and never null, and what is written is lent
+//! to the call alone.
+
+use crate::records::{Edge, Segment, EDGE_WORDS, SEGMENT_WORDS};
 
 extern "C" {
-    pub fn khs_compute_mid_pos(min: i32, max: i32) -> i16;
+    fn khs_compute_mid_pos(min: i32, max: i32) -> i16;
 
-    pub fn khs_compute_mid_delta(min: i32, max: i32) -> i16;
+    fn khs_compute_mid_delta(min: i32, max: i32) -> i16;
 
-    pub fn khs_align_weak_points(
+    fn khs_align_weak_points(
         originals: *const i32,
         originals_len: usize,
         currents: *mut i32,
@@ -16,7 +21,7 @@ extern "C" {
         ends_len: usize,
     ) -> u8;
 
-    pub fn khs_link_segments_cjk(
+    fn khs_link_segments_cjk(
         segments: *mut i32,
         segments_len: usize,
         major_dir: i32,
@@ -24,7 +29,7 @@ extern "C" {
         scale: i32,
     ) -> u8;
 
-    pub fn khs_compute_edges(
+    fn khs_compute_edges(
         segments: *mut i32,
         segments_len: usize,
         edges: *mut i32,
@@ -40,7 +45,7 @@ extern "C" {
         count: *mut i32,
     ) -> u8;
 
-    pub fn khs_align_edges_to_blues(
+    fn khs_align_edges_to_blues(
         edges: *mut i32,
         edges_len: usize,
         dim: i32,
@@ -51,7 +56,7 @@ extern "C" {
         anchor: *mut i32,
     ) -> u8;
 
-    pub fn khs_align_linked_edge(
+    fn khs_align_linked_edge(
         edges: *mut i32,
         edges_len: usize,
         rule: i32,
@@ -61,9 +66,9 @@ extern "C" {
         stem: i32,
     ) -> u8;
 
-    pub fn khs_align_serif_edge(edges: *mut i32, edges_len: usize, base: i32, serif: i32) -> u8;
+    fn khs_align_serif_edge(edges: *mut i32, edges_len: usize, base: i32, serif: i32) -> u8;
 
-    pub fn khs_adjust_link(
+    fn khs_adjust_link(
         edges: *mut i32,
         edges_len: usize,
         edge: i32,
@@ -71,7 +76,7 @@ extern "C" {
         top_to_bottom: i32,
     ) -> u8;
 
-    pub fn khs_latin_remaining_bounds(
+    fn khs_latin_remaining_bounds(
         edges: *const i32,
         edges_len: usize,
         edge: i32,
@@ -79,7 +84,7 @@ extern "C" {
         upper: *mut i32,
     ) -> u8;
 
-    pub fn khs_hint_normal_stem_cjk(
+    fn khs_hint_normal_stem_cjk(
         edges: *mut i32,
         edges_len: usize,
         dim: i32,
@@ -93,7 +98,7 @@ extern "C" {
         own_delta: *mut i32,
     ) -> u8;
 
-    pub fn khs_align_stem_edges(
+    fn khs_align_stem_edges(
         edges: *mut i32,
         edges_len: usize,
         dim: i32,
@@ -108,5 +113,211 @@ extern "C" {
         found: *mut i32,
     ) -> u8;
 
-    pub fn khs_hint_lowercase_m(edges: *mut i32, edges_len: usize, group: i32) -> u8;
+    fn khs_hint_lowercase_m(edges: *mut i32, edges_len: usize, group: i32) -> u8;
+}
+
+/// The words of lent edges. An edge is its words and nothing else.
+fn edge_words(edges: &mut [Edge]) -> (*mut i32, usize) {
+    (edges.as_mut_ptr().cast(), edges.len() * EDGE_WORDS)
+}
+
+/// The words of lent segments. A segment is its words and nothing else.
+fn segment_words(segments: &mut [Segment]) -> (*mut i32, usize) {
+    (segments.as_mut_ptr().cast(), segments.len() * SEGMENT_WORDS)
+}
+
+pub fn compute_mid_pos(min: i32, max: i32) -> i16 {
+    // SAFETY: the call takes numbers alone.
+    unsafe { khs_compute_mid_pos(min, max) }
+}
+
+pub fn compute_mid_delta(min: i32, max: i32) -> i16 {
+    // SAFETY: the call takes numbers alone.
+    unsafe { khs_compute_mid_delta(min, max) }
+}
+
+pub fn align_weak_points(
+    originals: &[i32],
+    currents: &mut [i32],
+    touched: &[u8],
+    ends: &[u16],
+) -> u8 {
+    // SAFETY: four slices, of which `currents` is lent to this call alone.
+    unsafe {
+        khs_align_weak_points(
+            originals.as_ptr(),
+            originals.len(),
+            currents.as_mut_ptr(),
+            currents.len(),
+            touched.as_ptr(),
+            touched.len(),
+            ends.as_ptr(),
+            ends.len(),
+        )
+    }
+}
+
+pub fn link_segments_cjk(
+    segments: &mut [Segment],
+    major_dir: i32,
+    units_per_em: i32,
+    scale: i32,
+) -> u8 {
+    let (words, len) = segment_words(segments);
+    // SAFETY: one slice, lent to this call alone.
+    unsafe { khs_link_segments_cjk(words, len, major_dir, units_per_em, scale) }
+}
+
+/// `[dim, major_dir, group, top_to_bottom, scale, distance, length, width]` are the numbers.
+pub fn compute_edges(
+    segments: &mut [Segment],
+    room: &mut [Edge],
+    numbers: [i32; 8],
+    count: &mut i32,
+) -> u8 {
+    let (words, len) = segment_words(segments);
+    let (edges, edges_len) = edge_words(room);
+    let [dim, major_dir, group, top_to_bottom, scale, distance, length, width] = numbers;
+    // SAFETY: two slices and a place, lent to this call alone.
+    unsafe {
+        khs_compute_edges(
+            words,
+            len,
+            edges,
+            edges_len,
+            dim,
+            major_dir,
+            group,
+            top_to_bottom,
+            scale,
+            distance,
+            length,
+            width,
+            count,
+        )
+    }
+}
+
+pub fn align_edges_to_blues(
+    edges: &mut [Edge],
+    dim: i32,
+    group: i32,
+    (rule, standards): (i32, &[i32]),
+    anchor: &mut i32,
+) -> u8 {
+    let (words, len) = edge_words(edges);
+    // SAFETY: two slices and a place, of which `edges` and `anchor` are lent to this call alone.
+    unsafe {
+        khs_align_edges_to_blues(
+            words,
+            len,
+            dim,
+            group,
+            rule,
+            standards.as_ptr(),
+            standards.len(),
+            anchor,
+        )
+    }
+}
+
+pub fn align_linked_edge(
+    edges: &mut [Edge],
+    (rule, standards): (i32, &[i32]),
+    base: i32,
+    stem: i32,
+) -> u8 {
+    let (words, len) = edge_words(edges);
+    // SAFETY: two slices, of which `edges` is lent to this call alone.
+    unsafe {
+        khs_align_linked_edge(
+            words,
+            len,
+            rule,
+            standards.as_ptr(),
+            standards.len(),
+            base,
+            stem,
+        )
+    }
+}
+
+pub fn align_serif_edge(edges: &mut [Edge], base: i32, serif: i32) -> u8 {
+    let (words, len) = edge_words(edges);
+    // SAFETY: one slice, lent to this call alone.
+    unsafe { khs_align_serif_edge(words, len, base, serif) }
+}
+
+pub fn adjust_link(edges: &mut [Edge], edge: i32, dir: i32, top_to_bottom: i32) -> u8 {
+    let (words, len) = edge_words(edges);
+    // SAFETY: one slice, lent to this call alone.
+    unsafe { khs_adjust_link(words, len, edge, dir, top_to_bottom) }
+}
+
+pub fn latin_remaining_bounds(edges: &[Edge], edge: i32, lower: &mut i32, upper: &mut i32) -> u8 {
+    let (words, len) = (edges.as_ptr().cast(), edges.len() * EDGE_WORDS);
+    // SAFETY: one slice and two places, which are lent to this call alone.
+    unsafe { khs_latin_remaining_bounds(words, len, edge, lower, upper) }
+}
+
+/// `[edge, edge2, delta]` are the numbers behind the width rule.
+pub fn hint_normal_stem_cjk(
+    edges: &mut [Edge],
+    dim: i32,
+    stem_adjust: i32,
+    (rule, standards): (i32, &[i32]),
+    [edge, edge2, delta]: [i32; 3],
+    own_delta: &mut i32,
+) -> u8 {
+    let (words, len) = edge_words(edges);
+    // SAFETY: two slices and a place, of which `edges` and `own_delta` are lent to this call alone.
+    unsafe {
+        khs_hint_normal_stem_cjk(
+            words,
+            len,
+            dim,
+            stem_adjust,
+            rule,
+            standards.as_ptr(),
+            standards.len(),
+            edge,
+            edge2,
+            delta,
+            own_delta,
+        )
+    }
+}
+
+/// `[dim, group, stem_adjust, top_to_bottom, anchor]` are the numbers in front of the width rule.
+pub fn align_stem_edges(
+    edges: &mut [Edge],
+    [dim, group, stem_adjust, top_to_bottom, anchor]: [i32; 5],
+    (rule, standards): (i32, &[i32]),
+    count: &mut i32,
+    found: &mut i32,
+) -> u8 {
+    let (words, len) = edge_words(edges);
+    // SAFETY: two slices and two places, of which all but `standards` are lent to this call alone.
+    unsafe {
+        khs_align_stem_edges(
+            words,
+            len,
+            dim,
+            group,
+            stem_adjust,
+            top_to_bottom,
+            anchor,
+            rule,
+            standards.as_ptr(),
+            standards.len(),
+            count,
+            found,
+        )
+    }
+}
+
+pub fn hint_lowercase_m(edges: &mut [Edge], group: i32) -> u8 {
+    let (words, len) = edge_words(edges);
+    // SAFETY: one slice, lent to this call alone.
+    unsafe { khs_hint_lowercase_m(words, len, group) }
 }

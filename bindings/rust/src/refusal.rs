@@ -2,55 +2,85 @@
 
 use std::{error, fmt};
 
-/// A refusal, by document 01's numbers, or that words are not those of their fields. Nothing was written.
-#[derive(Clone, Copy, Debug, PartialEq, Eq)]
-#[repr(u8)]
+/// Why a call was refused. Nothing was written.
+///
+/// [`number`](Self::number) is the library's own number for it, and displayed it is one line for a log:
+///
+/// ```
+/// use khsaemudol::Refusal;
+///
+/// assert_eq!(Refusal::BadIndex.number(), 3);
+/// assert_eq!(
+///     Refusal::BadIndex.to_string(),
+///     "refused by 3: a contour end breaks its rule, or an index is not below its list's length"
+/// );
+/// ```
+#[derive(Clone, Copy, Debug, PartialEq, Eq, Hash)]
+#[non_exhaustive]
 pub enum Refusal {
-    /// A list is longer than its limit, or the point lists of an outline differ in length.
-    TooLong = 1,
-    /// Scale, units per em, a threshold, the edge count of the m call or the width rule's list is outside its limits.
-    BadParameter = 2,
-    /// A contour end breaks its rule, or an index is not below its list's length.
-    BadIndex = 3,
-    /// A coordinate, position, score, len or delta is outside its limits.
-    OutOfRange = 4,
-    /// Building calls for more than 128 edges.
-    NoRoom = 5,
-    /// A word is not one of its field's values, or a list's length is not that of whole records.
-    NotWords = 255,
+    /// 1: a list is longer than its limit (4,096 points, 512 segments, 128 edges), or the point lists of an outline differ in length.
+    TooLong,
+    /// 2: a scale, units per em, a threshold or the edge count of the m rule is outside its limits, or the standards of a width rule break its rule.
+    BadParameter,
+    /// 3: a contour end breaks its rule, or a link, a serif, an anchor or an edge named in the call is not below its list's length.
+    BadIndex,
+    /// 4: a coordinate, position, score, len or delta is outside its limits; in building also a scaled position.
+    OutOfRange,
+    /// 5: building calls for more than 128 edges.
+    NoRoom,
+    /// 255: a word is none of its field's values. Records made by this crate have no such words, and no call of it answers so.
+    NotWords,
+    /// A number of a later library, which this crate does not know.
+    Other(u8),
 }
 
 impl Refusal {
-    /// What an answer's number means.
+    /// What an answer means.
     pub(crate) fn of(answer: u8) -> Result<(), Self> {
-        match answer {
-            0 => Ok(()),
-            1 => Err(Self::TooLong),
-            2 => Err(Self::BadParameter),
-            3 => Err(Self::BadIndex),
-            4 => Err(Self::OutOfRange),
-            5 => Err(Self::NoRoom),
-            _ => Err(Self::NotWords),
+        Err(match answer {
+            0 => return Ok(()),
+            1 => Self::TooLong,
+            2 => Self::BadParameter,
+            3 => Self::BadIndex,
+            4 => Self::OutOfRange,
+            5 => Self::NoRoom,
+            255 => Self::NotWords,
+            other => Self::Other(other),
+        })
+    }
+
+    /// The number by which the library answered.
+    pub const fn number(self) -> u8 {
+        match self {
+            Self::TooLong => 1,
+            Self::BadParameter => 2,
+            Self::BadIndex => 3,
+            Self::OutOfRange => 4,
+            Self::NoRoom => 5,
+            Self::NotWords => 255,
+            Self::Other(number) => number,
         }
     }
 
-    /// The number by which the call answered.
-    pub fn number(self) -> u8 {
-        self as u8
+    /// What is wrong.
+    const fn reason(self) -> &'static str {
+        match self {
+            Self::TooLong => "a list is longer than its limit, or the point lists differ in length",
+            Self::BadParameter => "a parameter or the width rule's list is outside its limits",
+            Self::BadIndex => {
+                "a contour end breaks its rule, or an index is not below its list's length"
+            }
+            Self::OutOfRange => "a coordinate, position, score, len or delta is outside its limits",
+            Self::NoRoom => "the segments make more edges than there is room for",
+            Self::NotWords => "a word is none of its field's values",
+            Self::Other(_) => "this number is not known here",
+        }
     }
 }
 
 impl fmt::Display for Refusal {
     fn fmt(&self, f: &mut fmt::Formatter<'_>) -> fmt::Result {
-        let name = match self {
-            Self::TooLong => "a list is too long, or the point lists differ in length",
-            Self::BadParameter => "a number or the width rule's list is outside its limits",
-            Self::BadIndex => "a contour end or an index breaks its rule",
-            Self::OutOfRange => "a coordinate, position, score, len or delta is outside its limits",
-            Self::NoRoom => "no room for one edge more",
-            Self::NotWords => "a word is not one of its field's values",
-        };
-        write!(f, "refused by {}: {name}", self.number())
+        write!(f, "refused by {}: {}", self.number(), self.reason())
     }
 }
 

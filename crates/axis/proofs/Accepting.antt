@@ -19,7 +19,8 @@ use Rattle.axis.specs.Accepted.{Below, InZone, EdgeWithin, AxisWithin, S
 use Rattle.axis.specs.Edge.{edgeAt}
 use Rattle.axis.specs.Handed.{EdgesAccepted, SegmentsAccepted}
 use Rattle.axis.specs.Limits.{mostSegments, mostEdges, mostUnits, mostPos, mostScore}
-use Rattle.axis.specs.Refusals.{inside, within, linkHolds, blueHolds, every, edgeIndices, edgeNumbers, edgesIndices, edgesNumbers, segmentIndices, segmentNext, segmentNumbers, segmentsIndices, segmentsNexts, segmentsNumbers}
+use Rattle.axis.specs.Refusals.{inside, within, linkHolds, blueHolds, every, edgeIndices, edgeNumbers, edgesIndices, edgesNumbers}
+use Rattle.axis.specs.Refusals.{segmentIndices, segmentNext, segmentNumbers, segmentsIndices, segmentsNexts, segmentsNumbers}
 use Rattle.axis.specs.Segment.{segmentAt}
 use Rattle.axis.proofs.Acceptance.{axis-within, segments-within}
 

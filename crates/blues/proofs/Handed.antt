@@ -3,7 +3,6 @@ use mathlib.Core.Path.{_≡_, refl, ap, _∙_}
 use mathlib.Core.Bool.{Bool, true, false, cond}
 use mathlib.Core.List.{List}
 use mathlib.Core.Logic.{inl}
-use Prim.Native.Nat.{ℕ}
 use native.Mathlib.Omega.{arith}
 use lib.IntN.{ℤ}
 use Rattle.refusals.specs.Refusal.{refusal}
@@ -19,7 +18,7 @@ use Rattle.axis.specs.Handed.{EdgesAccepted}
 use Rattle.axis.specs.Limits.{mostPos}
 use Rattle.axis.proofs.Acceptance.{below-none}
 use Rattle.axis.proofs.Accepting.{edges-accepted, edges-within}
-use Rattle.zone.specs.Landed.{Landed, AllLanded}
+use Rattle.zone.specs.Landed.{AllLanded}
 use Rattle.zone.proofs.Landed.{pass-landed, pass-within}
 use Rattle.blues_pass.specs.declared.pass.Anchored.{Anchored}
 use Rattle.blues_pass.specs.Pass.{anchored, bluesOf}

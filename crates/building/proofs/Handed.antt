@@ -13,7 +13,6 @@ use Rattle.refusals.proofs.Answers.{none-refused}
 use Rattle.refusals.proofs.Tests.{no-refusal}
 use Rattle.axis.specs.declared.edge.Axis.{Axis}
 use Rattle.axis.specs.declared.kinds.Group.{Group}
-use Rattle.axis.specs.declared.kinds.Link.the-variants as Links
 use Rattle.axis.specs.declared.segment.Segment.{Segment}
 use Rattle.axis.specs.declared.segment.Segments.{Segments}
 use Rattle.axis.specs.Accepted.{Below, SegmentsWithin}

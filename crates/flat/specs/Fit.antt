@@ -1,57 +1,45 @@
 -- The calls that place one edge over lent edges: by its link, by its serif, by its neighbours.
-use mathlib.Core.Bool.{Bool, _&&_}
+use mathlib.Core.Bool.{true}
 use mathlib.Core.List.{List}
 use Prim.Native.Nat.{ℕ}
 use lib.IntN.{ℤ}
-use Rattle.signed.specs.Parts.{up}
 use Rattle.fitting.specs.declared.bounds.Bounds.{Bounds}
 use Rattle.fitting.specs.declared.place.Fitted.{Fitted}
 use Rattle.fitting.specs.Fitting.{alignLinkedEdge, alignSerifEdge, adjustLink, latinRemainingBounds}
 use Rattle.words.specs.Field.{choiceOf, ruleOf, linkDirOf, linkWord}
 use Rattle.words.specs.Edge.{edgesOver}
-use Rattle.shape.specs.Shape.{isIn, index, choice, edgesShown}
-use Rattle.lent.specs.Lent.{Lent, bothIn, edgesOf}
+use Rattle.shape.specs.Shape.{isIn, choice}
+use Rattle.lent.specs.Lent.{Lent, edgesFront, bothIn, namedEdge, edgesOf}
 
 -- ---- the linked edge: edges, the width rule with its standards, the base edge and the stem edge
-abbrev pub linkedShown : List ℤ → ℤ → ℤ → ℤ → Bool
-linkedShown ws rule base stem = edgesShown ws && (isIn choice rule && bothIn index base stem)
-
 abbrev pub linkedFitted : List ℤ → ℤ → List ℤ → ℤ → ℤ → Fitted
-linkedFitted ws rule standards base stem = alignLinkedEdge (edgesOf ws) (ruleOf rule) standards (up base) (up stem)
+linkedFitted ws rule standards base stem = alignLinkedEdge (edgesOf ws) (ruleOf rule) standards (namedEdge base) (namedEdge stem)
 
 abbrev pub LinkedLent : List ℤ → ℤ → List ℤ → ℤ → ℤ → ℕ → List ℤ → Type 0
 LinkedLent ws rule standards base stem =
-    Lent (linkedShown ws rule base stem) (linkedFitted ws rule standards base stem .answer) (edgesOver ws (linkedFitted ws rule standards base stem .axis)) ws
+    Lent (edgesFront ws (isIn choice rule)) (linkedFitted ws rule standards base stem .answer) (edgesOver ws (linkedFitted ws rule standards base stem .axis)) ws
 
 -- ---- the serif edge: edges, the base edge and the serif edge
-abbrev pub serifShown : List ℤ → ℤ → ℤ → Bool
-serifShown ws base serif = edgesShown ws && bothIn index base serif
-
 abbrev pub serifFitted : List ℤ → ℤ → ℤ → Fitted
-serifFitted ws base serif = alignSerifEdge (edgesOf ws) (up base) (up serif)
+serifFitted ws base serif = alignSerifEdge (edgesOf ws) (namedEdge base) (namedEdge serif)
 
 abbrev pub SerifLent : List ℤ → ℤ → ℤ → ℕ → List ℤ → Type 0
-SerifLent ws base serif = Lent (serifShown ws base serif) (serifFitted ws base serif .answer) (edgesOver ws (serifFitted ws base serif .axis)) ws
+SerifLent ws base serif = Lent (edgesFront ws true) (serifFitted ws base serif .answer) (edgesOver ws (serifFitted ws base serif .axis)) ws
 
 -- ---- the adjustment: edges, the edge, its neighbour and the order
-abbrev pub adjustShown : List ℤ → ℤ → ℤ → ℤ → Bool
-adjustShown ws edge dir ttb = edgesShown ws && (isIn index edge && bothIn choice dir ttb)
-
 abbrev pub adjustFitted : List ℤ → ℤ → ℤ → ℤ → Fitted
-adjustFitted ws edge dir ttb = adjustLink (edgesOf ws) (up edge) (linkDirOf dir) (choiceOf ttb)
+adjustFitted ws edge dir ttb = adjustLink (edgesOf ws) (namedEdge edge) (linkDirOf dir) (choiceOf ttb)
 
 abbrev pub AdjustLent : List ℤ → ℤ → ℤ → ℤ → ℕ → List ℤ → Type 0
-AdjustLent ws edge dir ttb = Lent (adjustShown ws edge dir ttb) (adjustFitted ws edge dir ttb .answer) (edgesOver ws (adjustFitted ws edge dir ttb .axis)) ws
+AdjustLent ws edge dir ttb =
+    Lent (edgesFront ws (bothIn choice dir ttb)) (adjustFitted ws edge dir ttb .answer) (edgesOver ws (adjustFitted ws edge dir ttb .axis)) ws
 
 -- ---- the bounds: edges, which are not written, and the edge; two places are lent for the bounds
-abbrev pub boundsShown : List ℤ → ℤ → Bool
-boundsShown ws edge = edgesShown ws && isIn index edge
-
 abbrev pub boundsFound : List ℤ → ℤ → Bounds
-boundsFound ws edge = latinRemainingBounds (edgesOf ws) (up edge)
+boundsFound ws edge = latinRemainingBounds (edgesOf ws) (namedEdge edge)
 
 abbrev pub boundsWords : Bounds → ℤ × ℤ
 boundsWords b = (linkWord (b .lower), linkWord (b .upper))
 
 abbrev pub BoundsLent : List ℤ → ℤ → ℤ × ℤ → ℕ → ℤ × ℤ → Type 0
-BoundsLent ws edge old = Lent (boundsShown ws edge) (boundsFound ws edge .answer) (boundsWords (boundsFound ws edge)) old
+BoundsLent ws edge old = Lent (edgesFront ws true) (boundsFound ws edge .answer) (boundsWords (boundsFound ws edge)) old

@@ -1,5 +1,4 @@
 -- The lowercase m rule over lent edges and a group.
-use mathlib.Core.Bool.{Bool, _&&_}
 use mathlib.Core.List.{List}
 use Prim.Native.Nat.{ℕ}
 use lib.IntN.{ℤ}
@@ -7,12 +6,8 @@ use Rattle.lowercase_m.specs.declared.hint.Hinted.{Hinted}
 use Rattle.lowercase_m.specs.M.{hintLowercaseM}
 use Rattle.words.specs.Field.{groupOf}
 use Rattle.words.specs.Edge.{edgesOver}
-use Rattle.shape.specs.Shape.{isIn, choice, edgesShown}
-use Rattle.lent.specs.Lent.{Lent, edgesOf}
-
--- every word is one of its field
-abbrev pub mShown : List ℤ → ℤ → Bool
-mShown ws group = edgesShown ws && isIn choice group
+use Rattle.shape.specs.Shape.{isIn, choice}
+use Rattle.lent.specs.Lent.{Lent, edgesFront, edgesOf}
 
 -- what the call hands back
 abbrev pub mHinted : List ℤ → ℤ → Hinted
@@ -20,4 +15,4 @@ mHinted ws group = hintLowercaseM (edgesOf ws) (groupOf group)
 
 -- what the call answers and leaves
 abbrev pub MLent : List ℤ → ℤ → ℕ → List ℤ → Type 0
-MLent ws group = Lent (mShown ws group) (mHinted ws group .answer) (edgesOver ws (mHinted ws group .axis)) ws
+MLent ws group = Lent (edgesFront ws (isIn choice group)) (mHinted ws group .answer) (edgesOver ws (mHinted ws group .axis)) ws

@@ -4,34 +4,35 @@ use fitting::bounds::latin_remaining_bounds;
 use fitting::place::align_linked_edge;
 use fitting::place::align_serif_edge;
 use lent::edges::axis_of;
+use lent::edges::edges_refusal;
 use lent::edges::give_edges;
-use lent::shown::NOT_WORDS;
-use lent::shown::both;
 use lent::shown::both_in;
 use lent::word::give_word;
-use shape::element::is_edges;
+use lent::word::named_edge;
 use shape::field::CHOICE;
-use shape::field::INDEX;
 use shape::field::is_in;
 use words::field::choice_of;
 use words::field::link_dir_of;
 use words::field::link_word;
 use words::field::rule_of;
-use words::word::size_of;
 ghost use Rattle.flat.specs.Fit.{LinkedLent, SerifLent, AdjustLent, BoundsLent};
 
 // Places a stem edge by its base edge.
 pub fn lend_linked_edge(edges: &mut [i32], rule: i32, standards: &[i32], base: i32, stem: i32) -> u8
     ensures { λ r. ⌜ LinkedLent (now (edges .entry)) rule (now (standards .entry)) base stem r (now (edges .exit)) ⌝ }
 {
-    if !both(
-        is_edges(edges),
-        both(is_in(rule, CHOICE), both_in(base, stem, INDEX)),
-    ) {
-        return NOT_WORDS;
+    let refusal = edges_refusal(edges, is_in(rule, CHOICE));
+    if 0 < refusal {
+        return refusal;
     }
     let axis = axis_of(edges);
-    let fitted = align_linked_edge(axis, rule_of(rule), standards, size_of(base), size_of(stem));
+    let fitted = align_linked_edge(
+        axis,
+        rule_of(rule),
+        standards,
+        named_edge(base),
+        named_edge(stem),
+    );
     let axis = fitted.axis;
     give_edges(edges, fitted.answer, axis)
 }
@@ -40,10 +41,11 @@ pub fn lend_linked_edge(edges: &mut [i32], rule: i32, standards: &[i32], base: i
 pub fn lend_serif_edge(edges: &mut [i32], base: i32, serif: i32) -> u8
     ensures { λ r. ⌜ SerifLent (now (edges .entry)) base serif r (now (edges .exit)) ⌝ }
 {
-    if !both(is_edges(edges), both_in(base, serif, INDEX)) {
-        return NOT_WORDS;
+    let refusal = edges_refusal(edges, true);
+    if 0 < refusal {
+        return refusal;
     }
-    let fitted = align_serif_edge(axis_of(edges), size_of(base), size_of(serif));
+    let fitted = align_serif_edge(axis_of(edges), named_edge(base), named_edge(serif));
     let axis = fitted.axis;
     give_edges(edges, fitted.answer, axis)
 }
@@ -52,16 +54,14 @@ pub fn lend_serif_edge(edges: &mut [i32], base: i32, serif: i32) -> u8
 pub fn lend_adjust(edges: &mut [i32], edge: i32, dir: i32, top_to_bottom: i32) -> u8
     ensures { λ r. ⌜ AdjustLent (now (edges .entry)) edge dir «top_to_bottom» r (now (edges .exit)) ⌝ }
 {
-    if !both(
-        is_edges(edges),
-        both(is_in(edge, INDEX), both_in(dir, top_to_bottom, CHOICE)),
-    ) {
-        return NOT_WORDS;
+    let refusal = edges_refusal(edges, both_in(dir, top_to_bottom, CHOICE));
+    if 0 < refusal {
+        return refusal;
     }
     let axis = axis_of(edges);
     let fitted = adjust_link(
         axis,
-        size_of(edge),
+        named_edge(edge),
         link_dir_of(dir),
         choice_of(top_to_bottom),
     );
@@ -73,10 +73,11 @@ pub fn lend_adjust(edges: &mut [i32], edge: i32, dir: i32, top_to_bottom: i32) -
 pub fn lend_bounds(edges: &[i32], edge: i32, lower: &mut i32, upper: &mut i32) -> u8
     ensures { λ r. ⌜ BoundsLent (now (edges .entry)) edge (now (lower .entry), now (upper .entry)) r (now (lower .exit), now (upper .exit)) ⌝ }
 {
-    if !both(is_edges(edges), is_in(edge, INDEX)) {
-        return NOT_WORDS;
+    let refusal = edges_refusal(edges, true);
+    if 0 < refusal {
+        return refusal;
     }
-    let bounds = latin_remaining_bounds(axis_of(edges), size_of(edge));
+    let bounds = latin_remaining_bounds(axis_of(edges), named_edge(edge));
     let below = bounds.lower;
     let above = bounds.upper;
     give_word(upper, bounds.answer, link_word(above));

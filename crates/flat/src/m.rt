@@ -1,10 +1,8 @@
 // The lowercase m rule over lent edges.
 use lent::edges::axis_of;
+use lent::edges::edges_refusal;
 use lent::edges::give_edges;
-use lent::shown::NOT_WORDS;
-use lent::shown::both;
 use lowercase_m::hint::hint_lowercase_m;
-use shape::element::is_edges;
 use shape::field::CHOICE;
 use shape::field::is_in;
 use words::field::group_of;
@@ -14,8 +12,9 @@ ghost use Rattle.flat.specs.M.{MLent};
 pub fn lend_m(edges: &mut [i32], group: i32) -> u8
     ensures { λ r. ⌜ MLent (now (edges .entry)) group r (now (edges .exit)) ⌝ }
 {
-    if !both(is_edges(edges), is_in(group, CHOICE)) {
-        return NOT_WORDS;
+    let refusal = edges_refusal(edges, is_in(group, CHOICE));
+    if 0 < refusal {
+        return refusal;
     }
     let hinted = hint_lowercase_m(axis_of(edges), group_of(group));
     let axis = hinted.axis;

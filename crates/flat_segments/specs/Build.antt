@@ -1,8 +1,8 @@
 -- Edge building over lent segments, room for a table of edges, the dimension, the major direction, the group, top to bottom, the scale and the three
 -- thresholds; a place is lent for the count of edges.
-use mathlib.Core.Bool.{Bool, _&&_}
+use mathlib.Core.Bool.{_&&_}
 use mathlib.Core.List.{List}
-use Prim.Native.Nat.{ℕ, _%_}
+use Prim.Native.Nat.{ℕ}
 use lib.Dec.{eqb}
 use lib.ListN.{length}
 use lib.IntN.{ℤ, pos}
@@ -13,12 +13,13 @@ use Rattle.building.specs.Building.{computeEdges}
 use Rattle.words.specs.Field.{choiceOf, dimensionOf, directionOf, groupOf}
 use Rattle.words.specs.Edge.{tableSize, edgesOver}
 use Rattle.words.specs.Segment.{flatSegments, segmentsOver}
-use Rattle.shape.specs.Shape.{isIn, direction, segmentsShown}
-use Rattle.lent.specs.Lent.{Lent, choices}
+use Rattle.shape.specs.Shape.{isIn, direction}
+use Rattle.refusals.specs.Refusal.{Test}
+use Rattle.lent.specs.Lent.{Lent, segmentsFront, choices}
 
--- the room for the edges has the table's length; what it holds is not read
-abbrev pub buildShown : List ℤ → List ℤ → ℤ → ℤ → ℤ → ℤ → Bool
-buildShown ws room dim major group ttb = segmentsShown ws && (eqb (length room) tableSize && (isIn direction major && choices dim group ttb))
+-- the tests in front: the room for the edges has the table's length; what it holds is not read
+abbrev pub buildFront : List ℤ → List ℤ → ℤ → ℤ → ℤ → ℤ → List Test
+buildFront ws room dim major group ttb = segmentsFront ws (eqb (length room) tableSize) (isIn direction major && choices dim group ttb)
 
 -- the three thresholds: edge distance, segment length, segment width
 abbrev pub thresholdsOf : ℤ → ℤ → ℤ → Thresholds
@@ -28,10 +29,11 @@ thresholdsOf distance len width = record { distance = distance; length = len; wi
 abbrev pub built : List ℤ → ℤ → ℤ → ℤ → ℤ → ℤ → Thresholds → Built
 built ws dim major group ttb scale t = computeEdges (flatSegments ws) (emptyAxis (dimensionOf dim) (directionOf major)) (groupOf group) (choiceOf ttb) scale t
 
--- the segments, the whole table of edges, and how many there are: at most 128, so that the remainder is the count
+-- the segments, the whole table of edges, and how many there are
 abbrev pub builtWords : List ℤ → List ℤ → Built → List ℤ × (List ℤ × ℤ)
-builtWords ws room b = (segmentsOver ws (b .segments), (edgesOver room (b .axis), pos (b .axis .len % 65536)))
+builtWords ws room b = (segmentsOver ws (b .segments), (edgesOver room (b .axis), pos (b .axis .len)))
 
 abbrev pub BuiltLent : List ℤ → List ℤ → ℤ → ℤ → ℤ → ℤ → ℤ → Thresholds → ℤ → ℕ → List ℤ × (List ℤ × ℤ) → Type 0
 BuiltLent ws room dim major group ttb scale t count =
-    Lent (buildShown ws room dim major group ttb) (built ws dim major group ttb scale t .answer) (builtWords ws room (built ws dim major group ttb scale t)) (ws, (room, count))
+    Lent (buildFront ws room dim major group ttb) (built ws dim major group ttb scale t .answer) (builtWords ws room (built ws dim major group ttb scale t))
+    (ws, (room, count))

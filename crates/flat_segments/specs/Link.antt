@@ -1,5 +1,5 @@
 -- CJK linking over lent segments, the major direction, units per em and the scale.
-use mathlib.Core.Bool.{Bool, _&&_}
+use mathlib.Core.Bool.{true}
 use mathlib.Core.List.{List}
 use Prim.Native.Nat.{ℕ}
 use lib.IntN.{ℤ}
@@ -7,11 +7,8 @@ use Rattle.linking.specs.declared.link.Linked.{Linked}
 use Rattle.linking.specs.Linking.{linkSegmentsCjk}
 use Rattle.words.specs.Field.{directionOf}
 use Rattle.words.specs.Segment.{flatSegments, segmentsOver}
-use Rattle.shape.specs.Shape.{isIn, direction, segmentsShown}
-use Rattle.lent.specs.Lent.{Lent}
-
-abbrev pub linkingShown : List ℤ → ℤ → Bool
-linkingShown ws major = segmentsShown ws && isIn direction major
+use Rattle.shape.specs.Shape.{isIn, direction}
+use Rattle.lent.specs.Lent.{Lent, segmentsFront}
 
 -- what the call hands back
 abbrev pub linkingLinked : List ℤ → ℤ → ℤ → ℤ → Linked
@@ -19,4 +16,4 @@ linkingLinked ws major upem scale = linkSegmentsCjk (flatSegments ws) (direction
 
 abbrev pub LinkingLent : List ℤ → ℤ → ℤ → ℤ → ℕ → List ℤ → Type 0
 LinkingLent ws major upem scale =
-    Lent (linkingShown ws major) (linkingLinked ws major upem scale .answer) (segmentsOver ws (linkingLinked ws major upem scale .segments)) ws
+    Lent (segmentsFront ws true (isIn direction major)) (linkingLinked ws major upem scale .answer) (segmentsOver ws (linkingLinked ws major upem scale .segments)) ws

@@ -4,11 +4,10 @@ use building::build::compute_edges;
 use building::numbers::Thresholds;
 use lent::edges::give_edges;
 use lent::segments::give_segments;
-use lent::shown::NOT_WORDS;
+use lent::segments::segments_refusal;
 use lent::shown::are_choices;
 use lent::shown::both;
 use lent::word::give_word;
-use shape::element::is_segments;
 use shape::field::DIRECTION;
 use shape::field::is_in;
 use words::edge::TABLE_WORDS;
@@ -32,15 +31,17 @@ pub fn lend_building(
     thresholds: Thresholds,
     count: &mut i32,
 ) -> u8
-    ensures { λ r. ⌜ BuiltLent (now (segments .entry)) (now (edges .entry)) dim «major_dir» group «top_to_bottom» scale thresholds (now (count .entry)) r (now (segments .exit), (now (edges .exit), now (count .exit))) ⌝ }
+    ensures { λ r. ⌜ BuiltLent (now (segments .entry)) (now (edges .entry)) dim «major_dir» group «top_to_bottom» scale thresholds (now (count .entry))
+        r (now (segments .exit), (now (edges .exit), now (count .exit))) ⌝ }
 {
     let room = edges.len() == TABLE_WORDS;
-    let words = both(
+    let others = both(
         is_in(major_dir, DIRECTION),
         are_choices(dim, group, top_to_bottom),
     );
-    if !both(is_segments(segments), both(room, words)) {
-        return NOT_WORDS;
+    let refusal = segments_refusal(segments, room, others);
+    if 0 < refusal {
+        return refusal;
     }
     let table = flat_segments(segments);
     let old = empty_axis(dimension_of(dim), direction_of(major_dir));

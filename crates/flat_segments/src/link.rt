@@ -1,9 +1,7 @@
 // CJK linking over lent segments.
 use lent::segments::give_segments;
-use lent::shown::NOT_WORDS;
-use lent::shown::both;
+use lent::segments::segments_refusal;
 use linking::link::link_segments_cjk;
-use shape::element::is_segments;
 use shape::field::DIRECTION;
 use shape::field::is_in;
 use words::field::direction_of;
@@ -14,8 +12,9 @@ ghost use Rattle.flat_segments.specs.Link.{LinkingLent};
 pub fn lend_linking(segments: &mut [i32], major_dir: i32, units_per_em: i32, scale: i32) -> u8
     ensures { λ r. ⌜ LinkingLent (now (segments .entry)) «major_dir» «units_per_em» scale r (now (segments .exit)) ⌝ }
 {
-    if !both(is_segments(segments), is_in(major_dir, DIRECTION)) {
-        return NOT_WORDS;
+    let refusal = segments_refusal(segments, true, is_in(major_dir, DIRECTION));
+    if 0 < refusal {
+        return refusal;
     }
     let table = flat_segments(segments);
     let linked = link_segments_cjk(table, direction_of(major_dir), units_per_em, scale);

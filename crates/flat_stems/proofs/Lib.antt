@@ -1,2 +1,3 @@
 -- Laws on what the words of a call read as.
 pub mod Readings
+pub mod Kept

@@ -1,21 +1,18 @@
 // The stem pass over lent edges.
 use axis::kinds::Direction;
+use lent::edges::edges_refusal;
 use lent::edges::give_edges;
-use lent::shown::NOT_WORDS;
 use lent::shown::are_choices;
 use lent::shown::both;
 use lent::shown::both_in;
 use lent::word::give_word;
-use shape::element::is_edges;
+use lent::word::named_anchor;
 use shape::field::CHOICE;
-use shape::field::LINK;
-use shape::field::is_in;
 use stems::align::align_stem_edges;
 use words::edge::flat_axis;
 use words::field::choice_of;
 use words::field::dimension_of;
 use words::field::group_of;
-use words::field::link_of;
 use words::field::link_word;
 use words::field::rule_of;
 use words::word::count_word;
@@ -34,13 +31,16 @@ pub fn lend_stems(
     count: &mut i32,
     found: &mut i32,
 ) -> u8
-    ensures { λ r. ⌜ StemsLent (now (edges .entry)) dim group «stem_adjust» «top_to_bottom» anchor rule (now (standards .entry)) (now (count .entry)) (now (found .entry)) r (now (edges .exit), (now (count .exit), now (found .exit))) ⌝ }
+    ensures { λ r. ⌜ StemsLent (now (edges .entry)) dim group «stem_adjust» «top_to_bottom» anchor rule (now (standards .entry)) (now (count .entry)) (now (found .entry))
+        r (now (edges .exit), (now (count .exit), now (found .exit))) ⌝ }
 {
-    let order_and_rule = both_in(top_to_bottom, rule, CHOICE);
-    let words = both(order_and_rule, is_in(anchor, LINK));
-    let words = both(are_choices(dim, group, stem_adjust), words);
-    if !both(is_edges(edges), words) {
-        return NOT_WORDS;
+    let others = both(
+        are_choices(dim, group, stem_adjust),
+        both_in(top_to_bottom, rule, CHOICE),
+    );
+    let refusal = edges_refusal(edges, others);
+    if 0 < refusal {
+        return refusal;
     }
     let axis = flat_axis(edges, dimension_of(dim), Direction::None);
     let aligned = align_stem_edges(
@@ -48,7 +48,7 @@ pub fn lend_stems(
         group_of(group),
         choice_of(stem_adjust),
         choice_of(top_to_bottom),
-        link_of(anchor),
+        named_anchor(anchor),
         rule_of(rule),
         standards,
     );

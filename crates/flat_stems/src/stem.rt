@@ -1,19 +1,15 @@
 // The CJK stem over lent edges.
 use axis::kinds::Direction;
+use lent::edges::edges_refusal;
 use lent::edges::give_edges;
-use lent::shown::NOT_WORDS;
 use lent::shown::are_choices;
-use lent::shown::both;
-use lent::shown::both_in;
 use lent::word::give_word;
-use shape::element::is_edges;
-use shape::field::INDEX;
+use lent::word::named_edge;
 use stem_cjk::hint::hint_normal_stem_cjk;
 use words::edge::flat_axis;
 use words::field::choice_of;
 use words::field::dimension_of;
 use words::field::rule_of;
-use words::word::size_of;
 ghost use Rattle.flat_stems.specs.Stem.{StemLent};
 
 // Places both edges of a CJK stem, and tells its own delta.
@@ -30,14 +26,9 @@ pub fn lend_stem(
 ) -> u8
     ensures { λ r. ⌜ StemLent (now (edges .entry)) dim «stem_adjust» rule (now (standards .entry)) edge edge2 delta (now («own_delta» .entry)) r (now (edges .exit), now («own_delta» .exit)) ⌝ }
 {
-    if !both(
-        is_edges(edges),
-        both(
-            are_choices(dim, stem_adjust, rule),
-            both_in(edge, edge2, INDEX),
-        ),
-    ) {
-        return NOT_WORDS;
+    let refusal = edges_refusal(edges, are_choices(dim, stem_adjust, rule));
+    if 0 < refusal {
+        return refusal;
     }
     let axis = flat_axis(edges, dimension_of(dim), Direction::None);
     let hinted = hint_normal_stem_cjk(
@@ -45,8 +36,8 @@ pub fn lend_stem(
         choice_of(stem_adjust),
         rule_of(rule),
         standards,
-        size_of(edge),
-        size_of(edge2),
+        named_edge(edge),
+        named_edge(edge2),
         delta,
     );
     let axis = hinted.axis;

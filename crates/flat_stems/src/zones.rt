@@ -1,12 +1,10 @@
 // Blue zones over lent edges.
 use axis::kinds::Direction;
 use blues::align::align_edges_to_blues;
+use lent::edges::edges_refusal;
 use lent::edges::give_edges;
-use lent::shown::NOT_WORDS;
 use lent::shown::are_choices;
-use lent::shown::both;
 use lent::word::give_word;
-use shape::element::is_edges;
 use words::edge::flat_axis;
 use words::field::dimension_of;
 use words::field::group_of;
@@ -25,8 +23,9 @@ pub fn lend_zones(
 ) -> u8
     ensures { λ r. ⌜ ZonesLent (now (edges .entry)) dim group rule (now (standards .entry)) (now (anchor .entry)) r (now (edges .exit), now (anchor .exit)) ⌝ }
 {
-    if !both(is_edges(edges), are_choices(dim, group, rule)) {
-        return NOT_WORDS;
+    let refusal = edges_refusal(edges, are_choices(dim, group, rule));
+    if 0 < refusal {
+        return refusal;
     }
     let axis = flat_axis(edges, dimension_of(dim), Direction::None);
     let anchored = align_edges_to_blues(axis, group_of(group), rule_of(rule), standards);

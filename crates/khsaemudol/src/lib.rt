@@ -14,8 +14,7 @@ use flat_stems::zones::lend_zones;
 use middle::compute_mid_delta;
 use middle::compute_mid_pos;
 use outline::weak::align_weak_points;
-ghost use mathlib.Core.Path.{_≡_};
-ghost use Rattle.middle.specs.Middle.{midPos, midDelta};
+ghost use Rattle.middle.specs.Middle.{ComputesMidPos, ComputesMidDelta};
 ghost use Rattle.outline.specs.Weak.{Outcome};
 ghost use Rattle.flat_segments.specs.Build.{thresholdsOf, BuiltLent};
 ghost use Rattle.flat.specs.Fit.{LinkedLent, SerifLent, AdjustLent, BoundsLent};
@@ -28,7 +27,7 @@ ghost use Rattle.flat_stems.specs.Zones.{ZonesLent};
 // The middle of two coordinates.
 #[no_mangle]
 pub extern "C" fn khs_compute_mid_pos(min: i32, max: i32) -> i16
-    ensures { λ r. ⌜ r ≡ midPos min max ⌝ }
+    ensures { λ r. ⌜ ComputesMidPos min max r ⌝ }
 {
     compute_mid_pos(min, max)
 }
@@ -36,7 +35,7 @@ pub extern "C" fn khs_compute_mid_pos(min: i32, max: i32) -> i16
 // Half the difference of two coordinates.
 #[no_mangle]
 pub extern "C" fn khs_compute_mid_delta(min: i32, max: i32) -> i16
-    ensures { λ r. ⌜ r ≡ midDelta min max ⌝ }
+    ensures { λ r. ⌜ ComputesMidDelta min max r ⌝ }
 {
     compute_mid_delta(min, max)
 }
@@ -82,7 +81,8 @@ pub extern "C" fn khs_compute_edges(
     width: i32,
     count: &mut i32,
 ) -> u8
-    ensures { λ r. ⌜ BuiltLent (now (segments .entry)) (now (edges .entry)) dim «major_dir» group «top_to_bottom» scale (thresholdsOf distance length width) (now (count .entry)) r (now (segments .exit), (now (edges .exit), now (count .exit))) ⌝ }
+    ensures { λ r. ⌜ BuiltLent (now (segments .entry)) (now (edges .entry)) dim «major_dir» group «top_to_bottom» scale (thresholdsOf distance length width) (now (count .entry))
+        r (now (segments .exit), (now (edges .exit), now (count .exit))) ⌝ }
 {
     let thresholds = Thresholds {
         distance,
@@ -202,7 +202,8 @@ pub extern "C" fn khs_align_stem_edges(
     count: &mut i32,
     found: &mut i32,
 ) -> u8
-    ensures { λ r. ⌜ StemsLent (now (edges .entry)) dim group «stem_adjust» «top_to_bottom» anchor rule (now (standards .entry)) (now (count .entry)) (now (found .entry)) r (now (edges .exit), (now (count .exit), now (found .exit))) ⌝ }
+    ensures { λ r. ⌜ StemsLent (now (edges .entry)) dim group «stem_adjust» «top_to_bottom» anchor rule (now (standards .entry)) (now (count .entry)) (now (found .entry))
+        r (now (edges .exit), (now (count .exit), now (found .exit))) ⌝ }
 {
     lend_stems(
         edges,

@@ -1,41 +1,88 @@
 -- The ways through a call over lent words.
 use mathlib.Core.Path.{_≡_, refl, sym, ap, _∙_}
 use mathlib.Core.Bool.{Bool, true, false, cond}
-use Prim.Native.Nat.{ℕ, _<_}
+use mathlib.Core.List.{List, []}
+use Prim.Native.Nat.{ℕ, zero, suc, _<_, _≤_}
 use native.Mathlib.Omega.{arith}
 use borrow.Author.Tests.{ne-eqb}
 use lib.Dec.{eqb}
-use Rattle.lent.specs.Lent.{Lent, notWords}
+use lib.IntN.{ℤ}
+use Rattle.refusals.specs.Refusal.{Test, tooLong, refusal, answered}
+use Rattle.lent.specs.Lent.{Lent, refusedOr, front, notWords, edgesFront, segmentsFront}
 
--- a word is none of its field
-pub not-shown : {A : Type 0} {shown : Bool} {answer : ℕ} {new old : A} → shown ≡ false → Lent shown answer new old notWords old
-not-shown e = record { number = rw e; held = refl }
+-- ---- the tests in front, as the code comes to their refusal
+module _ (whole short shown : Bool) where
+  -- a length is not of whole records
+  pub not-whole : whole ≡ false → notWords ≡ refusal (front whole short shown)
+  unfolding refusal
+  not-whole e = rw e
+
+  -- the list is too long
+  pub not-short : whole ≡ true → short ≡ false → tooLong ≡ refusal (front whole short shown)
+  unfolding refusal
+  not-short e f = rw (e, f)
+
+  -- a word is none of its field's, and all are
+  pub not-shown : whole ≡ true → short ≡ true → shown ≡ false → notWords ≡ refusal (front whole short shown)
+  unfolding refusal
+  not-shown e f g = rw (e, f, g)
+
+  pub all-shown : whole ≡ true → short ≡ true → shown ≡ true → 0 ≡ refusal (front whole short shown)
+  unfolding refusal
+  all-shown e f g = rw (e, f, g)
+
+-- the refusal in front of a call over edges, and over segments, by what it depends on
+abbrev pub edgesRefusal : List ℤ → Bool → ℕ
+edgesRefusal ws others = refusal (edgesFront ws others)
+
+abbrev pub segmentsRefusal : List ℤ → Bool → Bool → ℕ
+segmentsRefusal ws room others = refusal (segmentsFront ws room others)
+
+-- ---- a part of what is lent, behind the tests
+-- no test is left
+none-left : (answer : ℕ) → answer ≡ refusedOr [] answer
+unfolding refusedOr refusal
+none-left answer = refl
 
 -- the call refuses
-pub refused : {A : Type 0} {answer : ℕ} {new old : A} → 0 < answer → Lent true answer new old answer old
-refused {A} {answer} {new} {old} h = record { number = refl; held = rw (ne-eqb answer 0 (λ e. omega arith)) }
-
--- the call hands something back
-pub handed-back : {A : Type 0} {answer : ℕ} {new old now : A} → answer ≡ 0 → now ≡ new → Lent true answer new old 0 now
-handed-back e h = record { number = sym e; held = h }
-
--- every word is one of its field, and what is handed back is what the call hands back
-pub shown-by :
-    {A B : Type 0} (answer : B → ℕ) (new : B → A) {shown : Bool} {old now : A} {x y : B} {r : ℕ} → shown ≡ true → x ≡ y → Lent true (answer x) (new x) old r now
-    → Lent shown (answer y) (new y) old r now
-shown-by {A} {B} answer new {shown} {old} {now} {x} {y} {r} e q l = record { number = rw e (l .number ∙ ap answer q); held = l .held ∙ ap (λ (b : B). cond (eqb r 0) (new b) old) q }
+pub refused : {A : Type 0} {answer : ℕ} {new old : A} → 0 < answer → Lent [] answer new old answer old
+refused {A} {answer} {new} {old} h = record { number = none-left answer; held = rw (ne-eqb answer 0 (λ e. omega arith)) }
 
 -- what is handed back, by another name
-pub lent-as : {A : Type 0} {answer : ℕ} {new new′ old now : A} {r : ℕ} → new ≡ new′ → Lent true answer new old r now → Lent true answer new′ old r now
-lent-as {A} {answer} {new} {new′} {old} {now} {r} e l = record { number = l .number; held = l .held ∙ ap (λ (x : A). cond (eqb r 0) x old) e }
+pub lent-as : {A : Type 0} {tests : List Test} {answer : ℕ} {new new′ old now : A} {r : ℕ} → new ≡ new′ → Lent tests answer new old r now → Lent tests answer new′ old r now
+lent-as {A} {tests} {answer} {new} {new′} {old} {now} {r} e l = record { number = l .number; held = l .held ∙ ap (λ (x : A). cond (eqb r 0) x old) e }
 
 -- two things are lent
 pub lent-pair :
-    {A B : Type 0} {answer : ℕ} {new old now : A} {new′ old′ now′ : B} {r r′ : ℕ} → Lent true answer new old r now → Lent true answer new′ old′ r′ now′
-    → Lent {A = A × B} true answer (new, new′) (old, old′) r (now, now′)
-lent-pair {A} {B} {answer} {new} {old} {now} {new′} {old′} {now′} {r} {r′} a b =
+    {A B : Type 0} {tests : List Test} {answer : ℕ} {new old now : A} {new′ old′ now′ : B} {r r′ : ℕ} → Lent tests answer new old r now → Lent tests answer new′ old′ r′ now′
+    → Lent {A = A × B} tests answer (new, new′) (old, old′) r (now, now′)
+lent-pair {A} {B} {tests} {answer} {new} {old} {now} {new′} {old′} {now′} {r} {r′} a b =
     record { number = a .number; held = by (eqb r 0) (a .held) (b .held ∙ ap (λ (n : ℕ). cond (eqb n 0) new′ old′) (b .number ∙ sym (a .number))) }
   where
     by : (t : Bool) → now ≡ cond t new old → now′ ≡ cond t new′ old′ → _≡_ {A = A × B} (now, now′) (cond t (new, new′) (old, old′))
     by true p q = rw (p, q)
     by false p q = rw (p, q)
+
+-- ---- the whole call
+-- the tests in front refuse
+pub refused-before : {A : Type 0} {tests : List Test} {answer k : ℕ} {new old : A} → k ≡ refusal tests → 0 < k → Lent tests answer new old k old
+unfolding refusedOr
+refused-before {A} {tests} {answer} {k} {new} {old} e h = record { number = by (refusal tests) e; held = rw (ne-eqb k 0 (λ z. omega arith)) }
+  where
+    by : (j : ℕ) → k ≡ j → k ≡ answered j (λ (i : ℕ). i) answer
+    by zero q = absurd (omega arith)
+    by (suc j) q = q
+
+-- none of them does, and what is handed back is what the call hands back
+pub passed-by :
+    {A B : Type 0} (answer : B → ℕ) (new : B → A) {tests : List Test} {old now : A} {x y : B} {k r : ℕ} → k ≡ refusal tests → k ≤ 0 → x ≡ y → Lent [] (answer x) (new x) old r now
+    → Lent tests (answer y) (new y) old r now
+unfolding refusedOr refusal
+passed-by {A} {B} answer new {tests} {old} {now} {x} {y} {k} {r} e h q l = record {
+  number = l .number ∙ ap answer q ∙ by (refusal tests) e;
+  held = l .held ∙ ap (λ (b : B). cond (eqb r 0) (new b) old) q;
+}
+  where
+    by : (j : ℕ) → k ≡ j → answer y ≡ answered j (λ (i : ℕ). i) (answer y)
+    by zero z = refl
+    by (suc j) z = absurd (omega arith)

@@ -1,2 +1,3 @@
--- What every call over lent words promises.
+-- What every call over lent words promises, and which words it leaves.
 pub mod Lent
+pub mod Kept

@@ -6,7 +6,7 @@ ghost use mathlib.Core.Path.{_≡_};
 ghost use mathlib.Core.Bool.{_&&_};
 ghost use Rattle.lent.specs.Lent.{bothIn, choices};
 
-// The answer to words that are not those of their fields.
+// The answer to a length that is not of whole records, and to words that are not those of their fields.
 pub const NOT_WORDS: u8 = 255;
 
 // Whether both hold.

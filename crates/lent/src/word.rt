@@ -1,10 +1,35 @@
-// A lent word.
-ghost use mathlib.Core.Bool.{true};
-ghost use Rattle.lent.specs.Lent.{Lent};
+// A lent word, and words that name an edge.
+use axis::accept::least;
+use axis::kinds::Link;
+use axis::limits::MOST_EDGES;
+use words::word::size_of;
+ghost use mathlib.Core.Path.{_≡_};
+ghost use mathlib.Core.List.{[]};
+ghost use Rattle.lent.specs.Lent.{Lent, namedEdge, namedAnchor};
+
+// The edge that a word names; a word that names none reads as the place behind the longest list.
+pub fn named_edge(word: i32) -> usize
+    ensures { λ r. ⌜ r ≡ namedEdge word ⌝ }
+{
+    if word < 0 {
+        return MOST_EDGES;
+    }
+    least(size_of(word), MOST_EDGES)
+}
+
+// None where the word is -1, and else the edge that it names.
+pub fn named_anchor(word: i32) -> Link
+    ensures { λ r. ⌜ r ≡ namedAnchor word ⌝ }
+{
+    if word == -1 {
+        return Link::None;
+    }
+    Link::To(named_edge(word) as u16)
+}
 
 // Hands a word back with answer 0, and tells the answer.
 pub fn give_word(word: &mut i32, answer: u8, value: i32) -> u8
-    ensures { λ r. ⌜ Lent true answer value (now (word .entry)) r (now (word .exit)) ⌝ }
+    ensures { λ r. ⌜ Lent [] answer value (now (word .entry)) r (now (word .exit)) ⌝ }
 {
     if 0 < answer {
         return answer;

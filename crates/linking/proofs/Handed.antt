@@ -1,20 +1,18 @@
 -- What linking hands on is accepted by building, and by linking again.
 use mathlib.Core.Path.{_≡_, refl, sym, ap}
 use mathlib.Core.Bool.{true}
-use Prim.Native.Nat.{ℕ, _<_}
+use Prim.Native.Nat.{_<_}
 use native.Mathlib.Omega.{arith}
 use lib.IntN.{ℤ}
 use Rattle.refusals.specs.Refusal.{refusal}
 use Rattle.refusals.proofs.Answers.{none-refused}
 use Rattle.refusals.proofs.Tests.{no-refusal}
 use Rattle.axis.specs.declared.kinds.Direction.{Direction}
-use Rattle.axis.specs.declared.kinds.Link.{Link}
 use Rattle.axis.specs.declared.segment.Segment.{Segment}
 use Rattle.axis.specs.declared.segment.Segments.{Segments}
-use Rattle.axis.specs.Accepted.{Below, SegmentsWithin}
+use Rattle.axis.specs.Accepted.{SegmentsWithin}
 use Rattle.axis.specs.Handed.{Typed, SegmentsAccepted}
 use Rattle.axis.specs.Refusals.{segmentsNexts}
-use Rattle.axis.specs.Segment.{segmentAt}
 use Rattle.axis.proofs.Acceptance.{nexts-below}
 use Rattle.axis.proofs.Accepting.{segments-accepted, nexts-hold}
 use Rattle.linking_rounds.specs.Rounds.{linked}

@@ -1,2 +1,4 @@
 -- Laws on readings.
 pub mod Shapes
+pub mod Runs
+pub mod Back

@@ -4,5 +4,6 @@ pub mod Writing
 pub mod Tables
 pub mod Edges
 pub mod Segments
+pub mod Places
 pub mod RoundTrip
 pub mod Typed

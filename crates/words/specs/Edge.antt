@@ -20,20 +20,59 @@ edgeSize = 11
 abbrev pub tableSize : ℕ
 tableSize = edgeSize * mostEdges
 
+-- ---- places
+-- of the fields among the words of an edge; a blue has two, whether it is there and its fitted position
+abbrev pub fposPlace : ℕ
+fposPlace = 0
+
+abbrev pub oposPlace : ℕ
+oposPlace = 1
+
+abbrev pub posPlace : ℕ
+posPlace = 2
+
+abbrev pub flagsPlace : ℕ
+flagsPlace = 3
+
+abbrev pub dirPlace : ℕ
+dirPlace = 4
+
+abbrev pub bluePlace : ℕ
+bluePlace = 5
+
+abbrev pub fittedPlace : ℕ
+fittedPlace = 6
+
+abbrev pub linkPlace : ℕ
+linkPlace = 7
+
+abbrev pub serifPlace : ℕ
+serifPlace = 8
+
+abbrev pub firstPlace : ℕ
+firstPlace = 9
+
+abbrev pub lastPlace : ℕ
+lastPlace = 10
+
+-- the word of edge i in a list of edges, by its field's place
+abbrev pub wordOfEdge : ℕ → ℕ → ℕ
+wordOfEdge i place = edgeSize * i + place
+
 -- ---- words as edges
 -- the edge whose words stand at a place
 unfoldable pub edgeFrom : List ℤ → ℕ → Edge
 edgeFrom ws at = record {
   fpos = shortOf (wordAt ws at);
-  opos = wordAt ws (at + 1);
-  pos = wordAt ws (at + 2);
-  flags = flagsOf (wordAt ws (at + 3));
-  dir = directionOf (wordAt ws (at + 4));
-  blue = blueOf (wordAt ws (at + 5)) (wordAt ws (at + 6));
-  link = linkOf (wordAt ws (at + 7));
-  serif = linkOf (wordAt ws (at + 8));
-  first = indexOf (wordAt ws (at + 9));
-  last = indexOf (wordAt ws (at + 10));
+  opos = wordAt ws (at + oposPlace);
+  pos = wordAt ws (at + posPlace);
+  flags = flagsOf (wordAt ws (at + flagsPlace));
+  dir = directionOf (wordAt ws (at + dirPlace));
+  blue = blueOf (wordAt ws (at + bluePlace)) (wordAt ws (at + fittedPlace));
+  link = linkOf (wordAt ws (at + linkPlace));
+  serif = linkOf (wordAt ws (at + serifPlace));
+  first = indexOf (wordAt ws (at + firstPlace));
+  last = indexOf (wordAt ws (at + lastPlace));
 }
 
 -- an edge of those whose words stand from a place on

@@ -14,25 +14,76 @@ use Rattle.words.specs.Field.{shortOf, indexOf, linkOf, directionOf, fla
 abbrev pub segmentSize : ℕ
 segmentSize = 15
 
+-- ---- places
+-- of the fields among the words of a segment
+abbrev pub flagsPlace : ℕ
+flagsPlace = 0
+
+abbrev pub dirPlace : ℕ
+dirPlace = 1
+
+abbrev pub posPlace : ℕ
+posPlace = 2
+
+abbrev pub deltaPlace : ℕ
+deltaPlace = 3
+
+abbrev pub minPlace : ℕ
+minPlace = 4
+
+abbrev pub maxPlace : ℕ
+maxPlace = 5
+
+abbrev pub heightPlace : ℕ
+heightPlace = 6
+
+abbrev pub scorePlace : ℕ
+scorePlace = 7
+
+abbrev pub lenPlace : ℕ
+lenPlace = 8
+
+abbrev pub linkPlace : ℕ
+linkPlace = 9
+
+abbrev pub serifPlace : ℕ
+serifPlace = 10
+
+abbrev pub firstPlace : ℕ
+firstPlace = 11
+
+abbrev pub lastPlace : ℕ
+lastPlace = 12
+
+abbrev pub edgePlace : ℕ
+edgePlace = 13
+
+abbrev pub nextPlace : ℕ
+nextPlace = 14
+
+-- the word of segment i in a list of segments, by its field's place
+abbrev pub wordOfSegment : ℕ → ℕ → ℕ
+wordOfSegment i place = segmentSize * i + place
+
 -- ---- words as segments
 -- the segment whose words stand at a place
 unfoldable pub segmentFrom : List ℤ → ℕ → Segment
 segmentFrom ws at = record {
   flags = flagsOf (wordAt ws at);
-  dir = directionOf (wordAt ws (at + 1));
-  pos = shortOf (wordAt ws (at + 2));
-  delta = shortOf (wordAt ws (at + 3));
-  «min_coord» = shortOf (wordAt ws (at + 4));
-  «max_coord» = shortOf (wordAt ws (at + 5));
-  height = shortOf (wordAt ws (at + 6));
-  score = wordAt ws (at + 7);
-  len = wordAt ws (at + 8);
-  link = linkOf (wordAt ws (at + 9));
-  serif = linkOf (wordAt ws (at + 10));
-  first = indexOf (wordAt ws (at + 11));
-  last = indexOf (wordAt ws (at + 12));
-  edge = linkOf (wordAt ws (at + 13));
-  next = linkOf (wordAt ws (at + 14));
+  dir = directionOf (wordAt ws (at + dirPlace));
+  pos = shortOf (wordAt ws (at + posPlace));
+  delta = shortOf (wordAt ws (at + deltaPlace));
+  «min_coord» = shortOf (wordAt ws (at + minPlace));
+  «max_coord» = shortOf (wordAt ws (at + maxPlace));
+  height = shortOf (wordAt ws (at + heightPlace));
+  score = wordAt ws (at + scorePlace);
+  len = wordAt ws (at + lenPlace);
+  link = linkOf (wordAt ws (at + linkPlace));
+  serif = linkOf (wordAt ws (at + serifPlace));
+  first = indexOf (wordAt ws (at + firstPlace));
+  last = indexOf (wordAt ws (at + lastPlace));
+  edge = linkOf (wordAt ws (at + edgePlace));
+  next = linkOf (wordAt ws (at + nextPlace));
 }
 
 -- a segment of those whose words stand from a place on

@@ -13,7 +13,8 @@ ghost use mathlib.Core.Path.{_≡_};
 ghost use Prim.Native.Nat.{_+_, _≤_};
 ghost use lib.IntN.{pos};
 ghost use Rattle.words.specs.Word.{wordAt};
-ghost use Rattle.words.specs.Field.{shortOf, indexOf, linkOf, choiceOf, directionOf, groupOf, dimensionOf, ruleOf, linkDirOf, blueOf, flagsOf, oddOf, weightOf, linkWord, directionWord, presentWord, fittedWord, flagsWord};
+ghost use Rattle.words.specs.Field.{shortOf, indexOf, linkOf, choiceOf, directionOf, groupOf, dimensionOf, ruleOf, linkDirOf, blueOf, flagsOf, oddOf, weightOf};
+ghost use Rattle.words.specs.Field.{linkWord, directionWord, presentWord, fittedWord, flagsWord};
 
 // The directions, by their words.
 const DIRECTIONS: [Direction; 5] = [
@@ -53,7 +54,7 @@ pub fn index_at(words: &[i32], i: usize) -> u16
 }
 
 // An index or none.
-pub fn link_of(word: i32) -> Link
+fn link_of(word: i32) -> Link
     ensures { λ r. ⌜ r ≡ linkOf word ⌝ }
 {
     if word < 0 {

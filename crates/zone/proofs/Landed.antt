@@ -1,6 +1,6 @@
 -- A visit leaves every edge where it was, or puts it on a zone, or a fitted width from an edge that it has just put there: so positions do not grow with the visits.
 use mathlib.Core.Path.{_≡_, refl, ap}
-use mathlib.Core.Bool.{Bool, cond, _&&_}
+use mathlib.Core.Bool.{_&&_}
 use mathlib.Core.List.{List, [], _∷_}
 use mathlib.Core.Logic.{_⊎_, inl, inr}
 use Prim.Native.Nat.{ℕ, zero, suc, _+_, _≤_, _<_}
@@ -19,14 +19,13 @@ use Rattle.axis.specs.declared.kinds.Link.the-variants as Links
 use Rattle.axis.specs.declared.edge.Axis.{Axis}
 use Rattle.axis.specs.declared.edge.Edge.{Edge}
 use Rattle.axis.specs.Accepted.{Below, InZone, AxisWithin}
-use Rattle.axis.specs.Edge.{emptyEdge, edgeAt, putEdge, finished, fixedAt}
+use Rattle.axis.specs.Edge.{emptyEdge, edgeAt, putEdge, fixedAt}
 use Rattle.axis.specs.Limits.{mostUnits, mostPos}
 use Rattle.axis.specs.Visits.{visits}
-use Rattle.placing.specs.Placing.{linkedPos, linkedEdge}
-use Rattle.placing.specs.Steps.{mostWidth}
+use Rattle.placing.specs.Placing.{linkedPos}
 use Rattle.placing.proofs.Reach.{width-range}
 use Rattle.zone.specs.Landed.{mostZoned, Landed, AllLanded}
-use Rattle.zone.specs.Zones.{hasBlue, unzoned, skipped, onZone, linkAligned, State, anchorFirst, visitAlone, visitPair, visitLink, visit}
+use Rattle.zone.specs.Zones.{hasBlue, unzoned, skipped, onZone, linkAligned, State, visitAlone, visitPair, visitLink, visit}
 use Rattle.zone.proofs.Kept.{no-zone}
 
 -- ---- a store

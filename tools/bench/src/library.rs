@@ -2,7 +2,7 @@
 
 use crate::{
     port::{Call, Prepared},
-    records::{self, EDGE, SEGMENT},
+    records,
 };
 use oracle::{
     answer::NOT_A_JOB,
@@ -43,7 +43,7 @@ pub fn answer(words: &[i32]) -> Vec<i32> {
             match done {
                 Some([count, _]) => {
                     let count = count as usize;
-                    answer.extend(records::words(count, &room[..count], &EDGE));
+                    answer.extend(records::words(count, &room[..count]));
                 }
                 None => answer.extend(old_words),
             }
@@ -54,7 +54,7 @@ pub fn answer(words: &[i32]) -> Vec<i32> {
             if !matches!(call, Call::Bounds(_)) {
                 let carried = if words[0] == 14 { edges.len() } else { EDGES };
                 let carried = &edges[..edges.len().min(carried)];
-                answer.extend(records::words(given.len(), carried, &EDGE));
+                answer.extend(records::words(given.len(), carried));
             }
         }
     }
@@ -63,7 +63,7 @@ pub fn answer(words: &[i32]) -> Vec<i32> {
 
 /// The words of a table of segments.
 fn table(count: usize, segments: &[khsaemudol::Segment]) -> Vec<i32> {
-    records::words(count, &segments[..segments.len().min(SEGMENTS)], &SEGMENT)
+    records::words(count, &segments[..segments.len().min(SEGMENTS)])
 }
 
 /// What stands between the number and the lists: beside a refusal 0 or none.

@@ -1,9 +1,9 @@
 //! The port as tools use it: jobs by `jobs`, and calls of the library as gateways make them.
 
-use crate::records::{self, EDGE, SEGMENT};
+use crate::records;
 use khsaemudol::{
-    Building, CjkStem, Dimension, Direction, Edge, Group, Refusal, Segment, StemPass, WidthRule,
-    MOST_EDGES,
+    Bounds, Building, CjkStem, Dimension, Direction, Edge, Group, Neighbour, Order, Refusal,
+    Segment, StemPass, Stems, WidthRule, MOST_EDGES,
 };
 use oracle::{
     job::{self, Job, Points, ScriptGroup},
@@ -53,7 +53,7 @@ pub enum Call {
     Blues(Dimension, Group, Rule),
     Linked(Rule, u16, u16),
     Serif(u16, u16),
-    Adjust(u16, bool, bool),
+    Adjust(u16, Neighbour, Order),
     Bounds(u16),
     CjkStem(job::CjkStem, Rule),
     Stems(job::Stems, Rule),
@@ -101,7 +101,25 @@ fn direction(direction: job::Direction) -> Direction {
 fn group(group: ScriptGroup) -> Group {
     match group {
         ScriptGroup::Cjk => Group::Cjk,
-        _ => Group::Default,
+        _ => Group::Latin,
+    }
+}
+
+/// The library's order.
+fn order(top_to_bottom: bool) -> Order {
+    if top_to_bottom {
+        Order::TopToBottom
+    } else {
+        Order::BottomToTop
+    }
+}
+
+/// The library's neighbour.
+fn neighbour(next: bool) -> Neighbour {
+    if next {
+        Neighbour::Next
+    } else {
+        Neighbour::Previous
     }
 }
 
@@ -123,7 +141,7 @@ impl Prepared {
             }
             Job::Weak(points) => return Self::Weak(points, Vec::new()),
             Job::Link(_, major, units_per_em, scale) => {
-                let given = records::given(words, &SEGMENT, SEGMENTS);
+                let given = records::given(words, SEGMENTS);
                 let major = direction(major);
                 return Self::Link(given, Vec::new(), major, units_per_em, scale);
             }
@@ -132,26 +150,23 @@ impl Prepared {
                     dimension: dimension(given.dim),
                     major: direction(given.major),
                     group: group(given.group),
-                    top_to_bottom: given.top_to_bottom,
+                    order: order(given.top_to_bottom),
                     scale: given.scale,
                     distance: given.distance,
                     length: given.length,
                     width: given.width,
                 };
                 let room = Box::new([Edge::default(); MOST_EDGES]);
-                return Self::Build(
-                    records::given(words, &SEGMENT, SEGMENTS),
-                    Vec::new(),
-                    room,
-                    building,
-                );
+                return Self::Build(records::given(words, SEGMENTS), Vec::new(), room, building);
             }
             Job::Blues(_, dim, script, rule) => {
                 Call::Blues(dimension(dim), group(script), Rule::of(rule))
             }
             Job::Linked(_, rule, base, stem) => Call::Linked(Rule::of(rule), base, stem),
             Job::Serif(_, base, serif) => Call::Serif(base, serif),
-            Job::Adjust(_, edge, next, top_to_bottom) => Call::Adjust(edge, next, top_to_bottom),
+            Job::Adjust(_, edge, next, top_to_bottom) => {
+                Call::Adjust(edge, neighbour(next), order(top_to_bottom))
+            }
             Job::Bounds(_, edge) => Call::Bounds(edge),
             Job::CjkStem(_, given) => {
                 let rule = Rule::of(given.rule.clone());
@@ -163,11 +178,11 @@ impl Prepared {
             }
             Job::M(_, script) => Call::M(group(script)),
             Job::MLent(_, script) => {
-                let given = records::given(words, &EDGE, LENT);
+                let given = records::given(words, LENT);
                 return Self::Edges(given, Vec::new(), Call::M(group(script)));
             }
         };
-        Self::Edges(records::given(words, &EDGE, EDGES), Vec::new(), call)
+        Self::Edges(records::given(words, EDGES), Vec::new(), call)
     }
 
     /// A job that `jobs` answers, from words to words, for a call that the library does not have by itself.
@@ -208,8 +223,8 @@ impl Prepared {
                     .map(|()| [0; 2])
             }
             Self::Build(_, segments, room, building) => {
-                let count = khsaemudol::compute_edges(segments, room, building)?;
-                Ok([count as i32, 0])
+                let edges = khsaemudol::compute_edges(segments, room, building)?;
+                Ok([edges.len() as i32, 0])
             }
             Self::Edges(_, edges, call) => call.run(edges),
             Self::Job(words, out) => {
@@ -236,11 +251,14 @@ impl Call {
                 khsaemudol::align_serif_edge(edges, *base, *serif)?;
                 [0; 2]
             }
-            Self::Adjust(edge, next, top_to_bottom) => {
-                khsaemudol::adjust_link(edges, *edge, *next, *top_to_bottom)?;
+            Self::Adjust(edge, neighbour, order) => {
+                khsaemudol::adjust_link(edges, *edge, *neighbour, *order)?;
                 [0; 2]
             }
-            Self::Bounds(edge) => khsaemudol::latin_remaining_bounds(edges, *edge)?.map(word),
+            Self::Bounds(edge) => {
+                let Bounds { lower, upper } = khsaemudol::latin_remaining_bounds(edges, *edge)?;
+                [lower, upper].map(word)
+            }
             Self::CjkStem(given, rule) => {
                 let given = CjkStem {
                     dimension: dimension(given.dim),
@@ -257,12 +275,15 @@ impl Call {
                     dimension: dimension(given.dim),
                     group: group(given.group),
                     stem_adjust: given.stem_adjust,
-                    top_to_bottom: given.top_to_bottom,
+                    order: order(given.top_to_bottom),
                     anchor: given.anchor,
                     rule: rule.rule(),
                 };
-                let (count, anchor) = khsaemudol::align_stem_edges(edges, &given)?;
-                [count as i32, word(anchor)]
+                let Stems {
+                    passed_over,
+                    anchor,
+                } = khsaemudol::align_stem_edges(edges, &given)?;
+                [passed_over as i32, word(anchor)]
             }
             Self::M(group) => {
                 khsaemudol::hint_lowercase_m(edges, *group)?;

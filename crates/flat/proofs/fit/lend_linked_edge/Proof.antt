@@ -1,33 +1,26 @@
 -- `flat::fit::lend_linked_edge` meets its contract. Assumes nothing.
 use borrow.Author.Needs.{needs}
-use borrow.Author.Tests.{not-true, not-false}
-use mathlib.Core.Path.{_≡_, refl, sym, ap, _∙_}
-use mathlib.Core.Bool.{_&&_}
+use mathlib.Core.Path.{_≡_, refl, ap, _∙_}
+use Rattle.refusals.specs.Refusal.{refusal}
 use Rattle.words.specs.Field.{ruleOf}
 use Rattle.words.specs.Edge.{edgesOver}
-use Rattle.signed.specs.Parts.{up}
 use Rattle.signed.proofs.Signed.{is}
 use Rattle.fitting.specs.Fitting.{alignLinkedEdge}
-use Rattle.shape.specs.Shape.{isIn, index, choice}
+use Rattle.shape.specs.Shape.{isIn, choice}
 use Rattle.fitting.specs.declared.place.Fitted.{Fitted}
-use Rattle.lent.specs.Lent.{bothIn}
-use Rattle.flat.specs.Fit.{linkedShown, linkedFitted}
+use Rattle.lent.specs.Lent.{edgesFront, namedEdge}
+use Rattle.flat.specs.Fit.{linkedFitted}
 use Rattle.signed.proofs.By.{by₂, by₅}
-use Rattle.lent.proofs.Lents.{not-shown, shown-by}
+use Rattle.lent.proofs.Lents.{edgesRefusal, refused-before, passed-by}
 use Rattle.flat.proofs.fit.lend_linked_edge.Statement.{statement}
 use Rattle.flat.proofs.fit.lend_linked_edge.Tie as tie
 
-abbrev start : tie.After-both2 → tie.Start
-start c = c .before .before .before .before .before .before
+abbrev start : tie.After-edges-refusal → tie.Start
+start c = c .before .before .before
 
--- what the tests tell
-shown : (c : tie.After-both2) → linkedShown (start c .args .edges .now) (start c .args .rule) (start c .args .base) (start c .args .stem) ≡ c .both2 .result
-shown c =
-    let s = start c in
-    let b = c .before .before in
-    sym (by₂ _&&_ (c .both2 .ensures) (b .before .before .is-edges .ensures) (by₂ _&&_ (c .before .both .ensures)
-    (b .before .is-in .ensures ∙ ap (isIn choice) (is (s .fits .rule)))
-    (by₂ (bothIn index) (b .both-in .ensures) (is (s .fits .base)) (is (s .fits .stem)))))
+-- the refusal in front
+front : (c : tie.After-edges-refusal) → c .edges-refusal .result ≡ refusal (edgesFront (start c .args .edges .now) (isIn choice (start c .args .rule)))
+front c = let s = start c in by₂ edgesRefusal (c .edges-refusal .ensures) refl (c .before .is-in .ensures ∙ ap (isIn choice) (is (s .fits .rule)))
 
 abbrev tested : tie.After-align-linked-edge → tie.Else1
 tested c = c .before .before .before .before .before .before
@@ -45,28 +38,19 @@ handed c =
     let i = j .before in
     let k = i .before in
     by₅ alignLinkedEdge (c .align-linked-edge .ensures) (k .before .axis-of .ensures) (k .rule-of .ensures ∙ ap ruleOf (is (s .fits .rule))) refl
-    (i .size-of .ensures ∙ ap up (is (s .fits .base))) (j .size-of2 .ensures ∙ ap up (is (s .fits .stem)))
-
-is-edges-requires : tie.Need-is-edges-requires
-is-edges-requires c κs = search needs
+    (i .named-edge .ensures ∙ ap namedEdge (is (s .fits .base))) (j .named-edge2 .ensures ∙ ap namedEdge (is (s .fits .stem)))
 
 is-in-requires : tie.Need-is-in-requires
 is-in-requires c κs = search needs
 
-both-in-requires : tie.Need-both-in-requires
-both-in-requires c κs = search needs
-
-both-requires : tie.Need-both-requires
-both-requires c κs = search needs
-
-both-requires-2 : tie.Need-both-requires-2
-both-requires-2 c κs = search needs
+edges-refusal-requires : tie.Need-edges-refusal-requires
+edges-refusal-requires c κs = search needs
 
 same-length : tie.Need-same-length
 same-length c = search needs
 
 returns : tie.Need-returns
-returns c = not-shown (shown (c .before) ∙ not-true _ (c .if1 .taken))
+returns c = refused-before (front (c .before)) (c .if1 .taken)
 
 axis-of-requires : tie.Need-axis-of-requires
 axis-of-requires c κs = search needs
@@ -74,11 +58,11 @@ axis-of-requires c κs = search needs
 rule-of-requires : tie.Need-rule-of-requires
 rule-of-requires c κs = search needs
 
-size-of-requires : tie.Need-size-of-requires
-size-of-requires c κs = search needs
+named-edge-requires : tie.Need-named-edge-requires
+named-edge-requires c κs = search needs
 
-size-of-requires-2 : tie.Need-size-of-requires-2
-size-of-requires-2 c κs = search needs
+named-edge-requires-2 : tie.Need-named-edge-requires-2
+named-edge-requires-2 c κs = search needs
 
 align-linked-edge-requires : tie.Need-align-linked-edge-requires
 align-linked-edge-requires c κs = search needs
@@ -93,24 +77,21 @@ returns-2 : tie.Need-returns-2
 returns-2 c =
     let h = c .before .before .before .before in
     let e = tested h in
-    shown-by (λ (x : Fitted). x .answer) (λ (x : Fitted). edgesOver (start (e .before) .args .edges .now) (x .axis)) (shown (e .before) ∙ not-false _ (e .if1 .left)) (handed h)
+    passed-by (λ (x : Fitted). x .answer) (λ (x : Fitted). edgesOver (start (e .before) .args .edges .now) (x .axis)) (front (e .before)) (e .if1 .left) (handed h)
     (c .before .give-edges .ensures)
 
 pub lend-linked-edge-spec : {M : Type 1} → statement M
 lend-linked-edge-spec =
     tie.close
     (tie.spec
-    is-edges-requires
     is-in-requires
-    both-in-requires
-    both-requires
-    both-requires-2
+    edges-refusal-requires
     same-length
     returns
     axis-of-requires
     rule-of-requires
-    size-of-requires
-    size-of-requires-2
+    named-edge-requires
+    named-edge-requires-2
     align-linked-edge-requires
     give-edges-requires
     same-length-2

@@ -1,45 +1,42 @@
 -- `flat_segments::build::lend_building` meets its contract. Assumes nothing.
 use borrow.Author.Needs.{needs}
-use borrow.Author.Tests.{not-true, not-false}
-use mathlib.Core.Path.{_≡_, sym, ap, _∙_}
-use mathlib.Core.Bool.{Bool, _&&_}
-use Prim.Native.Nat.{_%_}
-use lib.Dec.{eqb}
-use lib.ListN.{length}
+use mathlib.Core.Path.{_≡_, refl, sym, ap, subst, _∙_}
+use mathlib.Core.Bool.{_&&_}
+use Prim.Native.Nat.{_≤_}
 use lib.IntN.{pos}
 use mir.Syntax.{w32}
 use mir.Val.{toZ, ofZ}
-use Rattle.words.specs.Edge.{tableSize}
+use Rattle.refusals.specs.Refusal.{refusal}
 use Rattle.words.specs.Field.{choiceOf, dimensionOf, directionOf, groupOf}
 use Rattle.flat_segments.proofs.Readings.{building-reads}
+use Rattle.flat_segments.proofs.Counts.{built-few}
 use Rattle.words.proofs.Fields.{kept}
 use Rattle.signed.proofs.Signed.{is}
 use Rattle.shape.specs.Shape.{isIn, direction}
 use Rattle.lent.specs.Lent.{choices}
 use Rattle.signed.proofs.By.{by₂, by₃}
+use Rattle.axis.specs.Limits.{mostEdges}
 use Rattle.building.specs.declared.build.Built.{Built}
-use Rattle.flat_segments.specs.Build.{buildShown, built, builtWords}
-use Rattle.lent.proofs.Lents.{not-shown, shown-by, lent-as, lent-pair}
+use Rattle.flat_segments.specs.Build.{buildFront, built, builtWords}
+use Rattle.lent.proofs.Counting.{count-is}
+use Rattle.lent.proofs.Lents.{segmentsRefusal, refused-before, passed-by, lent-as, lent-pair}
 use Rattle.flat_segments.proofs.build.lend_building.Statement.{statement}
 use Rattle.flat_segments.proofs.build.lend_building.Tie as tie
 
-abbrev start : tie.After-both3 → tie.Start
-start c = c .before .before .before .before .before .before .before
+abbrev start : tie.After-segments-refusal → tie.Start
+start c = c .before .before .before .before .before
 
--- what the tests tell
-shown :
-    (c : tie.After-both3)
-    → buildShown (start c .args .segments .now) (start c .args .edges .now) (start c .args .dim) (start c .args .major-dir) (start c .args .group) (start c .args .top-to-bottom)
-    ≡ c .both3 .result
-shown c =
+-- the refusal in front
+front :
+    (c : tie.After-segments-refusal)
+    → c .segments-refusal .result ≡ refusal (buildFront (start c .args .segments .now) (start c .args .edges .now) (start c .args .dim) (start c .args .major-dir) (start c .args .group)
+    (start c .args .top-to-bottom))
+front c =
     let s = start c in
-    let g = c .before .before in
-    let w = g .before .before in
-    let words =
-    by₂ _&&_ (w .both .ensures) (w .before .before .is-in .ensures ∙ ap (isIn direction) (is (s .fits .major-dir)))
-    (by₃ choices (w .before .are-choices .ensures) (is (s .fits .dim)) (is (s .fits .group)) (is (s .fits .top-to-bottom)))
-    in
-    sym (by₂ _&&_ (c .both3 .ensures) (g .is-segments .ensures) (c .before .both2 .ensures ∙ ap (λ (b : Bool). eqb (length (s .args .edges .now)) tableSize && b) words))
+    let b = c .before .before in
+    by₃ segmentsRefusal (c .segments-refusal .ensures) refl refl (by₂ _&&_ (b .both .ensures)
+    (b .before .before .is-in .ensures ∙ ap (isIn direction) (is (s .fits .major-dir)))
+    (by₃ choices (b .before .are-choices .ensures) (is (s .fits .dim)) (is (s .fits .group)) (is (s .fits .top-to-bottom))))
 
 abbrev tested : tie.After-compute-edges → tie.Else1
 tested c = c .before .before .before .before .before .before .before .before
@@ -63,8 +60,17 @@ handed c =
     (c .before .choice-of .ensures ∙ ap choiceOf (is (s .fits .top-to-bottom))) (is (s .fits .scale))
 
 -- the count's word
-word : (c : tie.After-give-word) → toZ w32 (ofZ w32 (c .before .count-word .result)) ≡ pos (c .before .before .before .before .before .compute-edges .result .axis .len % 65536)
-word c = let w = c .before .count-word in kept w32 (w .result) (w .ok) ∙ w .ensures
+abbrev computed : tie.After-give-word → tie.After-compute-edges
+computed c = c .before .before .before .before .before
+
+few : (c : tie.After-compute-edges) → c .compute-edges .result .axis .len ≤ mostEdges
+few c =
+    let a = from c .args in
+    subst (λ (b : Built). b .axis .len ≤ mostEdges) (sym (handed c))
+    (built-few (a .segments .now) (a .dim) (a .major-dir) (a .group) (a .top-to-bottom) (a .scale) (a .thresholds))
+
+word : (c : tie.After-give-word) → toZ w32 (ofZ w32 (c .before .count-word .result)) ≡ pos (computed c .compute-edges .result .axis .len)
+word c = let w = c .before .count-word in kept w32 (w .result) (w .ok) ∙ w .ensures ∙ count-is _ (few (computed c))
 
 is-in-requires : tie.Need-is-in-requires
 is-in-requires c κs = search needs
@@ -75,20 +81,14 @@ are-choices-requires c κs = search needs
 both-requires : tie.Need-both-requires
 both-requires c κs = search needs
 
-is-segments-requires : tie.Need-is-segments-requires
-is-segments-requires c κs = search needs
-
-both-requires-2 : tie.Need-both-requires-2
-both-requires-2 c κs = search needs
-
-both-requires-3 : tie.Need-both-requires-3
-both-requires-3 c κs = search needs
+segments-refusal-requires : tie.Need-segments-refusal-requires
+segments-refusal-requires c κs = search needs
 
 same-length : tie.Need-same-length
 same-length c = search needs
 
 returns : tie.Need-returns
-returns c = not-shown (shown (c .before) ∙ not-true _ (c .if1 .taken))
+returns c = refused-before (front (c .before)) (c .if1 .taken)
 
 flat-segments-requires : tie.Need-flat-segments-requires
 flat-segments-requires c κs = search needs
@@ -134,8 +134,8 @@ returns-2 c =
     let n = c .before .before .before .before .before .before in
     let h = n .before .before .before .before .before in
     let e = tested h in
-    shown-by (λ (x : Built). x .answer) (λ (x : Built). builtWords (start (e .before) .args .segments .now) (start (e .before) .args .edges .now) x)
-    (shown (e .before) ∙ not-false _ (e .if1 .left)) (handed h)
+    passed-by (λ (x : Built). x .answer) (λ (x : Built). builtWords (start (e .before) .args .segments .now) (start (e .before) .args .edges .now) x)
+    (front (e .before)) (e .if1 .left) (handed h)
     (lent-pair (c .before .give-segments .ensures) (lent-pair (c .before .before .before .before .give-edges .ensures) (lent-as (word n) (n .give-word .ensures))))
 
 pub lend-building-spec : {M : Type 1} → statement M
@@ -145,9 +145,7 @@ lend-building-spec =
     is-in-requires
     are-choices-requires
     both-requires
-    is-segments-requires
-    both-requires-2
-    both-requires-3
+    segments-refusal-requires
     same-length
     returns
     flat-segments-requires

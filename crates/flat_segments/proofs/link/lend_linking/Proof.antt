@@ -1,26 +1,27 @@
 -- `flat_segments::link::lend_linking` meets its contract. Assumes nothing.
 use borrow.Author.Needs.{needs}
-use borrow.Author.Tests.{not-true, not-false}
-use mathlib.Core.Path.{_≡_, sym, ap, _∙_}
-use mathlib.Core.Bool.{_&&_}
+use mathlib.Core.Path.{_≡_, refl, ap, _∙_}
+use mathlib.Core.Bool.{true}
+use Rattle.refusals.specs.Refusal.{refusal}
 use Rattle.words.specs.Field.{directionOf}
 use Rattle.words.specs.Segment.{segmentsOver}
 use Rattle.signed.proofs.Signed.{is}
 use Rattle.linking.specs.declared.link.Linked.{Linked}
 use Rattle.linking.specs.Linking.{linkSegmentsCjk}
 use Rattle.shape.specs.Shape.{isIn, direction}
-use Rattle.signed.proofs.By.{by₂, by₄}
-use Rattle.flat_segments.specs.Link.{linkingShown, linkingLinked}
-use Rattle.lent.proofs.Lents.{not-shown, shown-by}
+use Rattle.lent.specs.Lent.{segmentsFront}
+use Rattle.signed.proofs.By.{by₃, by₄}
+use Rattle.flat_segments.specs.Link.{linkingLinked}
+use Rattle.lent.proofs.Lents.{segmentsRefusal, refused-before, passed-by}
 use Rattle.flat_segments.proofs.link.lend_linking.Statement.{statement}
 use Rattle.flat_segments.proofs.link.lend_linking.Tie as tie
 
-abbrev start : tie.After-both → tie.Start
-start c = c .before .before .before .before
+abbrev start : tie.After-segments-refusal → tie.Start
+start c = c .before .before .before
 
--- what the tests tell
-shown : (c : tie.After-both) → linkingShown (start c .args .segments .now) (start c .args .major-dir) ≡ c .both .result
-shown c = sym (by₂ _&&_ (c .both .ensures) (c .before .before .is-segments .ensures) (c .before .is-in .ensures ∙ ap (isIn direction) (is (start c .fits .major-dir))))
+-- the refusal in front
+front : (c : tie.After-segments-refusal) → c .segments-refusal .result ≡ refusal (segmentsFront (start c .args .segments .now) true (isIn direction (start c .args .major-dir)))
+front c = let s = start c in by₃ segmentsRefusal (c .segments-refusal .ensures) refl refl (c .before .is-in .ensures ∙ ap (isIn direction) (is (s .fits .major-dir)))
 
 abbrev tested : tie.After-link-segments-cjk → tie.Else1
 tested c = c .before .before .before .before
@@ -36,20 +37,17 @@ handed c =
     by₄ linkSegmentsCjk (c .link-segments-cjk .ensures) (d .before .flat-segments .ensures) (d .direction-of .ensures ∙ ap directionOf (is (s .fits .major-dir)))
     (is (s .fits .units-per-em)) (is (s .fits .scale))
 
-is-segments-requires : tie.Need-is-segments-requires
-is-segments-requires c κs = search needs
-
 is-in-requires : tie.Need-is-in-requires
 is-in-requires c κs = search needs
 
-both-requires : tie.Need-both-requires
-both-requires c κs = search needs
+segments-refusal-requires : tie.Need-segments-refusal-requires
+segments-refusal-requires c κs = search needs
 
 same-length : tie.Need-same-length
 same-length c = search needs
 
 returns : tie.Need-returns
-returns c = not-shown (shown (c .before) ∙ not-true _ (c .if1 .taken))
+returns c = refused-before (front (c .before)) (c .if1 .taken)
 
 flat-segments-requires : tie.Need-flat-segments-requires
 flat-segments-requires c κs = search needs
@@ -70,16 +68,15 @@ returns-2 : tie.Need-returns-2
 returns-2 c =
     let h = c .before .before .before .before in
     let e = tested h in
-    shown-by (λ (x : Linked). x .answer) (λ (x : Linked). segmentsOver (start (e .before) .args .segments .now) (x .segments)) (shown (e .before) ∙ not-false _ (e .if1 .left))
+    passed-by (λ (x : Linked). x .answer) (λ (x : Linked). segmentsOver (start (e .before) .args .segments .now) (x .segments)) (front (e .before)) (e .if1 .left)
     (handed h) (c .before .give-segments .ensures)
 
 pub lend-linking-spec : {M : Type 1} → statement M
 lend-linking-spec =
     tie.close
     (tie.spec
-    is-segments-requires
     is-in-requires
-    both-requires
+    segments-refusal-requires
     same-length
     returns
     flat-segments-requires

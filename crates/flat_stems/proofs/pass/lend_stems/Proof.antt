@@ -1,42 +1,41 @@
 -- `flat_stems::pass::lend_stems` meets its contract. Assumes nothing.
 use borrow.Author.Needs.{needs}
-use borrow.Author.Tests.{not-true, not-false}
-use mathlib.Core.Path.{_≡_, sym, ap, _∙_}
+use mathlib.Core.Path.{_≡_, refl, sym, ap, subst, _∙_}
 use mathlib.Core.Bool.{_&&_}
-use Prim.Native.Nat.{_%_}
+use Prim.Native.Nat.{_≤_}
 use lib.IntN.{pos}
 use mir.Syntax.{w32}
 use mir.Val.{toZ, ofZ}
+use Rattle.refusals.specs.Refusal.{refusal}
 use Rattle.signed.proofs.Signed.{is}
+use Rattle.axis.specs.Limits.{mostEdges}
 use Rattle.stems.specs.declared.pass.Stems.{Stems}
-use Rattle.words.specs.Field.{choiceOf, dimensionOf, groupOf, linkOf, ruleOf, linkWord}
+use Rattle.words.specs.Field.{choiceOf, dimensionOf, groupOf, ruleOf, linkWord}
 use Rattle.words.proofs.Fields.{kept}
-use Rattle.shape.specs.Shape.{isIn, link, choice}
-use Rattle.lent.specs.Lent.{bothIn, choices}
+use Rattle.shape.specs.Shape.{choice}
+use Rattle.lent.specs.Lent.{edgesFront, bothIn, choices, namedAnchor}
 use Rattle.signed.proofs.By.{by₂, by₃}
-use Rattle.lent.proofs.Lents.{not-shown, shown-by, lent-as, lent-pair}
-use Rattle.flat_stems.specs.Stems.{stemsShown, stemsAligned, stemsWords}
-use Rattle.flat_stems.proofs.Readings.{stems-reads}
+use Rattle.lent.proofs.Counting.{count-is}
+use Rattle.lent.proofs.Lents.{edgesRefusal, refused-before, passed-by, lent-as, lent-pair}
+use Rattle.flat_stems.specs.Stems.{stemsAligned, stemsWords}
+use Rattle.flat_stems.proofs.Readings.{stems-reads, stems-few}
 use Rattle.flat_stems.proofs.pass.lend_stems.Statement.{statement}
 use Rattle.flat_stems.proofs.pass.lend_stems.Tie as tie
 
-abbrev start : tie.After-both3 → tie.Start
-start c = c .before .before .before .before .before .before .before .before
+abbrev start : tie.After-edges-refusal → tie.Start
+start c = c .before .before .before .before .before
 
--- what the tests tell
-shown :
-    (c : tie.After-both3)
-    → stemsShown (start c .args .edges .now) (start c .args .dim) (start c .args .group) (start c .args .stem-adjust) (start c .args .top-to-bottom) (start c .args .anchor)
-    (start c .args .rule) ≡ c .both3 .result
-shown c =
+-- the refusal in front
+front :
+    (c : tie.After-edges-refusal)
+    → c .edges-refusal .result ≡ refusal (edgesFront (start c .args .edges .now) (choices (start c .args .dim) (start c .args .group) (start c .args .stem-adjust)
+    && bothIn choice (start c .args .top-to-bottom) (start c .args .rule)))
+front c =
     let s = start c in
-    let b = c .before .before .before in
-    let t = b .before in
-    let o = t .before in
-    let i = o .before in
-    sym (by₂ _&&_ (c .both3 .ensures) (c .before .is-edges .ensures) (by₂ _&&_ (b .both2 .ensures)
-    (by₃ choices (t .are-choices .ensures) (is (s .fits .dim)) (is (s .fits .group)) (is (s .fits .stem-adjust)))
-    (by₂ _&&_ (o .both .ensures) (by₂ (bothIn choice) (i .before .both-in .ensures) (is (s .fits .top-to-bottom)) (is (s .fits .rule))) (i .is-in .ensures ∙ ap (isIn link) (is (s .fits .anchor))))))
+    let b = c .before .before in
+    by₂ edgesRefusal (c .edges-refusal .ensures) refl (by₂ _&&_ (b .both .ensures)
+    (by₃ choices (b .before .before .are-choices .ensures) (is (s .fits .dim)) (is (s .fits .group)) (is (s .fits .stem-adjust)))
+    (by₂ (bothIn choice) (b .before .both-in .ensures) (is (s .fits .top-to-bottom)) (is (s .fits .rule))))
 
 abbrev tested : tie.After-align-stem-edges → tie.Else1
 tested c = c .before .before .before .before .before .before .before .before .before
@@ -58,42 +57,41 @@ handed c =
     stems-reads (a .edges .now) (a .dim) (a .group) (a .stem-adjust) (a .top-to-bottom) (a .anchor) (a .rule) (a .standards .now) (c .align-stem-edges .ensures)
     (g .before .flat-axis .ensures) (g .before .before .dimension-of .ensures ∙ ap dimensionOf (is (s .fits .dim)))
     (g .group-of .ensures ∙ ap groupOf (is (s .fits .group))) (b .before .choice-of .ensures ∙ ap choiceOf (is (s .fits .stem-adjust)))
-    (b .choice-of2 .ensures ∙ ap choiceOf (is (s .fits .top-to-bottom))) (k .before .link-of .ensures ∙ ap linkOf (is (s .fits .anchor)))
+    (b .choice-of2 .ensures ∙ ap choiceOf (is (s .fits .top-to-bottom))) (k .before .named-anchor .ensures ∙ ap namedAnchor (is (s .fits .anchor)))
     (k .rule-of .ensures ∙ ap ruleOf (is (s .fits .rule)))
 
 -- the words of the anchor and of the count
 anchor : (c : tie.After-give-word) → toZ w32 (ofZ w32 (c .before .link-word .result)) ≡ linkWord (c .before .before .before .before .align-stem-edges .result .anchor)
 anchor c = let w = c .before .link-word in kept w32 (w .result) (w .ok) ∙ w .ensures
 
-count : (c : tie.After-give-word2) → toZ w32 (ofZ w32 (c .before .count-word .result)) ≡ pos (c .before .before .before .before .before .before .before .align-stem-edges .result .count % 65536)
-count c = let w = c .before .count-word in kept w32 (w .result) (w .ok) ∙ w .ensures
+abbrev aligned : tie.After-give-word2 → tie.After-align-stem-edges
+aligned c = c .before .before .before .before .before .before .before
 
-both-in-requires : tie.Need-both-in-requires
-both-in-requires c κs = search needs
+few : (c : tie.After-align-stem-edges) → c .align-stem-edges .result .count ≤ mostEdges
+few c =
+    let a = from c .args in
+    subst (λ (s : Stems). s .count ≤ mostEdges) (sym (handed c)) (stems-few (a .edges .now) (a .dim) (a .group) (a .stem-adjust) (a .top-to-bottom) (a .anchor) (a .rule) (a .standards .now))
 
-is-in-requires : tie.Need-is-in-requires
-is-in-requires c κs = search needs
-
-both-requires : tie.Need-both-requires
-both-requires c κs = search needs
+count : (c : tie.After-give-word2) → toZ w32 (ofZ w32 (c .before .count-word .result)) ≡ pos (aligned c .align-stem-edges .result .count)
+count c = let w = c .before .count-word in kept w32 (w .result) (w .ok) ∙ w .ensures ∙ count-is _ (few (aligned c))
 
 are-choices-requires : tie.Need-are-choices-requires
 are-choices-requires c κs = search needs
 
-both-requires-2 : tie.Need-both-requires-2
-both-requires-2 c κs = search needs
+both-in-requires : tie.Need-both-in-requires
+both-in-requires c κs = search needs
 
-is-edges-requires : tie.Need-is-edges-requires
-is-edges-requires c κs = search needs
+both-requires : tie.Need-both-requires
+both-requires c κs = search needs
 
-both-requires-3 : tie.Need-both-requires-3
-both-requires-3 c κs = search needs
+edges-refusal-requires : tie.Need-edges-refusal-requires
+edges-refusal-requires c κs = search needs
 
 same-length : tie.Need-same-length
 same-length c = search needs
 
 returns : tie.Need-returns
-returns c = not-shown (shown (c .before) ∙ not-true _ (c .if1 .taken))
+returns c = refused-before (front (c .before)) (c .if1 .taken)
 
 dimension-of-requires : tie.Need-dimension-of-requires
 dimension-of-requires c κs = search needs
@@ -110,8 +108,8 @@ choice-of-requires c κs = search needs
 choice-of-requires-2 : tie.Need-choice-of-requires-2
 choice-of-requires-2 c κs = search needs
 
-link-of-requires : tie.Need-link-of-requires
-link-of-requires c κs = search needs
+named-anchor-requires : tie.Need-named-anchor-requires
+named-anchor-requires c κs = search needs
 
 rule-of-requires : tie.Need-rule-of-requires
 rule-of-requires c κs = search needs
@@ -143,20 +141,17 @@ returns-2 c =
     let g = n .before .before .before in
     let h = g .before .before .before .before in
     let e = tested h in
-    shown-by (λ (x : Stems). x .answer) (λ (x : Stems). stemsWords (start (e .before) .args .edges .now) x) (shown (e .before) ∙ not-false _ (e .if1 .left)) (handed h)
+    passed-by (λ (x : Stems). x .answer) (λ (x : Stems). stemsWords (start (e .before) .args .edges .now) x) (front (e .before)) (e .if1 .left) (handed h)
     (lent-pair (c .before .give-edges .ensures) (lent-pair (lent-as (count n) (n .give-word2 .ensures)) (lent-as (anchor g) (g .give-word .ensures))))
 
 pub lend-stems-spec : {M : Type 1} → statement M
 lend-stems-spec =
     tie.close
     (tie.spec
-    both-in-requires
-    is-in-requires
-    both-requires
     are-choices-requires
-    both-requires-2
-    is-edges-requires
-    both-requires-3
+    both-in-requires
+    both-requires
+    edges-refusal-requires
     same-length
     returns
     dimension-of-requires
@@ -164,7 +159,7 @@ lend-stems-spec =
     group-of-requires
     choice-of-requires
     choice-of-requires-2
-    link-of-requires
+    named-anchor-requires
     rule-of-requires
     align-stem-edges-requires
     link-word-requires

@@ -1,10 +1,9 @@
 -- `flat_stems::zones::lend_zones` meets its contract. Assumes nothing.
 use borrow.Author.Needs.{needs}
-use borrow.Author.Tests.{not-true, not-false}
-use mathlib.Core.Path.{_≡_, refl, sym, ap, _∙_}
-use mathlib.Core.Bool.{_&&_}
+use mathlib.Core.Path.{_≡_, refl, ap, _∙_}
 use mir.Syntax.{w32}
 use mir.Val.{toZ, ofZ}
+use Rattle.refusals.specs.Refusal.{refusal}
 use Rattle.axis.specs.declared.kinds.Dimension.{Dimension}
 use Rattle.axis.specs.declared.kinds.Direction.the-variants as Directions
 use Rattle.words.specs.Field.{dimensionOf, groupOf, ruleOf, linkWord}
@@ -13,22 +12,23 @@ use Rattle.words.proofs.Fields.{kept}
 use Rattle.signed.proofs.Signed.{is}
 use Rattle.blues_pass.specs.declared.pass.Anchored.{Anchored}
 use Rattle.blues.specs.Zones.{alignEdgesToBlues}
-use Rattle.lent.specs.Lent.{choices}
+use Rattle.lent.specs.Lent.{edgesFront, choices}
 use Rattle.signed.proofs.By.{by₂, by₃, by₄}
-use Rattle.flat_stems.specs.Zones.{zonesShown, zonesAnchored, zonesWords}
-use Rattle.lent.proofs.Lents.{not-shown, shown-by, lent-as, lent-pair}
+use Rattle.flat_stems.specs.Zones.{zonesAnchored, zonesWords}
+use Rattle.lent.proofs.Lents.{edgesRefusal, refused-before, passed-by, lent-as, lent-pair}
 use Rattle.flat_stems.proofs.zones.lend_zones.Statement.{statement}
 use Rattle.flat_stems.proofs.zones.lend_zones.Tie as tie
 
-abbrev start : tie.After-both → tie.Start
-start c = c .before .before .before .before
+abbrev start : tie.After-edges-refusal → tie.Start
+start c = c .before .before .before
 
--- what the tests tell
-shown : (c : tie.After-both) → zonesShown (start c .args .edges .now) (start c .args .dim) (start c .args .group) (start c .args .rule) ≡ c .both .result
-shown c =
+-- the refusal in front
+front :
+    (c : tie.After-edges-refusal)
+    → c .edges-refusal .result ≡ refusal (edgesFront (start c .args .edges .now) (choices (start c .args .dim) (start c .args .group) (start c .args .rule)))
+front c =
     let s = start c in
-    sym
-    (by₂ _&&_ (c .both .ensures) (c .before .before .is-edges .ensures) (by₃ choices (c .before .are-choices .ensures) (is (s .fits .dim)) (is (s .fits .group)) (is (s .fits .rule))))
+    by₂ edgesRefusal (c .edges-refusal .ensures) refl (by₃ choices (c .before .are-choices .ensures) (is (s .fits .dim)) (is (s .fits .group)) (is (s .fits .rule)))
 
 abbrev tested : tie.After-align-edges-to-blues → tie.Else1
 tested c = c .before .before .before .before .before .before
@@ -53,20 +53,17 @@ handed c =
 word : (c : tie.After-give-word) → toZ w32 (ofZ w32 (c .before .link-word .result)) ≡ linkWord (c .before .before .before .before .align-edges-to-blues .result .anchor)
 word c = let w = c .before .link-word in kept w32 (w .result) (w .ok) ∙ w .ensures
 
-is-edges-requires : tie.Need-is-edges-requires
-is-edges-requires c κs = search needs
-
 are-choices-requires : tie.Need-are-choices-requires
 are-choices-requires c κs = search needs
 
-both-requires : tie.Need-both-requires
-both-requires c κs = search needs
+edges-refusal-requires : tie.Need-edges-refusal-requires
+edges-refusal-requires c κs = search needs
 
 same-length : tie.Need-same-length
 same-length c = search needs
 
 returns : tie.Need-returns
-returns c = not-shown (shown (c .before) ∙ not-true _ (c .if1 .taken))
+returns c = refused-before (front (c .before)) (c .if1 .taken)
 
 dimension-of-requires : tie.Need-dimension-of-requires
 dimension-of-requires c κs = search needs
@@ -99,16 +96,15 @@ returns-2 : tie.Need-returns-2
 returns-2 c =
     let h = c .before .before .before .before .before .before .before in
     let e = tested h in
-    shown-by (λ (x : Anchored). x .answer) (λ (x : Anchored). zonesWords (start (e .before) .args .edges .now) x) (shown (e .before) ∙ not-false _ (e .if1 .left)) (handed h)
+    passed-by (λ (x : Anchored). x .answer) (λ (x : Anchored). zonesWords (start (e .before) .args .edges .now) x) (front (e .before)) (e .if1 .left) (handed h)
     (lent-pair (c .before .give-edges .ensures) (lent-as (word (c .before .before .before)) (c .before .before .before .give-word .ensures)))
 
 pub lend-zones-spec : {M : Type 1} → statement M
 lend-zones-spec =
     tie.close
     (tie.spec
-    is-edges-requires
     are-choices-requires
-    both-requires
+    edges-refusal-requires
     same-length
     returns
     dimension-of-requires

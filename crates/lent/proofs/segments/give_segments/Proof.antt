@@ -1,7 +1,9 @@
 -- `lent::segments::give_segments` meets its contract. Assumes nothing.
 use borrow.Author.Needs.{needs}
 use native.Mathlib.Omega.{arith}
-use Rattle.lent.proofs.Lents.{refused, handed-back}
+use Rattle.refusals.specs.Refusal.{refusal}
+use Rattle.lent.specs.Lent.{refusedOr}
+use Rattle.lent.proofs.Lents.{refused}
 use Rattle.lent.proofs.segments.give_segments.Statement.{statement}
 use Rattle.lent.proofs.segments.give_segments.Tie as tie
 
@@ -15,6 +17,7 @@ same-length : tie.Need-same-length
 same-length c = search needs
 
 returns-2 : tie.Need-returns-2
+unfolding refusedOr refusal
 returns-2 c = search needs
 
 pub give-segments-spec : {M : Type 1} → statement M

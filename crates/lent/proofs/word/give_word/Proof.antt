@@ -2,7 +2,9 @@
 use borrow.Author.Needs.{needs}
 use native.Mathlib.Omega.{arith}
 use Rattle.signed.proofs.Signed.{is}
-use Rattle.lent.proofs.Lents.{refused, handed-back}
+use Rattle.refusals.specs.Refusal.{refusal}
+use Rattle.lent.specs.Lent.{refusedOr}
+use Rattle.lent.proofs.Lents.{refused}
 use Rattle.lent.proofs.word.give_word.Statement.{statement}
 use Rattle.lent.proofs.word.give_word.Tie as tie
 
@@ -10,6 +12,7 @@ returns : tie.Need-returns
 returns c = refused (c .if1 .taken)
 
 returns-2 : tie.Need-returns-2
+unfolding refusedOr refusal
 returns-2 c = search needs
 
 pub give-word-spec : {M : Type 1} → statement M

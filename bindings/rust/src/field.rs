@@ -1,0 +1,190 @@
+//! The fields of records: how each stands in words.
+
+use std::{fmt, ops};
+
+/// A value that stands in one or two words of a record. What is written reads back as it was.
+pub(crate) trait Field: Copy + Default {
+    /// The value at the front of these words.
+    fn read(words: &[i32]) -> Self;
+    /// Writes the value to the front of these words.
+    fn write(self, words: &mut [i32]);
+}
+
+impl Field for i32 {
+    fn read(words: &[i32]) -> Self {
+        words[0]
+    }
+
+    fn write(self, words: &mut [i32]) {
+        words[0] = self;
+    }
+}
+
+impl Field for i16 {
+    fn read(words: &[i32]) -> Self {
+        words[0] as Self
+    }
+
+    fn write(self, words: &mut [i32]) {
+        words[0] = self.into();
+    }
+}
+
+impl Field for u16 {
+    fn read(words: &[i32]) -> Self {
+        words[0] as Self
+    }
+
+    fn write(self, words: &mut [i32]) {
+        words[0] = self.into();
+    }
+}
+
+/// An index, or none.
+impl Field for Option<u16> {
+    fn read(words: &[i32]) -> Self {
+        index(words[0])
+    }
+
+    fn write(self, words: &mut [i32]) {
+        words[0] = index_word(self);
+    }
+}
+
+/// The fitted position of a zone, or none: whether there is one, and where.
+impl Field for Option<i32> {
+    fn read(words: &[i32]) -> Self {
+        (words[0] == 1).then_some(words[1])
+    }
+
+    fn write(self, words: &mut [i32]) {
+        words[0] = self.is_some().into();
+        words[1] = self.unwrap_or(0);
+    }
+}
+
+/// The index that a word is, if it is one.
+pub(crate) fn index(word: i32) -> Option<u16> {
+    u16::try_from(word).ok()
+}
+
+/// The word of an index or of none.
+pub(crate) fn index_word(index: Option<u16>) -> i32 {
+    index.map_or(-1, i32::from)
+}
+
+/// What is known of a segment or an edge, any of four flags together.
+///
+/// ```
+/// use khsaemudol::Flags;
+///
+/// let flags = Flags::ROUND | Flags::DONE;
+/// assert!(flags.contains(Flags::DONE));
+/// assert!(!flags.contains(Flags::DONE | Flags::SERIF));
+/// assert_eq!(flags.without(Flags::DONE), Flags::ROUND);
+/// assert_eq!(format!("{flags:?}"), "ROUND | DONE");
+/// ```
+#[derive(Clone, Copy, Default, PartialEq, Eq, Hash)]
+pub struct Flags(u8);
+
+impl Flags {
+    /// No flag.
+    pub const NONE: Self = Self(0);
+    /// Round.
+    pub const ROUND: Self = Self(1);
+    /// A serif.
+    pub const SERIF: Self = Self(2);
+    /// Placed already.
+    pub const DONE: Self = Self(4);
+    /// On a neutral zone.
+    pub const NEUTRAL: Self = Self(8);
+
+    /// All flags with their names.
+    const NAMES: [(Self, &'static str); 4] = [
+        (Self::ROUND, "ROUND"),
+        (Self::SERIF, "SERIF"),
+        (Self::DONE, "DONE"),
+        (Self::NEUTRAL, "NEUTRAL"),
+    ];
+
+    /// Whether all of these flags are here.
+    pub const fn contains(self, flags: Self) -> bool {
+        self.0 & flags.0 == flags.0
+    }
+
+    /// The flags that are not among these.
+    #[must_use]
+    pub const fn without(self, flags: Self) -> Self {
+        Self(self.0 & !flags.0)
+    }
+}
+
+impl ops::BitOr for Flags {
+    type Output = Self;
+
+    fn bitor(self, flags: Self) -> Self {
+        Self(self.0 | flags.0)
+    }
+}
+
+impl ops::BitOrAssign for Flags {
+    fn bitor_assign(&mut self, flags: Self) {
+        *self = *self | flags;
+    }
+}
+
+impl fmt::Debug for Flags {
+    fn fmt(&self, f: &mut fmt::Formatter<'_>) -> fmt::Result {
+        let mut separator = "";
+        for (_, name) in Self::NAMES.iter().filter(|(flag, _)| self.contains(*flag)) {
+            write!(f, "{separator}{name}")?;
+            separator = " | ";
+        }
+        if *self == Self::NONE {
+            f.write_str("NONE")?;
+        }
+        Ok(())
+    }
+}
+
+impl Field for Flags {
+    fn read(words: &[i32]) -> Self {
+        Self(words[0] as u8 & 15)
+    }
+
+    fn write(self, words: &mut [i32]) {
+        words[0] = self.0.into();
+    }
+}
+
+/// Where a segment or an edge runs to.
+#[derive(Clone, Copy, Debug, Default, PartialEq, Eq, Hash)]
+pub enum Direction {
+    /// Nowhere: a single point.
+    #[default]
+    None = 0,
+    /// To the right.
+    Right = 1,
+    /// To the left.
+    Left = 2,
+    /// Upward.
+    Up = 3,
+    /// Downward.
+    Down = 4,
+}
+
+impl Field for Direction {
+    fn read(words: &[i32]) -> Self {
+        match words[0] {
+            1 => Self::Right,
+            2 => Self::Left,
+            3 => Self::Up,
+            4 => Self::Down,
+            _ => Self::None,
+        }
+    }
+
+    fn write(self, words: &mut [i32]) {
+        words[0] = self as i32;
+    }
+}

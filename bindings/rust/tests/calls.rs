@@ -1,0 +1,488 @@
+//! Every call of the library through the wrapper: what it does, and by what it is refused, nothing being written then.
+
+use khsaemudol::*;
+
+/// An edge at a position, unmoved.
+fn at(opos: i32) -> Edge {
+    Edge::default().with_opos(opos).with_pos(opos)
+}
+
+/// A stem of two edges.
+fn stem(low: i32, high: i32) -> [Edge; 2] {
+    [at(low).with_link(Some(1)), at(high).with_link(Some(0))]
+}
+
+/// A segment at a position, 200 long.
+fn side(dir: Direction, pos: i16) -> Segment {
+    Segment::default()
+        .with_dir(dir)
+        .with_pos(pos)
+        .with_max_coord(200)
+        .with_height(200)
+        .with_score(32_000)
+}
+
+/// Building that most tests ask for.
+const BUILDING: Building = Building {
+    dimension: Dimension::Vertical,
+    major: Direction::Left,
+    group: Group::Latin,
+    order: Order::BottomToTop,
+    scale: 65_536,
+    distance: 3,
+    length: 0,
+    width: 32,
+};
+
+/// A stem pass on the vertical axis.
+const PASS: StemPass<'_> = StemPass {
+    dimension: Dimension::Vertical,
+    group: Group::Latin,
+    stem_adjust: false,
+    order: Order::BottomToTop,
+    anchor: None,
+    rule: WidthRule::Keep,
+};
+
+/// A CJK stem of edges 0 and 1.
+const STEM: CjkStem<'_> = CjkStem {
+    dimension: Dimension::Vertical,
+    stem_adjust: false,
+    rule: WidthRule::Keep,
+    edge: 0,
+    edge2: 1,
+    delta: 0,
+};
+
+/// A call over edges is refused by this, and leaves them.
+fn refused<T>(
+    edges: &[Edge],
+    refusal: Refusal,
+    call: impl FnOnce(&mut [Edge]) -> Result<T, Refusal>,
+) {
+    let mut lent = edges.to_vec();
+    assert_eq!(call(&mut lent).err(), Some(refusal));
+    assert_eq!(lent, edges);
+}
+
+/// What every call over edges refuses: too many, a link that is beyond them, a position outside its limits.
+fn refuses_edges<T>(edges: &[Edge], call: impl Fn(&mut [Edge]) -> Result<T, Refusal>) {
+    let many = vec![Edge::default(); MOST_EDGES + 1];
+    refused(&many, Refusal::TooLong, &call);
+    let with = |edge: Edge| {
+        let mut edges = edges.to_vec();
+        edges[0] = edge;
+        edges
+    };
+    refused(
+        &with(edges[0].with_link(Some(u16::MAX))),
+        Refusal::BadIndex,
+        &call,
+    );
+    refused(
+        &with(edges[0].with_serif(Some(200))),
+        Refusal::BadIndex,
+        &call,
+    );
+    refused(
+        &with(edges[0].with_opos(16_384)),
+        Refusal::OutOfRange,
+        &call,
+    );
+    refused(
+        &with(edges[0].with_pos(-16_777_217)),
+        Refusal::OutOfRange,
+        &call,
+    );
+    refused(
+        &with(edges[0].with_blue(Some(-16_384))),
+        Refusal::OutOfRange,
+        &call,
+    );
+}
+
+#[test]
+fn the_default_is_empty() {
+    let edge = Edge::default();
+    assert_eq!(
+        <[i32; EDGE_WORDS]>::from(edge),
+        [0, 0, 0, 0, 0, 0, 0, -1, -1, 0, 0]
+    );
+    assert_eq!((edge.link(), edge.serif(), edge.blue()), (None, None, None));
+    let segment = Segment::default();
+    let words = <[i32; SEGMENT_WORDS]>::from(segment);
+    assert_eq!(words, [0, 0, 0, 0, 0, 0, 0, 0, 0, -1, -1, 0, 0, -1, -1]);
+    assert_eq!((segment.edge(), segment.next()), (None, None));
+}
+
+#[test]
+fn words_are_read_back() {
+    let edge = at(-7)
+        .with_fpos(-32_768)
+        .with_flags(Flags::ROUND | Flags::NEUTRAL)
+        .with_dir(Direction::Down)
+        .with_blue(Some(-64))
+        .with_link(Some(u16::MAX))
+        .with_serif(Some(0))
+        .with_first(3)
+        .with_last(65_535);
+    let words = <[i32; EDGE_WORDS]>::from(edge);
+    assert_eq!(words, [-32_768, -7, -7, 9, 4, 1, -64, 65_535, 0, 3, 65_535]);
+    assert_eq!(Edge::try_from(words), Ok(edge));
+    for (ix, word) in [
+        (0, 32_768),
+        (3, 16),
+        (4, 5),
+        (5, 2),
+        (5, 0),
+        (7, -2),
+        (8, 65_536),
+        (9, -1),
+    ] {
+        let mut words = words;
+        words[ix] = word;
+        assert_eq!(Edge::try_from(words), Err(Refusal::NotWords), "word {ix}");
+    }
+    let segment = side(Direction::Up, 12)
+        .with_overlap(9)
+        .with_edge(Some(4))
+        .with_next(Some(5));
+    assert_eq!(
+        Segment::try_from(<[i32; SEGMENT_WORDS]>::from(segment)),
+        Ok(segment)
+    );
+}
+
+#[test]
+fn refusals_have_numbers_and_one_line() {
+    use Refusal::*;
+    let all = [
+        TooLong,
+        BadParameter,
+        BadIndex,
+        OutOfRange,
+        NoRoom,
+        NotWords,
+        Other(7),
+    ];
+    assert_eq!(all.map(Refusal::number), [1, 2, 3, 4, 5, 255, 7]);
+    for refusal in all {
+        let text = refusal.to_string();
+        assert!(text.starts_with(&format!("refused by {}: ", refusal.number())));
+        assert!(!text.contains('\n'));
+    }
+}
+
+#[test]
+fn middles() {
+    assert_eq!(compute_mid_pos(-3, 0), -2);
+    assert_eq!(compute_mid_pos(i32::MAX, 1), 0);
+    assert_eq!(compute_mid_delta(0, -3), -2);
+    assert_eq!(compute_mid_delta(i32::MIN, i32::MAX), -1);
+}
+
+#[test]
+fn weak_points() {
+    let mut currents = [0, 0, 0, 64];
+    assert_eq!(
+        align_weak_points(&[0, 1, 2, 3], &mut currents, &[1, 0, 0, 1], &[3]),
+        Ok(())
+    );
+    assert_eq!(currents, [0, 21, 43, 64]);
+    assert_eq!(align_weak_points(&[], &mut [], &[], &[]), Ok(()));
+    let refused = |originals: &[i32], ends: &[u16], refusal: Refusal| {
+        let mut currents = [7];
+        let answer = align_weak_points(originals, &mut currents, &[0], ends);
+        assert_eq!((answer, currents), (Err(refusal), [7]));
+    };
+    refused(&[0, 0], &[0], Refusal::TooLong);
+    refused(&[0], &[1], Refusal::BadIndex);
+    refused(&[16_384], &[0], Refusal::OutOfRange);
+}
+
+#[test]
+fn linking() {
+    let mut segments = [side(Direction::Up, 0), side(Direction::Down, 100)];
+    assert_eq!(
+        link_segments_cjk(&mut segments, Direction::Up, 1_000, 65_536),
+        Ok(())
+    );
+    assert_eq!(
+        (
+            segments[0].link(),
+            segments[0].score(),
+            segments[0].overlap()
+        ),
+        (Some(1), 100, 200)
+    );
+    let given = segments;
+    let mut refused = |segment: Segment, units_per_em: i32, refusal: Refusal| {
+        segments[1] = segment;
+        let answer = link_segments_cjk(&mut segments, Direction::Up, units_per_em, 65_536);
+        assert_eq!((answer, segments), (Err(refusal), [given[0], segment]));
+    };
+    refused(given[1], 15, Refusal::BadParameter);
+    refused(given[1].with_next(Some(2)), 1_000, Refusal::BadIndex);
+    refused(given[1].with_score(-1), 1_000, Refusal::OutOfRange);
+    let mut many = [Segment::default(); MOST_SEGMENTS + 1];
+    let answer = link_segments_cjk(&mut many, Direction::Up, 1_000, 65_536);
+    assert_eq!(answer, Err(Refusal::TooLong));
+}
+
+#[test]
+fn building() {
+    let mut segments = [side(Direction::Right, 80), side(Direction::Left, 0)];
+    segments[0].set_link(Some(1));
+    segments[1].set_link(Some(0));
+    let mut room = [Edge::default(); MOST_EDGES];
+    let edges =
+        compute_edges(&mut segments, &mut room, &BUILDING).expect("the segments are accepted");
+    assert_eq!(edges.iter().map(Edge::fpos).collect::<Vec<_>>(), [0, 80]);
+    assert_eq!(
+        edges.iter().map(Edge::link).collect::<Vec<_>>(),
+        [Some(1), Some(0)]
+    );
+    assert_eq!(segments.map(|segment| segment.edge()), [Some(1), Some(0)]);
+    assert_eq!(segments.map(|segment| segment.next()), [Some(0), Some(1)]);
+    let top_to_bottom = Building {
+        order: Order::TopToBottom,
+        ..BUILDING
+    };
+    let edges =
+        compute_edges(&mut segments, &mut room, &top_to_bottom).expect("the order is accepted");
+    assert_eq!(edges.iter().map(Edge::fpos).collect::<Vec<_>>(), [80, 0]);
+}
+
+#[test]
+fn building_refused() {
+    let refused = |segments: &[Segment], given: &Building, refusal: Refusal| {
+        let mut lent = segments.to_vec();
+        let full = at(5).with_flags(Flags::DONE);
+        let mut room = [full; MOST_EDGES];
+        assert_eq!(
+            compute_edges(&mut lent, &mut room, given).err(),
+            Some(refusal)
+        );
+        assert_eq!((&lent[..], room), (segments, [full; MOST_EDGES]));
+    };
+    let one = side(Direction::Right, 0);
+    refused(&[one; MOST_SEGMENTS + 1], &BUILDING, Refusal::TooLong);
+    refused(
+        &[one],
+        &Building {
+            scale: 0,
+            ..BUILDING
+        },
+        Refusal::BadParameter,
+    );
+    refused(&[one.with_link(Some(1))], &BUILDING, Refusal::BadIndex);
+    refused(&[one.with_pos(16_384)], &BUILDING, Refusal::OutOfRange);
+    let apart: Vec<Segment> = (0..=128).map(|ix| side(Direction::Right, 9 * ix)).collect();
+    refused(&apart, &BUILDING, Refusal::NoRoom);
+}
+
+#[test]
+fn blues() {
+    let mut edges = stem(-9, 52);
+    edges[0].set_blue(Some(0));
+    let rule = WidthRule::Snap(&[64, 128]);
+    let align =
+        |edges: &mut [Edge], dimension| align_edges_to_blues(edges, dimension, Group::Latin, rule);
+    let before = edges;
+    assert_eq!(align(&mut edges, Dimension::Horizontal), Ok(None));
+    assert_eq!(edges, before);
+    assert_eq!(align(&mut edges, Dimension::Vertical), Ok(Some(0)));
+    assert_eq!(edges.map(|edge| edge.pos()), [0, 64]);
+    assert_eq!(align(&mut [], Dimension::Vertical), Ok(None));
+    refuses_edges(&edges, |edges| align(edges, Dimension::Horizontal));
+    refused(&edges, Refusal::BadParameter, |edges| {
+        let rule = WidthRule::Snap(&[64, 64]);
+        align_edges_to_blues(edges, Dimension::Vertical, Group::Latin, rule)
+    });
+}
+
+#[test]
+fn linked_edge() {
+    let mut edges = stem(0, 60);
+    edges[0].set_pos(10);
+    assert_eq!(
+        align_linked_edge(&mut edges, WidthRule::Snap(&[64]), 0, 1),
+        Ok(())
+    );
+    assert_eq!(edges[1].pos(), 74);
+    refuses_edges(&edges, |edges| {
+        align_linked_edge(edges, WidthRule::Keep, 0, 1)
+    });
+    refused(&edges, Refusal::BadParameter, |edges| {
+        align_linked_edge(edges, WidthRule::Snap(&[0]), 0, 1)
+    });
+    refused(&edges, Refusal::BadIndex, |edges| {
+        align_linked_edge(edges, WidthRule::Keep, 2, 1)
+    });
+    refused(&edges, Refusal::BadIndex, |edges| {
+        align_linked_edge(edges, WidthRule::Keep, 0, u16::MAX)
+    });
+}
+
+#[test]
+fn serif_edge() {
+    let mut edges = stem(0, 60);
+    edges[0].set_pos(10);
+    assert_eq!(align_serif_edge(&mut edges, 0, 1), Ok(()));
+    assert_eq!(edges[1].pos(), 70);
+    refuses_edges(&edges, |edges| align_serif_edge(edges, 0, 1));
+    refused(&edges, Refusal::BadIndex, |edges| {
+        align_serif_edge(edges, 0, 2)
+    });
+    refused(&[], Refusal::BadIndex, |edges| {
+        align_serif_edge(edges, 0, 0)
+    });
+}
+
+#[test]
+fn adjusted_link() {
+    let done = |pos: i32| at(pos).with_flags(Flags::DONE);
+    let edges = [done(100), at(90).with_link(Some(2)), at(50)];
+    let adjusted = |mut edges: [Edge; 3], neighbour, order| {
+        adjust_link(&mut edges, 1, neighbour, order).map(|()| edges[1].pos())
+    };
+    assert_eq!(
+        adjusted(edges, Neighbour::Previous, Order::BottomToTop),
+        Ok(100)
+    );
+    assert_eq!(
+        adjusted(edges, Neighbour::Previous, Order::TopToBottom),
+        Ok(90)
+    );
+    assert_eq!(adjusted(edges, Neighbour::Next, Order::BottomToTop), Ok(90));
+    let next_done = [edges[0], edges[1], done(50)];
+    assert_eq!(
+        adjusted(next_done, Neighbour::Next, Order::BottomToTop),
+        Ok(50)
+    );
+    let call = |edges: &mut [Edge]| adjust_link(edges, 1, Neighbour::Next, Order::BottomToTop);
+    refuses_edges(&edges, call);
+    refused(&edges[..1], Refusal::BadIndex, call);
+}
+
+#[test]
+fn bounds() {
+    let edges = [at(0), at(10), at(20).with_flags(Flags::DONE)];
+    let bounds = |edge: u16| latin_remaining_bounds(&edges, edge);
+    assert_eq!(
+        bounds(0),
+        Ok(Bounds {
+            lower: None,
+            upper: None
+        })
+    );
+    assert_eq!(
+        bounds(1),
+        Ok(Bounds {
+            lower: Some(0),
+            upper: Some(2)
+        })
+    );
+    assert_eq!(
+        bounds(2),
+        Ok(Bounds {
+            lower: Some(1),
+            upper: None
+        })
+    );
+    assert_eq!(bounds(3), Err(Refusal::BadIndex));
+    refuses_edges(&edges, |edges| latin_remaining_bounds(edges, 1));
+}
+
+#[test]
+fn cjk_stem() {
+    let hinted = |given: &CjkStem<'_>| {
+        let mut edges = stem(40, 80);
+        hint_normal_stem_cjk(&mut edges, given).map(|delta| (delta, edges.map(|edge| edge.pos())))
+    };
+    assert_eq!(hinted(&STEM), Ok((-14, [26, 66])));
+    assert_eq!(
+        hinted(&CjkStem {
+            stem_adjust: true,
+            ..STEM
+        }),
+        Ok((-16, [24, 64]))
+    );
+    let edges = stem(40, 80);
+    refuses_edges(&edges, |edges| hint_normal_stem_cjk(edges, &STEM));
+    let wrong = |given: CjkStem<'static>, refusal| {
+        refused(&edges, refusal, |edges| hint_normal_stem_cjk(edges, &given));
+    };
+    wrong(
+        CjkStem {
+            rule: WidthRule::Snap(&[2, 1]),
+            ..STEM
+        },
+        Refusal::BadParameter,
+    );
+    wrong(CjkStem { edge2: 2, ..STEM }, Refusal::BadIndex);
+    wrong(
+        CjkStem {
+            delta: 16_384,
+            ..STEM
+        },
+        Refusal::OutOfRange,
+    );
+}
+
+#[test]
+fn stem_pass() {
+    let [low, high] = [at(100).with_link(Some(2)), at(160).with_link(Some(1))];
+    let mut edges = [at(0).with_flags(Flags::DONE), low, high, at(300)];
+    let pass = StemPass {
+        anchor: Some(0),
+        ..PASS
+    };
+    let stems = Stems {
+        passed_over: 1,
+        anchor: Some(0),
+    };
+    assert_eq!(align_stem_edges(&mut edges, &pass), Ok(stems));
+    assert_eq!(edges.map(|edge| edge.pos()), [0, 130, 190, 300]);
+    assert!(edges[1].flags().contains(Flags::DONE));
+    let none = Stems {
+        passed_over: 0,
+        anchor: None,
+    };
+    assert_eq!(align_stem_edges(&mut [], &PASS), Ok(none));
+    refuses_edges(&edges, |edges| align_stem_edges(edges, &PASS));
+    let wrong = |given: StemPass<'static>, refusal| {
+        refused(&edges, refusal, |edges| align_stem_edges(edges, &given));
+    };
+    wrong(
+        StemPass {
+            rule: WidthRule::Snap(&[16_384]),
+            ..PASS
+        },
+        Refusal::BadParameter,
+    );
+    wrong(
+        StemPass {
+            anchor: Some(4),
+            ..PASS
+        },
+        Refusal::BadIndex,
+    );
+}
+
+#[test]
+fn lowercase_m() {
+    let mut edges = [Edge::default(); 6];
+    for (stem, opos, pos) in [(0, 0, 0), (2, 100, 128), (4, 207, 270)] {
+        edges[stem] = at(opos).with_pos(pos);
+    }
+    let before = edges;
+    assert_eq!(hint_lowercase_m(&mut edges, Group::Cjk), Ok(()));
+    assert_eq!(edges, before);
+    assert_eq!(hint_lowercase_m(&mut edges, Group::Latin), Ok(()));
+    assert_eq!((edges[4].pos(), edges[4].flags()), (256, Flags::DONE));
+    refuses_edges(&edges, |edges| hint_lowercase_m(edges, Group::Latin));
+    refused(&edges[..5], Refusal::BadParameter, |edges| {
+        hint_lowercase_m(edges, Group::Latin)
+    });
+}

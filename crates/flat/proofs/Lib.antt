@@ -1,0 +1,2 @@
+-- Which words the calls over lent edges leave.
+pub mod Kept

@@ -1,0 +1,81 @@
+-- Every exported function determines its answer and what everything lent holds: two outcomes that its promise allows coincide.
+use mathlib.Core.Path.{_≡_, sym, _∙_}
+use mathlib.Core.List.{List}
+use Prim.Native.Nat.{ℕ}
+use lib.IntN.{ℤ}
+use Rattle.middle.specs.Middle.{ComputesMidPos, ComputesMidDelta}
+use Rattle.outline.specs.Weak.{Outcome}
+use Rattle.outline.proofs.Outcomes as Weak
+use Rattle.building.specs.declared.numbers.Thresholds.{Thresholds}
+use Rattle.lent.proofs.Determined.{lent-determined}
+use Rattle.flat_segments.specs.Link.{LinkingLent}
+use Rattle.flat_segments.specs.Build.{BuiltLent}
+use Rattle.flat_stems.specs.Zones.{ZonesLent}
+use Rattle.flat_stems.specs.Stem.{StemLent}
+use Rattle.flat_stems.specs.Stems.{StemsLent}
+use Rattle.flat.specs.Fit.{LinkedLent, SerifLent, AdjustLent, BoundsLent}
+use Rattle.flat.specs.M.{MLent}
+
+-- `khs_compute_mid_pos`
+pub mid-pos-determined : (min max : ℤ) {r r′ : ℤ} → ComputesMidPos min max r → ComputesMidPos min max r′ → r ≡ r′
+mid-pos-determined min max a b = a ∙ sym b
+
+-- `khs_compute_mid_delta`
+pub mid-delta-determined : (min max : ℤ) {r r′ : ℤ} → ComputesMidDelta min max r → ComputesMidDelta min max r′ → r ≡ r′
+mid-delta-determined min max a b = a ∙ sym b
+
+-- `khs_align_weak_points`
+pub weak-determined : (o c : List ℤ) (t es : List ℕ) {r r′ : ℕ} {now now′ : List ℤ} → Outcome o c t es r now → Outcome o c t es r′ now′ → (r ≡ r′) × (now ≡ now′)
+weak-determined o c t es {r} {r′} {now} {now′} a b = Weak.determined o c t es r r′ now now′ a b
+
+-- `khs_link_segments_cjk`
+pub linking-determined :
+    (ws : List ℤ) (major upem scale : ℤ) {r r′ : ℕ} {now now′ : List ℤ}
+    → LinkingLent ws major upem scale r now → LinkingLent ws major upem scale r′ now′ → (r ≡ r′) × (now ≡ now′)
+linking-determined ws major upem scale a b = lent-determined a b
+
+-- `khs_compute_edges`
+pub building-determined :
+    (ws room : List ℤ) (dim major group ttb scale : ℤ) (t : Thresholds) (count : ℤ) {r r′ : ℕ} {now now′ : List ℤ × (List ℤ × ℤ)}
+    → BuiltLent ws room dim major group ttb scale t count r now → BuiltLent ws room dim major group ttb scale t count r′ now′ → (r ≡ r′) × (now ≡ now′)
+building-determined ws room dim major group ttb scale t count a b = lent-determined a b
+
+-- `khs_align_edges_to_blues`
+pub zones-determined :
+    (ws : List ℤ) (dim group rule : ℤ) (standards : List ℤ) (anchor : ℤ) {r r′ : ℕ} {now now′ : List ℤ × ℤ}
+    → ZonesLent ws dim group rule standards anchor r now → ZonesLent ws dim group rule standards anchor r′ now′ → (r ≡ r′) × (now ≡ now′)
+zones-determined ws dim group rule standards anchor a b = lent-determined a b
+
+-- `khs_align_linked_edge`
+pub linked-determined :
+    (ws : List ℤ) (rule : ℤ) (standards : List ℤ) (base stem : ℤ) {r r′ : ℕ} {now now′ : List ℤ}
+    → LinkedLent ws rule standards base stem r now → LinkedLent ws rule standards base stem r′ now′ → (r ≡ r′) × (now ≡ now′)
+linked-determined ws rule standards base stem a b = lent-determined a b
+
+-- `khs_align_serif_edge`
+pub serif-determined : (ws : List ℤ) (base serif : ℤ) {r r′ : ℕ} {now now′ : List ℤ} → SerifLent ws base serif r now → SerifLent ws base serif r′ now′ → (r ≡ r′) × (now ≡ now′)
+serif-determined ws base serif a b = lent-determined a b
+
+-- `khs_adjust_link`
+pub adjust-determined : (ws : List ℤ) (edge dir ttb : ℤ) {r r′ : ℕ} {now now′ : List ℤ} → AdjustLent ws edge dir ttb r now → AdjustLent ws edge dir ttb r′ now′ → (r ≡ r′) × (now ≡ now′)
+adjust-determined ws edge dir ttb a b = lent-determined a b
+
+-- `khs_latin_remaining_bounds`
+pub bounds-determined : (ws : List ℤ) (edge : ℤ) (old : ℤ × ℤ) {r r′ : ℕ} {now now′ : ℤ × ℤ} → BoundsLent ws edge old r now → BoundsLent ws edge old r′ now′ → (r ≡ r′) × (now ≡ now′)
+bounds-determined ws edge old a b = lent-determined a b
+
+-- `khs_hint_normal_stem_cjk`
+pub stem-determined :
+    (ws : List ℤ) (dim adjust rule : ℤ) (standards : List ℤ) (edge edge2 delta own : ℤ) {r r′ : ℕ} {now now′ : List ℤ × ℤ}
+    → StemLent ws dim adjust rule standards edge edge2 delta own r now → StemLent ws dim adjust rule standards edge edge2 delta own r′ now′ → (r ≡ r′) × (now ≡ now′)
+stem-determined ws dim adjust rule standards edge edge2 delta own a b = lent-determined a b
+
+-- `khs_align_stem_edges`
+pub stems-determined :
+    (ws : List ℤ) (dim group adjust ttb anchor rule : ℤ) (standards : List ℤ) (count found : ℤ) {r r′ : ℕ} {now now′ : List ℤ × (ℤ × ℤ)}
+    → StemsLent ws dim group adjust ttb anchor rule standards count found r now → StemsLent ws dim group adjust ttb anchor rule standards count found r′ now′ → (r ≡ r′) × (now ≡ now′)
+stems-determined ws dim group adjust ttb anchor rule standards count found a b = lent-determined a b
+
+-- `khs_hint_lowercase_m`
+pub m-determined : (ws : List ℤ) (group : ℤ) {r r′ : ℕ} {now now′ : List ℤ} → MLent ws group r now → MLent ws group r′ now′ → (r ≡ r′) × (now ≡ now′)
+m-determined ws group a b = lent-determined a b

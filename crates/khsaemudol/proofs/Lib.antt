@@ -1,0 +1,2 @@
+-- That every exported function determines its outcome.
+pub mod Determined

@@ -1,0 +1,125 @@
+//! The library's functions as include/khsaemudol.h declares them, and what memory is lent with.
+
+extern "C" {
+    pub fn khs_compute_mid_pos(min: i32, max: i32) -> i16;
+    pub fn khs_compute_mid_delta(min: i32, max: i32) -> i16;
+    pub fn khs_align_weak_points(
+        originals: *const i32,
+        originals_len: usize,
+        currents: *mut i32,
+        currents_len: usize,
+        touched: *const u8,
+        touched_len: usize,
+        ends: *const u16,
+        ends_len: usize,
+    ) -> u8;
+    pub fn khs_link_segments_cjk(
+        segments: *mut i32,
+        segments_len: usize,
+        major_dir: i32,
+        units_per_em: i32,
+        scale: i32,
+    ) -> u8;
+    pub fn khs_compute_edges(
+        segments: *mut i32,
+        segments_len: usize,
+        edges: *mut i32,
+        edges_len: usize,
+        dim: i32,
+        major_dir: i32,
+        group: i32,
+        top_to_bottom: i32,
+        scale: i32,
+        distance: i32,
+        length: i32,
+        width: i32,
+        count: *mut i32,
+    ) -> u8;
+    pub fn khs_align_edges_to_blues(
+        edges: *mut i32,
+        edges_len: usize,
+        dim: i32,
+        group: i32,
+        rule: i32,
+        standards: *const i32,
+        standards_len: usize,
+        anchor: *mut i32,
+    ) -> u8;
+    pub fn khs_align_linked_edge(
+        edges: *mut i32,
+        edges_len: usize,
+        rule: i32,
+        standards: *const i32,
+        standards_len: usize,
+        base: i32,
+        stem: i32,
+    ) -> u8;
+    pub fn khs_align_serif_edge(edges: *mut i32, edges_len: usize, base: i32, serif: i32) -> u8;
+    pub fn khs_adjust_link(
+        edges: *mut i32,
+        edges_len: usize,
+        edge: i32,
+        dir: i32,
+        top_to_bottom: i32,
+    ) -> u8;
+    pub fn khs_latin_remaining_bounds(
+        edges: *const i32,
+        edges_len: usize,
+        edge: i32,
+        lower: *mut i32,
+        upper: *mut i32,
+    ) -> u8;
+    pub fn khs_hint_normal_stem_cjk(
+        edges: *mut i32,
+        edges_len: usize,
+        dim: i32,
+        stem_adjust: i32,
+        rule: i32,
+        standards: *const i32,
+        standards_len: usize,
+        edge: i32,
+        edge2: i32,
+        delta: i32,
+        own_delta: *mut i32,
+    ) -> u8;
+    pub fn khs_align_stem_edges(
+        edges: *mut i32,
+        edges_len: usize,
+        dim: i32,
+        group: i32,
+        stem_adjust: i32,
+        top_to_bottom: i32,
+        anchor: i32,
+        rule: i32,
+        standards: *const i32,
+        standards_len: usize,
+        count: *mut i32,
+        found: *mut i32,
+    ) -> u8;
+    pub fn khs_hint_lowercase_m(edges: *mut i32, edges_len: usize, group: i32) -> u8;
+}
+
+// Linux's C library; the numbers below are the same on its processors.
+extern "C" {
+    pub fn mmap(
+        at: *mut u8,
+        len: usize,
+        protection: i32,
+        flags: i32,
+        file: i32,
+        offset: i64,
+    ) -> *mut u8;
+    pub fn mprotect(at: *mut u8, len: usize, protection: i32) -> i32;
+    pub fn signal(number: i32, handler: extern "C" fn(i32)) -> usize;
+    pub fn _exit(status: i32) -> !;
+}
+
+/// Memory that can be neither read nor written.
+pub const PROT_NONE: i32 = 0;
+/// Memory that can be both.
+pub const PROT_READ_WRITE: i32 = 3;
+/// Memory of this process, of no file.
+pub const MAP_PRIVATE_ANONYMOUS: i32 = 0x22;
+/// The signals of a read or write outside memory.
+pub const SIGBUS: i32 = 7;
+pub const SIGSEGV: i32 = 11;

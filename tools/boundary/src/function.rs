@@ -1,0 +1,395 @@
+//! The functions over edges or segments, and what C passes to them.
+
+use crate::{
+    ffi,
+    memory::{Memory, Side},
+};
+use std::ptr;
+
+/// Edges or segments as words.
+pub struct Record {
+    pub name: &'static str,
+    /// The words of one.
+    pub words: usize,
+    /// The most of them in a list.
+    pub most: usize,
+    /// The least and the largest value of each word.
+    pub fields: &'static [(i32, i32)],
+    /// Where the words are that the made-up faults change.
+    pub flags: usize,
+    pub measure: usize,
+    pub link: usize,
+}
+
+const ANY: (i32, i32) = (i32::MIN, i32::MAX);
+const SHORT: (i32, i32) = (-32_768, 32_767);
+const FLAGS: (i32, i32) = (0, 15);
+const DIRECTION: (i32, i32) = (0, 4);
+const CHOICE: (i32, i32) = (0, 1);
+const INDEX: (i32, i32) = (0, 65_535);
+const LINK: (i32, i32) = (-1, 65_535);
+
+/// An edge: fpos, opos, pos, flags, dir, blue, blue_fitted, link, serif, first, last.
+pub static EDGE: Record = Record {
+    name: "edges",
+    words: 11,
+    most: 128,
+    fields: &[
+        SHORT, ANY, ANY, FLAGS, DIRECTION, CHOICE, ANY, LINK, LINK, INDEX, INDEX,
+    ],
+    flags: 3,
+    measure: 1,
+    link: 7,
+};
+
+/// A segment: flags, dir, pos, delta, min_coord, max_coord, height, score, len, link, serif, first, last, edge, next.
+pub static SEGMENT: Record = Record {
+    name: "segments",
+    words: 15,
+    most: 512,
+    fields: &[
+        FLAGS, DIRECTION, SHORT, SHORT, SHORT, SHORT, SHORT, ANY, ANY, LINK, LINK, INDEX, INDEX,
+        LINK, LINK,
+    ],
+    flags: 0,
+    measure: 7,
+    link: 9,
+};
+
+/// Where an edge says whether it has a zone, and where that comes to, which is 0 without one.
+pub const BLUE: usize = 5;
+pub const FITTED: usize = 6;
+
+/// The words of an edge behind those that were built.
+pub const EMPTY_EDGE: [i32; 11] = [0, 0, 0, 0, 0, 0, 0, -1, -1, 0, 0];
+
+/// What a number of a call is.
+#[derive(Copy, Clone, PartialEq, Debug)]
+pub enum Kind {
+    /// 0 or 1.
+    Choice,
+    /// 0 to 4.
+    Direction,
+    /// An edge named in the call.
+    Named,
+    /// An edge or none.
+    Anchor,
+    /// Any word, held to document 01's limits.
+    Free,
+}
+
+use Kind::{Anchor, Choice, Direction, Free, Named};
+
+/// A function over edges or segments.
+pub struct Function {
+    pub name: &'static str,
+    /// The call's word in a job.
+    pub call: i32,
+    pub record: &'static Record,
+    /// Its numbers, in their order.
+    pub numbers: &'static [Kind],
+    /// Which of them is the width rule, whose standards stand behind it.
+    pub rule: Option<usize>,
+    /// Numbers that are accepted.
+    pub plain: &'static [i32],
+    /// Which of them is the scale, at least 1.
+    pub scale: Option<usize>,
+    /// How many places it is lent for results.
+    pub places: usize,
+}
+
+/// All of them.
+pub static FUNCTIONS: [Function; 10] = [
+    Function {
+        name: "khs_link_segments_cjk",
+        call: 4,
+        record: &SEGMENT,
+        numbers: &[Direction, Free, Free],
+        rule: None,
+        plain: &[1, 1_000, 65_536],
+        scale: Some(2),
+        places: 0,
+    },
+    Function {
+        name: "khs_compute_edges",
+        call: 5,
+        record: &SEGMENT,
+        numbers: &[Choice, Direction, Choice, Choice, Free, Free, Free, Free],
+        rule: None,
+        plain: &[1, 1, 0, 0, 65_536, 3, 0, 65_535],
+        scale: Some(4),
+        places: 1,
+    },
+    Function {
+        name: "khs_align_edges_to_blues",
+        call: 6,
+        record: &EDGE,
+        numbers: &[Choice, Choice, Choice],
+        rule: Some(2),
+        plain: &[1, 0, 0],
+        scale: None,
+        places: 1,
+    },
+    Function {
+        name: "khs_align_linked_edge",
+        call: 7,
+        record: &EDGE,
+        numbers: &[Choice, Named, Named],
+        rule: Some(0),
+        plain: &[0, 0, 1],
+        scale: None,
+        places: 0,
+    },
+    Function {
+        name: "khs_align_serif_edge",
+        call: 8,
+        record: &EDGE,
+        numbers: &[Named, Named],
+        rule: None,
+        plain: &[0, 1],
+        scale: None,
+        places: 0,
+    },
+    Function {
+        name: "khs_adjust_link",
+        call: 9,
+        record: &EDGE,
+        numbers: &[Named, Choice, Choice],
+        rule: None,
+        plain: &[1, 0, 0],
+        scale: None,
+        places: 0,
+    },
+    Function {
+        name: "khs_latin_remaining_bounds",
+        call: 10,
+        record: &EDGE,
+        numbers: &[Named],
+        rule: None,
+        plain: &[1],
+        scale: None,
+        places: 2,
+    },
+    Function {
+        name: "khs_hint_normal_stem_cjk",
+        call: 11,
+        record: &EDGE,
+        numbers: &[Choice, Choice, Choice, Named, Named, Free],
+        rule: Some(2),
+        plain: &[0, 0, 0, 0, 1, 0],
+        scale: None,
+        places: 1,
+    },
+    Function {
+        name: "khs_align_stem_edges",
+        call: 12,
+        record: &EDGE,
+        numbers: &[Choice, Choice, Choice, Choice, Anchor, Choice],
+        rule: Some(5),
+        plain: &[0, 0, 0, 0, -1, 0],
+        scale: None,
+        places: 2,
+    },
+    Function {
+        name: "khs_hint_lowercase_m",
+        call: 13,
+        record: &EDGE,
+        numbers: &[Choice],
+        rule: None,
+        plain: &[0],
+        scale: None,
+        places: 0,
+    },
+];
+
+/// The call that builds edges, the call that finds bounds, which does not write its edges, and the m rule.
+pub const BUILDING: i32 = 5;
+pub const BOUNDS: i32 = 10;
+pub const LOWERCASE_M: i32 = 13;
+
+/// What everything lent holds, before a call or after it.
+#[derive(Clone, PartialEq, Debug)]
+pub struct Lent {
+    /// The words of the edges or segments.
+    pub table: Vec<i32>,
+    /// Building's room for edges.
+    pub room: Vec<i32>,
+    pub standards: Vec<i32>,
+    /// The places for results.
+    pub places: Vec<i32>,
+}
+
+/// What a function is given.
+#[derive(Clone, Debug)]
+pub struct Given {
+    pub lent: Lent,
+    /// A list of so many words that cannot be read, more than the limit, stands in the table's place, which is empty.
+    pub shut: Option<usize>,
+    pub numbers: Vec<i32>,
+}
+
+impl Given {
+    /// The length of the table, in words.
+    pub fn table_len(&self) -> usize {
+        self.shut.unwrap_or(self.lent.table.len())
+    }
+}
+
+/// What a function did.
+#[derive(Clone, PartialEq, Debug)]
+pub struct Outcome {
+    pub answer: u8,
+    pub lent: Lent,
+}
+
+/// The memory that everything is lent in.
+pub struct Memories {
+    table: Memory,
+    room: Memory,
+    standards: Memory,
+    places: [Memory; 2],
+}
+
+impl Memories {
+    /// Memory of its own for each list and each place.
+    pub fn new() -> Self {
+        Self {
+            table: Memory::new(),
+            room: Memory::new(),
+            standards: Memory::new(),
+            places: [Memory::new(), Memory::new()],
+        }
+    }
+
+    /// Whether nothing beside a list was written.
+    fn are_guarded(&self, places: usize) -> bool {
+        let lists = [&self.table, &self.room, &self.standards];
+        lists
+            .into_iter()
+            .chain(&self.places[..places])
+            .all(Memory::is_guarded)
+    }
+
+    /// What everything lent holds now.
+    fn held(&self, places: usize) -> Lent {
+        Lent {
+            table: self.table.held().to_vec(),
+            room: self.room.held().to_vec(),
+            standards: self.standards.held().to_vec(),
+            places: self.places[..places]
+                .iter()
+                .map(|place| place.held()[0])
+                .collect(),
+        }
+    }
+}
+
+/// Calls a function, each list at one side of its memory; none where something beside a list was written.
+pub fn run(
+    function: &Function,
+    given: &Given,
+    memories: &mut Memories,
+    side: Side,
+) -> Option<Outcome> {
+    let table = match given.shut {
+        Some(_) => memories.table.shut(),
+        None => memories.table.lend(&given.lent.table, side),
+    };
+    let room = memories.room.lend(&given.lent.room, side);
+    let standards = memories.standards.lend(&given.lent.standards, side);
+    let mut places = [ptr::null_mut(); 2];
+    for (ix, place) in given.lent.places.iter().enumerate() {
+        places[ix] = memories.places[ix].lend(&[*place], side);
+    }
+    let lists = Pointers {
+        table,
+        table_len: given.table_len(),
+        room,
+        room_len: given.lent.room.len(),
+        standards,
+        standards_len: given.lent.standards.len(),
+        places,
+    };
+    let answer = call(function.call, &lists, &given.numbers);
+    memories.are_guarded(function.places).then(|| Outcome {
+        answer,
+        lent: memories.held(function.places),
+    })
+}
+
+/// The lists of a call, as they are passed.
+struct Pointers {
+    table: *mut i32,
+    table_len: usize,
+    room: *mut i32,
+    room_len: usize,
+    standards: *const i32,
+    standards_len: usize,
+    places: [*mut i32; 2],
+}
+
+/// Passes lists and numbers to a function.
+fn call(call: i32, lists: &Pointers, n: &[i32]) -> u8 {
+    let Pointers {
+        table,
+        table_len: len,
+        room,
+        room_len,
+        standards,
+        standards_len,
+        places: [first, second],
+    } = *lists;
+    // SAFETY: each pointer and length is of one list in memory of its own, but for a list that cannot be read: that one is too long, or not of whole records, and a
+    // function that looked into it would be stopped.
+    unsafe {
+        match call {
+            4 => ffi::khs_link_segments_cjk(table, len, n[0], n[1], n[2]),
+            5 => ffi::khs_compute_edges(
+                table, len, room, room_len, n[0], n[1], n[2], n[3], n[4], n[5], n[6], n[7], first,
+            ),
+            6 => ffi::khs_align_edges_to_blues(
+                table,
+                len,
+                n[0],
+                n[1],
+                n[2],
+                standards,
+                standards_len,
+                first,
+            ),
+            7 => ffi::khs_align_linked_edge(table, len, n[0], standards, standards_len, n[1], n[2]),
+            8 => ffi::khs_align_serif_edge(table, len, n[0], n[1]),
+            9 => ffi::khs_adjust_link(table, len, n[0], n[1], n[2]),
+            10 => ffi::khs_latin_remaining_bounds(table, len, n[0], first, second),
+            11 => ffi::khs_hint_normal_stem_cjk(
+                table,
+                len,
+                n[0],
+                n[1],
+                n[2],
+                standards,
+                standards_len,
+                n[3],
+                n[4],
+                n[5],
+                first,
+            ),
+            12 => ffi::khs_align_stem_edges(
+                table,
+                len,
+                n[0],
+                n[1],
+                n[2],
+                n[3],
+                n[4],
+                n[5],
+                standards,
+                standards_len,
+                first,
+                second,
+            ),
+            13 => ffi::khs_hint_lowercase_m(table, len, n[0]),
+            _ => unreachable!("no function has this call"),
+        }
+    }
+}

@@ -1,0 +1,110 @@
+/* Prints how much stack each function of the library wrote to, in bytes: the stack below is painted, the function called on full lists, and the lowest byte looked for that changed. */
+#include "khsaemudol.h"
+
+int printf(const char *format, ...);
+
+enum { DEPTH = 1 << 20, NEAR = 512, PAINT = 0xA5, POINTS = 4096, STANDARDS = 16 };
+
+static struct khs_segment segments[KHS_MOST_SEGMENTS];
+static struct khs_edge edges[KHS_MOST_EDGES];
+static int32_t originals[POINTS], currents[POINTS], standards[STANDARDS];
+static uint8_t touched[POINTS];
+static uint16_t ends[POINTS / 4];
+static int32_t first, second;
+
+/* The choices that a function is called with in turn: dimension, group, order, and whether widths are snapped. */
+static int32_t dim, group, order, rule;
+
+static int32_t *edge_words(void) { return (int32_t *)edges; }
+static int32_t *segment_words(void) { return (int32_t *)segments; }
+
+enum { EDGE_LIST = KHS_MOST_EDGES * KHS_EDGE_WORDS, SEGMENT_LIST = KHS_MOST_SEGMENTS * KHS_SEGMENT_WORDS };
+
+static uint8_t weak(void) { return khs_align_weak_points(originals, POINTS, currents, POINTS, touched, POINTS, ends, POINTS / 4); }
+static uint8_t linking(void) { return khs_link_segments_cjk(segment_words(), SEGMENT_LIST, KHS_DIR_UP, 1000, 65536); }
+static uint8_t building(void) {
+    return khs_compute_edges(segment_words(), SEGMENT_LIST, edge_words(), EDGE_LIST, dim, KHS_DIR_UP, group, order, 65536, 3, 0, 65535, &first);
+}
+static uint8_t blues(void) { return khs_align_edges_to_blues(edge_words(), EDGE_LIST, dim, group, rule, standards, STANDARDS, &first); }
+static uint8_t linked(void) { return khs_align_linked_edge(edge_words(), EDGE_LIST, rule, standards, STANDARDS, 1, 2); }
+static uint8_t serif(void) { return khs_align_serif_edge(edge_words(), EDGE_LIST, 1, 2); }
+static uint8_t adjust(void) { return khs_adjust_link(edge_words(), EDGE_LIST, 2, dim, order); }
+static uint8_t bounds(void) { return khs_latin_remaining_bounds(edge_words(), EDGE_LIST, 2, &first, &second); }
+static uint8_t stem(void) { return khs_hint_normal_stem_cjk(edge_words(), EDGE_LIST, dim, group, rule, standards, STANDARDS, 1, 2, 3, &first); }
+static uint8_t stems(void) {
+    return khs_align_stem_edges(edge_words(), EDGE_LIST, dim, group, order, order, KHS_NONE, rule, standards, STANDARDS, &first, &second);
+}
+static uint8_t lowercase_m(void) { return khs_hint_lowercase_m(edge_words(), 12 * KHS_EDGE_WORDS, group); }
+
+static const struct {
+    const char *name;
+    uint8_t (*call)(void);
+} calls[] = {{"khs_align_weak_points", weak}, {"khs_link_segments_cjk", linking}, {"khs_compute_edges", building}, {"khs_align_edges_to_blues", blues},
+             {"khs_align_linked_edge", linked}, {"khs_align_serif_edge", serif}, {"khs_adjust_link", adjust}, {"khs_latin_remaining_bounds", bounds},
+             {"khs_hint_normal_stem_cjk", stem}, {"khs_align_stem_edges", stems}, {"khs_hint_lowercase_m", lowercase_m}};
+
+/* Segments in pairs, the pairs on 128 heights; edges in stems, each with a zone or done here and there; points touched here and there. */
+static void fill(void) {
+    for (int32_t i = 0; i < KHS_MOST_SEGMENTS; i++) {
+        segments[i] = (struct khs_segment){
+            .dir = i % 2 == 0 ? KHS_DIR_UP : KHS_DIR_DOWN,
+            .pos = i % 128 * 40,
+            .min_coord = i,
+            .max_coord = i + 500,
+            .height = 500,
+            .score = 32000,
+            .link = i ^ 1,
+            .serif = KHS_NONE,
+            .edge = KHS_NONE,
+            .next = KHS_NONE,
+        };
+    }
+    for (int32_t i = 0; i < KHS_MOST_EDGES; i++) {
+        edges[i] = (struct khs_edge){
+            .fpos = 40 * i, .opos = 40 * i, .pos = 40 * i, .blue = i % 9 == 0, .blue_fitted = i % 9 == 0 ? 64 * i : 0, .link = i ^ 1, .serif = KHS_NONE};
+    }
+    for (int32_t i = 0; i < POINTS; i++) {
+        originals[i] = i % 100 * 7;
+        currents[i] = originals[i] + 9;
+        touched[i] = i % 3 == 0;
+    }
+    for (int32_t i = 0; i < POINTS / 4; i++) {
+        ends[i] = (uint16_t)(4 * i + 3);
+    }
+    for (int32_t i = 0; i < STANDARDS; i++) {
+        standards[i] = 30 * (i + 1);
+    }
+}
+
+/* The bytes below this frame that a call wrote to; what is nearest is the measure's own. */
+__attribute__((noinline)) static size_t depth(uint8_t (*call)(void), uint8_t *answer) {
+    volatile uint8_t *top = (volatile uint8_t *)__builtin_frame_address(0) - NEAR;
+    for (volatile uint8_t *p = top - DEPTH; p < top; p++) {
+        *p = PAINT;
+    }
+    *answer = call();
+    volatile uint8_t *p = top - DEPTH;
+    while (p < top && *p == PAINT) {
+        p++;
+    }
+    return (size_t)(top - p) + NEAR;
+}
+
+int main(void) {
+    for (size_t i = 0; i < sizeof calls / sizeof calls[0]; i++) {
+        size_t most = 0;
+        for (int choices = 0; choices < 16; choices++) {
+            uint8_t answer;
+            dim = choices & 1, group = choices >> 1 & 1, order = choices >> 2 & 1, rule = choices >> 3;
+            fill();
+            size_t bytes = depth(calls[i].call, &answer);
+            most = bytes > most ? bytes : most;
+            if (answer != KHS_DONE) {
+                printf("%s was refused by %d\n", calls[i].name, answer);
+                return 1;
+            }
+        }
+        printf("%-28s %7lu bytes, %3lu KiB\n", calls[i].name, (unsigned long)most, (unsigned long)(most + 1023) / 1024);
+    }
+    return 0;
+}
