@@ -196,6 +196,8 @@ uint8_t khs_hint_normal_stem_cjk(int32_t *edges, size_t edges_len, int32_t dim, 
  * dim: a dimension. group: a group. stem_adjust: 0 or 1, read for KHS_CJK. top_to_bottom: 0 or 1, the order in which the edges were built, read for KHS_LATIN.
  * anchor: the edge that KHS_LATIN's stems are placed by, as khs_align_edges_to_blues hands it back, or KHS_NONE: then the first stem is placed by itself and is
  * the anchor of the others. For KHS_CJK every stem that is placed with both its edges becomes the anchor. rule, standards: the width rule.
+ * Beside an anchor, a thin stem's centre moves at most half a pixel from where the anchor's shift puts it, before its edge is held to the previous one (thin: the
+ * default group, a fitted width below 96, and a link that is neither done nor on a zone).
  * Writes pos and flags of edges; count, how many edges were passed over; found, the anchor afterwards, or KHS_NONE.
  * Answers: KHS_DONE, KHS_TOO_LONG, KHS_BAD_PARAMETER, KHS_BAD_INDEX, KHS_OUT_OF_RANGE, KHS_NOT_WORDS. */
 uint8_t khs_align_stem_edges(int32_t *edges, size_t edges_len, int32_t dim, int32_t group, int32_t stem_adjust, int32_t top_to_bottom, int32_t anchor,

@@ -1,11 +1,9 @@
 -- How far from its ends a stem's edges can be placed.
-use Prim.Native.Nat.{ℕ, _+_, _≤_}
+use Prim.Native.Nat.{ℕ, _+_}
 use native.Mathlib.Omega.{arith}
 use lib.Dec.{ltb}
 use lib.IntN.{ℤ, pos, _+ℤ_, _-ℤ_}
-use lib.Signed.{ltZ, leZ, quotZ, shrZ}
-use Rattle.signed.specs.Distance.{distance}
-use Rattle.signed.specs.Parts.{up, dn}
+use lib.Signed.{ltZ, quotZ, shrZ}
 use Rattle.signed.specs.Range.{Between}
 use Rattle.signed.proofs.Operations.{quot-up, quot-dn}
 use Rattle.signed.proofs.Signed.{add-law, sub-law, shr-law}
@@ -14,33 +12,13 @@ use Rattle.fixed.specs.Pixel.{pixRound}
 use Rattle.fixed.proofs.Pixels.{round-law}
 use Rattle.axis.specs.Limits.{mostUnits}
 use Rattle.stem_latin.specs.Latin.{mostStart, mostLength, mostWidth, mostCentre}
-use Rattle.stem_latin.specs.Latin.{centreOf, lowerOffset, upperOffset, lowerCentre, upperCentre, nearerCentre}
-use Rattle.stem_latin.specs.Latin.{thinCentre, thinFirst, thinSecond, byFirst, bySecond, centreMove, wideFirst, anchoredFirst, anchoredSecond, freeFirst}
+use Rattle.stem_latin.specs.Latin.{centreOf, thinCentre, thinFirst, thinSecond, byFirst, bySecond, centreMove, wideFirst, anchoredFirst, anchoredSecond, freeFirst}
+use Rattle.stem_latin.proofs.Chosen.{chosen-near}
 
 -- ---- the centre
--- r is at most n from c
-pub record Near (n : ℕ) (c r : ℤ) : Type 0 where
-  pub low : up c + dn r ≤ up r + dn c + n
-  pub high : up r + dn c ≤ up c + dn r + n
-
 pub centre-range : (start l : ℤ) → Between mostStart mostStart start → Between mostLength mostLength l → Between mostCentre mostCentre (centreOf start l)
 unfolding centreOf
 centre-range start l h g = omega (arith, add-law start (shrZ l 2), shr-law l 2 tt)
-
--- both candidates are within a rounding and an offset of the centre
-nearer-near : (c u d : ℤ) → Between 0 38 u → Between 0 38 d → Near 70 c (nearerCentre c u d)
-unfolding nearerCentre
-nearer-near c u d h g =
-    either-way (Near 70 c) (ltb (distance c (lowerCentre c u)) (distance c (upperCentre c d))) (lowerCentre c u) (upperCentre c d)
-    (omega (arith, round-law c, sub-law (pixRound c) u))
-    (omega (arith, round-law c, add-law (pixRound c) d))
-
-pub thin-near : (c w : ℤ) → Near 70 c (thinCentre c w)
-unfolding thinCentre lowerOffset upperOffset
-thin-near c w =
-    nearer-near c _ _
-    (either-way (Between 0 38) (leZ w (pos 64)) (pos 32) (pos 38) (omega arith) (omega arith))
-    (either-way (Between 0 38) (leZ w (pos 64)) (pos 32) (pos 26) (omega arith) (omega arith))
 
 -- ---- the first edge of a wide stem
 -- what holds of both candidates holds of it
@@ -98,13 +76,13 @@ thin-first-range : (b : ℕ) (start l w : ℤ) → Ends b start l w → Placed b
 unfolding thinFirst
 thin-first-range b start l w h =
     let m = thinCentre (centreOf start l) w in
-    omega (arith, h .width-within, centre-within b start l w h, thin-near (centreOf start l) w, sub-law m (quotZ w (pos 2)), quot-up w 2, quot-dn w 2)
+    omega (arith, h .width-within, centre-within b start l w h, chosen-near (centreOf start l) w, sub-law m (quotZ w (pos 2)), quot-up w 2, quot-dn w 2)
 
 thin-second-range : (b : ℕ) (start l w : ℤ) → Ends b start l w → Placed b (thinSecond start l w)
 unfolding thinSecond
 thin-second-range b start l w h =
     let m = thinCentre (centreOf start l) w in
-    omega (arith, h .width-within, centre-within b start l w h, thin-near (centreOf start l) w, add-law m (quotZ w (pos 2)), quot-up w 2, quot-dn w 2)
+    omega (arith, h .width-within, centre-within b start l w h, chosen-near (centreOf start l) w, add-law m (quotZ w (pos 2)), quot-up w 2, quot-dn w 2)
 
 pub wide-first-range : (b : ℕ) (start l w : ℤ) → Ends b start l w → Placed b (wideFirst start l w)
 wide-first-range b start l w h =
@@ -146,5 +124,5 @@ free-second-range b opos l w h =
     let m = thinCentre (centreOf opos l) w in
     let q = quotZ w (pos 2) in
     either-way (λ (z : ℤ). Placed b (z +ℤ w)) (ltZ w (pos 96)) (m -ℤ q) (pixRound opos)
-    (omega (arith, centre-within b opos l w h, thin-near (centreOf opos l) w, sub-law m q, add-law (m -ℤ q) w, quot-up w 2, quot-dn w 2))
+    (omega (arith, centre-within b opos l w h, chosen-near (centreOf opos l) w, sub-law m q, add-law (m -ℤ q) w, quot-up w 2, quot-dn w 2))
     (omega (arith, round-law opos, add-law (pixRound opos) w))

@@ -3,6 +3,7 @@ use mathlib.Core.Path.{_≡_, refl}
 use mathlib.Core.List.{List, [], _∷_, map}
 use Prim.Native.Nat.{ℕ}
 use lib.IntN.{ℤ, pos, negℤ}
+use Rattle.signed.specs.Distance.{distance}
 use Rattle.fixed.specs.Pixel.{pixFloor, pixRound}
 use Rattle.stem_latin.specs.Latin.{
   mostStart,
@@ -20,6 +21,7 @@ use Rattle.stem_latin.specs.Latin.{
   anchoredSecond,
   freeFirst,
 }
+use Rattle.stem_latin.specs.Centre.{lowerOf, upperOf}
 
 -- what a definition gives, and what it should
 pub record Row : Type 0 where
@@ -71,6 +73,21 @@ rows =
     (freeFirst (pos 100) (pos 95) (pos 95) is pos 107) ∷
     (freeFirst (pos 100) (pos 96) (pos 96) is pos 128) ∷
     (freeFirst (pos 16383) (minus 32766) (minus 32782) is pos 16423) ∷
+    -- request #112: half a pixel is reached, at a width of at most a pixel and above, where both candidates are as far and the upper is chosen
+    (lowerOf (pos 128) (pos 64) is pos 96) ∷
+    (upperOf (pos 128) (pos 64) is pos 160) ∷
+    (thinCentre (pos 128) (pos 64) is pos 160) ∷
+    (pos (distance (pos 128) (thinCentre (pos 128) (pos 64))) is pos 32) ∷
+    (lowerOf (pos 122) (pos 65) is pos 90) ∷
+    (upperOf (pos 122) (pos 65) is pos 154) ∷
+    (thinCentre (pos 122) (pos 65) is pos 154) ∷
+    (pos (distance (pos 122) (thinCentre (pos 122) (pos 65))) is pos 32) ∷
+    -- a unit below and above them, an upper candidate below the centre, a width of 0 and a negative one
+    (thinCentre (pos 127) (pos 64) is pos 96) ∷
+    (thinCentre (pos 121) (pos 65) is pos 90) ∷
+    (thinCentre (pos 159) (pos 95) is pos 154) ∷
+    (thinCentre (pos 64) (pos 0) is pos 96) ∷
+    (thinCentre (minus 64) (minus 10) is minus 32) ∷
     []
 
 -- each row holds

@@ -1,2 +1,3 @@
--- What the contracts of `stem_latin` cite.
+-- What the contracts of `stem_latin` cite, and the words of request #112.
 pub mod Latin
+pub mod Centre

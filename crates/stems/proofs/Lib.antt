@@ -1,5 +1,5 @@
 -- The laws by subject, each over plain variables; passes worked out by hand; then `Determined`, that the promise determines the outcome, `Changed`, what the call changes,
--- and `Handed`, where positions come to and what the call accepts.
+-- `Handed`, where positions come to and what the call accepts, and request #112: `Centre`.
 pub mod Straight
 pub mod Growth
 pub mod Kept
@@ -8,3 +8,4 @@ pub mod Worked
 pub mod Determined
 pub mod Changed
 pub mod Handed
+pub mod Centre

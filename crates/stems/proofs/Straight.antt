@@ -137,7 +137,7 @@ no-width Keep xs = refl
 no-width Snap [] = refl
 no-width Snap (x ∷ xs) = refl
 
-own-width : (rule : WidthRule) (xs : List ℤ) (o : ℤ) → fittedWidth rule xs (o -ℤ o) ≡ pos 0
+pub own-width : (rule : WidthRule) (xs : List ℤ) (o : ℤ) → fittedWidth rule xs (o -ℤ o) ≡ pos 0
 own-width rule xs o = let z : o -ℤ o ≡ pos 0 = same (omega (arith, sub-law o o)) in rw z (no-width rule xs)
 
 stem-alone : (m : Mode) (xs : List ℤ) (axis : Axis) (i k : ℕ) (d : ℤ) → i ≡ k → stemOf (m .dim) (m .«stem_adjust») (m .rule) xs (edgeAt axis i) (edgeAt axis k) d .width ≡ pos 0

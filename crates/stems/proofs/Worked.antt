@@ -4,10 +4,11 @@ use mathlib.Core.Bool.{Bool, true, false}
 use mathlib.Core.List.{List, [], _∷_}
 use Prim.Native.Nat.{ℕ}
 use lib.ListN.{length}
-use lib.IntN.{pos}
-use Rattle.fixed.specs.declared.width.WidthRule.the-variants.{Keep}
+use lib.IntN.{ℤ, pos}
+use Rattle.fixed.specs.declared.width.WidthRule.{WidthRule}
+use Rattle.fixed.specs.declared.width.WidthRule.the-variants.{Keep, Snap}
 use Rattle.fixed.specs.Pixel.{pixFloor, pixRound}
-use Rattle.fixed.specs.Width.{fittedWidth}
+use Rattle.fixed.specs.Width.{settled, snapped, fittedWidth}
 use Rattle.axis.specs.declared.kinds.Link.{Link}
 use Rattle.axis.specs.declared.kinds.Link.the-variants as Links
 use Rattle.axis.specs.declared.kinds.Direction.the-variants as Directions
@@ -33,9 +34,13 @@ edge o p l = joinedTo (placed (freshEdge (pos 0) (pos o) Directions.None 0) (pos
 abbrev axisOf : List Edge → Axis
 axisOf es = record { dim = Vertical; «major_dir» = Directions.None; edges = es; len = length es }
 
--- the pass with Keep and without STEM_ADJUST, by the group, top to bottom or not, the anchor and the edges
+-- the pass without STEM_ADJUST, by the width rule and its list, the group, top to bottom or not, the anchor and the edges
+abbrev passBy : WidthRule → List ℤ → Group → Bool → Link → List Edge → Stems
+passBy rule xs group ttb anchor es = stemsOf (modeOf (axisOf es) group false ttb rule) xs anchor (axisOf es)
+
+-- the same with Keep
 abbrev passOf : Group → Bool → Link → List Edge → Stems
-passOf group ttb anchor es = stemsOf (modeOf (axisOf es) group false ttb Keep) [] anchor (axisOf es)
+passOf = passBy Keep []
 
 pub record Worked : Type 0 where
   -- an edge with no link is counted, one that is done is not; the first stem, from 10 to 74, goes to 0 and 64 and is the anchor
@@ -52,10 +57,18 @@ pub record Worked : Type 0 where
   -- a CJK stem goes to 26 and 66; the next, whose first edge at 129 is less than 64 behind, is passed over, and both its edges are counted
   pub too-close : passOf Cjk false Links.None (edge 40 40 (Links.To 1) ∷ edge 80 80 (Links.To 0) ∷ edge 129 129 (Links.To 3) ∷ edge 170 170 (Links.To 2) ∷ [])
       ≡ stems 2 (Links.To 0) (axisOf (finished (edge 40 26 (Links.To 1)) ∷ finished (edge 80 66 (Links.To 0)) ∷ edge 129 129 (Links.To 3) ∷ edge 170 170 (Links.To 2) ∷ [])) 0
+  -- request #112: edge 1, linked to itself, has width 0 by either rule, and goes from 100 to the centre chosen, 96
+  pub self-linked : passOf Default false (Links.To 0) (finished (edge 0 0 Links.None) ∷ edge 100 100 (Links.To 1) ∷ [])
+      ≡ stems 0 (Links.To 0) (axisOf (finished (edge 0 0 Links.None) ∷ finished (edge 100 96 (Links.To 1)) ∷ [])) 0
+  pub self-linked-snap : passBy Snap (pos 10 ∷ []) Default false (Links.To 0) (finished (edge 0 0 Links.None) ∷ edge 100 100 (Links.To 1) ∷ [])
+      ≡ stems 0 (Links.To 0) (axisOf (finished (edge 0 0 Links.None) ∷ finished (edge 100 96 (Links.To 1)) ∷ [])) 0
+  -- an anchor that is the edge itself, at 110, and an odd width, 61: the stem's centre, 110 and half of 61, goes from 140 to 160
+  pub own-anchor : passOf Default false (Links.To 0) (edge 100 110 (Links.To 1) ∷ edge 161 200 (Links.To 0) ∷ [])
+      ≡ stems 0 (Links.To 0) (axisOf (finished (edge 100 130 (Links.To 1)) ∷ finished (edge 161 190 (Links.To 0)) ∷ [])) 0
 
 pub worked : Worked
 unfolding stemsOf visits visit visitLink tooClose isClose zoneStem groupStem latinStem besideAnchor cjkStem deltaAfter linkedPos lowerBound hasPassed
-    neighbour heldTo boundBy adjusted fittedWidth pixFloor pixRound centreOf lowerOffset upperOffset nearerCentre thinCentre thinFirst thinSecond
+    neighbour heldTo boundBy adjusted fittedWidth snapped settled pixFloor pixRound centreOf lowerOffset upperOffset nearerCentre thinCentre thinFirst thinSecond
     anchoredFirst anchoredSecond freeFirst maxGap gapOf pixelOffset narrowDelta offsetsDelta startOf clamped deltaOf stemAt stemOf placedStem
     hintedStem
-worked = record { first-stem = refl; second-edge = refl; bounded = refl; not-bounded = refl; too-close = refl }
+worked = record { first-stem = refl; second-edge = refl; bounded = refl; not-bounded = refl; too-close = refl; self-linked = refl; self-linked-snap = refl; own-anchor = refl }

@@ -8,7 +8,8 @@ use Rattle.signed.proofs.Operations.{quot-up, quot-dn}
 use Rattle.signed.proofs.Signed.{fits, is, got, _also_, signed}
 use Rattle.stem_latin.specs.Latin.{centreOf, thinCentre, thinFirst}
 use Rattle.signed.proofs.By.{by₂}
-use Rattle.stem_latin.proofs.Moves.{centre-range, thin-near}
+use Rattle.stem_latin.proofs.Chosen.{chosen-near}
+use Rattle.stem_latin.proofs.Moves.{centre-range}
 use borrow.Author.Needs.{needs}
 use Rattle.stem_latin.proofs.thin.thin_first.Statement.{statement}
 use Rattle.stem_latin.proofs.thin.thin_first.Tie as tie
@@ -45,7 +46,7 @@ sub-result c =
     let s = m .before .before in
     let e = chosen-is m also got w32 (m .thin-centre .result) (m .thin-centre .ok) also half-is c also got w32 (c .half .result) (c .half .ok) in
     let r = centre-range (s .args .start) (s .args .org-len) (s .pre .0) (s .pre .1) in
-    fits (omega (arith, signed, r, thin-near (centreOf (s .args .start) (s .args .org-len)) (s .args .width), quot-up (s .args .width) 2, quot-dn (s .args .width) 2))
+    fits (omega (arith, signed, r, chosen-near (centreOf (s .args .start) (s .args .org-len)) (s .args .width), quot-up (s .args .width) 2, quot-dn (s .args .width) 2))
 
 returns : tie.Need-returns
 unfolding thinFirst
