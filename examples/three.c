@@ -90,7 +90,7 @@ static void print_placed(const struct khs_edge *before, const struct khs_edge *e
 /* Builds the edges, and tells how many there are by *count. */
 static uint8_t build(struct khs_segment *segments, struct khs_edge *edges, int32_t *count) {
     const int32_t half_pixel = (int32_t)((int64_t)PIXEL * 65536 / scale / 2);
-    uint8_t answer = khs_compute_edges((int32_t *)segments, (size_t)SEGMENTS * KHS_SEGMENT_WORDS, (int32_t *)edges, KHS_MOST_EDGES * KHS_EDGE_WORDS,
+    uint8_t answer = khs_compute_edges((int32_t *)segments, (khs_length)SEGMENTS * KHS_SEGMENT_WORDS, (int32_t *)edges, KHS_MOST_EDGES * KHS_EDGE_WORDS,
                                        KHS_VERTICAL, KHS_DIR_LEFT, KHS_LATIN, 0, scale, 16, 0, half_pixel, count);
     if (answer == KHS_DONE) {
         printf("  building  %d segments make %d edges, at", SEGMENTS, (int)*count);
@@ -114,7 +114,7 @@ static uint8_t put_on_zones(struct khs_edge *edges, int32_t count, int32_t *anch
         }
     }
     memcpy(before, edges, sizeof before);
-    uint8_t answer = khs_align_edges_to_blues((int32_t *)edges, (size_t)count * KHS_EDGE_WORDS, KHS_VERTICAL, KHS_LATIN, KHS_SNAP, standards, 2, anchor);
+    uint8_t answer = khs_align_edges_to_blues((int32_t *)edges, (khs_length)count * KHS_EDGE_WORDS, KHS_VERTICAL, KHS_LATIN, KHS_SNAP, standards, 2, anchor);
     if (answer == KHS_DONE) {
         printf("  zones     the anchor is edge %d\n", (int)*anchor);
         print_placed(before, edges, count);
@@ -127,7 +127,7 @@ static uint8_t place_stems(struct khs_edge *edges, int32_t count, int32_t anchor
     struct khs_edge before[KHS_MOST_EDGES];
     int32_t passed_over;
     memcpy(before, edges, sizeof before);
-    uint8_t answer = khs_align_stem_edges((int32_t *)edges, (size_t)count * KHS_EDGE_WORDS, KHS_VERTICAL, KHS_LATIN, 0, 0, anchor, KHS_SNAP, standards, 2,
+    uint8_t answer = khs_align_stem_edges((int32_t *)edges, (khs_length)count * KHS_EDGE_WORDS, KHS_VERTICAL, KHS_LATIN, 0, 0, anchor, KHS_SNAP, standards, 2,
                                           &passed_over, &anchor);
     if (answer == KHS_DONE) {
         printf("  stems     %d passed over, the anchor is edge %d\n", (int)passed_over, (int)anchor);

@@ -45,12 +45,14 @@
 #ifndef KHSAEMUDOL_H
 #define KHSAEMUDOL_H
 
-#include <stddef.h>
 #include <stdint.h>
 
 #ifdef __cplusplus
 extern "C" {
 #endif
+
+/* The length of a list. It has 64 bits on every processor, as in the code that is proved; a size_t of 32 bits is widened by the call. */
+typedef uint64_t khs_length;
 
 /* Answers. */
 enum khs_answer {
@@ -129,13 +131,13 @@ int16_t khs_compute_mid_delta(int32_t min, int32_t max);
  * ends: the index of the last point of each contour, strictly rising, each below the count of points. A contour starts behind the one before; points behind the
  * last contour stay where they are, and so do those of a contour without a touched point.
  * Writes currents. Answers: KHS_DONE, KHS_TOO_LONG, KHS_BAD_INDEX, KHS_OUT_OF_RANGE. */
-uint8_t khs_align_weak_points(const int32_t *originals, size_t originals_len, int32_t *currents, size_t currents_len, const uint8_t *touched,
-                              size_t touched_len, const uint16_t *ends, size_t ends_len);
+uint8_t khs_align_weak_points(const int32_t *originals, khs_length originals_len, int32_t *currents, khs_length currents_len, const uint8_t *touched,
+                              khs_length touched_len, const uint16_t *ends, khs_length ends_len);
 
 /* Links CJK segments into stems and serifs.
  * segments: at most 512, KHS_SEGMENT_WORDS words each. major_dir: a direction. units_per_em: 16 to 16,384. scale: 1 to 16,777,216.
  * Writes link, serif, score and len of segments. Answers: KHS_DONE, KHS_TOO_LONG, KHS_BAD_PARAMETER, KHS_BAD_INDEX, KHS_OUT_OF_RANGE, KHS_NOT_WORDS. */
-uint8_t khs_link_segments_cjk(int32_t *segments, size_t segments_len, int32_t major_dir, int32_t units_per_em, int32_t scale);
+uint8_t khs_link_segments_cjk(int32_t *segments, khs_length segments_len, int32_t major_dir, int32_t units_per_em, int32_t scale);
 
 /* Builds the edges of segments.
  * segments: at most 512; their old edge and next are forgotten, and may be any link. edges: room for KHS_MOST_EDGES edges, exactly 1,408 words, not read.
@@ -148,7 +150,7 @@ uint8_t khs_link_segments_cjk(int32_t *segments, size_t segments_len, int32_t ma
  * Writes edge and next of segments; edges, the built ones first, in their order, and empty ones (0, links KHS_NONE) behind; count, how many were built. A built
  * edge has opos and pos at the scaled position, no zone, and of the flags at most round and serif. Pass the first count * KHS_EDGE_WORDS words to the calls below.
  * Answers: all of enum khs_answer. */
-uint8_t khs_compute_edges(int32_t *segments, size_t segments_len, int32_t *edges, size_t edges_len, int32_t dim, int32_t major_dir, int32_t group,
+uint8_t khs_compute_edges(int32_t *segments, khs_length segments_len, int32_t *edges, khs_length edges_len, int32_t dim, int32_t major_dir, int32_t group,
                           int32_t top_to_bottom, int32_t scale, int32_t distance, int32_t length, int32_t width, int32_t *count);
 
 /* Puts edges on their blue zones, and their linked edges behind them. Edges that are not done are visited one after the other: where an edge and its link both have
@@ -159,17 +161,17 @@ uint8_t khs_compute_edges(int32_t *segments, size_t segments_len, int32_t *edges
  * dim: a dimension. group: a group. rule, standards: the width rule.
  * Writes pos, flags, blue and blue_fitted of edges; anchor, the first edge whose visit found a zone, its own or its link's, or KHS_NONE.
  * Answers: KHS_DONE, KHS_TOO_LONG, KHS_BAD_PARAMETER, KHS_BAD_INDEX, KHS_OUT_OF_RANGE, KHS_NOT_WORDS. */
-uint8_t khs_align_edges_to_blues(int32_t *edges, size_t edges_len, int32_t dim, int32_t group, int32_t rule, const int32_t *standards,
-                                 size_t standards_len, int32_t *anchor);
+uint8_t khs_align_edges_to_blues(int32_t *edges, khs_length edges_len, int32_t dim, int32_t group, int32_t rule, const int32_t *standards,
+                                 khs_length standards_len, int32_t *anchor);
 
 /* Places the edge stem by the edge base: its fitted width away from base's pos. Neither is made done.
  * Writes pos of the edge stem. Answers: KHS_DONE, KHS_TOO_LONG, KHS_BAD_PARAMETER, KHS_BAD_INDEX, KHS_OUT_OF_RANGE, KHS_NOT_WORDS. */
-uint8_t khs_align_linked_edge(int32_t *edges, size_t edges_len, int32_t rule, const int32_t *standards, size_t standards_len, int32_t base,
+uint8_t khs_align_linked_edge(int32_t *edges, khs_length edges_len, int32_t rule, const int32_t *standards, khs_length standards_len, int32_t base,
                               int32_t stem);
 
 /* Places the edge serif as far from the edge base as it was: base's pos and the distance of their opos. Neither is made done.
  * Writes pos of the edge serif. Answers: KHS_DONE, KHS_TOO_LONG, KHS_BAD_INDEX, KHS_OUT_OF_RANGE, KHS_NOT_WORDS. */
-uint8_t khs_align_serif_edge(int32_t *edges, size_t edges_len, int32_t base, int32_t serif);
+uint8_t khs_align_serif_edge(int32_t *edges, khs_length edges_len, int32_t base, int32_t serif);
 
 /* Gives an edge the pos of its neighbour where it has passed it, and its link's pos is more than 16 units from the previous edge's, whichever the neighbour.
  * dir: KHS_PREVIOUS, the edge before it in the list, or KHS_NEXT, the edge behind it. top_to_bottom: 0 or 1. With 0 an edge has passed the previous one where it
@@ -177,19 +179,19 @@ uint8_t khs_align_serif_edge(int32_t *edges, size_t edges_len, int32_t base, int
  * Edge 0 stays, whichever the neighbour, and so does an edge without link. Toward the next edge an edge stays where that one is not done, or is not there.
  * Writes pos of the edge, or nothing: KHS_DONE is the answer whether or not it moved.
  * Answers: KHS_DONE, KHS_TOO_LONG, KHS_BAD_INDEX, KHS_OUT_OF_RANGE, KHS_NOT_WORDS. */
-uint8_t khs_adjust_link(int32_t *edges, size_t edges_len, int32_t edge, int32_t dir, int32_t top_to_bottom);
+uint8_t khs_adjust_link(int32_t *edges, khs_length edges_len, int32_t edge, int32_t dir, int32_t top_to_bottom);
 
 /* Finds what a remaining edge stands between: the edge before it, done or not, and the edge behind it where that is done.
  * Writes lower and upper, each an index or KHS_NONE. Answers: KHS_DONE, KHS_TOO_LONG, KHS_BAD_INDEX, KHS_OUT_OF_RANGE, KHS_NOT_WORDS. */
-uint8_t khs_latin_remaining_bounds(const int32_t *edges, size_t edges_len, int32_t edge, int32_t *lower, int32_t *upper);
+uint8_t khs_latin_remaining_bounds(const int32_t *edges, khs_length edges_len, int32_t edge, int32_t *lower, int32_t *upper);
 
 /* Places both edges of a CJK stem, at its fitted width, moved so that it meets the pixels. Neither is made done.
  * dim: a dimension. stem_adjust: 0 or 1; with 0 a stem is moved by at most 14 units, and not at all where it is wide and a side of it is near a pixel's side already.
  * rule, standards: the width rule. edge, edge2: the stem's two edges. delta: the passed delta, from -16,383 to 16,383 units, by which the stem's centre is shifted first.
  * Writes pos of both edges; own_delta, the stem's own delta, to which the passed one is not added.
  * Answers: KHS_DONE, KHS_TOO_LONG, KHS_BAD_PARAMETER, KHS_BAD_INDEX, KHS_OUT_OF_RANGE, KHS_NOT_WORDS. */
-uint8_t khs_hint_normal_stem_cjk(int32_t *edges, size_t edges_len, int32_t dim, int32_t stem_adjust, int32_t rule, const int32_t *standards,
-                                 size_t standards_len, int32_t edge, int32_t edge2, int32_t delta, int32_t *own_delta);
+uint8_t khs_hint_normal_stem_cjk(int32_t *edges, khs_length edges_len, int32_t dim, int32_t stem_adjust, int32_t rule, const int32_t *standards,
+                                 khs_length standards_len, int32_t edge, int32_t edge2, int32_t delta, int32_t *own_delta);
 
 /* Aligns all stems that are not done, one edge after the other. An edge without link, and a CJK stem less than a pixel behind the last one, is passed over and
  * counted; an edge that is done already is neither.
@@ -200,15 +202,15 @@ uint8_t khs_hint_normal_stem_cjk(int32_t *edges, size_t edges_len, int32_t dim, 
  * default group, a fitted width below 96, and a link that is neither done nor on a zone).
  * Writes pos and flags of edges; count, how many edges were passed over; found, the anchor afterwards, or KHS_NONE.
  * Answers: KHS_DONE, KHS_TOO_LONG, KHS_BAD_PARAMETER, KHS_BAD_INDEX, KHS_OUT_OF_RANGE, KHS_NOT_WORDS. */
-uint8_t khs_align_stem_edges(int32_t *edges, size_t edges_len, int32_t dim, int32_t group, int32_t stem_adjust, int32_t top_to_bottom, int32_t anchor,
-                             int32_t rule, const int32_t *standards, size_t standards_len, int32_t *count, int32_t *found);
+uint8_t khs_align_stem_edges(int32_t *edges, khs_length edges_len, int32_t dim, int32_t group, int32_t stem_adjust, int32_t top_to_bottom, int32_t anchor,
+                             int32_t rule, const int32_t *standards, khs_length standards_len, int32_t *count, int32_t *found);
 
 /* Evens out the three stems of a lowercase m by moving the third to the distance that the first two have.
  * edges: 6, whose stems begin at edges 0, 2 and 4, or 12, at edges 1, 5 and 9; else KHS_BAD_PARAMETER. group: a group.
  * Nothing moves where the two distances of their opos differ by 8 units or more, or for KHS_CJK where a stem is not linked to the edge behind it.
  * Writes pos and flags of the third stem and of its link, which are done then, and of twelve edges pos of edges 8 and 11.
  * Answers: KHS_DONE, KHS_TOO_LONG, KHS_BAD_PARAMETER, KHS_BAD_INDEX, KHS_OUT_OF_RANGE, KHS_NOT_WORDS. */
-uint8_t khs_hint_lowercase_m(int32_t *edges, size_t edges_len, int32_t group);
+uint8_t khs_hint_lowercase_m(int32_t *edges, khs_length edges_len, int32_t group);
 
 #ifdef __cplusplus
 }

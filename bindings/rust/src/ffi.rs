@@ -5,6 +5,9 @@
 
 use crate::records::{Edge, Segment, EDGE_WORDS, SEGMENT_WORDS};
 
+/// The length of a list, which has 64 bits on every processor.
+type Length = u64;
+
 extern "C" {
     fn khs_compute_mid_pos(min: i32, max: i32) -> i16;
 
@@ -12,18 +15,18 @@ extern "C" {
 
     fn khs_align_weak_points(
         originals: *const i32,
-        originals_len: usize,
+        originals_len: Length,
         currents: *mut i32,
-        currents_len: usize,
+        currents_len: Length,
         touched: *const u8,
-        touched_len: usize,
+        touched_len: Length,
         ends: *const u16,
-        ends_len: usize,
+        ends_len: Length,
     ) -> u8;
 
     fn khs_link_segments_cjk(
         segments: *mut i32,
-        segments_len: usize,
+        segments_len: Length,
         major_dir: i32,
         units_per_em: i32,
         scale: i32,
@@ -31,9 +34,9 @@ extern "C" {
 
     fn khs_compute_edges(
         segments: *mut i32,
-        segments_len: usize,
+        segments_len: Length,
         edges: *mut i32,
-        edges_len: usize,
+        edges_len: Length,
         dim: i32,
         major_dir: i32,
         group: i32,
@@ -47,30 +50,30 @@ extern "C" {
 
     fn khs_align_edges_to_blues(
         edges: *mut i32,
-        edges_len: usize,
+        edges_len: Length,
         dim: i32,
         group: i32,
         rule: i32,
         standards: *const i32,
-        standards_len: usize,
+        standards_len: Length,
         anchor: *mut i32,
     ) -> u8;
 
     fn khs_align_linked_edge(
         edges: *mut i32,
-        edges_len: usize,
+        edges_len: Length,
         rule: i32,
         standards: *const i32,
-        standards_len: usize,
+        standards_len: Length,
         base: i32,
         stem: i32,
     ) -> u8;
 
-    fn khs_align_serif_edge(edges: *mut i32, edges_len: usize, base: i32, serif: i32) -> u8;
+    fn khs_align_serif_edge(edges: *mut i32, edges_len: Length, base: i32, serif: i32) -> u8;
 
     fn khs_adjust_link(
         edges: *mut i32,
-        edges_len: usize,
+        edges_len: Length,
         edge: i32,
         dir: i32,
         top_to_bottom: i32,
@@ -78,7 +81,7 @@ extern "C" {
 
     fn khs_latin_remaining_bounds(
         edges: *const i32,
-        edges_len: usize,
+        edges_len: Length,
         edge: i32,
         lower: *mut i32,
         upper: *mut i32,
@@ -86,12 +89,12 @@ extern "C" {
 
     fn khs_hint_normal_stem_cjk(
         edges: *mut i32,
-        edges_len: usize,
+        edges_len: Length,
         dim: i32,
         stem_adjust: i32,
         rule: i32,
         standards: *const i32,
-        standards_len: usize,
+        standards_len: Length,
         edge: i32,
         edge2: i32,
         delta: i32,
@@ -100,7 +103,7 @@ extern "C" {
 
     fn khs_align_stem_edges(
         edges: *mut i32,
-        edges_len: usize,
+        edges_len: Length,
         dim: i32,
         group: i32,
         stem_adjust: i32,
@@ -108,22 +111,30 @@ extern "C" {
         anchor: i32,
         rule: i32,
         standards: *const i32,
-        standards_len: usize,
+        standards_len: Length,
         count: *mut i32,
         found: *mut i32,
     ) -> u8;
 
-    fn khs_hint_lowercase_m(edges: *mut i32, edges_len: usize, group: i32) -> u8;
+    fn khs_hint_lowercase_m(edges: *mut i32, edges_len: Length, group: i32) -> u8;
+}
+
+/// The length of a list as the library takes it.
+fn length<T>(list: &[T]) -> Length {
+    list.len() as Length
 }
 
 /// The words of lent edges. An edge is its words and nothing else.
-fn edge_words(edges: &mut [Edge]) -> (*mut i32, usize) {
-    (edges.as_mut_ptr().cast(), edges.len() * EDGE_WORDS)
+fn edge_words(edges: &mut [Edge]) -> (*mut i32, Length) {
+    (edges.as_mut_ptr().cast(), length(edges) * EDGE_WORDS as Length)
 }
 
 /// The words of lent segments. A segment is its words and nothing else.
-fn segment_words(segments: &mut [Segment]) -> (*mut i32, usize) {
-    (segments.as_mut_ptr().cast(), segments.len() * SEGMENT_WORDS)
+fn segment_words(segments: &mut [Segment]) -> (*mut i32, Length) {
+    (
+        segments.as_mut_ptr().cast(),
+        length(segments) * SEGMENT_WORDS as Length,
+    )
 }
 
 pub fn compute_mid_pos(min: i32, max: i32) -> i16 {
@@ -146,13 +157,13 @@ pub fn align_weak_points(
     unsafe {
         khs_align_weak_points(
             originals.as_ptr(),
-            originals.len(),
+            length(originals),
             currents.as_mut_ptr(),
-            currents.len(),
+            length(currents),
             touched.as_ptr(),
-            touched.len(),
+            length(touched),
             ends.as_ptr(),
-            ends.len(),
+            length(ends),
         )
     }
 }
@@ -215,7 +226,7 @@ pub fn align_edges_to_blues(
             group,
             rule,
             standards.as_ptr(),
-            standards.len(),
+            length(standards),
             anchor,
         )
     }
@@ -235,7 +246,7 @@ pub fn align_linked_edge(
             len,
             rule,
             standards.as_ptr(),
-            standards.len(),
+            length(standards),
             base,
             stem,
         )
@@ -255,7 +266,7 @@ pub fn adjust_link(edges: &mut [Edge], edge: i32, dir: i32, top_to_bottom: i32) 
 }
 
 pub fn latin_remaining_bounds(edges: &[Edge], edge: i32, lower: &mut i32, upper: &mut i32) -> u8 {
-    let (words, len) = (edges.as_ptr().cast(), edges.len() * EDGE_WORDS);
+    let (words, len) = (edges.as_ptr().cast(), length(edges) * EDGE_WORDS as Length);
     // SAFETY: one slice and two places, which are lent to this call alone.
     unsafe { khs_latin_remaining_bounds(words, len, edge, lower, upper) }
 }
@@ -279,7 +290,7 @@ pub fn hint_normal_stem_cjk(
             stem_adjust,
             rule,
             standards.as_ptr(),
-            standards.len(),
+            length(standards),
             edge,
             edge2,
             delta,
@@ -309,7 +320,7 @@ pub fn align_stem_edges(
             anchor,
             rule,
             standards.as_ptr(),
-            standards.len(),
+            length(standards),
             count,
             found,
         )

@@ -1,0 +1,286 @@
+/* Answers job lines, as the program `replay` does, by the library's C functions, as a gateway calls them: reads lines from standard input, and writes a line for
+ * each to standard output. A job is words of eight upper-case hexadecimal digits: the number of a call, and what it is given. The answer to a line that is no
+ * job is the word -1, which is told here, before any call. C99, nothing but stdio and memcpy, and no allocation, so that it runs on bare boards too. */
+#include "khsaemudol.h"
+
+#include <stdio.h>
+#include <string.h>
+
+enum {
+    MOST_WORDS = 65536,  /* of a line; no job is as long */
+    MOST_NUMBERS = 8191, /* in a list of a job */
+    MOST_LENT = 160,     /* edges in a lent list of a job */
+    MOST_INDEX = 65535,
+    NOT_A_JOB = -1
+};
+
+/* What each call's job holds behind the call's number: w a word, i an index, l an index or none, c a choice, d a direction; lists with their counts in front:
+ * N numbers, B bytes, I indices, S segments, E edges, L lent edges. */
+static const char *const formats[] = {
+    NULL,
+    "ww",         /* compute_mid_pos: min, max */
+    "ww",         /* compute_mid_delta: min, max */
+    "NNBI",       /* align_weak_points: originals, currents, touch marks, contour ends */
+    "Sdww",       /* link_segments_cjk: segments, major direction, units per em, scale */
+    "SEcdccwwww", /* compute_edges: segments, old edges, dimension, major direction, group, top to bottom, scale, thresholds */
+    "EcccN",      /* align_edges_to_blues: edges, dimension, group, width rule */
+    "EcNii",      /* align_linked_edge: edges, width rule, base, stem */
+    "Eii",        /* align_serif_edge: edges, base, serif */
+    "Eicc",       /* adjust_link: edges, edge, neighbour, top to bottom */
+    "Ei",         /* latin_remaining_bounds: edges, edge */
+    "EcccNiiw",   /* hint_normal_stem_cjk: edges, dimension, stem adjust, width rule, edge, second edge, delta */
+    "EcccclcN",   /* align_stem_edges: edges, dimension, group, stem adjust, top to bottom, anchor, width rule */
+    "Ec",         /* hint_lowercase_m, table form: edges, group */
+    "Lc"          /* hint_lowercase_m, lent list: edges, group */
+};
+enum { CALLS = sizeof formats / sizeof formats[0], MOST_ITEMS = 10 };
+
+/* The words of an edge and of a segment: s is a 16-bit number, f flags, the others as in a format. */
+static const char edge_words[] = "swwfdcwllii", segment_words[] = "fdssssswwlliill";
+enum { EDGE_BLUE = 5, EDGE_FITTED = 6 };
+
+/* A list of a job: its count as the job has it, and the words that the job carries of it. */
+struct list {
+    int32_t count;
+    int32_t *words;
+    size_t size;
+};
+
+/* A job: its call, and its numbers and lists, each in the job's order. */
+struct job {
+    int32_t call;
+    int32_t number[MOST_ITEMS];
+    struct list list[MOST_ITEMS];
+};
+
+/* The words of the line that is read. */
+static int32_t line[MOST_WORDS];
+
+/* The answer's words, with room for any: tables of segments and of edges, or a list of numbers, and words around them. */
+static int32_t answer[KHS_SEGMENT_WORDS * KHS_MOST_SEGMENTS + KHS_EDGE_WORDS * MOST_LENT + MOST_NUMBERS];
+static size_t answered;
+
+/* The table that a call is lent: the job's, and room for one record more. */
+static int32_t table[KHS_SEGMENT_WORDS * (KHS_MOST_SEGMENTS + 1)];
+
+/* Whether a word is one of a field's values. */
+static int is_field(char kind, int32_t word)
+{
+    switch (kind) {
+    case 'w': case 'N': return 1;
+    case 's': return -32768 <= word && word <= 32767;
+    case 'i': case 'I': return 0 <= word && word <= MOST_INDEX;
+    case 'l': return KHS_NONE <= word && word <= MOST_INDEX;
+    case 'c': return word == 0 || word == 1;
+    case 'd': return KHS_DIR_NONE <= word && word <= KHS_DIR_DOWN;
+    case 'f': return 0 <= word && word <= 15;
+    case 'B': return 0 <= word && word <= 255;
+    default: return 0;
+    }
+}
+
+/* Whether the words of a record are those of its fields. */
+static int is_record(const char *kinds, const int32_t *words)
+{
+    for (size_t i = 0; kinds[i] != '\0'; i++) {
+        if (!is_field(kinds[i], words[i]))
+            return 0;
+    }
+    return kinds != edge_words || words[EDGE_BLUE] == 1 || words[EDGE_FITTED] == 0;
+}
+
+/* Reads the list of a kind at the head of some words, and tells how many it takes, or 0 where it is none. */
+static size_t read_list(char kind, int32_t *words, size_t len, struct list *list)
+{
+    const char *record = kind == 'S' ? segment_words : kind == 'E' || kind == 'L' ? edge_words : NULL;
+    int32_t most = kind == 'L' ? MOST_LENT : record ? MOST_INDEX : MOST_NUMBERS;
+    size_t carried = kind == 'S' ? KHS_MOST_SEGMENTS : kind == 'E' ? KHS_MOST_EDGES : MOST_NUMBERS;
+    size_t size = record ? strlen(record) : 1;
+    if (len == 0 || words[0] < 0 || words[0] > most)
+        return 0;
+    if ((size_t)words[0] < carried)
+        carried = (size_t)words[0];
+    list->count = words[0];
+    list->words = words + 1;
+    list->size = carried * size;
+    if (len - 1 < list->size)
+        return 0;
+    for (size_t i = 0; i < list->size; i += size) {
+        if (record ? !is_record(record, list->words + i) : !is_field(kind, list->words[i]))
+            return 0;
+    }
+    return 1 + list->size;
+}
+
+/* Reads a job from its words; 0 where they are none. */
+static int read_job(int32_t *words, size_t len, struct job *job)
+{
+    if (len == 0 || words[0] < 1 || words[0] >= CALLS)
+        return 0;
+    job->call = words[0];
+    size_t at = 1, numbers = 0, lists = 0;
+    for (const char *kind = formats[job->call]; *kind != '\0'; kind++) {
+        if (strchr("NBISEL", *kind)) {
+            size_t taken = read_list(*kind, words + at, len - at, &job->list[lists++]);
+            if (taken == 0)
+                return 0;
+            at += taken;
+        } else {
+            if (at == len || !is_field(*kind, words[at]))
+                return 0;
+            job->number[numbers++] = words[at++];
+        }
+    }
+    return at == len;
+}
+
+static void say(int32_t word)
+{
+    answer[answered++] = word;
+}
+
+/* Says a count and words. */
+static void say_list(int32_t count, const int32_t *words, size_t len)
+{
+    say(count);
+    memcpy(answer + answered, words, len * sizeof *words);
+    answered += len;
+}
+
+/* Fills the table with that of a job, whose records have a size, and tells its length: of more records than its limit it has one more than that, which is empty. */
+static khs_length lend(const struct list *list, size_t size, size_t most)
+{
+    size_t records = (size_t)list->count > most ? most + 1 : (size_t)list->count;
+    memset(table, 0, sizeof table);
+    memcpy(table, list->words, list->size * sizeof *table);
+    return records * size;
+}
+
+/* Weak points: touch marks and contour ends have types of their own. */
+static void answer_weak(const struct job *job)
+{
+    static uint8_t touched[MOST_NUMBERS];
+    static uint16_t ends[MOST_NUMBERS];
+    const struct list *list = job->list;
+    for (size_t i = 0; i < list[2].size; i++)
+        touched[i] = (uint8_t)list[2].words[i];
+    for (size_t i = 0; i < list[3].size; i++)
+        ends[i] = (uint16_t)list[3].words[i];
+    say(khs_align_weak_points(list[0].words, list[0].size, list[1].words, list[1].size, touched, list[2].size, ends, list[3].size));
+    say_list(list[1].count, list[1].words, list[1].size);
+}
+
+/* Linking and building. Building has no old table in C: one that is too long is refused here, and what a refusal leaves is handed back. */
+static void answer_segments(const struct job *job)
+{
+    static int32_t edges[KHS_EDGE_WORDS * KHS_MOST_EDGES];
+    const int32_t *n = job->number;
+    const struct list *segments = &job->list[0], *old = &job->list[1];
+    khs_length len = lend(segments, KHS_SEGMENT_WORDS, KHS_MOST_SEGMENTS);
+    if (job->call == 4) {
+        say(khs_link_segments_cjk(table, len, n[0], n[1], n[2]));
+        say_list(segments->count, table, segments->size);
+        return;
+    }
+    int32_t count = old->count;
+    memcpy(edges, old->words, old->size * sizeof *edges);
+    say(old->count > KHS_MOST_EDGES ? KHS_TOO_LONG : khs_compute_edges(table, len, edges, KHS_EDGE_WORDS * KHS_MOST_EDGES, n[0], n[1], n[2], n[3], n[4], n[5], n[6], n[7], &count));
+    say_list(segments->count, table, segments->size);
+    say_list(count, edges, KHS_EDGE_WORDS * (size_t)(count > KHS_MOST_EDGES ? KHS_MOST_EDGES : count));
+}
+
+/* The calls over edges. What they hand back beside stands between their number and the edges. */
+static void answer_edges(const struct job *job)
+{
+    const int32_t *n = job->number;
+    const struct list *edges = &job->list[0], *standards = &job->list[1];
+    khs_length len = lend(edges, KHS_EDGE_WORDS, job->call == 14 ? MOST_LENT : KHS_MOST_EDGES);
+    int32_t number = 0, index = KHS_NONE, second = KHS_NONE;
+    switch (job->call) {
+    case 6:
+        say(khs_align_edges_to_blues(table, len, n[0], n[1], n[2], standards->words, standards->size, &index));
+        say(index);
+        break;
+    case 7:
+        say(khs_align_linked_edge(table, len, n[0], standards->words, standards->size, n[1], n[2]));
+        break;
+    case 8:
+        say(khs_align_serif_edge(table, len, n[0], n[1]));
+        break;
+    case 9:
+        say(khs_adjust_link(table, len, n[0], n[1], n[2]));
+        break;
+    case 10:
+        say(khs_latin_remaining_bounds(table, len, n[0], &index, &second));
+        say(index);
+        say(second);
+        return;
+    case 11:
+        say(khs_hint_normal_stem_cjk(table, len, n[0], n[1], n[2], standards->words, standards->size, n[3], n[4], n[5], &number));
+        say(number);
+        break;
+    case 12:
+        say(khs_align_stem_edges(table, len, n[0], n[1], n[2], n[3], n[4], n[5], standards->words, standards->size, &number, &index));
+        say(number);
+        say(index);
+        break;
+    default:
+        say(khs_hint_lowercase_m(table, len, n[0]));
+    }
+    say_list(edges->count, table, edges->size);
+}
+
+/* Answers the first words of the line. */
+static void answer_line(size_t len)
+{
+    struct job job;
+    answered = 0;
+    if (!read_job(line, len, &job)) {
+        say(NOT_A_JOB);
+        return;
+    }
+    switch (job.call) {
+    case 1:
+    case 2:
+        say(KHS_DONE);
+        say((job.call == 1 ? khs_compute_mid_pos : khs_compute_mid_delta)(job.number[0], job.number[1]));
+        break;
+    case 3: answer_weak(&job); break;
+    case 4:
+    case 5: answer_segments(&job); break;
+    default: answer_edges(&job);
+    }
+}
+
+/* Reads a line, and tells how many words it has: 0 where it is not words, or too long. Hands back -1 at the end of the input. */
+static long read_line(void)
+{
+    static const char digits[] = "0123456789ABCDEF";
+    uint32_t word = 0;
+    long count = 0;
+    int broken = 0, c = getchar();
+    if (c == EOF)
+        return -1;
+    for (; c != EOF && c != '\n'; c = getchar()) {
+        const char *digit = c == '\0' ? NULL : strchr(digits, c);
+        if (!digit || count == 8L * MOST_WORDS) {
+            broken = 1;
+            continue;
+        }
+        word = word << 4 | (uint32_t)(digit - digits);
+        if (++count % 8 == 0)
+            line[count / 8 - 1] = (int32_t)word;
+    }
+    return broken || count % 8 != 0 ? 0 : count / 8;
+}
+
+int main(void)
+{
+    for (long len = read_line(); len >= 0; len = read_line()) {
+        answer_line((size_t)len);
+        for (size_t i = 0; i < answered; i++)
+            printf("%08lX", (unsigned long)(uint32_t)answer[i]);
+        putchar('\n');
+    }
+    return fflush(stdout) != 0;
+}
