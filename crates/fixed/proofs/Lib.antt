@@ -1,5 +1,6 @@
 -- The laws that callers cite, by subject, and the values worked out by hand.
 pub mod Rounding
+pub mod Halves
 pub mod Pixels
 pub mod Widths
 pub mod Interpolation

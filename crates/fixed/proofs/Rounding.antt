@@ -1,18 +1,19 @@
 -- Quotients rounded to nearest, and with them fixed multiply and divide: what they are, how large they are, how they grow.
-use mathlib.Core.Path.{_≡_, refl, ap, _∙_}
-use Prim.Native.Nat.{ℕ, zero, suc, _+_, _*_, _^_, _≤_, _<_}
+use mathlib.Core.Path.{_≡_, refl}
+use Prim.Native.Nat.{ℕ, zero, suc, _+_, _*_, _^_, _≤_, _<_, zero-le}
 use native.Mathlib.Nat.{div-mul-le-self, lt-div-mul-add, mul-le-mul, mul-le-mul-left, mul-le-mul-right}
 use native.Mathlib.Omega.{arith}
 use mathlib.Core.Logic.{⊎-elim}
+use borrow.Author.Tests.{le-ltb}
 use lib.Dec.{T, ltb, ltb→lt}
-use lib.IntN.{ℤ, pos, negsuc, negℤ, natAbs, _+ℤ_, _*ℤ_}
-use lib.Signed.{shrZ}
+use lib.IntN.{ℤ, pos, negsuc, negℤ, natAbs, _*ℤ_}
 use mir.Syntax.{Width}
 use mir.Val.{SFits, hbits}
 use Rattle.signed.specs.Parts.{up, dn}
 use Rattle.signed.specs.Range.{Between}
-use Rattle.signed.proofs.Signed.{up-neg, dn-neg, mul-up, mul-dn, times-up, times-dn, natAbs-mul, one-zero, fits-abs, abs-of, lt-or-le, add-law, shr-law, to-≡}
+use Rattle.signed.proofs.Signed.{up-neg, dn-neg, mul-up, mul-dn, times-up, times-dn, natAbs-mul, fits-abs, abs-of, lt-or-le}
 use Rattle.fixed.specs.Point.{rounded, roundedZ, mulFix, divFix}
+use Rattle.fixed.specs.Steps.{signedLike}
 
 -- ---- magnitudes
 -- q is n / d rounded to nearest: at most a half below it, and less than a half above, so that no other q is
@@ -41,33 +42,16 @@ pub rounded-zero : (d : ℕ) → 0 < d → rounded 0 d ≡ 0
 rounded-zero d h = omega (arith, rounded-at-most 0 d h)
 
 -- ---- by the signs of the two
-rounded-pp : (n d : ℤ) → dn n ≤ up n → dn d ≤ up d → roundedZ n d ≡ pos (rounded (natAbs n) (natAbs d))
+-- what is not above zero is rounded by its magnitude
+rounded-np : (n d : ℕ) → 0 < d → roundedZ (negℤ (pos n)) (pos d) ≡ negℤ (pos (rounded n d))
 unfolding roundedZ
-rounded-pp (pos n) (pos d) h k = refl
-rounded-pp (pos n) (negsuc d) h k = absurd (omega arith)
-rounded-pp (negsuc n) (pos d) h k = absurd (omega arith)
-rounded-pp (negsuc n) (negsuc d) h k = absurd (omega arith)
+rounded-np zero d h = rw (rounded-zero d h)
+rounded-np (suc n) d h = refl
 
-rounded-pn : (n d : ℤ) → dn n ≤ up n → up d < dn d → roundedZ n d ≡ negℤ (pos (rounded (natAbs n) (natAbs d)))
+rounded-nn : (n d : ℕ) → roundedZ (negℤ (pos n)) (negsuc d) ≡ pos (rounded n (suc d))
 unfolding roundedZ
-rounded-pn (pos n) (pos d) h k = absurd (omega arith)
-rounded-pn (pos n) (negsuc d) h k = refl
-rounded-pn (negsuc n) (pos d) h k = absurd (omega arith)
-rounded-pn (negsuc n) (negsuc d) h k = absurd (omega arith)
-
-rounded-np : (n d : ℤ) → up n < dn n → dn d ≤ up d → roundedZ n d ≡ negℤ (pos (rounded (natAbs n) (natAbs d)))
-unfolding roundedZ
-rounded-np (pos n) (pos d) h k = absurd (omega arith)
-rounded-np (pos n) (negsuc d) h k = absurd (omega arith)
-rounded-np (negsuc n) (pos d) h k = refl
-rounded-np (negsuc n) (negsuc d) h k = absurd (omega arith)
-
-rounded-nn : (n d : ℤ) → up n < dn n → up d < dn d → roundedZ n d ≡ pos (rounded (natAbs n) (natAbs d))
-unfolding roundedZ
-rounded-nn (pos n) (pos d) h k = absurd (omega arith)
-rounded-nn (pos n) (negsuc d) h k = absurd (omega arith)
-rounded-nn (negsuc n) (pos d) h k = absurd (omega arith)
-rounded-nn (negsuc n) (negsuc d) h k = refl
+rounded-nn zero d = rw (rounded-zero (suc d) (omega arith))
+rounded-nn (suc n) d = refl
 
 -- the magnitude, whatever the signs
 natAbs-pos-neg : (n : ℕ) → natAbs (negℤ (pos n)) ≡ n
@@ -93,20 +77,13 @@ roundedZ-dn (pos n) d h = omega (arith, rounded-zero d h)
 roundedZ-dn (negsuc n) d h = omega (arith, dn-neg (pos (rounded (suc n) d)))
 
 -- ---- fixed multiply
--- a shift of the product and a half, one less below zero, rounds halves away from zero
-pub mul-shift-pos : (p : ℤ) → dn p ≤ up p → shrZ (p +ℤ pos 32768) 65536 ≡ roundedZ p (pos 65536)
-unfolding rounded
-mul-shift-pos p h =
-    let r = shr-law (p +ℤ pos 32768) 65536 tt in
-    to-≡ (shrZ (p +ℤ pos 32768) 65536) (roundedZ p (pos 65536))
-    (omega (arith, r, one-zero p, add-law p (pos 32768), roundedZ-up p 65536 (omega arith), roundedZ-dn p 65536 (omega arith)))
-
-pub mul-shift-neg : (p : ℤ) → up p < dn p → shrZ (p +ℤ pos 32767) 65536 ≡ roundedZ p (pos 65536)
-unfolding rounded
-mul-shift-neg p h =
-    let r = shr-law (p +ℤ pos 32767) 65536 tt in
-    to-≡ (shrZ (p +ℤ pos 32767) 65536) (roundedZ p (pos 65536))
-    (omega (arith, r, one-zero p, add-law p (pos 32767), roundedZ-up p 65536 (omega arith), roundedZ-dn p 65536 (omega arith)))
+-- a product is that of the magnitudes, rounded, with the sign of the two
+pub mul-sign : (a b : ℤ) → mulFix a b ≡ signedLike (rounded (natAbs a * natAbs b) 65536) a b
+unfolding mulFix roundedZ signedLike
+mul-sign (pos m) (pos k) = rw (le-ltb m 0 zero-le, le-ltb k 0 zero-le)
+mul-sign (pos m) (negsuc k) = rw (le-ltb m 0 zero-le) (rounded-np (m * suc k) 65536 (omega arith))
+mul-sign (negsuc m) (pos k) = rw (le-ltb k 0 zero-le) (rounded-np (suc m * k) 65536 (omega arith))
+mul-sign (negsuc m) (negsuc k) = refl
 
 -- the magnitude of a product, from bounds on the magnitudes of its factors
 mul-abs : (a b : ℤ) {A B : ℕ} → natAbs a ≤ A → natAbs b ≤ B → natAbs (mulFix a b) ≤ rounded (A * B) 65536
@@ -126,23 +103,13 @@ unfolding divFix
 div-abs a b h =
     rw (rounded-abs (a *ℤ pos 65536) b) (omega (arith, natAbs-mul a (pos 65536), rounded-at-most (natAbs (a *ℤ pos 65536)) (natAbs b) h))
 
--- by the signs of the two
-module _ (a b : ℤ) where
-  pub div-pp : dn a ≤ up a → dn b ≤ up b → divFix a b ≡ pos (rounded (natAbs a * 65536) (natAbs b))
-  unfolding divFix
-  div-pp h k = rounded-pp (a *ℤ pos 65536) b (omega (arith, mul-up a 65536, mul-dn a 65536)) k ∙ ap (λ (n : ℕ). pos (rounded n (natAbs b))) (natAbs-mul a (pos 65536))
-
-  pub div-pn : dn a ≤ up a → up b < dn b → divFix a b ≡ negℤ (pos (rounded (natAbs a * 65536) (natAbs b)))
-  unfolding divFix
-  div-pn h k = rounded-pn (a *ℤ pos 65536) b (omega (arith, mul-up a 65536, mul-dn a 65536)) k ∙ ap (λ (n : ℕ). negℤ (pos (rounded n (natAbs b)))) (natAbs-mul a (pos 65536))
-
-  pub div-np : up a < dn a → dn b ≤ up b → divFix a b ≡ negℤ (pos (rounded (natAbs a * 65536) (natAbs b)))
-  unfolding divFix
-  div-np h k = rounded-np (a *ℤ pos 65536) b (omega (arith, mul-up a 65536, mul-dn a 65536)) k ∙ ap (λ (n : ℕ). negℤ (pos (rounded n (natAbs b)))) (natAbs-mul a (pos 65536))
-
-  pub div-nn : up a < dn a → up b < dn b → divFix a b ≡ pos (rounded (natAbs a * 65536) (natAbs b))
-  unfolding divFix
-  div-nn h k = rounded-nn (a *ℤ pos 65536) b (omega (arith, mul-up a 65536, mul-dn a 65536)) k ∙ ap (λ (n : ℕ). pos (rounded n (natAbs b))) (natAbs-mul a (pos 65536))
+-- a quotient is that of the magnitudes, rounded, with the sign of the two
+pub div-sign : (a b : ℤ) → 0 < natAbs b → divFix a b ≡ signedLike (rounded (natAbs a * 65536) (natAbs b)) a b
+unfolding divFix roundedZ signedLike
+div-sign (pos n) (pos d) h = rw (le-ltb n 0 zero-le, le-ltb d 0 zero-le)
+div-sign (pos n) (negsuc d) h = rw (le-ltb n 0 zero-le)
+div-sign (negsuc n) (pos d) h = rw (le-ltb d 0 zero-le) (rounded-np (suc n * 65536) d h)
+div-sign (negsuc n) (negsuc d) h = rounded-nn (suc n * 65536) d
 
 -- the parts of a quotient by a positive divisor
 pub div-up : (c : ℤ) (s : ℕ) → 0 < s → up (divFix c (pos s)) ≡ rounded (up c * 65536) s

@@ -2,3 +2,4 @@
 pub mod Point
 pub mod Pixel
 pub mod Width
+pub mod Steps

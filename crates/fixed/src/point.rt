@@ -1,11 +1,12 @@
 // Fixed multiply, fixed divide and the derived constant (the Rust's `fixed_mul`, `fixed_div` and `derived_constant`).
 ghost use mathlib.Core.Path.{_≡_};
-ghost use Prim.Native.Nat.{_≤_, _<_};
+ghost use Prim.Native.Nat.{_*_, _≤_, _<_};
 ghost use lib.IntN.{natAbs};
 ghost use mir.Syntax.{w32};
 ghost use mir.Val.{SFits};
 ghost use Rattle.signed.specs.Range.{Between};
 ghost use Rattle.fixed.specs.Point.{rounded, mulFix, divFix, derived};
+ghost use Rattle.fixed.specs.Steps.{signedLike};
 
 // The magnitude of x.
 pub fn magnitude(x: i64) -> u64
@@ -26,15 +27,51 @@ fn rounded_quotient(n: u64, d: u64) -> u64
     (2 * n + d) / (2 * d)
 }
 
-// Fixed multiply in 64 bits, for every pair. The shift rounds down, so what is below zero gets one less than the half.
+// The magnitude of x in 32 bits, the lowest number's too.
+fn size(x: i32) -> u32
+    ensures { λ r. ⌜ r ≡ natAbs x ⌝ }
+{
+    magnitude(x as i64) as u32
+}
+
+// x·y / 65,536 rounded to nearest, a half upward, from 16-bit halves: four products in 32 bits. Only that of the low halves has a fraction, so it alone is rounded.
+fn rounded_product(x: u32, y: u32) -> u64
+    requires { ⌜ (x ≤ 2147483648) × (y ≤ 2147483648) ⌝ }
+    ensures { λ r. ⌜ r ≡ rounded (x * y) 65536 ⌝ }
+{
+    let x_high = x / 65536;
+    let x_low = x % 65536;
+    let y_high = y / 65536;
+    let y_low = y % 65536;
+    let carry = (x_low * y_low + 32768) / 65536;
+    let middle = x_high * y_low + x_low * y_high + carry;
+    let high = x_high * y_high;
+    (high as u64) * 65536 + (middle as u64)
+}
+
+// A magnitude with the sign of a product or a quotient of a and b: below zero where exactly one of them is.
+fn with_sign(size: u64, a: i32, b: i32) -> i64
+    requires { ⌜ size ≤ 4611686018427387904 ⌝ }
+    ensures { λ r. ⌜ r ≡ signedLike size a b ⌝ }
+{
+    let plain = size as i64;
+    if a < 0 {
+        if b < 0 {
+            return plain;
+        }
+        return 0 - plain;
+    }
+    if b < 0 {
+        return 0 - plain;
+    }
+    plain
+}
+
+// Fixed multiply for every pair, from magnitudes of 32 bits: the only 64-bit product is by 65,536, a shift.
 pub fn wide_mul(a: i32, b: i32) -> i64
     ensures { λ r. ⌜ r ≡ mulFix a b ⌝ }
 {
-    let ab = (a as i64) * (b as i64);
-    if ab < 0 {
-        return (ab + 32767) >> 16;
-    }
-    (ab + 32768) >> 16
+    with_sign(rounded_product(size(a), size(b)), a, b)
 }
 
 // Fixed divide in 64 bits, for every pair with a divisor.
@@ -43,17 +80,7 @@ pub fn wide_div(a: i32, b: i32) -> i64
     ensures { λ r. ⌜ r ≡ divFix a b ⌝ }
 {
     let n = magnitude(a as i64) * 65536;
-    let q = rounded_quotient(n, magnitude(b as i64)) as i64;
-    if a < 0 {
-        if b < 0 {
-            return q;
-        }
-        return 0 - q;
-    }
-    if b < 0 {
-        return 0 - q;
-    }
-    q
+    with_sign(rounded_quotient(n, magnitude(b as i64)), a, b)
 }
 
 // FreeType's FT_MulFix, where the answer fits: a·b / 65,536 rounded to nearest, halves away from zero.

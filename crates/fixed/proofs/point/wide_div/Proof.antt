@@ -1,20 +1,16 @@
--- `fixed::point::wide_div` meets its contract: the rounded quotient of the magnitudes, with the sign that the two tests tell. Assumes nothing.
+-- `fixed::point::wide_div` meets its contract: the rounded quotient of the magnitudes, with the sign of the two. Assumes nothing.
 use native.Mathlib.Omega.{arith}
 use mathlib.Core.Path.{_≡_, sym, ap, _∙_}
 use Prim.Native.Nat.{ℕ, _*_, _≤_}
-use lib.IntN.{ℤ, pos, negℤ, natAbs, _-ℤ_, +ℤ-idl}
+use lib.IntN.{natAbs}
 use mir.Syntax.{w64}
-use mir.Val.{toZ, ofZ}
-use Rattle.signed.proofs.Signed.{signed, fits, is, range, abs-of, between-sfits}
+use Rattle.signed.proofs.Signed.{signed, fits, is, got, range, abs-of, between-sfits}
+use Rattle.signed.proofs.By.{by₂, by₃}
 use Rattle.fixed.specs.Point.{rounded}
-use Rattle.signed.proofs.By.{by₂}
-use Rattle.fixed.proofs.Rounding.{rounded-at-most, div-pp, div-pn, div-np, div-nn}
+use Rattle.fixed.specs.Steps.{signedLike}
+use Rattle.fixed.proofs.Rounding.{rounded-at-most, div-sign}
 use Rattle.fixed.proofs.point.wide_div.Statement.{statement}
 use Rattle.fixed.proofs.point.wide_div.Tie as tie
-
--- 0 less a number
-less : {x y : ℤ} → x ≡ y → pos 0 -ℤ x ≡ negℤ y
-less {x} {y} e = ap (λ (z : ℤ). pos 0 -ℤ z) e ∙ +ℤ-idl (negℤ y)
 
 cast-magnitude : tie.Need-cast-magnitude
 cast-magnitude c = fits (omega (arith, signed, range (c .fits .a)))
@@ -55,36 +51,16 @@ start c = c .before .before .before
 q-is : (c : tie.After-rounded-quotient) → c .rounded-quotient .result ≡ rounded (natAbs (start c .args .a) * 65536) (natAbs (start c .args .b))
 q-is c = by₂ rounded (c .rounded-quotient .ensures) (ap (λ (n : ℕ). n * 65536) (a-is (c .before .before))) (b-is (c .before))
 
-cast-q : tie.Need-cast-q
-cast-q c =
+with-sign-requires : tie.Need-with-sign-requires
+with-sign-requires c κs =
     let s = start c in
-    fits (omega (arith, q-is c, rounded-at-most (natAbs (s .args .a) * 65536) (natAbs (s .args .b)) (s .pre), abs-of (between-sfits (s .fits .a))))
-
--- the answer without its sign
-plain : (c : tie.After-rounded-quotient) → toZ w64 (ofZ w64 (pos (c .rounded-quotient .result))) ≡ pos (rounded (natAbs (start c .args .a) * 65536) (natAbs (start c .args .b)))
-plain c = is (cast-q c) ∙ ap pos (q-is c)
+    omega (arith, q-is c, rounded-at-most (natAbs (s .args .a) * 65536) (natAbs (s .args .b)) (s .pre), abs-of (between-sfits (s .fits .a)))
 
 returns : tie.Need-returns
-returns c = let v = c .before .before in plain v ∙ sym (div-nn (start v .args .a) (start v .args .b) (omega (arith, signed)) (omega (arith, signed)))
-
-sub-result : tie.Need-sub-result
-sub-result c = let h = cast-q (c .before .before) in fits (omega (arith, signed))
-
-returns-2 : tie.Need-returns-2
-returns-2 c =
-    let v = c .before .before in
-    is (sub-result c) ∙ less (plain v) ∙ sym (div-np (start v .args .a) (start v .args .b) (omega (arith, signed)) (omega (arith, signed)))
-
-sub-result-2 : tie.Need-sub-result-2
-sub-result-2 c = let h = cast-q (c .before .before) in fits (omega (arith, signed))
-
-returns-3 : tie.Need-returns-3
-returns-3 c =
-    let v = c .before .before in
-    is (sub-result-2 c) ∙ less (plain v) ∙ sym (div-pn (start v .args .a) (start v .args .b) (omega (arith, signed)) (omega (arith, signed)))
-
-returns-4 : tie.Need-returns-4
-returns-4 c = let v = c .before .before in plain v ∙ sym (div-pp (start v .args .a) (start v .args .b) (omega (arith, signed)) (omega (arith, signed)))
+returns c =
+    let s = start (c .before) in
+    is (got w64 (c .with-sign .result) (c .with-sign .ok))
+    ∙ by₃ signedLike (c .with-sign .ensures) (q-is (c .before)) (is (s .fits .a)) (is (s .fits .b)) ∙ sym (div-sign (s .args .a) (s .args .b) (s .pre))
 
 pub wide-div-spec : {M : Type 1} → statement M
 wide-div-spec =
@@ -96,10 +72,5 @@ wide-div-spec =
     cast-magnitude-2
     magnitude-requires-2
     rounded-quotient-requires
-    cast-q
-    returns
-    sub-result
-    returns-2
-    sub-result-2
-    returns-3
-    returns-4)
+    with-sign-requires
+    returns)

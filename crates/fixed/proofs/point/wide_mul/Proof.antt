@@ -1,57 +1,68 @@
--- `fixed::point::wide_mul` meets its contract: the product of two 32-bit numbers fits 64 bits, and a shift of it and a half rounds it. Assumes nothing.
+-- `fixed::point::wide_mul` meets its contract: the rounded product of the magnitudes, with the sign of the two. Assumes nothing.
+use borrow.Author.Needs.{needs}
+use native.Mathlib.Nat.{mul-le-mul}
 use native.Mathlib.Omega.{arith}
-use mathlib.Core.Path.{_≡_, sym, ap, subst, _∙_}
-use lib.IntN.{ℤ, pos, _+ℤ_, _*ℤ_}
-use lib.Signed.{shrZ}
-use mir.Syntax.{w32, w64}
-use mir.Val.{toZ, ofZ, SFits}
-use Rattle.signed.specs.Range.{Between}
-use Rattle.signed.proofs.Signed.{signed, fits, is, range, fits-prod, fits-shr, between-prod, between-sfits, back-fits, _also_}
-use Rattle.fixed.specs.Point.{roundedZ, mulFix}
-use Rattle.fixed.proofs.Rounding.{mul-shift-pos, mul-shift-neg}
+use mathlib.Core.Path.{_≡_, sym, ap, _∙_}
+use Prim.Native.Nat.{_*_, _≤_}
+use lib.IntN.{natAbs}
+use mir.Syntax.{w64}
+use Rattle.signed.proofs.Signed.{is, got, abs-of, between-sfits}
+use Rattle.signed.proofs.By.{by₃}
+use Rattle.fixed.specs.Point.{rounded}
+use Rattle.fixed.specs.Steps.{signedLike}
+use Rattle.fixed.proofs.Rounding.{rounded-at-most, mul-sign}
 use Rattle.fixed.proofs.point.wide_mul.Statement.{statement}
 use Rattle.fixed.proofs.point.wide_mul.Tie as tie
 
-cast-ab : tie.Need-cast-ab
-cast-ab c = fits (omega (arith, signed, range (c .fits .a)))
+size-requires : tie.Need-size-requires
+size-requires c κs = search needs
 
-cast-ab-2 : tie.Need-cast-ab-2
-cast-ab-2 c = fits (omega (arith, signed, range (c .fits .b)))
+-- the first magnitude
+a-is : (c : tie.After-size) → c .size .result ≡ natAbs (c .before .args .a)
+a-is c = c .size .ensures ∙ ap natAbs (is (c .before .fits .a))
 
--- the two factors as the machine reads them
-abbrev product : tie.Start → ℤ
-product s = toZ w64 (ofZ w64 (toZ w32 (ofZ w32 (s .args .a)))) *ℤ toZ w64 (ofZ w64 (toZ w32 (ofZ w32 (s .args .b))))
+size-requires-2 : tie.Need-size-requires-2
+size-requires-2 c κs = search needs
 
-product-is : (s : tie.Start) → product s ≡ s .args .a *ℤ s .args .b
-product-is s = λ i. (is (cast-ab s) ∙ is (s .fits .a)) i *ℤ (is (cast-ab-2 s) ∙ is (s .fits .b)) i
+-- the second
+b-is : (c : tie.After-size2) → c .size2 .result ≡ natAbs (c .before .before .args .b)
+b-is c = c .size2 .ensures ∙ ap natAbs (is (c .before .before .fits .b))
 
-mul-ab : tie.Need-mul-ab
-mul-ab c = subst (SFits w64) (sym (product-is c)) (fits-prod (between-sfits (c .fits .a)) (between-sfits (c .fits .b)) tt)
+-- both are at most 2^31
+a-most : (s : tie.Start) → natAbs (s .args .a) ≤ 2147483648
+a-most s = omega (arith, abs-of (between-sfits (s .fits .a)))
 
-bounded : (s : tie.Start) → Between 4611686018427387904 4611686018427387904 (product s)
-bounded s = rw (product-is s) (between-prod (between-sfits (s .fits .a)) (between-sfits (s .fits .b)))
+b-most : (s : tie.Start) → natAbs (s .args .b) ≤ 2147483648
+b-most s = omega (arith, abs-of (between-sfits (s .fits .b)))
 
-add-result : tie.Need-add-result
-add-result c = let k = mul-ab (c .before) also bounded (c .before) in fits (omega (arith, signed))
+rounded-product-requires : tie.Need-rounded-product-requires
+rounded-product-requires c κs = let s = c .before .before in (omega (arith, a-is (c .before), a-most s), omega (arith, b-is c, b-most s))
+
+-- the entry of a place behind the product
+abbrev start : tie.After-rounded-product → tie.Start
+start c = c .before .before .before
+
+-- the magnitude of the answer
+product-is : (c : tie.After-rounded-product) → c .rounded-product .result ≡ rounded (natAbs (start c .args .a) * natAbs (start c .args .b)) 65536
+product-is c = c .rounded-product .ensures ∙ λ i. rounded (a-is (c .before .before) i * b-is (c .before) i) 65536
+
+with-sign-requires : tie.Need-with-sign-requires
+with-sign-requires c κs =
+    let s = start c in
+    omega (
+      arith,
+      product-is c,
+      rounded-at-most (natAbs (s .args .a) * natAbs (s .args .b)) 65536 (omega arith),
+      mul-le-mul {n₂ = 2147483648} {m₂ = 2147483648} (a-most s) (b-most s),
+    )
 
 returns : tie.Need-returns
-unfolding mulFix
 returns c =
-    let s = c .before in
-    let k = mul-ab s also bounded s in
-    is (fits-shr _ 65536 (back-fits (add-result c))) ∙ ap (λ (z : ℤ). shrZ z 65536) (is (add-result c) ∙ ap (λ (z : ℤ). z +ℤ pos 32767) (is (mul-ab s)))
-    ∙ mul-shift-neg (product s) (omega (arith, signed)) ∙ ap (λ (z : ℤ). roundedZ z (pos 65536)) (product-is s)
-
-add-result-2 : tie.Need-add-result-2
-add-result-2 c = let k = mul-ab (c .before) also bounded (c .before) in fits (omega (arith, signed))
-
-returns-2 : tie.Need-returns-2
-unfolding mulFix
-returns-2 c =
-    let s = c .before in
-    let k = mul-ab s also bounded s in
-    is (fits-shr _ 65536 (back-fits (add-result-2 c))) ∙ ap (λ (z : ℤ). shrZ z 65536) (is (add-result-2 c) ∙ ap (λ (z : ℤ). z +ℤ pos 32768) (is (mul-ab s)))
-    ∙ mul-shift-pos (product s) (omega (arith, signed)) ∙ ap (λ (z : ℤ). roundedZ z (pos 65536)) (product-is s)
+    let s = start (c .before) in
+    is (got w64 (c .with-sign .result) (c .with-sign .ok))
+    ∙ by₃ signedLike (c .with-sign .ensures) (product-is (c .before)) (is (s .fits .a)) (is (s .fits .b)) ∙ sym (mul-sign (s .args .a) (s .args .b))
 
 pub wide-mul-spec : {M : Type 1} → statement M
-wide-mul-spec = tie.close (tie.spec cast-ab cast-ab-2 mul-ab add-result returns add-result-2 returns-2)
+wide-mul-spec =
+    tie.close
+    (tie.spec size-requires size-requires-2 rounded-product-requires with-sign-requires returns)

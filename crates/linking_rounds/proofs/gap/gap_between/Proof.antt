@@ -3,9 +3,8 @@ use borrow.Author.Needs.{needs}
 use mathlib.Core.Path.{_≡_}
 use mir.Syntax.{w16}
 use Rattle.linking_rounds.specs.Pairs as P
-use Rattle.signed.proofs.Reading.{back, cast-16, sub-fits, sub-is, short}
-use Rattle.axis.specs.Handed.{TypedSegment}
-use Rattle.linking_rounds.proofs.Ranges.{gap-reach, reached}
+use Rattle.signed.proofs.Reading.{back, cast-16, sub-fits, sub-is}
+use Rattle.linking_rounds.proofs.Ranges.{typed-segment, gap-reach, reached}
 use Rattle.linking_rounds.proofs.gap.gap_between.Statement.{statement}
 use Rattle.linking_rounds.proofs.gap.gap_between.Tie as tie
 
@@ -70,11 +69,16 @@ returns c =
     let larger = smaller .before .before .before in
     let told = larger .before .before in
     let start = told .before in
-    let seg1 : TypedSegment (start .args .seg1) = record { pos = short _ (told .struct-told .given .1 .1 .0 .1); low = short _ (told .struct-told .given .1 .1 .1 .1 .0 .1); high = short _ (told .struct-told .given .1 .1 .1 .1 .1 .0 .1) } in
-    let seg2 : TypedSegment (start .args .seg2) = record { pos = short _ (told5 .struct-told5 .given .1 .1 .0 .1); low = short _ (told5 .struct-told5 .given .1 .1 .1 .1 .0 .1); high = short _ (told5 .struct-told5 .given .1 .1 .1 .1 .1 .0 .1) } in
-    let before : TypedSegment (start .args .before) = record { pos = short _ (c .struct-told6 .given .1 .1 .0 .1); low = short _ (c .struct-told6 .given .1 .1 .1 .1 .0 .1); high = short _ (c .struct-told6 .given .1 .1 .1 .1 .1 .0 .1) } in
+    let seg1 = typed-segment (start .args .seg1) (told .struct-told .given .1 .1 .0 .1) (told .struct-told .given .1 .1 .1 .1 .0 .1) (told .struct-told .given .1 .1 .1 .1 .1 .0 .1) in
+    let seg2 = typed-segment (start .args .seg2) (told5 .struct-told5 .given .1 .1 .0 .1) (told5 .struct-told5 .given .1 .1 .1 .1 .0 .1) (told5 .struct-told5 .given .1 .1 .1 .1 .1 .0 .1) in
+    let before = typed-segment (start .args .before) (c .struct-told6 .given .1 .1 .0 .1) (c .struct-told6 .given .1 .1 .1 .1 .0 .1) (c .struct-told6 .given .1 .1 .1 .1 .1 .0 .1) in
     reached
-    (rw (sub-is (start .args .seg2 .pos) (start .args .before .pos) (told5 .struct-told5 .given .1 .1 .0 .1) (c .struct-told6 .given .1 .1 .0 .1), sub-is (smaller .smaller .result) (larger .larger .result) (smaller .smaller .ok) (larger .larger .ok), high smaller, low larger))
+    (rw (
+      sub-is (start .args .seg2 .pos) (start .args .before .pos) (told5 .struct-told5 .given .1 .1 .0 .1) (c .struct-told6 .given .1 .1 .0 .1),
+      sub-is (smaller .smaller .result) (larger .larger .result) (smaller .smaller .ok) (larger .larger .ok),
+      high smaller,
+      low larger,
+    ))
     (gap-reach (start .args .before) (start .args .seg1) (start .args .seg2) before seg1 seg2)
 
 pub gap-between-spec : {M : Type 1} → statement M

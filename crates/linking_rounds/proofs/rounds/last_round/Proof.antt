@@ -22,7 +22,8 @@ abbrev μ-loop : tie.MeasureT-loop
 
 -- in the middle of the round, each segment is within the table
 whole : (c : tie.After-known-told Inv-loop μ-loop)
-    → Every (c .before .before .before .before .before .before .args .segments .len) (Within (c .before .before .before .before .before .before .args .segments .len)) (c .before .before .before .before .before .loop .table)
+    → Every (c .before .before .before .before .before .before .args .segments .len) (Within (c .before .before .before .before .before .before .args .segments .len))
+    (c .before .before .before .before .before .loop .table)
 whole c =
     let outer = c .before .before .before .before .before in
     let start = outer .before in

@@ -16,13 +16,15 @@ use Rattle.linking_rounds.proofs.rounds.pair_round.Statement.{statement
 use Rattle.linking_rounds.proofs.rounds.pair_round.Tie as tie
 
 abbrev Inv-loop2 : tie.InvT-loop2
-Inv-loop2 major-dir thresholds count table₀ ix1 before ix2₀ table ix2 = (ix2 ≤ count) × (count ≤ mostSegments) × (table ≡ turns (R.pairTurn thresholds before ix1) ix2 table₀) × Every count (Within count) table
+Inv-loop2 major-dir thresholds count table₀ ix1 before ix2₀ table ix2 =
+    (ix2 ≤ count) × (count ≤ mostSegments) × (table ≡ turns (R.pairTurn thresholds before ix1) ix2 table₀) × Every count (Within count) table
 
 abbrev μ-loop2 : tie.MeasureT-loop2
 μ-loop2 major-dir thresholds count table₀ ix1 before ix2₀ table ix2 = count - ix2
 
 abbrev Inv-loop : tie.InvT-loop
-Inv-loop major-dir thresholds count table₀ ix1₀ table ix1 = (ix1 ≤ count) × (count ≤ mostSegments) × (table ≡ turns (R.majorTurn major-dir thresholds count) ix1 table₀) × Every count (Within count) table
+Inv-loop major-dir thresholds count table₀ ix1₀ table ix1 =
+    (ix1 ≤ count) × (count ≤ mostSegments) × (table ≡ turns (R.majorTurn major-dir thresholds count) ix1 table₀) × Every count (Within count) table
 
 abbrev μ-loop : tie.MeasureT-loop
 μ-loop major-dir thresholds count table₀ ix1₀ table ix1 = count - ix1
@@ -150,8 +152,8 @@ loop2-again-2 c =
       inner .loop2 .inv .1,
       turn (R.pairTurn (start .args .thresholds) _ (outer .loop .ix1)) (inner .loop2 .ix2) _ _ _ (inner .loop2 .inv .2)
           (pair-go _ _ _ _ _ _ (gap-between .gap-between .ensures .0) _ _ facing (c .before .improved .ensures) (c .improved2 .ensures)),
-      pair-within _ (start .args .thresholds) _ _ _ _ _ _ (in-outer .loop-test .taken) (in-inner .loop2-test .taken) (start .pre .1) (inner .loop2 .inv .3) (gap-between .gap-between .ensures .1) facing
-          (c .before .improved .ensures) (c .improved2 .ensures),
+      pair-within _ (start .args .thresholds) _ _ _ _ _ _ (in-outer .loop-test .taken) (in-inner .loop2-test .taken) (start .pre .1) (inner .loop2 .inv .3)
+          (gap-between .gap-between .ensures .1) facing (c .before .improved .ensures) (c .improved2 .ensures),
     )
 
 add-ix1-2 : tie.Need-add-ix1-2 Inv-loop2 μ-loop2 Inv-loop μ-loop

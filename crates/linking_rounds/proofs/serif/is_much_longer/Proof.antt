@@ -15,7 +15,12 @@ returns c =
     let times = c .before .before in
     let told = times .before in
     let start = told .before in
-    rw (back w32 (start .args .seg1 .len) (c .struct-told2 .given .1 .1 .1 .1 .1 .1 .1 .1 .0 .1), back w32 (times .times .result) (times .times .ok), times .times .ensures, back w32 (start .args .seg2 .len) (told .struct-told .given .1 .1 .1 .1 .1 .1 .1 .1 .0 .1))
+    rw (
+      back w32 (start .args .seg1 .len) (c .struct-told2 .given .1 .1 .1 .1 .1 .1 .1 .1 .0 .1),
+      back w32 (times .times .result) (times .times .ok),
+      times .times .ensures,
+      back w32 (start .args .seg2 .len) (told .struct-told .given .1 .1 .1 .1 .1 .1 .1 .1 .0 .1),
+    )
 
 pub is-much-longer-spec : {M : Type 1} → statement M
 is-much-longer-spec = tie.close (tie.spec times-requires returns)

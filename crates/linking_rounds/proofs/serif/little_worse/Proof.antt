@@ -24,7 +24,13 @@ returns-2 c =
     let told2 = else1 .before in
     let told = told2 .before .before in
     let start = told .before .before in
-    rw (le-turned w32 (start .args .seg2 .score) (start .args .seg1 .score) (told .struct-told .given .1 .1 .1 .1 .1 .1 .1 .0 .1) (told2 .struct-told2 .given .1 .1 .1 .1 .1 .1 .1 .0 .1) (else1 .if1 .left), back w32 (start .args .seg2 .score) (c .struct-told4 .given .1 .1 .1 .1 .1 .1 .1 .0 .1), back w32 (times .times .result) (times .times .ok), times .times .ensures, back w32 (start .args .seg1 .score) (told3 .struct-told3 .given .1 .1 .1 .1 .1 .1 .1 .0 .1))
+    rw (
+      le-turned w32 (start .args .seg2 .score) (start .args .seg1 .score) (told .struct-told .given .1 .1 .1 .1 .1 .1 .1 .0 .1) (told2 .struct-told2 .given .1 .1 .1 .1 .1 .1 .1 .0 .1) (else1 .if1 .left),
+      back w32 (start .args .seg2 .score) (c .struct-told4 .given .1 .1 .1 .1 .1 .1 .1 .0 .1),
+      back w32 (times .times .result) (times .times .ok),
+      times .times .ensures,
+      back w32 (start .args .seg1 .score) (told3 .struct-told3 .given .1 .1 .1 .1 .1 .1 .1 .0 .1),
+    )
 
 pub little-worse-spec : {M : Type 1} → statement M
 little-worse-spec = tie.close (tie.spec returns times-requires returns-2)

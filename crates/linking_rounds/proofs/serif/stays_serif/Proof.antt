@@ -27,7 +27,13 @@ returns-2 c =
     let told2 = else1 .before in
     let told = told2 .before .before in
     let start = told .before .before in
-    rw (lt-was w32 (start .args .seg2 .score) (start .args .thresholds .dist) (told .struct-told .given .1 .1 .1 .1 .1 .1 .1 .0 .1) (told2 .struct-told2 .given .1 .0 .1) (else1 .if1 .left), back w32 (start .args .seg1 .score) (c .struct-told4 .given .1 .1 .1 .1 .1 .1 .1 .0 .1), back w32 (times .times .result) (times .times .ok), times .times .ensures, back w32 (start .args .seg2 .score) (told3 .struct-told3 .given .1 .1 .1 .1 .1 .1 .1 .0 .1))
+    rw (
+      lt-was w32 (start .args .seg2 .score) (start .args .thresholds .dist) (told .struct-told .given .1 .1 .1 .1 .1 .1 .1 .0 .1) (told2 .struct-told2 .given .1 .0 .1) (else1 .if1 .left),
+      back w32 (start .args .seg1 .score) (c .struct-told4 .given .1 .1 .1 .1 .1 .1 .1 .0 .1),
+      back w32 (times .times .result) (times .times .ok),
+      times .times .ensures,
+      back w32 (start .args .seg2 .score) (told3 .struct-told3 .given .1 .1 .1 .1 .1 .1 .1 .0 .1),
+    )
 
 pub stays-serif-spec : {M : Type 1} → statement M
 stays-serif-spec = tie.close (tie.spec returns times-requires returns-2)
