@@ -114,7 +114,8 @@ struct khs_segment {
 /* The width rule of the calls below is `rule`, KHS_KEEP or KHS_SNAP, with `standards`, the standard widths in units. Keep takes widths as they are and does
  * not read the standards: their list may be of any length, but is still not NULL. Snap wants 0 to 16 of them, strictly rising, each 1 to 16,383, else
  * KHS_BAD_PARAMETER; a width then becomes the standard nearest to its magnitude, the smaller on a tie, with the width's sign, where that is at most 16 units
- * away, and else stays; 0 stays 0.
+ * away, and else stays; then a nonzero width of less than a pixel, 64 units, becomes a pixel, with its sign, a standard below 64 too and with no standards too.
+ * 0 stays 0.
  *
  * An edge named in a call (base, stem, serif, edge, edge2) is its index in the list. Two may be the same. A call over edges takes at most 128 of them. Fields
  * of edges and segments that a call is not said to write hold what they held. */

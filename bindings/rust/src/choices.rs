@@ -45,6 +45,7 @@ pub enum WidthRule<'a> {
     #[default]
     Keep,
     /// They become the nearest of these standards, in units, where that is at most 16 units away: 0 to 16 of them, strictly rising, each 1 to 16,383.
+    /// Then a nonzero width of less than a pixel, 64 units, becomes a pixel, with its sign; 0 stays 0.
     Snap(&'a [i32]),
 }
 

@@ -1,2 +1,3 @@
--- The laws, over plain variables.
+-- The laws, over plain variables; `Thin` is request #102.
 pub mod Moves
+pub mod Thin

@@ -1,4 +1,5 @@
--- `Determined`: each promise determines its outcome. `Changed`: what each call changes. `Handed`: each call accepts what others hand on.
+-- `Determined`: each promise determines its outcome. `Changed`: what each call changes. `Handed`: each call accepts what others hand on. `Thin`: request #102.
 pub mod Determined
 pub mod Changed
 pub mod Handed
+pub mod Thin

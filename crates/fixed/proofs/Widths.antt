@@ -1,22 +1,22 @@
--- The width rule: what its list test and its nearest standard are as facts, how a loop finds them, and that a fitted width is within 16 of the width.
+-- The width rule: what its list test and its nearest standard are as facts, how a loop finds them, and what a fitted width is to the width.
 use mathlib.Core.Path.{_≡_, refl, sym, ap, subst, _∙_}
 use mathlib.Core.Bool.{Bool, true, false, cond, _&&_, _||_, and-false}
 use mathlib.Core.List.{List, [], _∷_}
 use mathlib.Core.Logic.{⊎-elim}
-use Prim.Native.Nat.{ℕ, zero, suc, _+_, _-_, _≤_, _<_}
+use Prim.Native.Nat.{ℕ, zero, suc, _+_, _-_, _≤_, _<_, max}
 use native.Mathlib.Nat.{le-of-suc-le-suc}
 use native.Mathlib.Numerals.{add-one}
 use native.Mathlib.Omega.{arith}
 use lib.Dec.{T, ltb, leb, eqb}
-use borrow.Author.Tests.{ltb-true, leb-true, eqb-true, lt-ltb, le-ltb, le-leb, lt-leb, eq-eqb, ne-eqb}
+use borrow.Author.Tests.{ltb-true, ltb-false, leb-true, eqb-true, eqb-false, lt-ltb, le-ltb, le-leb, lt-leb, eq-eqb, ne-eqb}
 use lib.ListN.{length, getD, drop, drop-of-length-le}
 use lib.Seq.{drop-cons}
 use lib.IntN.{ℤ, pos, negsuc, negℤ, natAbs, _-ℤ_}
 use lib.Signed.{ltZ, leZ, _≤ℤ_, _<ℤ_}
 use Rattle.signed.specs.Parts.{up, dn}
-use Rattle.signed.proofs.Signed.{signed, natAbs-is, sub-law, up-neg, dn-neg, is-≤ℤ, is-<ℤ, to-≤ℤ, to-≡, to-lt-true, to-lt-false, to-le-true, to-le-false, lt-or-le}
-use Rattle.fixed.specs.Width.{mostStandards, mostStandard, mostAway, risesFrom, standardsHold, Standards}
-use Rattle.fixed.specs.Width.{away, noBetter, isNearest, standardThat, nearest, Nearest, withSign, settled, snapped, fittedWidth}
+use Rattle.signed.proofs.Signed.{signed, _also_, natAbs-is, one-zero, sub-law, up-neg, dn-neg, is-≤ℤ, is-<ℤ, to-≤ℤ, to-≡, to-lt-true, to-lt-false, to-le-true, to-le-false, lt-or-le}
+use Rattle.fixed.specs.Width.{mostStandards, mostStandard, mostAway, onePixel, risesFrom, standardsHold, ruleHolds, Standards}
+use Rattle.fixed.specs.Width.{away, noBetter, isNearest, standardThat, nearest, Nearest, withSign, settled, snapped, lifted, fittedWidth, Fitted}
 use Rattle.fixed.specs.declared.width.WidthRule.{WidthRule}
 use Rattle.fixed.specs.declared.width.WidthRule.the-variants.{Keep, Snap}
 
@@ -332,37 +332,207 @@ unfolding withSign
 settled-neg (pos n) s h l k = absurd (omega arith)
 settled-neg (negsuc n) s h l k = settled-near (negsuc n) s h l
 
--- ---- a fitted width is within 16 of the width, whatever the list
-pub record Within16 (w r : ℤ) : Type 0 where
-  pub not-above : up r + dn w ≤ up w + dn r + mostAway
-  pub not-below : up w + dn r ≤ up r + dn w + mostAway
+positive : (n : ℕ) → eqb n 0 ≡ false → 0 < n
+positive zero e = never (sym e)
+positive (suc n) e = omega arith
 
-within-itself : (w : ℤ) → Within16 w w
-within-itself w = record { not-above = omega arith; not-below = omega arith }
+-- ---- a width is lifted
+pub lifted-zero : (w : ℤ) → natAbs w ≡ 0 → lifted w ≡ w
+unfolding lifted
+lifted-zero w e = rw (eq-eqb (natAbs w) 0 e)
 
-with-sign-within : (w s : ℤ) → away (natAbs w) s ≤ mostAway → Within16 w (withSign w s)
+pub lifted-wide : (w : ℤ) → onePixel ≤ natAbs w → lifted w ≡ w
+unfolding lifted
+lifted-wide w h = rw (ne-eqb (natAbs w) 0 (λ e. omega arith), le-ltb (natAbs w) onePixel h)
+
+lifted-thin : (w : ℤ) → 0 < natAbs w → natAbs w < onePixel → lifted w ≡ withSign w (pos onePixel)
+unfolding lifted
+lifted-thin w p h = rw (ne-eqb (natAbs w) 0 (λ e. omega arith), lt-ltb (natAbs w) onePixel h)
+
+pub lifted-pos : (w : ℤ) → dn w < up w → up w < onePixel → lifted w ≡ pos onePixel
 unfolding withSign
-with-sign-within (pos n) s l =
-    let z = s -ℤ pos n in
-    record { not-above = omega (arith, natAbs-is z, sub-law s (pos n)); not-below = omega (arith, natAbs-is z, sub-law s (pos n)) }
-with-sign-within (negsuc n) s l =
-    let z = s -ℤ pos (suc n) in
+lifted-pos (pos n) p h = lifted-thin (pos n) p h
+lifted-pos (negsuc n) p h = absurd (omega arith)
+
+pub lifted-neg : (w : ℤ) → up w < dn w → dn w < onePixel → lifted w ≡ negℤ (pos onePixel)
+unfolding withSign
+lifted-neg (pos n) p h = absurd (omega arith)
+lifted-neg (negsuc n) p h = lifted-thin (negsuc n) (omega arith) h
+
+-- ---- a number with another's sign
+natAbs-neg : (s : ℤ) → natAbs (negℤ s) ≡ natAbs s
+natAbs-neg s = omega (arith, natAbs-is s, natAbs-is (negℤ s), up-neg s, dn-neg s)
+
+natAbs-signed : (w s : ℤ) → natAbs (withSign w s) ≡ natAbs s
+unfolding withSign
+natAbs-signed (pos n) s = refl
+natAbs-signed (negsuc n) s = natAbs-neg s
+
+-- ---- what a fitted width is to the width
+-- a width snapped has the width's sign, and a magnitude at most 16 from the width's
+record Snapped (w r : ℤ) : Type 0 where
+  size : ℕ
+  signed : r ≡ withSign w (pos size)
+  zero : natAbs w ≡ 0 → size ≡ 0
+  nonzero : 0 < natAbs w → 0 < size
+  not-above : size ≤ natAbs w + mostAway
+  not-below : natAbs w ≤ size + mostAway
+
+own-sign : (w : ℤ) → w ≡ withSign w (pos (natAbs w))
+unfolding withSign
+own-sign (pos n) = refl
+own-sign (negsuc n) = refl
+
+snapped-itself : (w : ℤ) → Snapped w w
+snapped-itself w = record {
+  size = natAbs w;
+  signed = own-sign w;
+  zero = λ e. e;
+  nonzero = λ h. h;
+  not-above = omega arith;
+  not-below = omega arith;
+}
+
+-- a standard that is near
+settled-by : (w s : ℤ) → pos 1 ≤ℤ s → 0 < natAbs w → away (natAbs w) s ≤ mostAway → Snapped w (withSign w s)
+settled-by w (pos k) p n l =
+    let z = natAbs-is (pos k -ℤ pos (natAbs w)) also sub-law (pos k) (pos (natAbs w)) in
     record {
-      not-above = omega (arith, natAbs-is z, sub-law s (pos (suc n)), up-neg s, dn-neg s);
-      not-below = omega (arith, natAbs-is z, sub-law s (pos (suc n)), up-neg s, dn-neg s);
+      size = k;
+      signed = refl;
+      zero = λ e. absurd (omega (arith, e));
+      nonzero = λ h. omega (arith, signed);
+      not-above = omega arith;
+      not-below = omega arith;
     }
+settled-by w (negsuc k) p n l = absurd (omega (arith, signed))
 
-settled-within : (w s : ℤ) → Within16 w (settled w s)
+settled-is : (w s : ℤ) → pos 1 ≤ℤ s → Snapped w (settled w s)
 unfolding settled
-settled-within w s = by (eqb (natAbs w) 0) (leb (away (natAbs w) s) mostAway) refl
+settled-is w s p = by (eqb (natAbs w) 0) refl (leb (away (natAbs w) s) mostAway) refl
   where
-    by : (a b : Bool) → leb (away (natAbs w) s) mostAway ≡ b → Within16 w (cond a w (cond b (withSign w s) w))
-    by true b e = within-itself w
-    by false false e = within-itself w
-    by false true e = with-sign-within w s (leb-true (away (natAbs w) s) mostAway e)
+    by : (a : Bool) → eqb (natAbs w) 0 ≡ a → (b : Bool) → leb (away (natAbs w) s) mostAway ≡ b → Snapped w (cond a w (cond b (withSign w s) w))
+    by true d b e = snapped-itself w
+    by false d false e = snapped-itself w
+    by false d true e = settled-by w s p (positive (natAbs w) d) (leb-true (away (natAbs w) s) mostAway e)
 
-pub fitted-within : (rule : WidthRule) (xs : List ℤ) (w : ℤ) → Within16 w (fittedWidth rule xs w)
-unfolding fittedWidth snapped
-fitted-within Keep xs w = within-itself w
-fitted-within Snap [] w = within-itself w
-fitted-within Snap (x ∷ xs) w = settled-within w (nearest (natAbs w) (x ∷ xs))
+snapped-is : (xs : List ℤ) (w : ℤ) → Standards xs → Snapped w (snapped xs w)
+unfolding snapped
+snapped-is [] w s = snapped-itself w
+snapped-is (x ∷ xs) w s =
+    let n = nearest-is (x ∷ xs) (natAbs w) s (omega arith) in
+    settled-is w (nearest (natAbs w) (x ∷ xs)) (subst (λ (z : ℤ). pos 1 ≤ℤ z) (n .there) (s .least (n .place) (n .inside)))
+
+-- a magnitude lifted
+abbrev liftedSize : ℕ → ℕ
+liftedSize n = cond (eqb n 0) n (cond (ltb n onePixel) onePixel n)
+
+record LiftedSize (n m : ℕ) : Type 0 where
+  zero : n ≡ 0 → m ≡ 0
+  nonzero : 0 < n → onePixel ≤ m
+  most : m ≤ max onePixel n
+  least : n ≤ m
+
+lifted-size : (n : ℕ) → LiftedSize n (liftedSize n)
+lifted-size n = by (eqb n 0) refl (ltb n onePixel) refl
+  where
+    by : (a : Bool) → eqb n 0 ≡ a → (b : Bool) → ltb n onePixel ≡ b → LiftedSize n (cond a n (cond b onePixel n))
+    by true d b e = let z = eqb-true n 0 d in record { zero = λ e. e; nonzero = λ h. absurd (omega (arith, h)); most = omega arith; least = omega arith }
+    by false d false e =
+        let p = positive n d in
+        let h = ltb-false n onePixel e in
+        record { zero = λ e. e; nonzero = λ _. h; most = omega arith; least = omega arith }
+    by false d true e =
+        let p = positive n d in
+        let h = ltb-true n onePixel e in
+        record { zero = λ e. absurd (omega (arith, e)); nonzero = λ _. omega arith; most = omega arith; least = omega arith }
+
+-- a magnitude with a sign is lifted by its magnitude
+lifted-signed : (w : ℤ) (n : ℕ) → (natAbs w ≡ 0 → n ≡ 0) → lifted (withSign w (pos n)) ≡ withSign w (pos (liftedSize n))
+unfolding lifted withSign
+lifted-signed (pos k) n z = by (eqb n 0) (ltb n onePixel)
+  where
+    by : (a b : Bool) → cond a (pos n) (cond b (pos onePixel) (pos n)) ≡ pos (cond a n (cond b onePixel n))
+    by true b = refl
+    by false true = refl
+    by false false = refl
+lifted-signed (negsuc k) zero z = refl
+lifted-signed (negsuc k) (suc n) z = by (eqb (suc n) 0) (ltb (suc n) onePixel)
+  where
+    by : (a b : Bool) → cond a (negsuc n) (cond b (negsuc 63) (negsuc n)) ≡ negℤ (pos (cond a (suc n) (cond b onePixel (suc n))))
+    by true b = refl
+    by false true = refl
+    by false false = refl
+
+lifted-fitted : (w r : ℤ) → Snapped w r → Fitted w (lifted r)
+lifted-fitted w r s =
+    let l = lifted-size (s .size) in
+    record {
+      size = liftedSize (s .size);
+      signed = ap lifted (s .signed) ∙ lifted-signed w (s .size) (s .zero);
+      zero = λ e. l .zero (s .zero e);
+      nonzero = λ h. omega (arith, l .nonzero (s .nonzero h));
+      most = omega (arith, l .most, s .not-above);
+      not-above = not-above (natAbs w) refl;
+      not-below = omega (arith, l .least, s .not-below);
+    }
+  where
+    not-above : (n : ℕ) → natAbs w ≡ n → liftedSize (s .size) < natAbs w + onePixel
+    not-above zero e = omega (arith, e, lifted-size (s .size) .zero (s .zero e))
+    not-above (suc n) e = omega (arith, e, lifted-size (s .size) .most, s .not-above)
+
+fitted-itself : (w : ℤ) → Fitted w w
+fitted-itself w = record {
+  size = natAbs w;
+  signed = own-sign w;
+  zero = λ e. e;
+  nonzero = λ h. h;
+  most = omega arith;
+  not-above = omega arith;
+  not-below = omega arith;
+}
+
+-- with every list that keeps its rule
+pub fitted-is : (rule : WidthRule) (xs : List ℤ) (w : ℤ) → ruleHolds rule xs ≡ true → Fitted w (fittedWidth rule xs w)
+unfolding fittedWidth ruleHolds
+fitted-is Keep xs w h = fitted-itself w
+fitted-is Snap xs w h = lifted-fitted w (snapped xs w) (snapped-is xs w (holds-is xs h))
+
+-- Snap leaves no width but 0 thinner than a pixel
+pub not-thinner : (xs : List ℤ) (w : ℤ) → standardsHold xs ≡ true → 0 < natAbs w → onePixel ≤ natAbs (fittedWidth Snap xs w)
+unfolding fittedWidth
+not-thinner xs w h p =
+    let s = snapped-is xs w (holds-is xs h) in
+    let l = lifted-size (s .size) .nonzero (s .nonzero p) in
+    rw (s .signed, lifted-signed w (s .size) (s .zero), natAbs-signed w (pos (liftedSize (s .size)))) l
+
+-- ---- how large a fitted width is at the most, whatever the list
+settled-most : (w s : ℤ) → natAbs (settled w s) ≤ natAbs w + mostAway
+unfolding settled
+settled-most w s = by (eqb (natAbs w) 0) (leb (away (natAbs w) s) mostAway) refl
+  where
+    by : (a b : Bool) → leb (away (natAbs w) s) mostAway ≡ b → natAbs (cond a w (cond b (withSign w s) w)) ≤ natAbs w + mostAway
+    by true b e = omega arith
+    by false false e = omega arith
+    by false true e =
+        let l = leb-true (away (natAbs w) s) mostAway e in
+        omega (arith, natAbs-signed w s, natAbs-is (s -ℤ pos (natAbs w)), sub-law s (pos (natAbs w)), natAbs-is s, one-zero s)
+
+snapped-most : (xs : List ℤ) (w : ℤ) → natAbs (snapped xs w) ≤ natAbs w + mostAway
+unfolding snapped
+snapped-most [] w = omega arith
+snapped-most (x ∷ xs) w = settled-most w (nearest (natAbs w) (x ∷ xs))
+
+lifted-most : (w : ℤ) → natAbs (lifted w) ≤ max onePixel (natAbs w)
+unfolding lifted
+lifted-most w = by (eqb (natAbs w) 0) (ltb (natAbs w) onePixel)
+  where
+    by : (a b : Bool) → natAbs (cond a w (cond b (withSign w (pos onePixel)) w)) ≤ max onePixel (natAbs w)
+    by true b = omega arith
+    by false true = omega (arith, natAbs-signed w (pos onePixel))
+    by false false = omega arith
+
+pub fitted-most : (rule : WidthRule) (xs : List ℤ) (w : ℤ) → natAbs (fittedWidth rule xs w) ≤ max onePixel (natAbs w + mostAway)
+unfolding fittedWidth
+fitted-most Keep xs w = omega arith
+fitted-most Snap xs w = omega (arith, lifted-most (snapped xs w), snapped-most xs w)

@@ -5,7 +5,7 @@ use Prim.Native.Nat.{ℕ}
 use lib.IntN.{ℤ, pos, negℤ}
 use Rattle.fixed.specs.Point.{rounded, roundedZ, mulFix, divFix, derived}
 use Rattle.fixed.specs.Pixel.{pixFloor, pixRound}
-use Rattle.fixed.specs.Width.{noBetter, isNearest, standardThat, nearest, withSign, settled, snapped, fittedWidth}
+use Rattle.fixed.specs.Width.{noBetter, isNearest, standardThat, nearest, withSign, settled, snapped, lifted, fittedWidth}
 use Rattle.fixed.specs.declared.width.WidthRule.the-variants.{Keep, Snap}
 
 -- what a definition gives, and what it should
@@ -52,18 +52,25 @@ rows =
     (pixRound (minus 33) is minus 64) ∷
     (fittedWidth Keep [] (minus 70) is minus 70) ∷
     (fittedWidth Snap [] (pos 70) is pos 70) ∷
-    (fittedWidth Snap (pos 40 ∷ pos 60 ∷ []) (pos 50) is pos 40) ∷
-    (fittedWidth Snap (pos 40 ∷ pos 60 ∷ []) (minus 50) is minus 40) ∷
-    (fittedWidth Snap (pos 40 ∷ pos 60 ∷ []) (pos 51) is pos 60) ∷
-    (fittedWidth Snap (pos 40 ∷ pos 60 ∷ []) (pos 76) is pos 60) ∷
-    (fittedWidth Snap (pos 40 ∷ pos 60 ∷ []) (pos 77) is pos 77) ∷
-    (fittedWidth Snap (pos 40 ∷ pos 60 ∷ []) (pos 24) is pos 40) ∷
-    (fittedWidth Snap (pos 40 ∷ pos 60 ∷ []) (pos 23) is pos 23) ∷
+    (snapped (pos 40 ∷ pos 60 ∷ []) (pos 50) is pos 40) ∷
+    (snapped (pos 40 ∷ pos 60 ∷ []) (minus 50) is minus 40) ∷
+    (snapped (pos 40 ∷ pos 60 ∷ []) (pos 51) is pos 60) ∷
+    (snapped (pos 40 ∷ pos 60 ∷ []) (pos 24) is pos 40) ∷
+    (snapped (pos 40 ∷ pos 60 ∷ []) (pos 23) is pos 23) ∷
+    (fittedWidth Snap (pos 80 ∷ pos 100 ∷ []) (pos 90) is pos 80) ∷
+    (fittedWidth Snap (pos 80 ∷ pos 100 ∷ []) (minus 116) is minus 100) ∷
+    (fittedWidth Snap (pos 80 ∷ pos 100 ∷ []) (pos 117) is pos 117) ∷
+    (fittedWidth Snap (pos 75 ∷ []) (pos 50) is pos 64) ∷
+    (fittedWidth Snap (pos 40 ∷ []) (pos 40) is pos 64) ∷
+    (fittedWidth Snap (pos 50 ∷ []) (pos 65) is pos 64) ∷
+    (fittedWidth Snap [] (minus 10) is minus 64) ∷
+    (fittedWidth Snap [] (pos 1) is pos 64) ∷
+    (fittedWidth Keep (pos 75 ∷ []) (pos 50) is pos 50) ∷
     (fittedWidth Snap (pos 1 ∷ []) (pos 0) is pos 0) ∷
     (fittedWidth Snap (pos 16383 ∷ []) (minus 16399) is minus 16383) ∷
     []
 
 -- each row holds
 pub worked : map (λ (r : Row). r .gives) rows ≡ map (λ (r : Row). r .value) rows
-unfolding rounded roundedZ mulFix divFix derived pixFloor pixRound noBetter isNearest standardThat nearest withSign settled snapped fittedWidth rows
+unfolding rounded roundedZ mulFix divFix derived pixFloor pixRound noBetter isNearest standardThat nearest withSign settled snapped lifted fittedWidth rows
 worked = refl

@@ -2,7 +2,7 @@
 use mathlib.Core.Path.{_≡_}
 use mathlib.Core.Bool.{Bool, true, cond, _&&_, _||_}
 use mathlib.Core.List.{List, [], _∷_}
-use Prim.Native.Nat.{ℕ, _≤_, _<_}
+use Prim.Native.Nat.{ℕ, _+_, _≤_, _<_, max}
 use lib.Dec.{ltb, leb, eqb}
 use lib.ListN.{length, getD}
 use lib.IntN.{ℤ, pos, negsuc, negℤ, natAbs}
@@ -23,6 +23,10 @@ mostStandard = 16383
 -- how far from a width the standard may be that it snaps to: 0 to 16 units
 abbrev pub mostAway : ℕ
 mostAway = 16
+
+-- what a snapped width is at the least, unless it is 0: a pixel
+abbrev pub onePixel : ℕ
+onePixel = 64
 
 -- ---- the list's own rule
 -- strictly rising from above b, each at most its limit
@@ -93,7 +97,22 @@ unfoldable pub snapped : List ℤ → ℤ → ℤ
 snapped [] w = w
 snapped (x ∷ xs) w = settled w (nearest (natAbs w) (x ∷ xs))
 
--- the fitted width
+-- a nonzero magnitude below a pixel becomes a pixel, with the same sign; 0 stays 0
+unfoldable pub lifted : ℤ → ℤ
+lifted w = cond (eqb (natAbs w) 0) w (cond (ltb (natAbs w) onePixel) (withSign w (pos onePixel)) w)
+
+-- the fitted width: Keep leaves it, Snap lifts what it has snapped
 unfoldable pub fittedWidth : WidthRule → List ℤ → ℤ → ℤ
 fittedWidth Keep xs w = w
-fittedWidth Snap xs w = snapped xs w
+fittedWidth Snap xs w = lifted (snapped xs w)
+
+-- ---- what a fitted width is to the width
+-- r has the sign of the width w and is 0 exactly where w is; it is at most a pixel, or 16 units more than w, and differs from w by less than a pixel
+pub record Fitted (w r : ℤ) : Type 0 where
+  pub size : ℕ
+  pub signed : r ≡ withSign w (pos size)
+  pub zero : natAbs w ≡ 0 → size ≡ 0
+  pub nonzero : 0 < natAbs w → 0 < size
+  pub most : size ≤ max onePixel (natAbs w + mostAway)
+  pub not-above : size < natAbs w + onePixel
+  pub not-below : natAbs w < size + onePixel

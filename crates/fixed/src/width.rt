@@ -5,7 +5,7 @@ ghost use mathlib.Core.Bool.{true};
 ghost use Prim.Native.Nat.{_≤_, _<_};
 ghost use lib.ListN.{length, getD};
 ghost use lib.IntN.{pos};
-ghost use Rattle.fixed.specs.Width.{standardsHold, ruleHolds, Standards, away, Nearest, snapped, fittedWidth};
+ghost use Rattle.fixed.specs.Width.{standardsHold, ruleHolds, Standards, away, Nearest, snapped, lifted, fittedWidth};
 
 // Document 01's limits of standards: how many there are, how large one is, and how far from a width the one may be that it snaps to.
 const MOST_STANDARDS: usize = 16;
@@ -13,6 +13,9 @@ const MOST_STANDARDS: usize = 16;
 const MOST_STANDARD: i32 = 16383;
 
 const MOST_AWAY: u64 = 16;
+
+// What a snapped width is at the least, unless it is 0.
+const ONE_PIXEL: i32 = 64;
 
 // What becomes of a stem's width: it is kept, or it snaps to the nearest of a list of standards.
 pub enum WidthRule {
@@ -103,6 +106,25 @@ fn snap(standards: &[i32], width: i32) -> i32
     standard
 }
 
+// A width below a pixel becomes a pixel, with the same sign, unless it is 0.
+fn lift(width: i32) -> i32
+    ensures { λ r. ⌜ r ≡ lifted width ⌝ }
+{
+    if ONE_PIXEL <= width {
+        return width;
+    }
+    if width <= 0 - ONE_PIXEL {
+        return width;
+    }
+    if 0 < width {
+        return ONE_PIXEL;
+    }
+    if width < 0 {
+        return 0 - ONE_PIXEL;
+    }
+    width
+}
+
 // The fitted width of a stem.
 pub fn stem_width(rule: WidthRule, standards: &[i32], width: i32) -> i32
     requires { ⌜ ruleHolds rule (now standards) ≡ true ⌝ }
@@ -110,6 +132,6 @@ pub fn stem_width(rule: WidthRule, standards: &[i32], width: i32) -> i32
 {
     match rule {
         WidthRule::Keep => width,
-        WidthRule::Snap => snap(standards, width),
+        WidthRule::Snap => lift(snap(standards, width)),
     }
 }

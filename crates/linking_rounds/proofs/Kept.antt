@@ -23,7 +23,8 @@ use Rattle.axis.proofs.Acceptance.{below-to}
 use Rattle.linking_rounds.specs.declared.thresholds.Thresholds.{Thresholds}
 use Rattle.linking_rounds.specs.Loops.{turns}
 use Rattle.linking_rounds.specs.Pairs.{gapOf, facing, checkSeg, linkedBy, improvedBy, serifOf, unlinked, nearStem, encloses, muchLonger, rewritten, staysSerif, settled}
-use Rattle.linking_rounds.specs.Rounds.{improvePair, pairTurn, majorTurn, pairRound, rewriteTurn, rewriteAll, unlink, heldTo, holdTurn, givenUp, hold, serifTo, serifTurn, serifRound, lastTo, lastTurn, lastRound, linked}
+use Rattle.linking_rounds.specs.Rounds.{improvePair, pairTurn, majorTurn, pairRound, rewriteTurn, rewriteAll, unlink, heldTo, holdTurn, givenUp, hold}
+use Rattle.linking_rounds.specs.Rounds.{serifTo, serifTurn, serifRound, lastTo, lastTurn, lastRound, linked}
 use Rattle.linking_rounds.proofs.Loops.{keeps, till-keeps}
 
 -- ---- a place that is written

@@ -10,11 +10,11 @@ use lib.IntN.{ℤ, _-ℤ_}
 use mir.Syntax.{w32}
 use mir.Val.{toZ, ofZ}
 use Rattle.signed.specs.Range.{Between}
-use Rattle.signed.proofs.Signed.{sub-law, fits-in, is}
+use Rattle.signed.proofs.Signed.{natAbs-is, one-zero, sub-law, fits-in, is}
 use Rattle.refusals.proofs.Tests.{and-first, and-second}
 use Rattle.fixed.specs.declared.width.WidthRule.{WidthRule}
 use Rattle.fixed.specs.Width.{fittedWidth}
-use Rattle.fixed.proofs.Widths.{fitted-within}
+use Rattle.fixed.proofs.Widths.{fitted-most}
 use Rattle.axis.specs.declared.edge.Axis.{Axis}
 use Rattle.axis.specs.Edge.{edgeAt}
 use Rattle.axis.specs.Limits.{mostEdges, mostUnits}
@@ -44,7 +44,10 @@ units-read z h = is (fits-in w32 h tt tt)
 pub reach-read : (z : ℤ) → Between mostReach mostReach z → toZ w32 (ofZ w32 z) ≡ z
 reach-read z h = is (fits-in w32 h tt tt)
 
--- a fitted width is at most 16 more than the distance of two original positions
+-- a fitted width is at most 16 more than the largest distance of two original positions
 pub width-range : (rule : WidthRule) (xs : List ℤ) (o s : ℤ)
     → Between mostUnits mostUnits o → Between mostUnits mostUnits s → Between mostWidth mostWidth (fittedWidth rule xs (s -ℤ o))
-width-range rule xs o s h g = omega (arith, fitted-within rule xs (s -ℤ o), sub-law s o)
+width-range rule xs o s h g =
+    let w = s -ℤ o in
+    let r = fittedWidth rule xs w in
+    omega (arith, fitted-most rule xs w, natAbs-is w, natAbs-is r, one-zero w, sub-law s o)

@@ -1,4 +1,5 @@
--- `Determined`: the promise determines the outcome. `Changed`: what the call changes. `Handed`: the call accepts what others hand on.
+-- `Determined`: the promise determines the outcome. `Changed`: what the call changes. `Handed`: the call accepts what others hand on. `Thin`: request #102.
 pub mod Determined
 pub mod Changed
 pub mod Handed
+pub mod Thin

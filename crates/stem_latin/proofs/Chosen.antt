@@ -86,11 +86,11 @@ chosen-near c w =
 
 -- ---- the edges about it
 -- the edges of a thin stem beside an anchor
-first-thin : (start l w : ℤ) → ltZ w (pos 96) ≡ true → anchoredFirst start l w ≡ thinCentre (centreOf start l) w -ℤ quotZ w (pos 2)
+pub first-thin : (start l w : ℤ) → ltZ w (pos 96) ≡ true → anchoredFirst start l w ≡ thinCentre (centreOf start l) w -ℤ quotZ w (pos 2)
 unfolding anchoredFirst thinFirst
 first-thin start l w h = cond-true (ltZ w (pos 96)) (thinFirst start l w) (wideFirst start l w) h
 
-second-thin : (start l w : ℤ) → ltZ w (pos 96) ≡ true → anchoredSecond start l w ≡ thinCentre (centreOf start l) w +ℤ quotZ w (pos 2)
+pub second-thin : (start l w : ℤ) → ltZ w (pos 96) ≡ true → anchoredSecond start l w ≡ thinCentre (centreOf start l) w +ℤ quotZ w (pos 2)
 unfolding anchoredSecond thinSecond
 second-thin start l w h = cond-true (ltZ w (pos 96)) (thinSecond start l w) (wideFirst start l w +ℤ w) h
 

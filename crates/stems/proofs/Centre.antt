@@ -30,7 +30,7 @@ no-link : (k : ℕ) → Links.None ≡ Links.To k → ⊥
 no-link k e = let z : _≡_ {A = ℕ} 0 1 = cc in omega arith
 
 -- an edge that has a link has a place
-linked-place : (es : List Edge) (i k : ℕ) → getD es i emptyEdge .link ≡ Links.To k → i < length es
+pub linked-place : (es : List Edge) (i k : ℕ) → getD es i emptyEdge .link ≡ Links.To k → i < length es
 linked-place [] i k h = absurd (no-link k h)
 linked-place (e ∷ es) zero k h = omega arith
 linked-place (e ∷ es) (suc i) k h = let r = linked-place es i k h in omega arith

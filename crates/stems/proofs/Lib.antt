@@ -1,5 +1,5 @@
 -- The laws by subject, each over plain variables; passes worked out by hand; then `Determined`, that the promise determines the outcome, `Changed`, what the call changes,
--- `Handed`, where positions come to and what the call accepts, and request #112: `Centre`.
+-- `Handed`, where positions come to and what the call accepts, and requests #112, `Centre`, and #102, `Thin`.
 pub mod Straight
 pub mod Growth
 pub mod Kept
@@ -9,3 +9,4 @@ pub mod Determined
 pub mod Changed
 pub mod Handed
 pub mod Centre
+pub mod Thin

@@ -13,7 +13,7 @@ use lib.Signed.{ltZ}
 use Rattle.signed.proofs.Signed.{same, add-law, sub-law}
 use Rattle.fixed.specs.declared.width.WidthRule.{WidthRule}
 use Rattle.fixed.specs.declared.width.WidthRule.the-variants.{Keep, Snap}
-use Rattle.fixed.specs.Width.{settled, snapped, fittedWidth}
+use Rattle.fixed.specs.Width.{settled, snapped, lifted, fittedWidth}
 use Rattle.axis.specs.declared.kinds.Link.{Link}
 use Rattle.axis.specs.declared.kinds.Link.the-variants as Links
 use Rattle.axis.specs.declared.kinds.Blue.{Blue}
@@ -132,7 +132,7 @@ by-lower m s i k p w d false h = ap (anchorState s i _) (put-same _ i ∙ ap (wi
     plus-none p w e = rw e (same (omega (arith, add-law p (pos 0))))
 
 no-width : (rule : WidthRule) (xs : List ℤ) → fittedWidth rule xs (pos 0) ≡ pos 0
-unfolding fittedWidth snapped settled
+unfolding fittedWidth lifted snapped settled
 no-width Keep xs = refl
 no-width Snap [] = refl
 no-width Snap (x ∷ xs) = refl

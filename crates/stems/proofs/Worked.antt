@@ -8,7 +8,7 @@ use lib.IntN.{ℤ, pos}
 use Rattle.fixed.specs.declared.width.WidthRule.{WidthRule}
 use Rattle.fixed.specs.declared.width.WidthRule.the-variants.{Keep, Snap}
 use Rattle.fixed.specs.Pixel.{pixFloor, pixRound}
-use Rattle.fixed.specs.Width.{settled, snapped, fittedWidth}
+use Rattle.fixed.specs.Width.{withSign, settled, snapped, lifted, fittedWidth}
 use Rattle.axis.specs.declared.kinds.Link.{Link}
 use Rattle.axis.specs.declared.kinds.Link.the-variants as Links
 use Rattle.axis.specs.declared.kinds.Direction.the-variants as Directions
@@ -65,10 +65,23 @@ pub record Worked : Type 0 where
   -- an anchor that is the edge itself, at 110, and an odd width, 61: the stem's centre, 110 and half of 61, goes from 140 to 160
   pub own-anchor : passOf Default false (Links.To 0) (edge 100 110 (Links.To 1) ∷ edge 161 200 (Links.To 0) ∷ [])
       ≡ stems 0 (Links.To 0) (axisOf (finished (edge 100 130 (Links.To 1)) ∷ finished (edge 161 190 (Links.To 0)) ∷ [])) 0
+  -- request #102: with Snap a stem of 10 units, from 100 to 110, is drawn a pixel wide, about the centre chosen, 96
+  pub not-vanishing : passBy Snap [] Default false (Links.To 0) (finished (edge 0 0 Links.None) ∷ edge 100 100 (Links.To 2) ∷ edge 110 110 (Links.To 1) ∷ [])
+      ≡ stems 0 (Links.To 0) (axisOf (finished (edge 0 0 Links.None) ∷ finished (edge 100 64 (Links.To 2)) ∷ finished (edge 110 128 (Links.To 1)) ∷ [])) 0
 
 pub worked : Worked
 unfolding stemsOf visits visit visitLink tooClose isClose zoneStem groupStem latinStem besideAnchor cjkStem deltaAfter linkedPos lowerBound hasPassed
-    neighbour heldTo boundBy adjusted fittedWidth snapped settled pixFloor pixRound centreOf lowerOffset upperOffset nearerCentre thinCentre thinFirst thinSecond
+    neighbour heldTo boundBy adjusted fittedWidth lifted snapped settled withSign pixFloor pixRound centreOf lowerOffset upperOffset nearerCentre thinCentre thinFirst thinSecond
     anchoredFirst anchoredSecond freeFirst maxGap gapOf pixelOffset narrowDelta offsetsDelta startOf clamped deltaOf stemAt stemOf placedStem
     hintedStem
-worked = record { first-stem = refl; second-edge = refl; bounded = refl; not-bounded = refl; too-close = refl; self-linked = refl; self-linked-snap = refl; own-anchor = refl }
+worked = record {
+  first-stem = refl;
+  second-edge = refl;
+  bounded = refl;
+  not-bounded = refl;
+  too-close = refl;
+  self-linked = refl;
+  self-linked-snap = refl;
+  own-anchor = refl;
+  not-vanishing = refl;
+}

@@ -43,7 +43,7 @@ pub fn derived_constant(units_per_em: i32, c: i32) -> i32 {
 pub enum WidthRule {
     /// The width itself.
     Keep(Vec<i32>),
-    /// The nearest of these standards that is at most 16 away.
+    /// The nearest of these standards that is at most 16 away, and a pixel at least.
     Snap(Vec<i32>),
 }
 
@@ -55,11 +55,12 @@ impl WidthRule {
         };
         let size = width.abs();
         // The standards rise and the first of two equally near ones is taken: the smaller.
+        let snapped = match standards.iter().min_by_key(|s| (size - **s).abs()) {
+            Some(near) if (size - near).abs() <= 16 => *near,
+            _ => size,
+        };
         // The sign of width 0 is 0, so it stays 0.
-        match standards.iter().min_by_key(|s| (size - **s).abs()) {
-            Some(near) if (size - near).abs() <= 16 => near * width.signum(),
-            _ => width,
-        }
+        snapped.max(64) * width.signum()
     }
 }
 

@@ -130,20 +130,28 @@ fn the_cjk_stem_refuses_in_order() {
 
 #[test]
 fn width_rules() {
-    let answer = |standards: Vec<i32>| {
-        let mut edges = Table::of(vec![edge(0), edge(20)]);
+    let fitted = |standards: Vec<i32>, stem: i32| {
+        let mut edges = Table::of(vec![edge(0), edge(stem)]);
         let rule = WidthRule::Snap(standards);
         calls::align_linked_edge(&mut edges, &rule, 0, 1).map(|()| edges.items[1].pos)
     };
-    assert_eq!(answer(vec![]), Ok(20));
-    assert_eq!(answer(vec![36]), Ok(36));
-    assert_eq!(answer(vec![37]), Ok(20));
-    assert_eq!(answer(vec![10, 30]), Ok(10));
-    assert_eq!(answer((1..=16).collect()), Ok(16));
-    assert_eq!(answer((1..=17).collect()), Err(Refusal(2)));
+    let answer = |standards| fitted(standards, 120);
+    assert_eq!(answer(vec![]), Ok(120));
+    assert_eq!(answer(vec![136]), Ok(136));
+    assert_eq!(answer(vec![137]), Ok(120));
+    assert_eq!(answer(vec![110, 130]), Ok(110));
+    assert_eq!(answer((101..=116).collect()), Ok(116));
+    assert_eq!(answer((101..=117).collect()), Err(Refusal(2)));
     assert_eq!(answer(vec![0]), Err(Refusal(2)));
     assert_eq!(answer(vec![16_384]), Err(Refusal(2)));
     assert_eq!(answer(vec![9, 9]), Err(Refusal(2)));
+    // Snapped first, then a pixel at least, with the width's sign; 0 stays 0.
+    assert_eq!(fitted(vec![], 63), Ok(64));
+    assert_eq!(fitted(vec![], -1), Ok(-64));
+    assert_eq!(fitted(vec![75], 50), Ok(64));
+    assert_eq!(fitted(vec![75], 59), Ok(75));
+    assert_eq!(fitted(vec![60], 65), Ok(64));
+    assert_eq!(fitted(vec![10], 0), Ok(0));
 }
 
 #[test]

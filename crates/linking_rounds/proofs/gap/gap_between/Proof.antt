@@ -13,7 +13,10 @@ low : (c : tie.After-larger) → c .larger .result ≡ P.maxZ (c .before .before
 low c =
     let told = c .before .before in
     let start = told .before in
-    rw (back w16 (start .args .seg1 .«min_coord») (told .struct-told .given .1 .1 .1 .1 .0 .1), back w16 (start .args .seg2 .«min_coord») (c .before .struct-told2 .given .1 .1 .1 .1 .0 .1)) at (c .larger .ensures)
+    rw (
+      back w16 (start .args .seg1 .«min_coord») (told .struct-told .given .1 .1 .1 .1 .0 .1),
+      back w16 (start .args .seg2 .«min_coord») (c .before .struct-told2 .given .1 .1 .1 .1 .0 .1),
+    ) at (c .larger .ensures)
 
 -- its end
 high : (c : tie.After-smaller)
@@ -21,7 +24,10 @@ high : (c : tie.After-smaller)
 high c =
     let told3 = c .before .before in
     let start = told3 .before .before .before .before in
-    rw (back w16 (start .args .seg1 .«max_coord») (told3 .struct-told3 .given .1 .1 .1 .1 .1 .0 .1), back w16 (start .args .seg2 .«max_coord») (c .before .struct-told4 .given .1 .1 .1 .1 .1 .0 .1)) at (c .smaller .ensures)
+    rw (
+      back w16 (start .args .seg1 .«max_coord») (told3 .struct-told3 .given .1 .1 .1 .1 .1 .0 .1),
+      back w16 (start .args .seg2 .«max_coord») (c .before .struct-told4 .given .1 .1 .1 .1 .1 .0 .1),
+    ) at (c .smaller .ensures)
 
 larger-requires : tie.Need-larger-requires
 larger-requires c κs = search needs

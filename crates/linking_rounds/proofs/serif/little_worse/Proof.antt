@@ -9,7 +9,8 @@ returns : tie.Need-returns
 returns c =
     let told = c .before .before .before in
     let start = told .before .before in
-    rw (le-turned w32 (start .args .seg2 .score) (start .args .seg1 .score) (told .struct-told .given .1 .1 .1 .1 .1 .1 .1 .0 .1) (c .before .struct-told2 .given .1 .1 .1 .1 .1 .1 .1 .0 .1) (c .if1 .taken))
+    let first = told .struct-told .given .1 .1 .1 .1 .1 .1 .1 .0 .1 in
+    rw (le-turned w32 (start .args .seg2 .score) (start .args .seg1 .score) first (c .before .struct-told2 .given .1 .1 .1 .1 .1 .1 .1 .0 .1) (c .if1 .taken))
 
 times-requires : tie.Need-times-requires
 times-requires c κs =
@@ -24,8 +25,9 @@ returns-2 c =
     let told2 = else1 .before in
     let told = told2 .before .before in
     let start = told .before .before in
+    let first = told .struct-told .given .1 .1 .1 .1 .1 .1 .1 .0 .1 in
     rw (
-      le-turned w32 (start .args .seg2 .score) (start .args .seg1 .score) (told .struct-told .given .1 .1 .1 .1 .1 .1 .1 .0 .1) (told2 .struct-told2 .given .1 .1 .1 .1 .1 .1 .1 .0 .1) (else1 .if1 .left),
+      le-turned w32 (start .args .seg2 .score) (start .args .seg1 .score) first (told2 .struct-told2 .given .1 .1 .1 .1 .1 .1 .1 .0 .1) (else1 .if1 .left),
       back w32 (start .args .seg2 .score) (c .struct-told4 .given .1 .1 .1 .1 .1 .1 .1 .0 .1),
       back w32 (times .times .result) (times .times .ok),
       times .times .ensures,
