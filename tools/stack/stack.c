@@ -1,6 +1,8 @@
 /* Prints how much stack each function of the library wrote to, in bytes: the stack below is painted, the function called on full lists, and the lowest byte looked for that changed. */
 #include "khsaemudol.h"
 
+#include <stddef.h>
+
 int printf(const char *format, ...);
 
 enum { DEPTH = 1 << 20, NEAR = 512, PAINT = 0xA5, POINTS = 4096, STANDARDS = 16 };
