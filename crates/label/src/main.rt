@@ -1,19 +1,14 @@
 // Fits the sample label: reads its glyphs from standard input, each a title line and the job lines of its chain, and writes what each step changed.
-mod edges;
-mod fit;
-mod glyph;
 mod points;
-mod print;
 mod step;
-mod topo;
 
-use glyph::Glyph;
+use label_fit::glyph::Glyph;
+use label_print::print::text;
 use libc::STDIN_FILENO;
 use lines::limits::MOST_WORDS;
 use lines::line::Line;
 use lines::line::feed;
 use lines::line::words_of;
-use print::text;
 use step::step;
 ghost use Prim.Native.Nat.{_≤_};
 ghost use lib.ListN.{length};

@@ -1,16 +1,16 @@
 // The points of the outline: those of the edges placed with them, the others aligned.
-use super::edges::POS;
-use super::edges::done;
-use super::edges::field;
-use super::edges::place_of;
-use super::glyph::Glyph;
-use super::glyph::stopped;
-use super::print::refused;
-use super::print::show;
-use super::print::text;
-use super::topo::tail;
 use axis::accept::least;
 use khsaemudol::khs_align_weak_points;
+use label_fit::glyph::Glyph;
+use label_fit::glyph::stopped;
+use label_fit::topo::tail;
+use label_print::edges::POS;
+use label_print::edges::done;
+use label_print::edges::field;
+use label_print::edges::place_of;
+use label_print::print::refused;
+use label_print::print::show;
+use label_print::print::text;
 use lines::limits::MOST_NUMBERS;
 use words::field::index_of;
 use words::segment::SEGMENT_WORDS;

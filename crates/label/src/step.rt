@@ -1,12 +1,12 @@
 // A step of the chain, by the call that its job names.
-use super::fit::m;
-use super::fit::stems;
-use super::fit::zones;
-use super::glyph::Glyph;
 use super::points::weak;
-use super::print::text;
-use super::topo::build;
-use super::topo::link;
+use label_fit::fit::m;
+use label_fit::fit::stems;
+use label_fit::fit::zones;
+use label_fit::glyph::Glyph;
+use label_fit::topo::build;
+use label_fit::topo::link;
+use label_print::print::text;
 use lines::limits::MOST_WORDS;
 use words::word::word_at;
 ghost use Prim.Native.Nat.{_≤_};

@@ -1,9 +1,9 @@
--- `label::print::show` is safe.
+-- `label_print::print::show` is safe.
 use borrow.Author.Needs.{needs}
 use Prim.Native.Nat.{_≤_, _-_}
 use lib.ListN.{length}
-use Rattle.label.proofs.print.show.Statement.{statement}
-use Rattle.label.proofs.print.show.Tie as tie
+use Rattle.label_print.proofs.print.show.Statement.{statement}
+use Rattle.label_print.proofs.print.show.Tie as tie
 
 abbrev Inv-loop : tie.InvT-loop
 Inv-loop template numbers k₀ i₀ k i = (i ≤ length template) × (k ≤ i)

@@ -1,9 +1,9 @@
--- `label::edges::changes` is safe.
+-- `label_print::edges::changes` is safe.
 use borrow.Author.Needs.{needs}
 use Prim.Native.Nat.{_≤_, _-_}
 use Rattle.axis.specs.Limits.{mostEdges}
-use Rattle.label.proofs.edges.changes.Statement.{statement}
-use Rattle.label.proofs.edges.changes.Tie as tie
+use Rattle.label_print.proofs.edges.changes.Statement.{statement}
+use Rattle.label_print.proofs.edges.changes.Tie as tie
 
 abbrev Inv-loop : tie.InvT-loop
 Inv-loop before edges count n i₀ i = (i ≤ n) × (n ≤ mostEdges)

@@ -1,14 +1,14 @@
 // What is there: segments linked, and edges built from them.
-use super::edges::changes;
 use super::glyph::Glyph;
 use super::glyph::stopped;
-use super::print::refused;
-use super::print::show;
-use super::print::text;
 use axis::accept::least;
 use axis::limits::MOST_SEGMENTS;
 use khsaemudol::khs_compute_edges;
 use khsaemudol::khs_link_segments_cjk;
+use label_print::edges::changes;
+use label_print::print::refused;
+use label_print::print::show;
+use label_print::print::text;
 use lines::limits::MOST_WORDS;
 use words::edge::TABLE_WORDS;
 use words::segment::SEGMENT_WORDS;

@@ -1,9 +1,9 @@
--- `label::topo::pairs` is safe.
+-- `label_fit::topo::pairs` is safe.
 use borrow.Author.Needs.{needs}
 use Prim.Native.Nat.{_≤_, _+_, _-_}
 use Rattle.axis.specs.Limits.{mostSegments}
-use Rattle.label.proofs.topo.pairs.Statement.{statement}
-use Rattle.label.proofs.topo.pairs.Tie as tie
+use Rattle.label_fit.proofs.topo.pairs.Statement.{statement}
+use Rattle.label_fit.proofs.topo.pairs.Tie as tie
 
 abbrev Inv-loop : tie.InvT-loop
 Inv-loop words n i₀ i = (i ≤ n) × (n ≤ mostSegments + 1)
