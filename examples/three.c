@@ -89,7 +89,7 @@ static void print_placed(const struct khs_edge *before, const struct khs_edge *e
 
 /* Builds the edges, and tells how many there are by *count. */
 static uint8_t build(struct khs_segment *segments, struct khs_edge *edges, int32_t *count) {
-    const int32_t half_pixel = (int32_t)((int64_t)PIXEL * 65536 / scale / 2);
+    const int32_t half_pixel = (PIXEL / 2 * 65536 + scale / 2) / scale;
     uint8_t answer = khs_compute_edges((int32_t *)segments, (khs_length)SEGMENTS * KHS_SEGMENT_WORDS, (int32_t *)edges, KHS_MOST_EDGES * KHS_EDGE_WORDS,
                                        KHS_VERTICAL, KHS_DIR_LEFT, KHS_LATIN, 0, scale, 16, 0, half_pixel, count);
     if (answer == KHS_DONE) {

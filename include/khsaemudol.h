@@ -1,35 +1,70 @@
-/* Khsaemudol: a grid-fitter whose every answer is proved. The calls of the static library libkhsaemudol.a, for C99 and later, and for C++.
+/* Khsaemudol: a grid-fitter whose every answer is proved. The calls of the static library libkhsaemudol.a, for C99 and later, and for C++. A program is linked by
+ * `cc program.c libkhsaemudol.a`, with nothing else on Linux.
  *
  * Units. Lengths and positions "in units" are 26.6: 64 units make a pixel. Font positions are whole design units. A scale is 16.16 and takes design units to
- * units: it is pixels per em * 64 * 65,536 / units per em.
+ * units: it is pixels per em * 64 * 65,536 / units per em, reckoned in 64 bits; its fraction may be dropped or rounded, for all calls alike. A position p comes to
+ * p * scale / 65,536 units, to the nearest, halves away from zero. So building scales its edges, and so the caller scales points, else the two do not meet:
+ *     int64_t product = (int64_t)p * scale;
+ *     int32_t units = (int32_t)(product < 0 ? -((32768 - product) / 65536) : (product + 32768) / 65536);
  *
  * Axes. An outline is fitted one axis at a time. On the vertical axis positions are heights (y), segments run right or left, and a stem is a bar; on the
  * horizontal axis positions are x, segments run up or down, and a stem is upright. The major direction is the one in which the lower or left side of a stem
- * runs: linking takes a segment of that direction for the first side of a stem, and one of the opposite direction above or right of it for the second.
+ * runs: linking takes a segment of that direction for the first side of a stem, and one of the opposite direction above or right of it for the second. With y
+ * upward and outer contours that go clockwise it is KHS_DIR_LEFT on the vertical axis and KHS_DIR_UP on the horizontal one; counter-clockwise the opposite.
  *
- * The chain. An axis of a glyph goes through the calls so; examples/three.c does it for one glyph.
- *   1. The caller finds the segments. Those of KHS_LATIN it links itself (link, serif); khs_link_segments_cjk links those of KHS_CJK.
- *   2. khs_compute_edges makes edges of them, without blue zones.
- *   3. The caller gives edges their zones: blue, blue_fitted, and KHS_FLAG_NEUTRAL where a zone is neutral. khs_align_edges_to_blues puts them there and
- *      hands back the anchor.
+ * The chain. An axis of a glyph goes through the calls so.
+ *   1. The caller finds the segments. khs_link_segments_cjk links those of KHS_CJK. Those of KHS_LATIN the caller links: the two sides of a stem name each other
+ *      by link, with serif KHS_NONE; a serif has link KHS_NONE and names by serif the segment that it is a serif of.
+ *   2. khs_compute_edges makes edges of them, without blue zones; a segment's edge tells which is its own.
+ *   3. The caller gives edges their zones: blue, blue_fitted, and KHS_FLAG_NEUTRAL where a zone is neutral. A blue zone is a height that glyphs of a font share,
+ *      as their foot or their head, and comes to blue_fitted, which the caller chooses; a neutral one gives way to a zone on the other side of the stem.
+ *      khs_align_edges_to_blues puts them there and hands back the anchor.
  *   4. khs_align_stem_edges places the stems, beginning with that anchor. khs_hint_lowercase_m evens out an m, on its horizontal axis.
- *   5. The caller places what is left as it likes, by khs_align_serif_edge, khs_latin_remaining_bounds and khs_adjust_link: an edge without KHS_FLAG_DONE has
- *      not been placed.
- *   6. The caller moves the points of every segment whose edge is done to that edge's pos, and touches them. khs_align_weak_points moves the other points.
+ *   5. An edge without KHS_FLAG_DONE has not been placed. The caller leaves it, and its points to step 6, or places it as it likes: one with a serif by
+ *      khs_align_serif_edge with that as base, another one between the edges that khs_latin_remaining_bounds finds; khs_adjust_link keeps one with a link in order.
+ *      None of these calls sets the flag: the caller does, by flags |= KHS_FLAG_DONE.
+ *   6. The caller moves the points of every segment whose edge is done, from first to last, to that edge's pos, and touches them. khs_align_weak_points moves the
+ *      other points.
  *
- * Lists. A list is passed as a pointer to its first element and its length. Edges and segments are lists of 32-bit words: an edge has KHS_EDGE_WORDS
+ * An example: a bar from 0 to 80 of 1,000 design units to the em, at 12 pixels to the em, whose foot has a zone at 0; it goes clockwise, and its point 2 lies at 40
+ * between the sides. It leaves 64 64 33 0 0 in currents. In the repository examples/three.c fits a figure 3 so.
+ *     int32_t scale = (int32_t)((int64_t)12 * 64 * 65536 / 1000), standards[1] = {64}, count, anchor, passed_over, found;
+ *     struct khs_segment segments[2] = {
+ *         {0, KHS_DIR_RIGHT, 80, 0, 10, 200, 190, 32000, 0, 1, KHS_NONE, 0, 1, KHS_NONE, KHS_NONE},
+ *         {0, KHS_DIR_LEFT, 0, 0, 10, 200, 190, 32000, 0, 0, KHS_NONE, 3, 4, KHS_NONE, KHS_NONE}};
+ *     struct khs_edge edges[KHS_MOST_EDGES];
+ *     int32_t originals[5] = {61, 61, 31, 0, 0}, currents[5] = {61, 61, 31, 0, 0};
+ *     uint8_t touched[5] = {0};
+ *     uint16_t ends[1] = {4};
+ *     if (khs_compute_edges((int32_t *)segments, 2 * KHS_SEGMENT_WORDS, (int32_t *)edges, KHS_MOST_EDGES * KHS_EDGE_WORDS, KHS_VERTICAL, KHS_DIR_LEFT, KHS_LATIN,
+ *                           0, scale, 16, 0, (32 * 65536 + scale / 2) / scale, &count) != KHS_DONE) return 1;
+ *     edges[segments[1].edge].blue = 1;
+ *     edges[segments[1].edge].blue_fitted = 0;
+ *     if (khs_align_edges_to_blues((int32_t *)edges, count * KHS_EDGE_WORDS, KHS_VERTICAL, KHS_LATIN, KHS_SNAP, standards, 1, &anchor) != KHS_DONE) return 1;
+ *     if (khs_align_stem_edges((int32_t *)edges, count * KHS_EDGE_WORDS, KHS_VERTICAL, KHS_LATIN, 0, 0, anchor, KHS_SNAP, standards, 1, &passed_over, &found)
+ *         != KHS_DONE) return 1;
+ *     for (int i = 0; i < 2; i++) {
+ *         int32_t edge = segments[i].edge;
+ *         if (edge == KHS_NONE || !(edges[edge].flags & KHS_FLAG_DONE)) continue;
+ *         for (int32_t p = segments[i].first; p <= segments[i].last; p++) currents[p] = edges[edge].pos, touched[p] = 1;
+ *     }
+ *     if (khs_align_weak_points(originals, 5, currents, 5, touched, 5, ends, 1) != KHS_DONE) return 1;
+ *
+ * Lists. A list is passed as a pointer to its first element and its length in elements. Edges and segments are lists of 32-bit words: an edge has KHS_EDGE_WORDS
  * words and a segment KHS_SEGMENT_WORDS, in the order of struct khs_edge and struct khs_segment, and nothing stands in front of the first. An array of n
- * such structs is passed as `(int32_t *)array, n * KHS_EDGE_WORDS`: the length is in words. Of every list and of every place for a result:
- *   - NULL is none, not even an empty list: a list of length 0 has a pointer too, to anything of its type. That holds for standards with KHS_KEEP as well.
+ * such structs is passed as `(int32_t *)array, n * KHS_EDGE_WORDS`: the length is in words. A length in records is refused, but where it happens to be that of whole
+ * records too: 11 means one edge, and 15 one segment. Of every list and of every place for a result:
+ *   - It is never NULL: a list of length 0 has a pointer too, to anything of its type, and so have standards with KHS_KEEP.
  *   - Its pointer is aligned as C asks of its type: to 4 bytes for int32_t, 2 for uint16_t.
  *   - It overlaps no other list or place of the same call, unless both are const.
- * A call that is given anything else is undefined, as in C; everything else that can be passed is answered.
+ * A call that is given anything else, or a length beyond its list, is undefined, as in C; everything else that can be passed is answered.
  *
- * Answers. Every call but the two of the middle returns KHS_DONE or why it refused (enum khs_answer). A call over edges or segments tests in this order:
+ * Answers. Every call but khs_compute_mid_pos and khs_compute_mid_delta returns a number of enum khs_answer: KHS_DONE, or why it refused. A call over edges or
+ * segments tests in this order:
  *   1. KHS_NOT_WORDS: the length of edges or segments is not that of whole records, or the room for built edges has not exactly its length.
  *   2. KHS_TOO_LONG: there are more edges or segments than their limit. None of their words has been read then.
- *   3. KHS_NOT_WORDS: a word is none of its field's values. Fields are those of the two structs, and of a call's numbers its directions, dimension, group,
- *      rule and neighbour, and those that are 0 or 1.
+ *   3. KHS_NOT_WORDS: a word is none of its field's values. The fields are those of the two structs, and also these numbers of a call: a direction, dimension,
+ *      group, rule or neighbour, and a number that is 0 or 1. So dim 2 and stem_adjust -1 are KHS_NOT_WORDS.
  *   4. KHS_BAD_PARAMETER, then KHS_BAD_INDEX, KHS_OUT_OF_RANGE and KHS_NO_ROOM.
  * Every other number of a call takes every word: an edge named in a call, and an anchor other than KHS_NONE, is KHS_BAD_INDEX where it is not below the count
  * of edges, whatever its word; scale, units per em, thresholds and standards are KHS_BAD_PARAMETER and a delta KHS_OUT_OF_RANGE outside of their limits.
@@ -37,9 +72,9 @@
  *
  * A refused call writes nothing: every list and every place holds what it held. With KHS_DONE a list of edges or segments that is not const holds what the
  * call made of it, every word within its field's values, and every place for a result holds the result. Results may leave the limits of what is accepted, and
- * are then refused if they are passed again.
+ * are then refused if they are passed again. But the edges that khs_compute_edges and khs_align_edges_to_blues leave are accepted by every call over edges.
  *
- * No call allocates, keeps a pointer, prints or fails otherwise. Each may be called from any thread, and on other lists at the same time. The tables stand on
+ * No call allocates, keeps a pointer, prints or fails otherwise. Each may be called from any thread, and on other lists at the same time. Working tables stand on
  * the stack, of which the x86-64 library was measured to use up to 158 KiB in linking and building, 41 KiB in the other calls over edges, and less than 1 KiB
  * in the rest; the same code on aarch64 164 KiB, 41 KiB and 1 KiB. */
 #ifndef KHSAEMUDOL_H
@@ -77,15 +112,16 @@ enum { KHS_FLAG_ROUND = 1, KHS_FLAG_SERIF = 2, KHS_FLAG_DONE = 4, KHS_FLAG_NEUTR
 enum { KHS_EDGE_WORDS = 11, KHS_SEGMENT_WORDS = 15, KHS_MOST_EDGES = 128, KHS_MOST_SEGMENTS = 512 };
 
 /* The words of an edge. "Index" is 0 to 65,535, "link" an index or KHS_NONE. A word outside of what its line gives is KHS_NOT_WORDS, and one outside of what is
- * "accepted" KHS_OUT_OF_RANGE. Link and serif are tested to be below the count of edges, else KHS_BAD_INDEX. */
+ * "accepted" KHS_OUT_OF_RANGE. Link and serif are tested to be below the count of edges that are passed, else KHS_BAD_INDEX. In a struct that is only zeroed, an edge or
+ * a segment, they name record 0 and are accepted so: write KHS_NONE where there is none. */
 struct khs_edge {
     int32_t fpos;        /* position in design units, 16-bit signed */
     int32_t opos;        /* scaled position in units; accepted from -16,383 to 16,383 */
     int32_t pos;         /* fitted position in units; accepted from -16,777,216 to 16,777,216 */
-    int32_t flags;       /* 0 to 15 */
+    int32_t flags;       /* 0 to 15; KHS_FLAG_ROUND is read for CJK stems, KHS_FLAG_NEUTRAL for zones, KHS_FLAG_SERIF by no call */
     int32_t dir;         /* a direction */
     int32_t blue;        /* 1 where the edge has a blue zone, 0 where not */
-    int32_t blue_fitted; /* the zone's fitted position in units, accepted from -16,383 to 16,383; 0 where there is no zone */
+    int32_t blue_fitted; /* the zone's fitted position in units, accepted from -16,383 to 16,383; 0 where blue is 0, else KHS_NOT_WORDS */
     int32_t link;        /* link: the edge on the other side of the stem */
     int32_t serif;       /* link: the edge that this one is a serif of */
     int32_t first;       /* index of its first segment, as building wrote it; held against no list */
@@ -94,15 +130,15 @@ struct khs_edge {
 
 /* The words of a segment, in the same way. Link and serif, and in linking also next, are tested to be below the count of segments. */
 struct khs_segment {
-    int32_t flags;     /* 0 to 15; KHS_FLAG_ROUND is read, by building */
+    int32_t flags;     /* 0 to 15; KHS_FLAG_ROUND, where the outline is curved there, is read by building, and no other */
     int32_t dir;       /* the direction in which it runs; KHS_DIR_NONE for a single point */
-    int32_t pos;       /* its position on the axis in design units, 16-bit signed, as the next four */
-    int32_t delta;     /* how far its points are from pos */
-    int32_t min_coord; /* from where on the other axis */
-    int32_t max_coord; /* to where on the other axis */
-    int32_t height;    /* its length, as the caller measures it; building compares it with its length threshold */
-    int32_t score;     /* how bad its link is: 32,000 before linking; accepted from 0 to 65,535 */
-    int32_t len;       /* how far it and its link overlap: 0 before linking; accepted from 0 to 65,535 */
+    int32_t pos;       /* its position on the axis in design units, 16-bit signed, as the next four: khs_compute_mid_pos of its points' least and greatest */
+    int32_t delta;     /* how far its points are from pos: khs_compute_mid_delta of the same two */
+    int32_t min_coord; /* from where on the other axis; read by linking alone */
+    int32_t max_coord; /* to where on the other axis; the same */
+    int32_t height;    /* its length, max_coord - min_coord or as the caller measures it; building compares it with its length threshold */
+    int32_t score;     /* how bad its link is: 32,000 before linking, and where the caller links; accepted from 0 to 65,535; read by linking alone */
+    int32_t len;       /* how far it and its link overlap: 0 before linking, and where the caller links; the same */
     int32_t link;      /* link: the segment on the other side of the stem */
     int32_t serif;     /* link: the segment that this one is a serif of */
     int32_t first;     /* index of its first point, for the caller; held against no list */
@@ -114,23 +150,23 @@ struct khs_segment {
 /* The width rule of the calls below is `rule`, KHS_KEEP or KHS_SNAP, with `standards`, the standard widths in units. Keep takes widths as they are and does
  * not read the standards: their list may be of any length, but is still not NULL. Snap wants 0 to 16 of them, strictly rising, each 1 to 16,383, else
  * KHS_BAD_PARAMETER; a width then becomes the standard nearest to its magnitude, the smaller on a tie, with the width's sign, where that is at most 16 units
- * away, and else stays; then a nonzero width of less than a pixel, 64 units, becomes a pixel, with its sign, a standard below 64 too and with no standards too.
- * 0 stays 0.
+ * away, and else stays; then a nonzero width of less than a pixel, 64 units, becomes a pixel, with its sign, whether or not it was a standard. 0 stays 0.
  *
- * An edge named in a call (base, stem, serif, edge, edge2) is its index in the list. Two may be the same. A call over edges takes at most 128 of them. Fields
- * of edges and segments that a call is not said to write hold what they held. */
+ * An edge named in a call (base, stem, serif, edge, edge2) is its index in the list. Two may be the same. A call over edges takes at most 128 of them, else
+ * KHS_TOO_LONG. Fields of edges and segments that a call is not said to write hold what they held. */
 
-/* The middle of two coordinates: their sum wraps at 32 bits, is halved downward, and its low 16 bits are read as signed. For all pairs. */
+/* The middle of two coordinates, a segment's pos: their sum wraps at 32 bits, is halved downward, and its low 16 bits are read as signed. For all pairs. */
 int16_t khs_compute_mid_pos(int32_t min, int32_t max);
 
-/* Half of max - min, the same way. For all pairs. */
+/* Half of max - min, a segment's delta, the same way. For all pairs. */
 int16_t khs_compute_mid_delta(int32_t min, int32_t max);
 
 /* Moves the untouched points of one axis of an outline with the touched ones around them.
- * originals, currents, touched: one entry for each point, at most 4,096. Originals are the scaled coordinates in units, currents where the points are now, both
- * from -16,383 to 16,383; any nonzero mark means touched.
+ * originals, currents, touched: one entry for each point, at most 4,096, else KHS_TOO_LONG, and so it is where the three differ in length. Originals are the scaled
+ * coordinates in units, currents where the points are now, both from -16,383 to 16,383; any nonzero mark means touched.
  * ends: the index of the last point of each contour, strictly rising, each below the count of points. A contour starts behind the one before; points behind the
- * last contour stay where they are, and so do those of a contour without a touched point.
+ * last contour stay where they are, and so do those of a contour without a touched point, or with one alone whose current is its original. So the current of a point
+ * that is not touched is to be its original; everywhere else it is written over.
  * Writes currents. Answers: KHS_DONE, KHS_TOO_LONG, KHS_BAD_INDEX, KHS_OUT_OF_RANGE. */
 uint8_t khs_align_weak_points(const int32_t *originals, khs_length originals_len, int32_t *currents, khs_length currents_len, const uint8_t *touched,
                               khs_length touched_len, const uint16_t *ends, khs_length ends_len);
@@ -142,14 +178,21 @@ uint8_t khs_link_segments_cjk(int32_t *segments, khs_length segments_len, int32_
 
 /* Builds the edges of segments.
  * segments: at most 512; their old edge and next are forgotten, and may be any link. edges: room for KHS_MOST_EDGES edges, exactly 1,408 words, not read.
- * dim: a dimension. major_dir: a direction. group: a group. scale: 1 to 16,777,216; every segment's pos at that scale must be from -16,383 to 16,383 units.
+ * dim: a dimension. major_dir: a direction; of edges with the same fpos a new one goes behind the others where it has that direction, and else in front of them.
+ * group: a group. scale: 1 to 16,777,216; every segment's pos at that scale must be from -16,383 to 16,383 units.
  * top_to_bottom: 0 or 1, the order of edges: by rising positions, or by falling ones with 1. On the horizontal axis and for KHS_CJK it is ignored, and they rise.
- * distance, length, width: thresholds in design units, 0 to 65,535. Segments of one direction that are less than distance apart, of which at most a quarter of
- * a pixel counts, share an edge. For KHS_LATIN a segment makes no edge if its height is below length, or below one and a half of it where it has a serif; if its
- * delta is above width; or if it has no direction, and then it joins an edge near it where there is one. As length pass 0 on the vertical axis, and what makes a
- * pixel on the horizontal one; as width what makes half a pixel, as the Rust does.
+ * distance, length, width: thresholds in design units, 0 to 65,535. One segment after the other joins the first edge of its direction whose fpos is less than distance
+ * from its pos; where there is none it makes one. Of distance at most a quarter of a pixel counts, and for KHS_LATIN it is rounded to units and back. For KHS_CJK the
+ * nearest such edge is joined, and by a segment with a link only one whose segments' links are all less than distance from its own.
+ * For KHS_LATIN a segment without direction makes no edge, and joins, behind all others, the first one near enough of any direction. Any other is left out if its
+ * height is below length, or below one and a half of it where it has a serif, or if its delta is above width. As width pass half a pixel, (32 * 65,536 + scale / 2) /
+ * scale in whole numbers; as length 0 on the vertical axis and on the horizontal one a pixel, (64 * 65,536 + s / 2) / s, where s is the scale of the vertical axis.
+ * The Rust code of which this is a port, skrifa 0.49.0, takes the same.
  * Writes edge and next of segments; edges, the built ones first, in their order, and empty ones (0, links KHS_NONE) behind; count, how many were built. A built
- * edge has opos and pos at the scaled position, no zone, and of the flags at most round and serif. Pass the first count * KHS_EDGE_WORDS words to the calls below.
+ * edge has fpos and dir of its first segment, opos and pos at the scaled position, no zone, and of the flags at most round, where some of its segments are and not
+ * fewer than are not, and serif. Each of its segments names an edge, if any: that of its serif, where it is another one, as the edge's serif, or else that of its link
+ * as the edge's link. The first stays, until a segment is nearer to the one that it names than the edge is to the one that it has. An edge with a link keeps no serif.
+ * Pass the first count * KHS_EDGE_WORDS words to the calls below.
  * Answers: all of enum khs_answer. */
 uint8_t khs_compute_edges(int32_t *segments, khs_length segments_len, int32_t *edges, khs_length edges_len, int32_t dim, int32_t major_dir, int32_t group,
                           int32_t top_to_bottom, int32_t scale, int32_t distance, int32_t length, int32_t width, int32_t *count);
@@ -175,6 +218,7 @@ uint8_t khs_align_linked_edge(int32_t *edges, khs_length edges_len, int32_t rule
 uint8_t khs_align_serif_edge(int32_t *edges, khs_length edges_len, int32_t base, int32_t serif);
 
 /* Gives an edge the pos of its neighbour where it has passed it, and its link's pos is more than 16 units from the previous edge's, whichever the neighbour.
+ * It is not made done.
  * dir: KHS_PREVIOUS, the edge before it in the list, or KHS_NEXT, the edge behind it. top_to_bottom: 0 or 1. With 0 an edge has passed the previous one where it
  * is below it, and the next one where it is above it; with 1 the other way round.
  * Edge 0 stays, whichever the neighbour, and so does an edge without link. Toward the next edge an edge stays where that one is not done, or is not there.
@@ -199,9 +243,9 @@ uint8_t khs_hint_normal_stem_cjk(int32_t *edges, khs_length edges_len, int32_t d
  * dim: a dimension. group: a group. stem_adjust: 0 or 1, read for KHS_CJK. top_to_bottom: 0 or 1, the order in which the edges were built, read for KHS_LATIN.
  * anchor: the edge that KHS_LATIN's stems are placed by, as khs_align_edges_to_blues hands it back, or KHS_NONE: then the first stem is placed by itself and is
  * the anchor of the others. For KHS_CJK every stem that is placed with both its edges becomes the anchor. rule, standards: the width rule.
- * Beside an anchor, a thin stem's centre moves at most half a pixel from where the anchor's shift puts it, before its edge is held to the previous one (thin: the
- * default group, a fitted width below 96, and a link that is neither done nor on a zone).
- * Writes pos and flags of edges; count, how many edges were passed over; found, the anchor afterwards, or KHS_NONE.
+ * Beside an anchor, a thin stem's centre moves at most half a pixel from where the anchor's shift puts it, before its edge is held to the previous one (thin:
+ * KHS_LATIN, a fitted width below 96, and a link that is neither done nor on a zone).
+ * Writes pos and flags of edges; count, how many edges were passed over, with 0 of which every edge is done; found, the anchor afterwards, or KHS_NONE.
  * Answers: KHS_DONE, KHS_TOO_LONG, KHS_BAD_PARAMETER, KHS_BAD_INDEX, KHS_OUT_OF_RANGE, KHS_NOT_WORDS. */
 uint8_t khs_align_stem_edges(int32_t *edges, khs_length edges_len, int32_t dim, int32_t group, int32_t stem_adjust, int32_t top_to_bottom, int32_t anchor,
                              int32_t rule, const int32_t *standards, khs_length standards_len, int32_t *count, int32_t *found);

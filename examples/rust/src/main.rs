@@ -100,7 +100,7 @@ fn build<'a>(
         scale: SCALE,
         distance: 16,
         length: 0,
-        width: (i64::from(PIXEL) * 65_536 / i64::from(SCALE) / 2) as i32,
+        width: (PIXEL / 2 * 65_536 + SCALE / 2) / SCALE,
     };
     let edges = compute_edges(segments, room, &building)?;
     let places: String = edges
