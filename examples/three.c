@@ -1,29 +1,65 @@
-/* Fits the heights of a figure 3 at 12 pixels to the em, from its segments to its points, and tells what each step changed. The 3 is that of the sample label, drawn in
-   1,000 design units to the em. */
+/* Fits a figure 3 at 12 pixels to the em on both axes, from its segments to its points, tells what each step changed, and hands out its path. The 3 is that of the sample
+   label, drawn in 1,000 design units to the em. */
 #include <stdint.h>
 #include <stdio.h>
 #include <string.h>
 
 #include "khsaemudol.h"
 
-enum { POINTS = 25, SEGMENTS = 6, EM = 1000, PIXELS = 12, PIXEL = 64 };
+enum { POINTS = 25, CONTOURS = 1, MOST_SIDES = 6, MOST_STEPS = POINTS + 2 * CONTOURS, EM = 1000, PIXELS = 12, PIXEL = 64 };
 
 /* From design units to units, in 16.16. */
 static const int32_t scale = (int32_t)((int64_t)PIXELS * PIXEL * 65536 / EM);
 
-/* The heights of the outline's points, in design units. They make one contour, which goes clockwise. */
-static const int32_t heights[POINTS] = {590, 712, 712, 600, 450, 366, 280, 110, -12, -12, 110, 150, 68,
-                                        68,  140, 260, 325, 325, 405, 405, 470, 570, 632, 632, 550};
+/* The outline's points, in design units, and which of them are on the curve. They make one contour, which goes clockwise. */
+static const int32_t xs[POINTS] = {50,  160, 340, 440, 440, 380, 450, 450, 340, 160, 40,  130, 190,
+                                   310, 360, 360, 310, 200, 200, 300, 350, 350, 300, 190, 140};
+static const int32_t ys[POINTS] = {590, 712, 712, 600, 450, 366, 280, 110, -12, -12, 110, 150, 68,
+                                   68,  140, 260, 325, 325, 405, 405, 470, 570, 632, 632, 550};
+static const uint8_t on_curve[POINTS] = {1, 0, 0, 0, 0, 1, 0, 0, 0, 0, 1, 1, 0, 0, 0, 0, 0, 1, 1, 0, 0, 0, 0, 0, 1};
+static const uint16_t ends[CONTOURS] = {POINTS - 1};
 
-/* Its horizontal sides, each with the one on the other side of its stem, and not joined to edges yet. */
-static const struct khs_segment sides[SEGMENTS] = {
-    /* flags, dir, pos, delta, min_coord, max_coord, height, score, len, link, serif, first, last, edge, next */
-    {0, KHS_DIR_RIGHT, 712, 0, 160, 340, 180, 32000, 0, 5, KHS_NONE, 1, 2, KHS_NONE, KHS_NONE},
-    {0, KHS_DIR_LEFT, -12, 0, 160, 340, 180, 32000, 0, 2, KHS_NONE, 8, 9, KHS_NONE, KHS_NONE},
-    {0, KHS_DIR_RIGHT, 68, 0, 190, 310, 120, 32000, 0, 1, KHS_NONE, 12, 13, KHS_NONE, KHS_NONE},
-    {0, KHS_DIR_LEFT, 325, 0, 200, 310, 110, 32000, 0, 4, KHS_NONE, 16, 17, KHS_NONE, KHS_NONE},
-    {0, KHS_DIR_RIGHT, 405, 0, 200, 300, 100, 32000, 0, 3, KHS_NONE, 18, 19, KHS_NONE, KHS_NONE},
-    {0, KHS_DIR_LEFT, 632, 0, 190, 300, 110, 32000, 0, 0, KHS_NONE, 22, 23, KHS_NONE, KHS_NONE},
+/* An axis: its name, dimension and major direction, the points' coordinates on it, and its sides, each with the one on the other side of its stem, and not joined to edges
+   yet. */
+struct axis {
+    const char *name;
+    int32_t dim, major_dir;
+    const int32_t *points;
+    int32_t count;
+    struct khs_segment sides[MOST_SIDES];
+};
+
+static const struct axis heights = {
+    "heights",
+    KHS_VERTICAL,
+    KHS_DIR_LEFT,
+    ys,
+    6,
+    {
+        /* flags, dir, pos, delta, min_coord, max_coord, height, score, len, link, serif, first, last, edge, next */
+        {KHS_FLAG_ROUND, KHS_DIR_RIGHT, 712, 0, 160, 340, 180, 32000, 0, 5, KHS_NONE, 1, 2, KHS_NONE, KHS_NONE},
+        {KHS_FLAG_ROUND, KHS_DIR_LEFT, -12, 0, 160, 340, 180, 32000, 0, 2, KHS_NONE, 8, 9, KHS_NONE, KHS_NONE},
+        {KHS_FLAG_ROUND, KHS_DIR_RIGHT, 68, 0, 190, 310, 120, 32000, 0, 1, KHS_NONE, 12, 13, KHS_NONE, KHS_NONE},
+        {KHS_FLAG_ROUND, KHS_DIR_LEFT, 325, 0, 200, 310, 110, 32000, 0, 4, KHS_NONE, 16, 17, KHS_NONE, KHS_NONE},
+        {KHS_FLAG_ROUND, KHS_DIR_RIGHT, 405, 0, 200, 300, 100, 32000, 0, 3, KHS_NONE, 18, 19, KHS_NONE, KHS_NONE},
+        {KHS_FLAG_ROUND, KHS_DIR_LEFT, 632, 0, 190, 300, 110, 32000, 0, 0, KHS_NONE, 22, 23, KHS_NONE, KHS_NONE},
+    },
+};
+
+static const struct axis widths = {
+    "widths",
+    KHS_HORIZONTAL,
+    KHS_DIR_UP,
+    xs,
+    5,
+    {
+        {KHS_FLAG_ROUND, KHS_DIR_DOWN, 440, 0, 450, 600, 150, 32000, 0, 4, KHS_NONE, 3, 4, KHS_NONE, KHS_NONE},
+        {KHS_FLAG_ROUND, KHS_DIR_DOWN, 450, 0, 110, 280, 170, 32000, 0, 2, KHS_NONE, 6, 7, KHS_NONE, KHS_NONE},
+        {KHS_FLAG_ROUND, KHS_DIR_UP, 360, 0, 140, 260, 120, 32000, 0, 1, KHS_NONE, 14, 15, KHS_NONE, KHS_NONE},
+        {0, KHS_DIR_UP, 200, 0, 325, 405, 80, 32000, 0, KHS_NONE, KHS_NONE, 17, 18, KHS_NONE, KHS_NONE},
+        {KHS_FLAG_ROUND, KHS_DIR_UP, 350, 0, 470, 570, 100, 32000, 0, 0, KHS_NONE, 20, 21, KHS_NONE, KHS_NONE},
+        {0, KHS_DIR_NONE, 0, 0, 0, 0, 0, 0, 0, KHS_NONE, KHS_NONE, 0, 0, KHS_NONE, KHS_NONE},
+    },
 };
 
 /* The zones of the foot and of the head: a height in design units, and where it is to be, in units. */
@@ -32,9 +68,9 @@ static const int32_t zones[2][2] = {{-12, 0}, {712, 8 * PIXEL}};
 /* The widths that stems come to, in units: one pixel and two. */
 static const int32_t standards[2] = {PIXEL, 2 * PIXEL};
 
-/* A height at the scale, in units: to the nearest, halves away from zero. */
-static int32_t scaled(int32_t height) {
-    int64_t product = (int64_t)height * scale;
+/* A coordinate at the scale, in units: to the nearest, halves away from zero. */
+static int32_t scaled(int32_t coordinate) {
+    int64_t product = (int64_t)coordinate * scale;
     return (int32_t)(product < 0 ? -((32768 - product) / 65536) : (product + 32768) / 65536);
 }
 
@@ -87,13 +123,14 @@ static void print_placed(const struct khs_edge *before, const struct khs_edge *e
     }
 }
 
-/* Builds the edges, and tells how many there are by *count. */
-static uint8_t build(struct khs_segment *segments, struct khs_edge *edges, int32_t *count) {
-    const int32_t half_pixel = (PIXEL / 2 * 65536 + scale / 2) / scale;
-    uint8_t answer = khs_compute_edges((int32_t *)segments, (khs_length)SEGMENTS * KHS_SEGMENT_WORDS, (int32_t *)edges, KHS_MOST_EDGES * KHS_EDGE_WORDS,
-                                       KHS_VERTICAL, KHS_DIR_LEFT, KHS_LATIN, 0, scale, 16, 0, half_pixel, count);
+/* Builds the edges, and tells how many there are by *count. On the horizontal axis a side of less than a pixel makes none. */
+static uint8_t build(const struct axis *axis, struct khs_segment *segments, struct khs_edge *edges, int32_t *count) {
+    const int32_t pixel = (PIXEL * 65536 + scale / 2) / scale, half_pixel = (PIXEL / 2 * 65536 + scale / 2) / scale;
+    uint8_t answer =
+        khs_compute_edges((int32_t *)segments, (khs_length)axis->count * KHS_SEGMENT_WORDS, (int32_t *)edges, KHS_MOST_EDGES * KHS_EDGE_WORDS, axis->dim,
+                          axis->major_dir, KHS_LATIN, 0, scale, 16, axis->dim == KHS_HORIZONTAL ? pixel : 0, half_pixel, count);
     if (answer == KHS_DONE) {
-        printf("  building  %d segments make %d edges, at", SEGMENTS, (int)*count);
+        printf("  %-8s  %d segments make %d edges, at", axis->name, (int)axis->count, (int)*count);
         for (int32_t i = 0; i < *count; i++) {
             printf(" %4d", (int)edges[i].fpos);
         }
@@ -122,12 +159,12 @@ static uint8_t put_on_zones(struct khs_edge *edges, int32_t count, int32_t *anch
     return answer;
 }
 
-/* Places the stems by the anchor. */
-static uint8_t place_stems(struct khs_edge *edges, int32_t count, int32_t anchor) {
+/* Places the stems by the anchor, or by the first of them where there is none. */
+static uint8_t place_stems(const struct axis *axis, struct khs_edge *edges, int32_t count, int32_t anchor) {
     struct khs_edge before[KHS_MOST_EDGES];
     int32_t passed_over;
     memcpy(before, edges, sizeof before);
-    uint8_t answer = khs_align_stem_edges((int32_t *)edges, (khs_length)count * KHS_EDGE_WORDS, KHS_VERTICAL, KHS_LATIN, 0, 0, anchor, KHS_SNAP, standards, 2,
+    uint8_t answer = khs_align_stem_edges((int32_t *)edges, (khs_length)count * KHS_EDGE_WORDS, axis->dim, KHS_LATIN, 0, 0, anchor, KHS_SNAP, standards, 2,
                                           &passed_over, &anchor);
     if (answer == KHS_DONE) {
         printf("  stems     %d passed over, the anchor is edge %d\n", (int)passed_over, (int)anchor);
@@ -137,15 +174,14 @@ static uint8_t place_stems(struct khs_edge *edges, int32_t count, int32_t anchor
 }
 
 /* Moves the points of segments whose edges are done with them, and the other points behind these. */
-static uint8_t align_points(const struct khs_segment *segments, const struct khs_edge *edges) {
-    int32_t originals[POINTS], currents[POINTS];
+static uint8_t align_points(const struct axis *axis, const struct khs_segment *segments, const struct khs_edge *edges, int32_t currents[POINTS]) {
+    int32_t originals[POINTS];
     uint8_t touched[POINTS] = {0};
-    const uint16_t ends[1] = {POINTS - 1};
-    int placed = 0, column = 0;
+    int placed = 0;
     for (int32_t i = 0; i < POINTS; i++) {
-        originals[i] = currents[i] = scaled(heights[i]);
+        originals[i] = currents[i] = scaled(axis->points[i]);
     }
-    for (int32_t i = 0; i < SEGMENTS; i++) {
+    for (int32_t i = 0; i < axis->count; i++) {
         if (segments[i].edge == KHS_NONE || !(edges[segments[i].edge].flags & KHS_FLAG_DONE)) {
             continue;
         }
@@ -155,40 +191,75 @@ static uint8_t align_points(const struct khs_segment *segments, const struct khs
             placed++;
         }
     }
-    uint8_t answer = khs_align_weak_points(originals, POINTS, currents, POINTS, touched, POINTS, ends, 1);
+    uint8_t answer = khs_align_weak_points(originals, POINTS, currents, POINTS, touched, POINTS, ends, CONTOURS);
+    if (answer == KHS_DONE) {
+        printf("  points    %d of %d placed with their edges, the others aligned\n", placed, POINTS);
+    }
+    return answer;
+}
+
+/* Fits an axis, and tells where its points come to. */
+static uint8_t fit(const struct axis *axis, int32_t points[POINTS]) {
+    struct khs_segment segments[MOST_SIDES];
+    struct khs_edge edges[KHS_MOST_EDGES];
+    int32_t count, anchor = KHS_NONE;
+    memcpy(segments, axis->sides, sizeof segments);
+    uint8_t answer = build(axis, segments, edges, &count);
+    if (answer == KHS_DONE && axis->dim == KHS_VERTICAL) {
+        answer = put_on_zones(edges, count, &anchor);
+    }
+    if (answer == KHS_DONE) {
+        answer = place_stems(axis, edges, count, anchor);
+    }
+    return answer == KHS_DONE ? align_points(axis, segments, edges, points) : answer;
+}
+
+/* Prints a place in pixels as the decimal that it is: a whole number of 128ths has at most seven digits behind its point. */
+static void print_place(float pixels) {
+    char text[32];
+    size_t length = (size_t)snprintf(text, sizeof text, "%.7f", (double)pixels);
+    while (text[length - 1] == '0') {
+        length--;
+    }
+    printf(" %.*s", (int)(text[length - 1] == '.' ? length - 1 : length), text);
+}
+
+/* Hands out the path, four steps to a line, and each contour on lines of its own. */
+static uint8_t print_path(const int32_t fitted_xs[POINTS], const int32_t fitted_ys[POINTS]) {
+    static const char names[] = {'?', 'M', 'L', 'Q', 'Z'};
+    static const int numbers[] = {0, 2, 2, 4, 0};
+    uint8_t kinds[MOST_STEPS];
+    float places[4 * MOST_STEPS];
+    uint32_t count;
+    int column = 0;
+    uint8_t answer = khs_path(fitted_xs, POINTS, fitted_ys, POINTS, on_curve, POINTS, ends, CONTOURS, kinds, MOST_STEPS, places, 4 * MOST_STEPS, &count);
     if (answer != KHS_DONE) {
         return answer;
     }
-    printf("  points    %d of %d placed with their edges, the others aligned\n", placed, POINTS);
-    for (int32_t i = 0; i < POINTS; i++) {
-        if (!touched[i]) {
-            printf("    %4d:", (int)i);
-            print_position(originals[i]);
-            printf(" ->");
-            print_position(currents[i]);
-            column = (column + 1) % 3;
-            printf(column == 0 ? "\n" : "");
+    printf("  path      %u steps\n", (unsigned)count);
+    for (uint32_t i = 0; i < count; i++) {
+        printf("%s%c", column == 0 ? "    " : column % 4 == 0 && kinds[i] != KHS_CLOSE ? "\n    " : "  ", names[kinds[i]]);
+        for (int k = 0; k < numbers[kinds[i]]; k++) {
+            print_place(places[4 * i + (uint32_t)k]);
+        }
+        column++;
+        if (kinds[i] == KHS_CLOSE) {
+            printf("\n");
+            column = 0;
         }
     }
-    printf(column == 0 ? "" : "\n");
     return answer;
 }
 
 int main(void) {
-    struct khs_segment segments[SEGMENTS];
-    struct khs_edge edges[KHS_MOST_EDGES];
-    int32_t count, anchor;
-    memcpy(segments, sides, sizeof segments);
-    printf("# digit 3, heights at %d pixels to the em\n", PIXELS);
-    uint8_t answer = build(segments, edges, &count);
+    int32_t fitted_xs[POINTS], fitted_ys[POINTS];
+    printf("# digit 3, at %d pixels to the em\n", PIXELS);
+    uint8_t answer = fit(&heights, fitted_ys);
     if (answer == KHS_DONE) {
-        answer = put_on_zones(edges, count, &anchor);
+        answer = fit(&widths, fitted_xs);
     }
     if (answer == KHS_DONE) {
-        answer = place_stems(edges, count, anchor);
-    }
-    if (answer == KHS_DONE) {
-        answer = align_points(segments, edges);
+        answer = print_path(fitted_xs, fitted_ys);
     }
     if (answer != KHS_DONE) {
         printf("refused by %d\n", answer);

@@ -25,6 +25,7 @@
  *      None of these calls sets the flag: the caller does, by flags |= KHS_FLAG_DONE.
  *   6. The caller moves the points of every segment whose edge is done, from first to last, to that edge's pos, and touches them. khs_align_weak_points moves the
  *      other points.
+ *   7. When both axes are fitted, khs_path makes the path for a rasteriser of the points, in pixels.
  *
  * An example: a bar from 0 to 80 of 1,000 design units to the em, at 12 pixels to the em, whose foot has a zone at 0; it goes clockwise, and its point 2 lies at 40
  * between the sides. It leaves 64 64 33 0 0 in currents. In the repository examples/three.c fits a figure 3 so.
@@ -55,7 +56,7 @@
  * such structs is passed as `(int32_t *)array, n * KHS_EDGE_WORDS`: the length is in words. A length in records is refused, but where it happens to be that of whole
  * records too: 11 means one edge, and 15 one segment. Of every list and of every place for a result:
  *   - It is never NULL: a list of length 0 has a pointer too, to anything of its type, and so have standards with KHS_KEEP.
- *   - Its pointer is aligned as C asks of its type: to 4 bytes for int32_t, 2 for uint16_t.
+ *   - Its pointer is aligned as C asks of its type: to 4 bytes for int32_t, uint32_t and float, 2 for uint16_t.
  *   - It overlaps no other list or place of the same call, unless both are const.
  * A call that is given anything else, or a length beyond its list, is undefined, as in C; everything else that can be passed is answered.
  *
@@ -68,7 +69,7 @@
  *   4. KHS_BAD_PARAMETER, then KHS_BAD_INDEX, KHS_OUT_OF_RANGE and KHS_NO_ROOM.
  * Every other number of a call takes every word: an edge named in a call, and an anchor other than KHS_NONE, is KHS_BAD_INDEX where it is not below the count
  * of edges, whatever its word; scale, units per em, thresholds and standards are KHS_BAD_PARAMETER and a delta KHS_OUT_OF_RANGE outside of their limits.
- * khs_align_weak_points has no such fields, and tests KHS_TOO_LONG, KHS_BAD_INDEX and KHS_OUT_OF_RANGE in this order.
+ * The calls over points have no such fields, and test KHS_TOO_LONG, KHS_BAD_INDEX and KHS_OUT_OF_RANGE in this order.
  *
  * A refused call writes nothing: every list and every place holds what it held. With KHS_DONE a list of edges or segments that is not const holds what the
  * call made of it, every word within its field's values, and every place for a result holds the result. Results may leave the limits of what is accepted, and
@@ -92,7 +93,8 @@ typedef uint64_t khs_length;
 /* Answers. */
 enum khs_answer {
     KHS_DONE = 0,          /* done */
-    KHS_TOO_LONG = 1,      /* a list is longer than its limit (4,096 points, 512 segments, 128 edges), or the lists of one outline differ in length */
+    KHS_TOO_LONG = 1,      /* a list is longer than its limit (4,096 points, 512 segments, 128 edges), lists of one outline differ in length, or a path has
+                            * too little room */
     KHS_BAD_PARAMETER = 2, /* a scale, units per em, threshold or the m call's count is outside its limits, or the standards break their rule */
     KHS_BAD_INDEX = 3,     /* a contour end breaks its rule, or a link, serif, ring index, anchor or named edge is not below its list's length */
     KHS_OUT_OF_RANGE = 4,  /* a coordinate, position, score, len or passed delta is outside its limits; in building also a scaled position */
@@ -108,6 +110,8 @@ enum { KHS_LATIN = 0, KHS_CJK = 1 };                                            
 enum { KHS_KEEP = 0, KHS_SNAP = 1 };                                                              /* a width rule */
 enum { KHS_PREVIOUS = 0, KHS_NEXT = 1 };                                                          /* a neighbour */
 enum { KHS_FLAG_ROUND = 1, KHS_FLAG_SERIF = 2, KHS_FLAG_DONE = 4, KHS_FLAG_NEUTRAL = 8 };         /* flags, added up */
+
+enum { KHS_FINISHED = 0, KHS_MOVE = 1, KHS_LINE = 2, KHS_CURVE = 3, KHS_CLOSE = 4 };              /* the kind of a path's step */
 
 enum { KHS_EDGE_WORDS = 11, KHS_SEGMENT_WORDS = 15, KHS_MOST_EDGES = 128, KHS_MOST_SEGMENTS = 512 };
 
@@ -256,6 +260,29 @@ uint8_t khs_align_stem_edges(int32_t *edges, khs_length edges_len, int32_t dim, 
  * Writes pos and flags of the third stem and of its link, which are done then, and of twelve edges pos of edges 8 and 11.
  * Answers: KHS_DONE, KHS_TOO_LONG, KHS_BAD_PARAMETER, KHS_BAD_INDEX, KHS_OUT_OF_RANGE, KHS_NOT_WORDS. */
 uint8_t khs_hint_lowercase_m(int32_t *edges, khs_length edges_len, int32_t group);
+
+/* The path of an outline is a list of steps. Each contour gives a KHS_MOVE to its start, lines and quadratic curves around it, and a KHS_CLOSE; a straight way
+ * back to the start is left to the close. The start is the contour's first point that is on the curve, or where none is, halfway between its last and its first
+ * point. Two points in a row that are off the curve have one on it halfway between them. Points behind the last contour give no step.
+ * A step has up to two places, x and y of each, in pixels: KHS_MOVE and KHS_LINE where they go, KHS_CURVE its control point and then its end, KHS_CLOSE none.
+ * Every place is exact: units divided by 64, or the sum of two divided by 128; a zero is never negative.
+ * xs, ys, marks: one entry for each point, at most 4,096. xs and ys are the fitted coordinates in units, each from -49,149 to 49,149, which is as far as
+ * khs_align_weak_points goes; any nonzero mark means on the curve. ends: as in khs_align_weak_points. */
+
+/* One step of a path. cursor: its number, counted from 0.
+ * Writes kind, a kind; places, the x and y of its places in their order, and 0 for those that it has not; next, the cursor of the next step. A cursor that is not
+ * below the count of steps is KHS_FINISHED, and next is the cursor then. Each call tests the whole outline: for a whole path call khs_path.
+ * Answers: KHS_DONE, KHS_TOO_LONG, KHS_BAD_INDEX, KHS_OUT_OF_RANGE. */
+uint8_t khs_path_step(const int32_t *xs, khs_length xs_len, const int32_t *ys, khs_length ys_len, const uint8_t *marks, khs_length marks_len,
+                      const uint16_t *ends, khs_length ends_len, uint32_t cursor, uint8_t *kind, float places[4], uint32_t *next);
+
+/* All steps of a path, in time that grows with the points alone.
+ * kinds, places: room for the steps, one kind and four floats each. For any outline of so many points and contours xs_len + 2 * ends_len steps are enough, at most
+ * 12,288: with fewer kinds, or fewer than four times as many floats, the answer is KHS_TOO_LONG, in front of KHS_BAD_INDEX, whatever the path is.
+ * Writes count, how many steps there are; for each its kind and its four floats as khs_path_step does. What stands behind them stays.
+ * Answers: KHS_DONE, KHS_TOO_LONG, KHS_BAD_INDEX, KHS_OUT_OF_RANGE. */
+uint8_t khs_path(const int32_t *xs, khs_length xs_len, const int32_t *ys, khs_length ys_len, const uint8_t *marks, khs_length marks_len, const uint16_t *ends,
+                 khs_length ends_len, uint8_t *kinds, khs_length kinds_len, float *places, khs_length places_len, uint32_t *count);
 
 #ifdef __cplusplus
 }

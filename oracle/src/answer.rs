@@ -4,10 +4,14 @@ use crate::{
     calls,
     decode::decode,
     job::Job,
+    path::Step,
     refusals::{Answer, Refusal},
     text,
     words::Words,
 };
+
+/// The kind of a cursor that names no step.
+const FINISHED: i32 = 0;
 
 /// The answer to what is not a job.
 pub const NOT_A_JOB: i32 = -1;
@@ -41,6 +45,7 @@ pub fn answer(job: Job) -> Words {
             w.segments(&segments);
             w.edges(edges.count, &edges.items);
         }
+        Job::Path(_) | Job::PathStep(..) | Job::Catalogue(_) => of_requests(&mut w, job),
         Job::MLent(mut edges, group) => {
             done(&mut w, calls::hint_lowercase_m_lent(&mut edges, group));
             w.edges(edges.len(), &edges);
@@ -54,6 +59,52 @@ pub fn answer(job: Job) -> Words {
         job => on_edges(&mut w, job),
     }
     w
+}
+
+/// Calls 15 to 17.
+fn of_requests(w: &mut Words, job: Job) {
+    match job {
+        Job::Path(walk) => {
+            let steps = number(w, calls::path(&walk)).unwrap_or_default();
+            w.count("steps", steps.len());
+            for (ix, step) in steps.iter().enumerate() {
+                w.head("step", ix);
+                put_step(w, step);
+            }
+        }
+        Job::PathStep(walk, cursor) => {
+            let step = number(w, calls::path_step(&walk, cursor)).flatten();
+            one_step(w, step, cursor);
+        }
+        Job::Catalogue(mut given) => {
+            done(w, calls::align_catalogue(&mut given));
+            w.numbers("currents", "current", &given.shared.currents);
+            w.numbers("answers", "own answer", &given.answers);
+        }
+        _ => unreachable!("the other calls are document 01's"),
+    }
+}
+
+/// Appends a step: its kind and its places.
+fn put_step(w: &mut Words, step: &Step) {
+    w.put("kind", step.kind());
+    for place in step.places() {
+        w.place(place);
+    }
+}
+
+/// Appends the step that a cursor named, or that there is none, with room for two places and the next cursor.
+fn one_step(w: &mut Words, step: Option<Step>, cursor: u32) {
+    let end = w.values.len() + 5;
+    match &step {
+        Some(step) => put_step(w, step),
+        None => w.put("kind", FINISHED),
+    }
+    while w.values.len() < end {
+        w.put("no place", 0);
+    }
+    let next = if step.is_some() { cursor + 1 } else { cursor };
+    w.put("next cursor", next as i32);
 }
 
 /// Calls 6 to 13 but the bounds: the answer ends with a table of edges.

@@ -1,4 +1,4 @@
-//! The fourteen public calls: document 01's refusals, then the given Rust.
+//! The seventeen public calls: document 01's refusals, then the given Rust; for the path, which it does not have, the plain walk of `path`.
 //!
 //! What is lent is changed in place, and not at all by a refusal.
 
@@ -12,10 +12,11 @@ use crate::{
         topo_edges, topo_segments,
     },
     job::{
-        Building, CjkStem, Dimension, Direction, Edge, Points, ScriptGroup, Segment, Stems, Table,
-        WidthRule,
+        Building, Catalogue, CjkStem, Dimension, Direction, Edge, Points, ScriptGroup, Segment,
+        Stems, Table, Walk, WidthRule,
     },
     limits::EDGES,
+    path::{self, Step},
     refusals::{self, Answer, Refusal},
 };
 use std::mem::take;
@@ -277,6 +278,40 @@ pub fn hint_lowercase_m(edges: &mut Table<Edge>, group: ScriptGroup) -> Answer<(
 pub fn hint_lowercase_m_lent(edges: &mut [Edge], group: ScriptGroup) -> Answer<()> {
     refusals::lowercase_m(&Table::of(edges.to_vec()))?;
     hint_edges::hint_lowercase_m(edges, group);
+    Ok(())
+}
+
+/// Call 15: hands back every step.
+pub fn path(walk: &Walk) -> Answer<Vec<Step>> {
+    refusals::path(walk)?;
+    Ok(path::steps(walk))
+}
+
+/// Call 16: hands back the step that the cursor names, or that the path is finished.
+pub fn path_step(walk: &Walk, cursor: u32) -> Answer<Option<Step>> {
+    let steps = path(walk)?;
+    Ok(steps.get(cursor as usize).copied())
+}
+
+/// Call 17: currents and answers are lent; each outline is aligned as by call 3.
+pub fn align_catalogue(catalogue: &mut Catalogue) -> Answer<()> {
+    refusals::catalogue(catalogue)?;
+    let (mut point, mut contour) = (0, 0);
+    for ix in 0..catalogue.answers.len() {
+        let points = point..point + usize::from(catalogue.point_counts[ix]);
+        let contours = contour..contour + usize::from(catalogue.contour_counts[ix]);
+        let shared = &catalogue.shared;
+        let mut own = Points {
+            originals: shared.originals[points.clone()].to_vec(),
+            currents: shared.currents[points.clone()].to_vec(),
+            touches: shared.touches[points.clone()].to_vec(),
+            ends: shared.ends[contours.clone()].to_vec(),
+        };
+        let answer = align_weak_points(&mut own);
+        catalogue.answers[ix] = answer.map_or_else(|refusal| refusal.0 as u8, |()| 0);
+        (point, contour) = (points.end, contours.end);
+        catalogue.shared.currents[points].copy_from_slice(&own.currents);
+    }
     Ok(())
 }
 

@@ -2,8 +2,8 @@
 
 use crate::{
     job::{
-        Building, CjkStem, Dimension, Direction, Edge, Job, Points, ScaledWidth, ScriptGroup,
-        Segment, Stems, Table, TopoFlags, WidthRule,
+        Building, Catalogue, CjkStem, Dimension, Direction, Edge, Job, Points, ScaledWidth,
+        ScriptGroup, Segment, Stems, Table, TopoFlags, Walk, WidthRule,
     },
     limits::{EDGES, LENT, NUMBERS, SEGMENTS},
 };
@@ -206,6 +206,9 @@ impl Reader<'_> {
             12 => Job::Stems(self.edges()?, self.stems()?),
             13 => Job::M(self.edges()?, self.group()?),
             14 => Job::MLent(self.lent()?, self.group()?),
+            15 => Job::Path(self.walk()?),
+            16 => Job::PathStep(self.walk()?, self.number()?),
+            17 => Job::Catalogue(self.catalogue()?),
             _ => return None,
         })
     }
@@ -217,6 +220,26 @@ impl Reader<'_> {
             currents: self.numbers()?,
             touches: self.numbers()?,
             ends: self.numbers()?,
+        })
+    }
+
+    /// An outline to be walked.
+    fn walk(&mut self) -> Option<Walk> {
+        Some(Walk {
+            xs: self.numbers()?,
+            ys: self.numbers()?,
+            marks: self.numbers()?,
+            ends: self.numbers()?,
+        })
+    }
+
+    /// Outlines one behind another.
+    fn catalogue(&mut self) -> Option<Catalogue> {
+        Some(Catalogue {
+            shared: self.points()?,
+            point_counts: self.numbers()?,
+            contour_counts: self.numbers()?,
+            answers: self.numbers()?,
         })
     }
 

@@ -89,7 +89,11 @@ fn flush(text: &mut String, title: &str, row: &mut String) {
 fn field(name: &str, value: i32) -> String {
     match name {
         "call" => String::new(),
-        "original" | "current" | "touch" | "end" | "standard" => format!(" {value}"),
+        "original" | "current" | "touch" | "end" | "standard" | "x" | "y" | "mark" | "points"
+        | "contours" | "own answer" => format!(" {value}"),
+        "place.x" => format!(" ({}", f32::from_bits(value as u32)),
+        "place.y" => format!(" {})", f32::from_bits(value as u32)),
+        "no place" if value == 0 => String::new(),
         _ => {
             let short = name.rsplit('.').next().unwrap_or_default();
             format!(" {short}={}", shown_value(short, value))
@@ -105,6 +109,7 @@ fn shown_value(name: &str, value: i32) -> String {
         "group" => &["default", "CJK"],
         "dimension" => &["horizontal", "vertical"],
         "width rule" => &["keep", "snap"],
+        "kind" => &["finished", "move", "line", "curve", "close"],
         "next" | "edge" | "link" | "serif" | "anchor" | "lower" | "upper" if value == -1 => {
             return String::from("none");
         }

@@ -1,4 +1,4 @@
-//! Jobs: the fourteen calls with everything that they are given.
+//! Jobs: the seventeen calls with everything that they are given.
 
 pub use crate::given::{
     metrics::{ScaledWidth, WidthRule},
@@ -31,6 +31,24 @@ pub struct Points {
     pub currents: Vec<i32>,
     pub touches: Vec<u8>,
     pub ends: Vec<u16>,
+}
+
+/// Both axes of an outline with its on-curve marks, to be walked.
+#[derive(Clone, PartialEq, Debug)]
+pub struct Walk {
+    pub xs: Vec<i32>,
+    pub ys: Vec<i32>,
+    pub marks: Vec<u8>,
+    pub ends: Vec<u16>,
+}
+
+/// Outlines one behind another: their points in shared lists, their counts, and room for their answers.
+#[derive(Clone, PartialEq, Debug)]
+pub struct Catalogue {
+    pub shared: Points,
+    pub point_counts: Vec<u16>,
+    pub contour_counts: Vec<u16>,
+    pub answers: Vec<u8>,
 }
 
 /// What building is told beside its tables.
@@ -85,10 +103,13 @@ pub enum Job {
     Stems(Table<Edge>, Stems),
     M(Table<Edge>, ScriptGroup),
     MLent(Vec<Edge>, ScriptGroup),
+    Path(Walk),
+    PathStep(Walk, u32),
+    Catalogue(Catalogue),
 }
 
 /// The names of the calls, by their word less one.
-pub const CALLS: [&str; 14] = [
+pub const CALLS: [&str; 17] = [
     "compute_mid_pos",
     "compute_mid_delta",
     "align_weak_points",
@@ -103,4 +124,7 @@ pub const CALLS: [&str; 14] = [
     "align_stem_edges",
     "hint_lowercase_m (table)",
     "hint_lowercase_m (lent list)",
+    "path",
+    "path_step",
+    "align_catalogue",
 ];

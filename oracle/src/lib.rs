@@ -1,4 +1,4 @@
-//! The oracle: the given Rust behind document 01's refusals, and what is needed to compare with it.
+//! The oracle: the given Rust behind document 01's refusals, plain answers to document 02's calls, and what is needed to compare with them.
 
 pub mod answer;
 pub mod calls;
@@ -10,6 +10,8 @@ pub mod generate;
 pub mod given;
 pub mod job;
 pub mod limits;
+pub mod path;
+pub mod plain;
 pub mod prepared;
 pub mod refusals;
 pub mod text;

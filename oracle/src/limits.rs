@@ -1,4 +1,4 @@
-//! The numbers of document 01 that bound the input.
+//! The numbers of document 01 that bound the input, and those of document 02's calls.
 
 use std::ops::RangeInclusive;
 
@@ -10,6 +10,8 @@ pub const SEGMENTS: usize = 512;
 pub const EDGES: usize = 128;
 /// Original and current coordinates of points, `opos`, blue `fitted`, passed delta, building's products.
 pub const COORDINATE: RangeInclusive<i32> = -16_383..=16_383;
+/// Coordinates of the path: what weak points can reach.
+pub const RESULT: RangeInclusive<i32> = -49_149..=49_149;
 /// `pos` of an edge.
 pub const POSITION: RangeInclusive<i32> = -16_777_216..=16_777_216;
 /// Scale, 16.16.

@@ -4,8 +4,9 @@ use oracle::{
     answer::answer_line,
     explain,
     generate::{self, Profile, Random, PROFILES},
-    job::CALLS,
+    job::{Job, CALLS},
     text,
+    words::encode,
 };
 use std::{
     env, fs,
@@ -17,6 +18,7 @@ use std::{
 const USAGE: &str = "usage:
   oracle answer                 job lines on stdin to answer lines on stdout
   oracle gen --call N --count C --seed S --profile mixed|small|limits|damaged
+  oracle patterns --call 15|16  paths of every mark pattern up to 12 points
   oracle explain                job lines on stdin, decoded with their answers
   oracle diff JOBS FIRST SECOND compares two files of answers to the jobs
   oracle tally                  job lines on stdin: answers per call and number
@@ -29,6 +31,7 @@ fn main() -> ExitCode {
     let done = match words.as_slice() {
         ["answer"] => answer(),
         ["gen", options @ ..] => gen(options),
+        ["patterns", options @ ..] => patterns(options),
         ["explain"] => explain_lines(),
         ["diff", jobs, first, second] => return diff(jobs, first, second),
         ["tally"] => tally(),
@@ -120,6 +123,19 @@ fn print(call: usize, count: u64, profile: Profile, random: &mut Random) -> io::
     output.flush()
 }
 
+/// Prints the path's jobs of every mark pattern.
+fn patterns(options: &[&str]) -> Done {
+    let step = match options {
+        ["--call", "15"] => false,
+        ["--call", "16"] => true,
+        _ => return None,
+    };
+    let mut output = BufWriter::with_capacity(1 << 16, io::stdout().lock());
+    let mut print = |job: &Job| writeln!(output, "{}", text::write(&encode(job).values));
+    let printed = generate::patterns::jobs(step, &mut print);
+    Some(printed.and_then(|()| output.flush()))
+}
+
 /// The call that a job line names, or 0.
 fn call_of(line: &[u8]) -> usize {
     let word = line.get(..8).and_then(text::parse);
@@ -135,7 +151,7 @@ fn name(call: usize) -> &'static str {
 
 /// Counts answers per call and document 01's number.
 fn tally() -> Done {
-    let mut counts = [[0u64; 7]; 15];
+    let mut counts = [[0u64; 7]; CALLS.len() + 1];
     let counted = each_line(|line, _| {
         let answer = text::parse(&answer_line(line).as_bytes()[..8]).unwrap_or_default();
         counts[call_of(line)][(answer[0] + 1) as usize] += 1;
@@ -187,7 +203,7 @@ fn compare(jobs: &[u8], first: &[u8], second: &[u8]) -> ExitCode {
         );
         return ExitCode::FAILURE;
     }
-    let mut agreed = [0u64; 15];
+    let mut agreed = [0u64; CALLS.len() + 1];
     let mut differ = 0;
     for (ix, job) in jobs.iter().enumerate() {
         if first[ix] == second[ix] {

@@ -10,7 +10,9 @@ use crate::{
         topo::Axis,
         topo_segments,
     },
-    job::{Building, Dimension, Edge, Job, Points, ScriptGroup, Segment, Table, WidthRule},
+    job::{Building, Dimension, Edge, Job, Points, ScriptGroup, Segment, Table, Walk, WidthRule},
+    path::Step,
+    plain,
 };
 use std::hint::black_box;
 
@@ -21,6 +23,7 @@ pub enum Prepared {
     Link(Outline, Axis, Vec<Segment>, i32),
     Build(Axis, Vec<Segment>, ScaledAxisMetrics, Building),
     Edges(Axis, Vec<Edge>, Fitting),
+    Path(Walk, Vec<Step>),
 }
 
 /// A call over edges, and what it is told beside them.
@@ -65,6 +68,10 @@ impl Prepared {
                 let axis = calls::cleared(&segments.items, &given);
                 let segments = axis.segments.clone();
                 Self::Build(axis, segments, calls::building_metrics(&given), given)
+            }
+            Job::Path(walk) | Job::PathStep(walk, _) => {
+                let most = walk.xs.len() + 2 * walk.ends.len();
+                Self::Path(walk, Vec::with_capacity(most))
             }
             job => Self::edges(job),
         }
@@ -143,10 +150,11 @@ impl Prepared {
                 axis.edges.clear();
             }
             Self::Edges(axis, edges, _) => axis.edges.clone_from(edges),
+            Self::Path(_, steps) => steps.clear(),
         }
     }
 
-    /// Runs the given Rust.
+    /// Runs the given Rust, for a path, which it does not have, the plain loop, which makes the whole of it.
     pub fn run(&mut self) {
         match self {
             Self::Middle(middle, min, max) => {
@@ -163,6 +171,7 @@ impl Prepared {
             }
             Self::Build(axis, _, metrics, given) => calls::build(axis, metrics, given),
             Self::Edges(axis, _, fitting) => fitting.run(axis),
+            Self::Path(walk, steps) => plain::steps(walk, steps),
         }
     }
 }

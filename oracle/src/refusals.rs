@@ -1,10 +1,10 @@
-//! Document 01's five refusals, written from its table alone.
+//! Document 01's five refusals, written from its table alone, and those of document 02's calls, from the requests.
 //!
 //! One function per call tests in the document's order; each test stands in a function of its own.
 
 use crate::{
     given::metrics::fixed_mul,
-    job::{Building, CjkStem, Edge, Points, Segment, Stems, Table, WidthRule},
+    job::{Building, Catalogue, CjkStem, Edge, Points, Segment, Stems, Table, Walk, WidthRule},
     limits::*,
 };
 
@@ -108,6 +108,44 @@ pub fn lowercase_m(table: &Table<Edge>) -> Answer<()> {
     refuse(1, table.count > EDGES)?;
     refuse(2, !M_EDGES.contains(&table.count))?;
     edges(table, &[])
+}
+
+/// The path.
+pub fn path(walk: &Walk) -> Answer<()> {
+    let Walk {
+        xs,
+        ys,
+        marks,
+        ends,
+    } = walk;
+    let count = xs.len();
+    refuse(
+        1,
+        count > POINTS || ys.len() != count || marks.len() != count,
+    )?;
+    refuse(3, !are_contour_ends(ends, count))?;
+    refuse(4, xs.iter().chain(ys).any(|c| !RESULT.contains(c)))
+}
+
+/// The catalogue as a whole; each outline has its own refusals.
+pub fn catalogue(catalogue: &Catalogue) -> Answer<()> {
+    let shared = &catalogue.shared;
+    let points = sum(&catalogue.point_counts);
+    let outlines = catalogue.point_counts.len();
+    refuse(
+        1,
+        shared.originals.len() != points
+            || shared.currents.len() != points
+            || shared.touches.len() != points
+            || shared.ends.len() != sum(&catalogue.contour_counts)
+            || catalogue.contour_counts.len() != outlines
+            || catalogue.answers.len() != outlines,
+    )
+}
+
+/// What counts add up to.
+fn sum(counts: &[u16]) -> usize {
+    counts.iter().map(|count| usize::from(*count)).sum()
 }
 
 /// Refusal 3 on edges: a link, a serif, or an edge named in the call.

@@ -1,8 +1,11 @@
 //! Words with names: what a job or an answer is written into.
 
-use crate::job::{
-    Building, CjkStem, Dimension, Direction, Edge, Job, Points, ScriptGroup, Segment, Stems, Table,
-    WidthRule,
+use crate::{
+    job::{
+        Building, Catalogue, CjkStem, Dimension, Direction, Edge, Job, Points, ScriptGroup,
+        Segment, Stems, Table, Walk, WidthRule,
+    },
+    path::Place,
 };
 
 /// A list of words, each with its field's name, and where records begin.
@@ -76,7 +79,7 @@ impl Words {
 
     /// Appends a segment.
     fn segment(&mut self, ix: usize, s: &Segment) {
-        self.heads.push((self.values.len(), "segment", ix));
+        self.head("segment", ix);
         self.put("segment.flags", s.flags.to_bits().into());
         self.direction("segment.direction", s.dir);
         self.put("segment.pos", s.pos.into());
@@ -96,7 +99,7 @@ impl Words {
 
     /// Appends an edge.
     fn edge(&mut self, ix: usize, e: &Edge) {
-        self.heads.push((self.values.len(), "edge", ix));
+        self.head("edge", ix);
         self.put("edge.fpos", e.fpos.into());
         self.put("edge.opos", e.opos);
         self.put("edge.pos", e.pos);
@@ -128,9 +131,20 @@ impl Words {
         }
     }
 
+    /// Appends a place: x and y as the bits of floats.
+    pub fn place(&mut self, place: Place) {
+        self.put("place.x", place.x.to_bits() as i32);
+        self.put("place.y", place.y.to_bits() as i32);
+    }
+
+    /// Begins a record.
+    pub fn head(&mut self, name: &'static str, ix: usize) {
+        self.heads.push((self.values.len(), name, ix));
+    }
+
     /// Begins a line that is no record.
     pub fn rest(&mut self) {
-        self.heads.push((self.values.len(), "", 0));
+        self.head("", 0);
     }
 }
 
@@ -140,7 +154,10 @@ pub fn encode(job: &Job) -> Words {
     match job {
         Job::MidPos(min, max) => pair(&mut w, 1, *min, *max),
         Job::MidDelta(min, max) => pair(&mut w, 2, *min, *max),
-        Job::Weak(points) => weak(&mut w, points),
+        Job::Weak(points) => {
+            w.put("call", 3);
+            outline(&mut w, points);
+        }
         Job::Link(segments, major, units_per_em, scale) => {
             w.put("call", 4);
             w.segments(segments);
@@ -150,6 +167,13 @@ pub fn encode(job: &Job) -> Words {
             w.put("scale", *scale);
         }
         Job::Build(segments, edges, given) => build(&mut w, segments, edges, given),
+        Job::Path(walk) => walked(&mut w, 15, walk),
+        Job::PathStep(walk, cursor) => {
+            walked(&mut w, 16, walk);
+            w.rest();
+            w.put("cursor", *cursor as i32);
+        }
+        Job::Catalogue(given) => catalogue(&mut w, given),
         Job::MLent(edges, group) => {
             w.put("call", 14);
             w.edges(edges.len(), edges);
@@ -168,13 +192,30 @@ fn pair(w: &mut Words, call: i32, min: i32, max: i32) {
     w.put("max", max);
 }
 
-/// Call 3.
-fn weak(w: &mut Words, points: &Points) {
-    w.put("call", 3);
+/// One axis of an outline.
+fn outline(w: &mut Words, points: &Points) {
     w.numbers("originals", "original", &points.originals);
     w.numbers("currents", "current", &points.currents);
     w.numbers("touch marks", "touch", &points.touches);
     w.numbers("contour ends", "end", &points.ends);
+}
+
+/// Calls 15 and 16 up to their contour ends.
+fn walked(w: &mut Words, call: i32, walk: &Walk) {
+    w.put("call", call);
+    w.numbers("x coordinates", "x", &walk.xs);
+    w.numbers("y coordinates", "y", &walk.ys);
+    w.numbers("on-curve marks", "mark", &walk.marks);
+    w.numbers("contour ends", "end", &walk.ends);
+}
+
+/// Call 17.
+fn catalogue(w: &mut Words, given: &Catalogue) {
+    w.put("call", 17);
+    outline(w, &given.shared);
+    w.numbers("point counts", "points", &given.point_counts);
+    w.numbers("contour counts", "contours", &given.contour_counts);
+    w.numbers("answers", "own answer", &given.answers);
 }
 
 /// Call 5.

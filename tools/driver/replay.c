@@ -14,7 +14,7 @@ enum {
     NOT_A_JOB = -1
 };
 
-/* What each call's job holds behind the call's number: w a word, i an index, l an index or none, c a choice, d a direction; lists with their counts in front:
+/* What each call's job holds behind the call's number: w a word, i an index, l an index or none, c a choice, d a direction, k a cursor; lists with their counts in front:
  * N numbers, B bytes, I indices, S segments, E edges, L lent edges. */
 static const char *const formats[] = {
     NULL,
@@ -31,7 +31,9 @@ static const char *const formats[] = {
     "EcccNiiw",   /* hint_normal_stem_cjk: edges, dimension, stem adjust, width rule, edge, second edge, delta */
     "EcccclcN",   /* align_stem_edges: edges, dimension, group, stem adjust, top to bottom, anchor, width rule */
     "Ec",         /* hint_lowercase_m, table form: edges, group */
-    "Lc"          /* hint_lowercase_m, lent list: edges, group */
+    "Lc",         /* hint_lowercase_m, lent list: edges, group */
+    "NNBI",       /* path: x coordinates, y coordinates, on-curve marks, contour ends */
+    "NNBIk"       /* path_step: the same, cursor */
 };
 enum { CALLS = sizeof formats / sizeof formats[0], MOST_ITEMS = 10 };
 
@@ -56,8 +58,11 @@ struct job {
 /* The words of the line that is read. */
 static int32_t line[MOST_WORDS];
 
-/* The answer's words, with room for any: tables of segments and of edges, or a list of numbers, and words around them. */
-static int32_t answer[KHS_SEGMENT_WORDS * KHS_MOST_SEGMENTS + KHS_EDGE_WORDS * MOST_LENT + MOST_NUMBERS];
+/* The most steps of a path, and the floats of one. */
+enum { MOST_STEPS = 12288, STEP_FLOATS = 4 };
+
+/* The answer's words, with room for any: the longest is that of a path. */
+static int32_t answer[2 + (1 + STEP_FLOATS) * MOST_STEPS];
 static size_t answered;
 
 /* The table that a call is lent: the job's, and room for one record more. */
@@ -72,6 +77,7 @@ static int is_field(char kind, int32_t word)
     case 'i': case 'I': return 0 <= word && word <= MOST_INDEX;
     case 'l': return KHS_NONE <= word && word <= MOST_INDEX;
     case 'c': return word == 0 || word == 1;
+    case 'k': return 0 <= word;
     case 'd': return KHS_DIR_NONE <= word && word <= KHS_DIR_DOWN;
     case 'f': return 0 <= word && word <= 15;
     case 'B': return 0 <= word && word <= 255;
@@ -156,18 +162,69 @@ static khs_length lend(const struct list *list, size_t size, size_t most)
     return records * size;
 }
 
-/* Weak points: touch marks and contour ends have types of their own. */
+/* The marks and the contour ends of an outline, which have types of their own. */
+static uint8_t marks[MOST_NUMBERS];
+static uint16_t ends[MOST_NUMBERS];
+
+/* Weak points. */
 static void answer_weak(const struct job *job)
 {
-    static uint8_t touched[MOST_NUMBERS];
-    static uint16_t ends[MOST_NUMBERS];
+    const struct list *list = job->list;
+    say(khs_align_weak_points(list[0].words, list[0].size, list[1].words, list[1].size, marks, list[2].size, ends, list[3].size));
+    say_list(list[1].count, list[1].words, list[1].size);
+}
+
+/* Says floats, by their bits. */
+static void say_floats(const float *floats, size_t len)
+{
+    memcpy(answer + answered, floats, len * sizeof *floats);
+    answered += len;
+}
+
+/* The floats of a step's places. */
+static size_t floats_of(uint8_t kind)
+{
+    return kind == KHS_CURVE ? 4 : kind == KHS_MOVE || kind == KHS_LINE ? 2 : 0;
+}
+
+/* A whole path, in the room that the longest lists of a job ask for. */
+static void answer_path(const struct job *job)
+{
+    static uint8_t kinds[3 * MOST_NUMBERS];
+    static float places[sizeof kinds * STEP_FLOATS];
+    const struct list *list = job->list;
+    uint32_t count = 0;
+    say(khs_path(list[0].words, list[0].size, list[1].words, list[1].size, marks, list[2].size, ends, list[3].size, kinds, sizeof kinds, places,
+                 sizeof places / sizeof *places, &count));
+    say((int32_t)count);
+    for (size_t i = 0; i < count; i++) {
+        say(kinds[i]);
+        say_floats(places + STEP_FLOATS * i, floats_of(kinds[i]));
+    }
+}
+
+/* One step of a path. */
+static void answer_step(const struct job *job)
+{
+    const struct list *list = job->list;
+    uint8_t kind = KHS_FINISHED;
+    float places[STEP_FLOATS] = {0, 0, 0, 0};
+    uint32_t next = (uint32_t)job->number[0];
+    say(khs_path_step(list[0].words, list[0].size, list[1].words, list[1].size, marks, list[2].size, ends, list[3].size, next, &kind, places, &next));
+    say(kind);
+    say_floats(places, STEP_FLOATS);
+    say((int32_t)next);
+}
+
+/* The calls over an outline. */
+static void answer_outline(const struct job *job)
+{
     const struct list *list = job->list;
     for (size_t i = 0; i < list[2].size; i++)
-        touched[i] = (uint8_t)list[2].words[i];
+        marks[i] = (uint8_t)list[2].words[i];
     for (size_t i = 0; i < list[3].size; i++)
         ends[i] = (uint16_t)list[3].words[i];
-    say(khs_align_weak_points(list[0].words, list[0].size, list[1].words, list[1].size, touched, list[2].size, ends, list[3].size));
-    say_list(list[1].count, list[1].words, list[1].size);
+    (job->call == 3 ? answer_weak : job->call == 15 ? answer_path : answer_step)(job);
 }
 
 /* Linking and building. Building has no old table in C: one that is too long is refused here, and what a refusal leaves is handed back. */
@@ -245,7 +302,9 @@ static void answer_line(size_t len)
         say(KHS_DONE);
         say((job.call == 1 ? khs_compute_mid_pos : khs_compute_mid_delta)(job.number[0], job.number[1]));
         break;
-    case 3: answer_weak(&job); break;
+    case 3:
+    case 15:
+    case 16: answer_outline(&job); break;
     case 4:
     case 5: answer_segments(&job); break;
     default: answer_edges(&job);

@@ -13,6 +13,9 @@ static int32_t originals[POINTS], currents[POINTS], standards[STANDARDS];
 static uint8_t touched[POINTS];
 static uint16_t ends[POINTS / 4];
 static int32_t first, second;
+static uint8_t kinds[POINTS + 2 * (POINTS / 4)];
+static float places[4 * sizeof kinds];
+static uint32_t number;
 
 /* The choices that a function is called with in turn: dimension, group, order, and whether widths are snapped. */
 static int32_t dim, group, order, rule;
@@ -36,6 +39,10 @@ static uint8_t stem(void) { return khs_hint_normal_stem_cjk(edge_words(), EDGE_L
 static uint8_t stems(void) {
     return khs_align_stem_edges(edge_words(), EDGE_LIST, dim, group, order, order, KHS_NONE, rule, standards, STANDARDS, &first, &second);
 }
+static uint8_t step(void) { return khs_path_step(originals, POINTS, currents, POINTS, touched, POINTS, ends, POINTS / 4, 4000, kinds, places, &number); }
+static uint8_t path(void) {
+    return khs_path(originals, POINTS, currents, POINTS, touched, POINTS, ends, POINTS / 4, kinds, sizeof kinds, places, sizeof places / sizeof *places, &number);
+}
 static uint8_t lowercase_m(void) { return khs_hint_lowercase_m(edge_words(), 12 * KHS_EDGE_WORDS, group); }
 
 static const struct {
@@ -43,7 +50,8 @@ static const struct {
     uint8_t (*call)(void);
 } calls[] = {{"khs_align_weak_points", weak}, {"khs_link_segments_cjk", linking}, {"khs_compute_edges", building}, {"khs_align_edges_to_blues", blues},
              {"khs_align_linked_edge", linked}, {"khs_align_serif_edge", serif}, {"khs_adjust_link", adjust}, {"khs_latin_remaining_bounds", bounds},
-             {"khs_hint_normal_stem_cjk", stem}, {"khs_align_stem_edges", stems}, {"khs_hint_lowercase_m", lowercase_m}};
+             {"khs_hint_normal_stem_cjk", stem}, {"khs_align_stem_edges", stems}, {"khs_hint_lowercase_m", lowercase_m},
+             {"khs_path_step", step}, {"khs_path", path}};
 
 /* Segments in pairs, the pairs on 128 heights; edges in stems, each with a zone or done here and there; points touched here and there. */
 static void fill(void) {

@@ -3,6 +3,7 @@
 //! What the functions ask of their caller holds by the types: each pointer and length is of one live slice, which is aligned and never null, and what is written is lent
 //! to the call alone.
 
+use crate::path::Outline;
 use crate::records::{Edge, Segment, EDGE_WORDS, SEGMENT_WORDS};
 
 /// The length of a list, which has 64 bits on every processor.
@@ -117,6 +118,37 @@ extern "C" {
     ) -> u8;
 
     fn khs_hint_lowercase_m(edges: *mut i32, edges_len: Length, group: i32) -> u8;
+
+    fn khs_path_step(
+        xs: *const i32,
+        xs_len: Length,
+        ys: *const i32,
+        ys_len: Length,
+        marks: *const u8,
+        marks_len: Length,
+        ends: *const u16,
+        ends_len: Length,
+        cursor: u32,
+        kind: *mut u8,
+        places: *mut [f32; 4],
+        next: *mut u32,
+    ) -> u8;
+
+    fn khs_path(
+        xs: *const i32,
+        xs_len: Length,
+        ys: *const i32,
+        ys_len: Length,
+        marks: *const u8,
+        marks_len: Length,
+        ends: *const u16,
+        ends_len: Length,
+        kinds: *mut u8,
+        kinds_len: Length,
+        places: *mut f32,
+        places_len: Length,
+        count: *mut u32,
+    ) -> u8;
 }
 
 /// The length of a list as the library takes it.
@@ -331,4 +363,51 @@ pub fn hint_lowercase_m(edges: &mut [Edge], group: i32) -> u8 {
     let (words, len) = edge_words(edges);
     // SAFETY: one slice, lent to this call alone.
     unsafe { khs_hint_lowercase_m(words, len, group) }
+}
+
+pub fn path_step(
+    outline: &Outline<'_>,
+    cursor: u32,
+    kind: &mut u8,
+    places: &mut [f32; 4],
+    next: &mut u32,
+) -> u8 {
+    // SAFETY: four slices and three places, of which the places are lent to this call alone.
+    unsafe {
+        khs_path_step(
+            outline.xs.as_ptr(),
+            length(outline.xs),
+            outline.ys.as_ptr(),
+            length(outline.ys),
+            outline.marks.as_ptr(),
+            length(outline.marks),
+            outline.ends.as_ptr(),
+            length(outline.ends),
+            cursor,
+            kind,
+            places,
+            next,
+        )
+    }
+}
+
+pub fn path(outline: &Outline<'_>, kinds: &mut [u8], places: &mut [f32], count: &mut u32) -> u8 {
+    // SAFETY: six slices and a place, of which `kinds`, `places` and `count` are lent to this call alone.
+    unsafe {
+        khs_path(
+            outline.xs.as_ptr(),
+            length(outline.xs),
+            outline.ys.as_ptr(),
+            length(outline.ys),
+            outline.marks.as_ptr(),
+            length(outline.marks),
+            outline.ends.as_ptr(),
+            length(outline.ends),
+            kinds.as_mut_ptr(),
+            length(kinds),
+            places.as_mut_ptr(),
+            length(places),
+            count,
+        )
+    }
 }

@@ -18,7 +18,7 @@ use std::{error, fmt};
 #[derive(Clone, Copy, Debug, PartialEq, Eq, Hash)]
 #[non_exhaustive]
 pub enum Refusal {
-    /// 1: a list is longer than its limit (4,096 points, 512 segments, 128 edges), or the point lists of an outline differ in length.
+    /// 1: a list is longer than its limit (4,096 points, 512 segments, 128 edges), the point lists of an outline differ in length, or a path has too little room.
     TooLong,
     /// 2: a scale, units per em, a threshold or the edge count of the m rule is outside its limits, or the standards of a width rule break its rule.
     BadParameter,
@@ -65,7 +65,7 @@ impl Refusal {
     /// What is wrong.
     const fn reason(self) -> &'static str {
         match self {
-            Self::TooLong => "a list is longer than its limit, or the point lists differ in length",
+            Self::TooLong => "a list is longer than its limit or a room too small, or the point lists differ in length",
             Self::BadParameter => "a parameter or the width rule's list is outside its limits",
             Self::BadIndex => {
                 "a contour end breaks its rule, or an index is not below its list's length"

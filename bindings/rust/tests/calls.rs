@@ -486,3 +486,79 @@ fn lowercase_m() {
         hint_lowercase_m(edges, Group::Latin)
     });
 }
+
+/// A triangle whose first corner is off the curve, a lone point, and a point of no contour.
+const OUTLINE: Outline<'_> = Outline {
+    xs: &[0, 64, 0, 96, 7],
+    ys: &[0, 0, 64, -32, 7],
+    marks: &[0, 1, 255, 0, 1],
+    ends: &[2, 3],
+};
+
+/// A place in pixels.
+fn place(x: f32, y: f32) -> PixelPoint {
+    PixelPoint { x, y }
+}
+
+#[test]
+fn path_is_stepping_until_finished() {
+    let steps = [
+        PathStep::Move(place(1.0, 0.0)),
+        PathStep::Line(place(0.0, 1.0)),
+        PathStep::Curve(place(0.0, 0.0), place(1.0, 0.0)),
+        PathStep::Close,
+        PathStep::Move(place(1.5, -0.5)),
+        PathStep::Curve(place(1.5, -0.5), place(1.5, -0.5)),
+        PathStep::Close,
+    ];
+    let (mut kinds, mut places) = ([9; 10], [9.0; 37]);
+    let path = path(&OUTLINE, &mut kinds, &mut places).unwrap();
+    assert_eq!(path.len(), steps.len());
+    assert!(path.eq(steps));
+    assert_eq!((&kinds[7..], &places[28..]), (&[9; 3][..], &[9.0; 9][..]));
+    for (cursor, step) in (0..).zip(steps) {
+        assert_eq!(path_step(&OUTLINE, cursor), Ok(Some((step, cursor + 1))));
+    }
+    for cursor in [7, 8, u32::MAX] {
+        assert_eq!(path_step(&OUTLINE, cursor), Ok(None));
+    }
+}
+
+#[test]
+fn path_refuses() {
+    let refused = |outline: Outline<'_>, room: usize, floats: usize, refusal: Refusal| {
+        let (mut kinds, mut places) = (vec![9; room], vec![9.0; floats]);
+        let answer = path(&outline, &mut kinds, &mut places).map(|path| path.len());
+        assert_eq!(answer, Err(refusal));
+        assert!(kinds.iter().all(|kind| *kind == 9) && places.iter().all(|float| *float == 9.0));
+    };
+    let late = Outline {
+        ends: &[2, 5],
+        ..OUTLINE
+    };
+    refused(OUTLINE, 8, 36, Refusal::TooLong);
+    refused(OUTLINE, 9, 35, Refusal::TooLong);
+    refused(late, 8, 36, Refusal::TooLong);
+    refused(late, 9, 36, Refusal::BadIndex);
+    for (outline, refusal) in [
+        (
+            Outline {
+                marks: &[1; 4],
+                ..OUTLINE
+            },
+            Refusal::TooLong,
+        ),
+        (late, Refusal::BadIndex),
+        (
+            Outline {
+                ys: &[0, 0, 0, 0, 49_150],
+                ..OUTLINE
+            },
+            Refusal::OutOfRange,
+        ),
+    ] {
+        refused(outline, 9, 36, refusal);
+        assert_eq!(path_step(&outline, 0), Err(refusal));
+        assert_eq!(path_step(&outline, u32::MAX), Err(refusal));
+    }
+}

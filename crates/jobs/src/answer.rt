@@ -1,21 +1,18 @@
 // The answer to a job, from the call that it names.
 use super::call::job_of;
 use super::lent::answer_lent;
-use super::list::put;
 use super::table::answer_table;
-use super::weak::answer_weak;
-use axis::limits::MOST_SEGMENTS;
+use jobs_points::limits::LONGEST;
+use jobs_points::list::put;
+use jobs_points::path::answer_path;
+use jobs_points::path::answer_step;
+use jobs_points::weak::answer_weak;
 use khsaemudol::khs_compute_mid_delta;
 use khsaemudol::khs_compute_mid_pos;
-use words::edge::TABLE_WORDS;
 use words::field::short_word;
-use words::segment::SEGMENT_WORDS;
 use words::word::word_at;
 ghost use Prim.Native.Nat.{_≤_};
 ghost use lib.ListN.{length};
-
-// The words of the longest answer, that of building: the answer, a count and the segments, a count and the edges.
-pub const LONGEST: usize = 3 + SEGMENT_WORDS * MOST_SEGMENTS + TABLE_WORDS;
 
 // The middle of two coordinates, or half their difference.
 fn middle(call: usize, min: i32, max: i32) -> i32 {
@@ -49,6 +46,8 @@ pub fn answer(words: &[i32], out: &mut [i32]) -> usize
         1 | 2 => answer_middle(call, words, out),
         3 => answer_weak(words, out),
         14 => answer_lent(words, out),
+        15 => answer_path(words, out),
+        16 => answer_step(words, out),
         _ => answer_table(call, words, out),
     }
 }

@@ -18,8 +18,17 @@ use shape::field::skip_field;
 use words::word::count_at;
 use words::word::count_word;
 
+// The number of a step in a path.
+const CURSOR: Range = Range {
+    low: 0,
+    high: 2147483647,
+};
+
+// The calls are numbered below this.
+const CALLS: usize = 17;
+
 // The items of each call's job behind the call's word, by the digits of `skip_item`, the first item in the last digit. No item has digit 15, so nothing is a job of call 0.
-const FORMATS: [u64; 15] = [
+const FORMATS: [u64; CALLS] = [
     0xf, // none
     0x11, // compute_mid_pos
     0x11, // compute_mid_delta
@@ -35,6 +44,8 @@ const FORMATS: [u64; 15] = [
     0x6353333a, // align_stem_edges
     0x3a, // hint_lowercase_m, table form
     0x3b, // hint_lowercase_m, lent list
+    0x8766, // path
+    0xc8766, // path_step
 ];
 
 // The place behind a list: its count, at most so much, and its elements, of which a job carries at most so many.
@@ -67,6 +78,7 @@ fn skip_item(words: &[i32], at: usize, item: u64) -> Place {
         9 => skip_list(words, at, Element::Segment, 65535, MOST_SEGMENTS),
         10 => skip_list(words, at, Element::Edge, 65535, MOST_EDGES),
         11 => skip_list(words, at, Element::LentEdge, MOST_LENT, MOST_LENT),
+        12 => skip_field(words, at, CURSOR),
         _ => Place::Nowhere,
     }
 }
@@ -74,7 +86,7 @@ fn skip_item(words: &[i32], at: usize, item: u64) -> Place {
 // The call that a word list is a job of, by its number, and 0 where it is none.
 pub fn job_of(words: &[i32]) -> usize {
     let call = count_at(words, 0);
-    if 15 <= call {
+    if CALLS <= call {
         return 0;
     }
     let mut items = FORMATS[call];

@@ -1,10 +1,10 @@
 // The lowercase m rule on a lent list, call 14: from the words of its job to those of its answer.
 use super::first::MOST_LENT;
 use super::first::hint_first;
-use super::list::put;
 use axis::accept::least;
 use axis::edge::EMPTY_EDGE;
 use axis::edge::Edge;
+use jobs_points::list::put;
 use words::edge::EDGE_WORDS;
 use words::edge::edge_from;
 use words::edge::edge_words;

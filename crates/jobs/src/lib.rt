@@ -3,9 +3,7 @@ pub mod answer;
 pub mod call;
 mod first;
 mod lent;
-pub mod list;
 mod table;
-mod weak;
 
 use answer::answer;
 ghost use Prim.Native.Nat.{_≤_};

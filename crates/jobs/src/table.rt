@@ -1,12 +1,12 @@
 // The calls on a table, of segments (4 and 5) or of edges (6 to 13): from the words of their jobs to those of their answers.
-use super::list::list_at;
-use super::list::part;
-use super::list::put;
-use super::list::put_list;
-use super::list::tail;
 use axis::accept::least;
 use axis::limits::MOST_EDGES;
 use axis::limits::MOST_SEGMENTS;
+use jobs_points::list::list_at;
+use jobs_points::list::part;
+use jobs_points::list::put;
+use jobs_points::list::put_list;
+use jobs_points::list::tail;
 use khsaemudol::khs_adjust_link;
 use khsaemudol::khs_align_edges_to_blues;
 use khsaemudol::khs_align_linked_edge;
@@ -25,7 +25,7 @@ use words::word::count_word;
 use words::word::word_at;
 ghost use Prim.Native.Nat.{_+_, _*_, _≤_};
 ghost use lib.ListN.{length};
-ghost use Rattle.jobs.specs.Limits.{longest};
+ghost use Rattle.jobs_points.specs.Limits.{longest};
 ghost use Rattle.axis.specs.Limits.{mostSegments};
 ghost use Rattle.words.specs.Segment.{segmentSize};
 

@@ -2,6 +2,7 @@
 use mathlib.Core.Path.{_≡_, sym, _∙_}
 use mathlib.Core.List.{List}
 use Prim.Native.Nat.{ℕ}
+use lib.Ieee.{Float}
 use lib.IntN.{ℤ}
 use Rattle.middle.specs.Middle.{ComputesMidPos, ComputesMidDelta}
 use Rattle.outline.specs.Weak.{Outcome}
@@ -15,6 +16,11 @@ use Rattle.flat_stems.specs.Stem.{StemLent}
 use Rattle.flat_stems.specs.Stems.{StemsLent}
 use Rattle.flat.specs.Fit.{LinkedLent, SerifLent, AdjustLent, BoundsLent}
 use Rattle.flat.specs.M.{MLent}
+use Rattle.path.specs.Lending.{StepLent}
+use Rattle.path.proofs.Outcomes as Step
+use Rattle.path_lay.specs.Laying.{Lent}
+use Rattle.path_whole.specs.Writing.{WritesPath}
+use Rattle.path_whole.proofs.Outcomes as Path
 
 -- `khs_compute_mid_pos`
 pub mid-pos-determined : (min max : ℤ) {r r′ : ℤ} → ComputesMidPos min max r → ComputesMidPos min max r′ → r ≡ r′
@@ -79,3 +85,13 @@ stems-determined ws dim group adjust ttb anchor rule standards count found a b =
 -- `khs_hint_lowercase_m`
 pub m-determined : (ws : List ℤ) (group : ℤ) {r r′ : ℕ} {now now′ : List ℤ} → MLent ws group r now → MLent ws group r′ now′ → (r ≡ r′) × (now ≡ now′)
 m-determined ws group a b = lent-determined a b
+
+-- `khs_path_step`
+pub step-determined :
+    (xs ys : List ℤ) (marks es : List ℕ) (cursor kind : ℕ) (places : List Float) (next : ℕ) {r r′ d d′ n n′ : ℕ} {l l′ : List Float}
+    → StepLent xs ys marks es cursor kind places next r d l n → StepLent xs ys marks es cursor kind places next r′ d′ l′ n′ → (r ≡ r′) × (d ≡ d′) × (l ≡ l′) × (n ≡ n′)
+step-determined xs ys marks es cursor kind places next a b = Step.lent-determined xs ys marks es cursor kind places next a b
+
+-- `khs_path`
+pub path-determined : (xs ys : List ℤ) (marks es : List ℕ) (l : Lent) {r r′ : ℕ} {m m′ : Lent} → WritesPath xs ys marks es l r m → WritesPath xs ys marks es l r′ m′ → (r ≡ r′) × (m ≡ m′)
+path-determined xs ys marks es l a b = Path.determined xs ys marks es l a b

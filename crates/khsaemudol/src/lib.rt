@@ -14,6 +14,8 @@ use flat_stems::zones::lend_zones;
 use middle::compute_mid_delta;
 use middle::compute_mid_pos;
 use outline::weak::align_weak_points;
+use path::lend::lend_step;
+use path_whole::whole::path;
 ghost use Rattle.middle.specs.Middle.{ComputesMidPos, ComputesMidDelta};
 ghost use Rattle.outline.specs.Weak.{Outcome};
 ghost use Rattle.flat_segments.specs.Build.{thresholdsOf, BuiltLent};
@@ -23,6 +25,9 @@ ghost use Rattle.flat.specs.M.{MLent};
 ghost use Rattle.flat_stems.specs.Stem.{StemLent};
 ghost use Rattle.flat_stems.specs.Stems.{StemsLent};
 ghost use Rattle.flat_stems.specs.Zones.{ZonesLent};
+ghost use Rattle.path.specs.Lending.{StepLent};
+ghost use Rattle.path_lay.specs.Laying.{lent};
+ghost use Rattle.path_whole.specs.Writing.{WritesPath};
 
 // The middle of two coordinates.
 #[no_mangle]
@@ -225,4 +230,39 @@ pub extern "C" fn khs_hint_lowercase_m(edges: &mut [i32], group: i32) -> u8
     ensures { λ r. ⌜ MLent (now (edges .entry)) group r (now (edges .exit)) ⌝ }
 {
     lend_m(edges, group)
+}
+
+// Hands out one step of an outline's path.
+#[no_mangle]
+pub extern "C" fn khs_path_step(
+    xs: &[i32],
+    ys: &[i32],
+    marks: &[u8],
+    ends: &[u16],
+    cursor: u32,
+    kind: &mut u8,
+    places: &mut [f32; 4],
+    next: &mut u32,
+) -> u8
+    ensures { λ r. ⌜ StepLent (now (xs .entry)) (now (ys .entry)) (now (marks .entry)) (now (ends .entry)) cursor (now (kind .entry)) (now (places .entry)) (now (next .entry))
+        r (now (kind .exit)) (now (places .exit)) (now (next .exit)) ⌝ }
+{
+    lend_step(xs, ys, marks, ends, cursor, kind, places, next)
+}
+
+// Writes all steps of an outline's path.
+#[no_mangle]
+pub extern "C" fn khs_path(
+    xs: &[i32],
+    ys: &[i32],
+    marks: &[u8],
+    ends: &[u16],
+    kinds: &mut [u8],
+    places: &mut [f32],
+    count: &mut u32,
+) -> u8
+    ensures { λ r. ⌜ WritesPath (now (xs .entry)) (now (ys .entry)) (now (marks .entry)) (now (ends .entry)) (lent (now (kinds .entry)) (now (places .entry)) (now (count .entry)))
+        r (lent (now (kinds .exit)) (now (places .exit)) (now (count .exit))) ⌝ }
+{
+    path(xs, ys, marks, ends, kinds, places, count)
 }

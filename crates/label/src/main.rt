@@ -1,5 +1,4 @@
-// Fits the sample label: reads its glyphs from standard input, each a title line and the job lines of its chain, and writes what each step changed.
-mod points;
+// Fits the sample label: reads its glyphs from standard input, each a title line and the job lines of its chain, and writes what each step changed, and the path in the end.
 mod step;
 
 use label_fit::glyph::Glyph;
@@ -28,7 +27,7 @@ fn take(words: &mut [i32], line: Line, byte: u8) -> Line
 
 fn main() {
     text(
-        b"The sample label, fitted. Positions and widths are in pixels and 64ths of a pixel, before and after a step.\n",
+        b"The sample label, fitted. Positions and widths are in pixels and 64ths of a pixel, before and after a step.\nA path is in pixels: M moves, L draws a line, Q a curve by a control point, Z closes.\n",
     );
     let mut byte = [0u8; 1];
     let mut words = [0i32; MOST_WORDS];

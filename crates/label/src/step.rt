@@ -1,24 +1,26 @@
 // A step of the chain, by the call that its job names.
-use super::points::weak;
 use label_fit::fit::m;
 use label_fit::fit::stems;
 use label_fit::fit::zones;
 use label_fit::glyph::Glyph;
 use label_fit::topo::build;
 use label_fit::topo::link;
+use label_points::path::path;
+use label_points::points::weak;
 use label_print::print::text;
 use lines::limits::MOST_WORDS;
 use words::word::word_at;
 ghost use Prim.Native.Nat.{_≤_};
 ghost use Rattle.lines.specs.Limits.{mostWords};
 
-// The glyph after a step that fits its edges or its points.
+// The glyph after a step that fits its edges or its points, or that hands out its path.
 fn fit(words: &[i32], glyph: Glyph) -> Glyph {
     match word_at(words, 0) {
         3 => weak(words, glyph),
         6 => zones(words, glyph),
         12 => stems(words, glyph),
         13 => m(words, glyph),
+        15 => path(words, glyph),
         _ => {
             text(b"  a line that is no step of the chain is left out\n");
             glyph

@@ -45,17 +45,12 @@ fn anchored(anchor: i32) {
 }
 
 // The glyph with what a step made of its edges and its anchor, and what it changed is written.
-fn fitted(glyph: Glyph, edges: [i32; TABLE_WORDS], anchor: i32) -> Glyph {
+fn fitted(mut glyph: Glyph, edges: [i32; TABLE_WORDS], anchor: i32) -> Glyph {
     let before = glyph.edges;
     changes(&before, &edges, glyph.count);
-    let topo = glyph.topo;
-    Glyph {
-        topo,
-        edges,
-        count: glyph.count,
-        anchor,
-        refused: false,
-    }
+    glyph.edges = edges;
+    glyph.anchor = anchor;
+    glyph
 }
 
 // Puts the edges on the zones that a job gives them.

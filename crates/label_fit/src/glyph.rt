@@ -1,19 +1,23 @@
 // A glyph on its way through the chain.
 use axis::accept::least;
 use axis::limits::MOST_EDGES;
+use lines::limits::MOST_NUMBERS;
 use lines::limits::MOST_WORDS;
 use words::edge::EDGE_WORDS;
 use words::edge::TABLE_WORDS;
 ghost use Prim.Native.Nat.{_≤_};
 ghost use Rattle.words.specs.Edge.{tableSize};
 
-// What the steps hand on: the words of the job that has the segments, as the last step left them; the words of the edges, and how many there are; the anchor; and
-// whether a step refused what it was given.
+// What the steps hand on: the axis that is being fitted, as the building job names it; the words of the job that has its segments, as the last step left them; the
+// words of its edges, and how many there are; its anchor; where the points came to, on both axes; and whether a step refused what it was given.
 pub struct Glyph {
+    pub dim: i32,
     pub topo: [i32; MOST_WORDS],
     pub edges: [i32; TABLE_WORDS],
     pub count: usize,
     pub anchor: i32,
+    pub xs: [i32; MOST_NUMBERS],
+    pub ys: [i32; MOST_NUMBERS],
     pub refused: bool,
 }
 
@@ -21,10 +25,13 @@ impl Glyph {
     // A glyph of which nothing is known yet.
     pub fn new() -> Glyph {
         Glyph {
+            dim: 0,
             topo: [0; MOST_WORDS],
             edges: [0; TABLE_WORDS],
             count: 0,
             anchor: -1,
+            xs: [0; MOST_NUMBERS],
+            ys: [0; MOST_NUMBERS],
             refused: false,
         }
     }
@@ -36,10 +43,32 @@ pub fn stopped(mut glyph: Glyph) -> Glyph {
     glyph
 }
 
+// The glyph with the points of the axis that is being fitted where they came to.
+pub fn settled(mut glyph: Glyph, points: [i32; MOST_NUMBERS]) -> Glyph {
+    if glyph.dim == 0 {
+        glyph.xs = points;
+        return glyph;
+    }
+    glyph.ys = points;
+    glyph
+}
+
 // The edges of a glyph, as an array whose length a caller knows.
 pub fn edges_of(glyph: Glyph) -> [i32; TABLE_WORDS] {
     let edges = glyph.edges;
     edges
+}
+
+// Where the points came to on the horizontal axis.
+pub fn xs_of(glyph: Glyph) -> [i32; MOST_NUMBERS] {
+    let xs = glyph.xs;
+    xs
+}
+
+// Where the points came to on the vertical axis.
+pub fn ys_of(glyph: Glyph) -> [i32; MOST_NUMBERS] {
+    let ys = glyph.ys;
+    ys
 }
 
 // How many words the edges of a glyph are.

@@ -57,18 +57,13 @@ fn pairs(words: &[i32]) {
     }
 }
 
-// The glyph of the segments that were linked, which are written.
-fn paired(topo: [i32; MOST_WORDS]) -> Glyph {
+// The glyph with the segments that were linked, which are written.
+fn paired(mut glyph: Glyph, topo: [i32; MOST_WORDS]) -> Glyph {
     show(b"# segments", &[word_at(&topo, 1)]);
     pairs(&topo);
     text(b"\n");
-    Glyph {
-        topo,
-        edges: [0; TABLE_WORDS],
-        count: 0,
-        anchor: -1,
-        refused: false,
-    }
+    glyph.topo = topo;
+    glyph
 }
 
 // Links the segments of a job.
@@ -85,7 +80,7 @@ pub fn link(words: [i32; MOST_WORDS], glyph: Glyph) -> Glyph {
     if refused(b"  linking   ", answer) {
         return stopped(glyph);
     }
-    paired(topo)
+    paired(glyph, topo)
 }
 
 // The words that have the segments: the job's, or those that linking handed on where the job has none.
@@ -97,32 +92,49 @@ fn topo_of(words: [i32; MOST_WORDS], glyph: Glyph) -> [i32; MOST_WORDS] {
     words
 }
 
-// The glyph of the edges that were built, which are written.
-fn built(topo: [i32; MOST_WORDS], edges: [i32; TABLE_WORDS], count: i32) -> Glyph {
-    show(b"# segments make # edges, at", &[word_at(&topo, 1), count]);
-    let n = size_of(count);
-    changes(&[], &edges, n);
-    text(b"\n");
-    Glyph {
-        topo,
-        edges,
-        count: n,
-        anchor: -1,
-        refused: false,
+// Begins the line of building, by the axis, and tells whether it was refused.
+fn unbuilt(dim: i32, answer: u8) -> bool {
+    if dim == 0 {
+        return refused(b"  widths    ", answer);
     }
+    refused(b"  heights   ", answer)
 }
 
-// Builds the edges of a glyph. The job has no old edges.
+// The glyph with the edges that were built on an axis, which are written.
+fn built(
+    mut glyph: Glyph,
+    dim: i32,
+    topo: [i32; MOST_WORDS],
+    edges: [i32; TABLE_WORDS],
+    count: i32,
+) -> Glyph {
+    show(b"# segments make # edges", &[word_at(&topo, 1), count]);
+    let n = size_of(count);
+    if 0 < n {
+        text(b", at");
+    }
+    changes(&[], &edges, n);
+    text(b"\n");
+    glyph.dim = dim;
+    glyph.topo = topo;
+    glyph.edges = edges;
+    glyph.count = n;
+    glyph.anchor = -1;
+    glyph
+}
+
+// Builds the edges of an axis of a glyph. The job has no old edges.
 pub fn build(words: [i32; MOST_WORDS], glyph: Glyph) -> Glyph {
     let mut topo = topo_of(words, glyph);
     let end = 2 + SEGMENT_WORDS * segments(&topo);
     let numbers = tail(&words, 3 + SEGMENT_WORDS * segments(&words));
+    let dim = word_at(numbers, 0);
     let mut edges = [0i32; TABLE_WORDS];
     let mut count = 0;
     let answer = khs_compute_edges(
         &mut topo[2..end],
         &mut edges,
-        word_at(numbers, 0),
+        dim,
         word_at(numbers, 1),
         word_at(numbers, 2),
         word_at(numbers, 3),
@@ -132,8 +144,8 @@ pub fn build(words: [i32; MOST_WORDS], glyph: Glyph) -> Glyph {
         word_at(numbers, 7),
         &mut count,
     );
-    if refused(b"  building  ", answer) {
+    if unbuilt(dim, answer) {
         return stopped(glyph);
     }
-    built(topo, edges, count)
+    built(glyph, dim, topo, edges, count)
 }

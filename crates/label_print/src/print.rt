@@ -88,6 +88,51 @@ fn extent(x: i32) {
     text(b"/64");
 }
 
+// Writes up to seven digits behind a point, of ten-millionths, and no zeros at the end.
+fn fraction(ten_millionths: usize) {
+    let mut rest = ten_millionths;
+    let mut i: usize = 0;
+    while i < 7 {
+        if rest == 0 {
+            return;
+        }
+        count(rest / 1000000);
+        rest = rest % 1000000 * 10;
+        i += 1;
+    }
+}
+
+// Writes a number of 128ths as a decimal.
+fn decimal(n: usize) {
+    count(n / 128);
+    let rest = n % 128;
+    if 0 < rest {
+        text(b".");
+        fraction(78125 * rest);
+    }
+}
+
+// How many whole 128ths a number has, where it is not below zero and 128 of it are below 2^64; else 0.
+fn in_128ths(x: f32) -> usize {
+    let n = x * 128.0;
+    if n > -1.0 {
+        if n < 18446744073709551616.0 {
+            return std::num::truncating_f32_to_u64(n) as usize;
+        }
+    }
+    0
+}
+
+// Writes a place of a path, which is a whole number of 128ths of a pixel, as the decimal that it is.
+pub fn place(x: f32) {
+    if x < 0.0 {
+        text(b"-");
+        decimal(in_128ths(-x));
+        return;
+    }
+    decimal(in_128ths(x));
+}
+
 // Writes a byte of a text, or in its place a number: # a count, ^ a number in four columns, @ a position, ~ a width. Tells how many numbers that took.
 fn mark(byte: u8, x: i32) -> usize
     ensures { λ r. ⌜ r ≤ 1 ⌝ }

@@ -1,24 +1,23 @@
 -- The refusals: each test one element at a time, the answers in their order, and what an accepted outline is.
-use mathlib.Core.Path.{_≡_, refl, _∙_}
+use mathlib.Core.Path.{_≡_, refl, sym, _∙_}
 use mathlib.Core.Bool.{Bool, true, false, _&&_}
 use mathlib.Core.List.{List, [], _∷_}
 use Prim.Native.Nat.{ℕ, zero, suc, _+_, _≤_, _<_}
 use native.Mathlib.Numerals.{add-one}
 use native.Mathlib.Omega.{arith}
-use borrow.Author.Tests.{ltb-true, ltb-false, leb-true, eqb-true, lt-ltb, le-ltb, le-leb, lt-leb, eq-eqb, ne-eqb}
+use borrow.Author.Tests.{ltb-true, leb-true, eqb-true, lt-ltb, le-ltb, le-leb, lt-leb, eq-eqb, ne-eqb}
 use lib.Dec.{leb, ltb}
 use lib.ListN.{length, getD, drop, drop-of-length-le}
 use lib.Seq.{drop-cons}
-use lib.IntN.{ℤ, pos, negsuc, negℤ, natAbs}
-use lib.Signed.{ltZ, leZ}
-use Rattle.signed.proofs.Signed.{natAbs-is}
+use lib.IntN.{ℤ, pos, natAbs, _-ℤ_}
+use lib.Signed.{ltZ, leZ, _≤ℤ_}
+use Rattle.signed.proofs.Signed.{natAbs-is, one-zero, sub-law, signed}
 use Rattle.signed.proofs.Choices.{cond-true, cond-false}
 use Rattle.refusals.specs.Refusal.{Test, _unless_, refusal, badIndex, outOfRange}
 use Rattle.refusals.proofs.Tests.{and-first, and-second, all-hold, no-refusal}
 use Rattle.contours.specs.Limits.{mostPoints, mostCoordinate}
 use Rattle.contours.specs.Contour.{at}
-use Rattle.outline.specs.Weak.{endsHold, coordinateHolds, coordinatesHold, weakTests}
-use Rattle.contours.specs.Steps.{Coordinate, Coordinates}
+use Rattle.outline.specs.Weak.{endsHold, coordinateHolds, coordinatesHold, outlineTests, weakTests}
 use Rattle.outline.specs.Steps.{Accepted}
 
 -- a list from its element i on
@@ -27,41 +26,43 @@ drop-one l i d h = rw (add-one, drop-cons l i d)
 
 -- ---- coordinates
 -- a number below the range
-pub coordinate-low : (x : ℤ) → ltZ x (negℤ (pos mostCoordinate)) ≡ true → coordinateHolds x ≡ false
+pub coordinate-low : (most x : ℤ) → pos 0 ≤ℤ most → ltZ x (pos 0 -ℤ most) ≡ true → coordinateHolds (natAbs most) x ≡ false
 unfolding coordinateHolds
-coordinate-low (pos n) e = cc
-coordinate-low (negsuc n) e = lt-leb (suc n) mostCoordinate (omega (arith, ltb-true _ n e))
+coordinate-low most x h e = lt-leb (natAbs x) (natAbs most) (omega (arith, signed, natAbs-is x, natAbs-is most, one-zero most, one-zero x, sub-law (pos 0) most))
 
 -- a number that is not below the range
-pub coordinate-high : (x : ℤ) → ltZ x (negℤ (pos mostCoordinate)) ≡ false → leZ x (pos mostCoordinate) ≡ coordinateHolds x
+pub coordinate-high : (most x : ℤ) → pos 0 ≤ℤ most → ltZ x (pos 0 -ℤ most) ≡ false → leZ x most ≡ coordinateHolds (natAbs most) x
 unfolding coordinateHolds
-coordinate-high (pos n) e = refl
-coordinate-high (negsuc n) e = cc (le-leb (suc n) mostCoordinate (omega (arith, ltb-false _ n e)))
-
--- what passes is accepted
-coordinate-of : (x : ℤ) → coordinateHolds x ≡ true → Coordinate x
-unfolding coordinateHolds
-coordinate-of x e = omega (arith, natAbs-is x, leb-true (natAbs x) mostCoordinate e)
+coordinate-high most x h e = by (leZ x most) refl
+  where
+    by : (b : Bool) → leZ x most ≡ b → b ≡ leb (natAbs x) (natAbs most)
+    by true q = sym (le-leb (natAbs x) (natAbs most) (omega (arith, signed, natAbs-is x, natAbs-is most, one-zero most, one-zero x, sub-law (pos 0) most)))
+    by false q = sym (lt-leb (natAbs x) (natAbs most) (omega (arith, signed, natAbs-is x, natAbs-is most, one-zero most, one-zero x, sub-law (pos 0) most)))
 
 -- a test's answer, gathered with those before it
-pub coordinates-next : (l : List ℤ) (i : ℕ) (before here : Bool) → i < length l → here ≡ coordinateHolds (at l i)
-    → (before && coordinatesHold (drop i l)) ≡ ((before && here) && coordinatesHold (drop (i + 1) l))
+pub coordinates-next : (most : ℕ) (l : List ℤ) (i : ℕ) (before here : Bool) → i < length l → here ≡ coordinateHolds most (at l i)
+    → (before && coordinatesHold most (drop i l)) ≡ ((before && here) && coordinatesHold most (drop (i + 1) l))
 unfolding coordinatesHold
-coordinates-next l i true here h e = rw (drop-one l i (pos 0) h, e)
-coordinates-next l i false here h e = refl
+coordinates-next most l i true here h e = rw (drop-one l i (pos 0) h, e)
+coordinates-next most l i false here h e = refl
 
 -- behind the last nothing is left to test
-pub coordinates-end : (l : List ℤ) (i : ℕ) (before : Bool) → length l ≤ i → (before && coordinatesHold (drop i l)) ≡ before
+pub coordinates-end : (most : ℕ) (l : List ℤ) (i : ℕ) (before : Bool) → length l ≤ i → (before && coordinatesHold most (drop i l)) ≡ before
 unfolding coordinatesHold
-coordinates-end l i true h = rw (drop-of-length-le l h)
-coordinates-end l i false h = refl
+coordinates-end most l i true h = rw (drop-of-length-le l h)
+coordinates-end most l i false h = refl
+
+-- what passes is accepted
+coordinate-of : (most : ℕ) (x : ℤ) → coordinateHolds most x ≡ true → natAbs x ≤ most
+unfolding coordinateHolds
+coordinate-of most x e = leb-true (natAbs x) most e
 
 -- a list that passes is accepted
-coordinates-of : (l : List ℤ) → coordinatesHold l ≡ true → Coordinates l
+pub coordinates-of : (most : ℕ) (l : List ℤ) → coordinatesHold most l ≡ true → (i : ℕ) → natAbs (at l i) ≤ most
 unfolding coordinatesHold
-coordinates-of [] e i = omega arith
-coordinates-of (x ∷ l) e zero = coordinate-of x (and-first (coordinateHolds x) (coordinatesHold l) e)
-coordinates-of (x ∷ l) e (suc i) = coordinates-of l (and-second (coordinateHolds x) (coordinatesHold l) e) i
+coordinates-of most [] e i = omega arith
+coordinates-of most (x ∷ l) e zero = coordinate-of most x (and-first (coordinateHolds most x) (coordinatesHold most l) e)
+coordinates-of most (x ∷ l) e (suc i) = coordinates-of most l (and-second (coordinateHolds most x) (coordinatesHold most l) e) i
 
 -- ---- contour ends
 -- the test from the end k on, where the contour starts at s: an end in front of its start
@@ -110,53 +111,74 @@ test-holds : (n : ℕ) (h : Bool) (ts : List Test) → h ≡ true → refusal (n
 unfolding refusal
 test-holds n h ts e = cond-true h (refusal ts) n e
 
-module _ (o c : List ℤ) (t es : List ℕ) where
+module _ (most : ℕ) (o c : List ℤ) (t es : List ℕ) where
   -- too many points
-  pub refused-long : mostPoints < length o → refusal (weakTests o c t es) ≡ 1
+  pub refused-long : mostPoints < length o → refusal (outlineTests most o c t es) ≡ 1
   refused-long h = test-fails _ _ _ (lt-leb (length o) mostPoints h)
 
   module _ (h : length o ≤ mostPoints) where
-    -- currents of another length
-    pub refused-currents : (length c ≡ length o → ⊥) → refusal (weakTests o c t es) ≡ 1
+    -- second coordinates of another length
+    pub refused-currents : (length c ≡ length o → ⊥) → refusal (outlineTests most o c t es) ≡ 1
     refused-currents n = test-holds _ _ _ (le-leb (length o) mostPoints h) ∙ test-fails _ _ _ (ne-eqb (length c) (length o) n)
 
     -- marks of another length
-    pub refused-marks : length c ≡ length o → (length t ≡ length o → ⊥) → refusal (weakTests o c t es) ≡ 1
+    pub refused-marks : length c ≡ length o → (length t ≡ length o → ⊥) → refusal (outlineTests most o c t es) ≡ 1
     refused-marks e n = test-holds _ _ _ (le-leb (length o) mostPoints h) ∙ test-holds _ _ _ (eq-eqb (length c) (length o) e) ∙ test-fails _ _ _ (ne-eqb (length t) (length o) n)
 
   module _ (h : length o ≤ mostPoints) (ec : length c ≡ length o) (et : length t ≡ length o) where
     -- lists of one length leave it to the other tests
-    past-lengths : refusal (weakTests o c t es) ≡ refusal (badIndex unless endsHold 0 (length o) es ∷ outOfRange unless coordinatesHold o ∷ outOfRange unless coordinatesHold c ∷ [])
+    past-lengths : refusal (outlineTests most o c t es) ≡ refusal (badIndex unless endsHold 0 (length o) es ∷ outOfRange unless coordinatesHold most o ∷ outOfRange unless coordinatesHold most c ∷ [])
     past-lengths = test-holds _ _ _ (le-leb (length o) mostPoints h) ∙ test-holds _ _ _ (eq-eqb (length c) (length o) ec) ∙ test-holds _ _ _ (eq-eqb (length t) (length o) et)
 
     -- a contour end that breaks the rule
-    pub refused-ends : endsHold 0 (length o) es ≡ false → refusal (weakTests o c t es) ≡ 3
+    pub refused-ends : endsHold 0 (length o) es ≡ false → refusal (outlineTests most o c t es) ≡ 3
     refused-ends r = past-lengths ∙ test-fails _ _ _ r
 
-    -- an original outside the table
-    pub refused-originals : endsHold 0 (length o) es ≡ true → coordinatesHold o ≡ false → refusal (weakTests o c t es) ≡ 4
+    -- a first coordinate outside the range
+    pub refused-originals : endsHold 0 (length o) es ≡ true → coordinatesHold most o ≡ false → refusal (outlineTests most o c t es) ≡ 4
     refused-originals r a = past-lengths ∙ test-holds _ _ _ r ∙ test-fails _ _ _ a
 
-    -- a current outside the table
-    pub refused-places : endsHold 0 (length o) es ≡ true → coordinatesHold o ≡ true → coordinatesHold c ≡ false → refusal (weakTests o c t es) ≡ 4
+    -- a second coordinate outside the range
+    pub refused-places : endsHold 0 (length o) es ≡ true → coordinatesHold most o ≡ true → coordinatesHold most c ≡ false → refusal (outlineTests most o c t es) ≡ 4
     refused-places r a b = past-lengths ∙ test-holds _ _ _ r ∙ test-holds _ _ _ a ∙ test-fails _ _ _ b
 
     -- none of these
-    pub refused-not : endsHold 0 (length o) es ≡ true → coordinatesHold o ≡ true → coordinatesHold c ≡ true → refusal (weakTests o c t es) ≡ 0
-    refused-not r a b = no-refusal (weakTests o c t es) (le-leb (length o) mostPoints h, (eq-eqb (length c) (length o) ec, (eq-eqb (length t) (length o) et, (r, (a, (b, refl))))))
+    pub refused-not : endsHold 0 (length o) es ≡ true → coordinatesHold most o ≡ true → coordinatesHold most c ≡ true → refusal (outlineTests most o c t es) ≡ 0
+    refused-not r a b = no-refusal (outlineTests most o c t es) (le-leb (length o) mostPoints h, (eq-eqb (length c) (length o) ec, (eq-eqb (length t) (length o) et, (r, (a, (b, refl))))))
 
 -- ---- what is not refused
+-- an outline of whose tests none fails
+pub record Passed (most : ℕ) (o c : List ℤ) (t es : List ℕ) : Type 0 where
+  pub points : length o ≤ mostPoints
+  pub seconds-length : length c ≡ length o
+  pub marks-length : length t ≡ length o
+  pub ends : endsHold 0 (length o) es ≡ true
+  pub firsts : (i : ℕ) → natAbs (at o i) ≤ most
+  pub seconds : (i : ℕ) → natAbs (at c i) ≤ most
+
+pub passed : (most : ℕ) (o c : List ℤ) (t es : List ℕ) → refusal (outlineTests most o c t es) ≡ 0 → Passed most o c t es
+passed most o c t es e =
+    let long = all-hold (outlineTests most o c t es) refl e in
+    let marks = long .1 .1 in
+    let firsts = marks .1 .1 in
+    record {
+      points = leb-true (length o) mostPoints (long .0);
+      seconds-length = eqb-true (length c) (length o) (long .1 .0);
+      marks-length = eqb-true (length t) (length o) (marks .0);
+      ends = marks .1 .0;
+      firsts = coordinates-of most o (firsts .0);
+      seconds = coordinates-of most c (firsts .1 .0);
+    }
+
 -- an outline that is answered by 0 is accepted
 pub accepted : (o c : List ℤ) (t es : List ℕ) → refusal (weakTests o c t es) ≡ 0 → Accepted o c t es
 accepted o c t es e =
-    let long = all-hold (weakTests o c t es) refl e in
-    let marks = long .1 .1 in
-    let originals = marks .1 .1 in
+    let p = passed mostCoordinate o c t es e in
     record {
-      points = leb-true (length o) mostPoints (long .0);
-      currents-length = eqb-true (length c) (length o) (long .1 .0);
-      marks-length = eqb-true (length t) (length o) (marks .0);
-      ends = marks .1 .0;
-      originals = coordinates-of o (originals .0);
-      currents = coordinates-of c (originals .1 .0);
+      points = p .points;
+      currents-length = p .seconds-length;
+      marks-length = p .marks-length;
+      ends = p .ends;
+      originals = λ i. omega (arith, natAbs-is (at o i), p .firsts i);
+      currents = λ i. omega (arith, natAbs-is (at c i), p .seconds i);
     }

@@ -18,25 +18,29 @@ unfoldable pub endsHold : ℕ → ℕ → List ℕ → Bool
 endsHold start count [] = true
 endsHold start count (e ∷ es) = leb start e && (ltb e count && endsHold (suc e) count es)
 
--- the coordinate is within the table's range
-unfoldable pub coordinateHolds : ℤ → Bool
-coordinateHolds z = leb (natAbs z) mostCoordinate
+-- the coordinate is at most `most` either way
+unfoldable pub coordinateHolds : ℕ → ℤ → Bool
+coordinateHolds most z = leb (natAbs z) most
 
 -- each coordinate of the list is
-unfoldable pub coordinatesHold : List ℤ → Bool
-coordinatesHold [] = true
-coordinatesHold (z ∷ zs) = coordinateHolds z && coordinatesHold zs
+unfoldable pub coordinatesHold : ℕ → List ℤ → Bool
+coordinatesHold most [] = true
+coordinatesHold most (z ∷ zs) = coordinateHolds most z && coordinatesHold most zs
 
--- the tests of `align_weak_points`, in document 01's order
-abbrev pub weakTests : List ℤ → List ℤ → List ℕ → List ℕ → List Test
-weakTests o c t es =
+-- the tests of an outline with two coordinates a point, each at most `most` either way, in document 01's order
+abbrev pub outlineTests : ℕ → List ℤ → List ℤ → List ℕ → List ℕ → List Test
+outlineTests most o c t es =
     tooLong unless leb (length o) mostPoints
     ∷ tooLong unless eqb (length c) (length o)
     ∷ tooLong unless eqb (length t) (length o)
     ∷ badIndex unless endsHold 0 (length o) es
-    ∷ outOfRange unless coordinatesHold o
-    ∷ outOfRange unless coordinatesHold c
+    ∷ outOfRange unless coordinatesHold most o
+    ∷ outOfRange unless coordinatesHold most c
     ∷ []
+
+-- the tests of `align_weak_points`
+abbrev pub weakTests : List ℤ → List ℤ → List ℕ → List ℕ → List Test
+weakTests = outlineTests mostCoordinate
 
 -- ---- contours
 -- the contour of the point i, where the first of the contours with these ends starts at `start` and each other behind the one before it; the points behind

@@ -1,13 +1,13 @@
-// Which outlines are refused.
-use super::limits::LEAST_COORDINATE;
-use super::limits::MOST_COORDINATE;
+// Which outlines are refused: the tests that weak points and the path share.
 use super::limits::MOST_POINTS;
 use refusals::order::BAD_INDEX;
 use refusals::order::OUT_OF_RANGE;
 use refusals::order::TOO_LONG;
 ghost use mathlib.Core.Path.{_≡_};
+ghost use lib.IntN.{pos, natAbs};
+ghost use lib.Signed.{_≤ℤ_};
 ghost use Rattle.refusals.specs.Refusal.{refusal};
-ghost use Rattle.outline.specs.Weak.{endsHold, coordinateHolds, coordinatesHold, weakTests};
+ghost use Rattle.outline.specs.Weak.{endsHold, coordinateHolds, coordinatesHold, outlineTests};
 
 // A contour end as an index.
 pub fn wide(x: u16) -> usize
@@ -36,33 +36,43 @@ fn ends_hold(ends: &[u16], count: usize) -> bool
     true
 }
 
-// Whether a coordinate is accepted.
-fn coordinate_holds(x: i32) -> bool
-    ensures { λ r. ⌜ r ≡ coordinateHolds x ⌝ }
+// Whether a coordinate is at most `most` either way.
+fn coordinate_holds(x: i32, most: i32) -> bool
+    requires { ⌜ pos 0 ≤ℤ most ⌝ }
+    ensures { λ r. ⌜ r ≡ coordinateHolds (natAbs most) x ⌝ }
 {
-    if x < LEAST_COORDINATE {
+    if x < 0 - most {
         return false;
     }
-    x <= MOST_COORDINATE
+    x <= most
 }
 
-// Whether every coordinate of a list is accepted.
-fn coordinates_hold(list: &[i32]) -> bool
-    ensures { λ r. ⌜ r ≡ coordinatesHold (now (list .entry)) ⌝ }
+// Whether every coordinate of a list is.
+fn coordinates_hold(list: &[i32], most: i32) -> bool
+    requires { ⌜ pos 0 ≤ℤ most ⌝ }
+    ensures { λ r. ⌜ r ≡ coordinatesHold (natAbs most) (now (list .entry)) ⌝ }
 {
     let mut all = true;
     let mut i: usize = 0;
     while i < list.len() {
-        let holds = coordinate_holds(list[i]);
+        let holds = coordinate_holds(list[i], most);
         all = all & holds;
         i += 1;
     }
     all
 }
 
-// The refusal of an outline, or 0: the first test that fails ends the tests, since each goes over a whole list.
-pub fn weak_refusal(originals: &[i32], currents: &[i32], touched: &[u8], ends: &[u16]) -> u8
-    ensures { λ r. ⌜ r ≡ refusal (weakTests (now (originals .entry)) (now (currents .entry)) (now (touched .entry)) (now (ends .entry))) ⌝ }
+// The refusal of an outline with two coordinates a point, each at most `most` either way, or 0: the first test that fails ends the tests, since each goes over a
+// whole list.
+pub fn outline_refusal(
+    originals: &[i32],
+    currents: &[i32],
+    touched: &[u8],
+    ends: &[u16],
+    most: i32,
+) -> u8
+    requires { ⌜ pos 0 ≤ℤ most ⌝ }
+    ensures { λ r. ⌜ r ≡ refusal (outlineTests (natAbs most) (now (originals .entry)) (now (currents .entry)) (now (touched .entry)) (now (ends .entry))) ⌝ }
 {
     if MOST_POINTS < originals.len() {
         return TOO_LONG;
@@ -76,10 +86,10 @@ pub fn weak_refusal(originals: &[i32], currents: &[i32], touched: &[u8], ends: &
     if !ends_hold(ends, originals.len()) {
         return BAD_INDEX;
     }
-    if !coordinates_hold(originals) {
+    if !coordinates_hold(originals, most) {
         return OUT_OF_RANGE;
     }
-    if !coordinates_hold(currents) {
+    if !coordinates_hold(currents, most) {
         return OUT_OF_RANGE;
     }
     0

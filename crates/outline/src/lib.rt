@@ -1,4 +1,4 @@
 // Document 01, module 2: weak points (the Rust's hint/outline.rs). `weak` has the public call, `accept` its refusals.
-mod accept;
-mod limits;
+pub mod accept;
+pub mod limits;
 pub mod weak;

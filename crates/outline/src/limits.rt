@@ -3,7 +3,5 @@
 // Points of an outline.
 pub const MOST_POINTS: usize = 4096;
 
-// Original and current coordinates of points, in units.
-pub const LEAST_COORDINATE: i32 = -16383;
-
+// Original and current coordinates of points either way, in units.
 pub const MOST_COORDINATE: i32 = 16383;

@@ -1,6 +1,7 @@
 // The public call (the Rust's `align_weak_points`, for one axis).
-use super::accept::weak_refusal;
+use super::accept::outline_refusal;
 use super::accept::wide;
+use super::limits::MOST_COORDINATE;
 use contours::contour::align_contour;
 ghost use Rattle.outline.specs.Weak.{Outcome};
 ghost use Rattle.outline.specs.Steps.{Accepted, AllDone};
@@ -33,7 +34,7 @@ pub fn align_weak_points(
 ) -> u8
     ensures { λ r. ⌜ Outcome (now (originals .entry)) (now (currents .entry)) (now (touched .entry)) (now (ends .entry)) r (now (currents .exit)) ⌝ }
 {
-    let answer = weak_refusal(originals, currents, touched, ends);
+    let answer = outline_refusal(originals, currents, touched, ends, MOST_COORDINATE);
     if 0 < answer {
         return answer;
     }

@@ -1,8 +1,8 @@
 // Answers job lines: reads them from standard input, and writes an answer line for each to standard output.
 mod spell;
 
-use jobs::answer::LONGEST;
 use jobs::answer::answer;
+use jobs_points::limits::LONGEST;
 use libc::STDIN_FILENO;
 use libc::STDOUT_FILENO;
 use lines::limits::MOST_WORDS;

@@ -1,5 +1,5 @@
 // An answer as a line of text.
-use jobs::answer::LONGEST;
+use jobs_points::limits::LONGEST;
 use middle::bits::bits_of;
 ghost use Prim.Native.Nat.{_≤_, _+_};
 ghost use lib.ListN.{length};

@@ -1,8 +1,8 @@
 // A row's job, answered and compared.
 use super::number::numbers;
-use jobs::answer::LONGEST;
 use jobs::answer::answer;
-use jobs::list::part;
+use jobs_points::limits::LONGEST;
+use jobs_points::list::part;
 use libc::STDOUT_FILENO;
 use words::word::word_at;
 

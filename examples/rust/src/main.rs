@@ -1,9 +1,10 @@
-//! Fits the heights of a figure 3 at 12 pixels to the em, from its segments to its points, and tells what each step changed. The 3 is that of the sample label, drawn in
-//! 1,000 design units to the em; examples/three.c does the same in C.
+//! Fits a figure 3 at 12 pixels to the em on both axes, from its segments to its points, tells what each step changed, and hands out its path. The 3 is that of the sample
+//! label, drawn in 1,000 design units to the em; examples/three.c does the same in C.
 
 use khsaemudol::{
-    align_edges_to_blues, align_stem_edges, align_weak_points, compute_edges, Building, Dimension,
-    Direction, Edge, Flags, Group, Order, Refusal, Segment, StemPass, Stems, WidthRule, MOST_EDGES,
+    align_edges_to_blues, align_stem_edges, align_weak_points, compute_edges, path, Building,
+    Dimension, Direction, Edge, Flags, Group, Order, Outline, PathStep, Refusal, Segment, StemPass,
+    Stems, WidthRule, MOST_EDGES,
 };
 
 /// Units of a pixel.
@@ -12,22 +13,77 @@ const PIXEL: i32 = 64;
 const PIXELS: i32 = 12;
 /// From design units to units, in 16.16.
 const SCALE: i32 = (PIXELS as i64 * PIXEL as i64 * 65_536 / 1_000) as i32;
+/// A pixel in design units, to the nearest.
+const DESIGN_PIXEL: i32 = (PIXEL * 65_536 + SCALE / 2) / SCALE;
 
-/// The heights of the outline's points, in design units. They make one contour, which goes clockwise.
-const HEIGHTS: [i32; 25] = [
+/// The points of the outline.
+const POINTS: usize = 25;
+
+/// Their x coordinates, in design units. They make one contour, which goes clockwise.
+const XS: [i32; POINTS] = [
+    50, 160, 340, 440, 440, 380, 450, 450, 340, 160, 40, 130, 190, 310, 360, 360, 310, 200, 200,
+    300, 350, 350, 300, 190, 140,
+];
+
+/// Their y coordinates.
+const YS: [i32; POINTS] = [
     590, 712, 712, 600, 450, 366, 280, 110, -12, -12, 110, 150, 68, 68, 140, 260, 325, 325, 405,
     405, 470, 570, 632, 632, 550,
 ];
 
-/// Its horizontal sides: direction, position, extent, the side across the stem, and first point.
-const SIDES: [(Direction, i16, [i16; 2], u16, u16); 6] = [
-    (Direction::Right, 712, [160, 340], 5, 1),
-    (Direction::Left, -12, [160, 340], 2, 8),
-    (Direction::Right, 68, [190, 310], 1, 12),
-    (Direction::Left, 325, [200, 310], 4, 16),
-    (Direction::Right, 405, [200, 300], 3, 18),
-    (Direction::Left, 632, [190, 300], 0, 22),
+/// Which of them are on the curve.
+const ON_CURVE: [u8; POINTS] = [
+    1, 0, 0, 0, 0, 1, 0, 0, 0, 0, 1, 1, 0, 0, 0, 0, 0, 1, 1, 0, 0, 0, 0, 0, 1,
 ];
+
+/// The last point of each contour.
+const ENDS: [u16; 1] = [POINTS as u16 - 1];
+
+/// A side: direction, position, extent, the side across the stem, first point, and flags.
+type Side = (Direction, i16, [i16; 2], Option<u16>, u16, Flags);
+
+/// An axis: its name, dimension and major direction, how long a side has to be for an edge, the points' coordinates on it, and its sides.
+struct Axis<'a> {
+    name: &'a str,
+    dimension: Dimension,
+    major: Direction,
+    length: i32,
+    points: [i32; POINTS],
+    sides: &'a [Side],
+}
+
+/// The heights.
+const HEIGHTS: Axis<'_> = Axis {
+    name: "heights",
+    dimension: Dimension::Vertical,
+    major: Direction::Left,
+    length: 0,
+    points: YS,
+    sides: &[
+        (Direction::Right, 712, [160, 340], Some(5), 1, Flags::ROUND),
+        (Direction::Left, -12, [160, 340], Some(2), 8, Flags::ROUND),
+        (Direction::Right, 68, [190, 310], Some(1), 12, Flags::ROUND),
+        (Direction::Left, 325, [200, 310], Some(4), 16, Flags::ROUND),
+        (Direction::Right, 405, [200, 300], Some(3), 18, Flags::ROUND),
+        (Direction::Left, 632, [190, 300], Some(0), 22, Flags::ROUND),
+    ],
+};
+
+/// The widths.
+const WIDTHS: Axis<'_> = Axis {
+    name: "widths",
+    dimension: Dimension::Horizontal,
+    major: Direction::Up,
+    length: DESIGN_PIXEL,
+    points: XS,
+    sides: &[
+        (Direction::Down, 440, [450, 600], Some(4), 3, Flags::ROUND),
+        (Direction::Down, 450, [110, 280], Some(2), 6, Flags::ROUND),
+        (Direction::Up, 360, [140, 260], Some(1), 14, Flags::ROUND),
+        (Direction::Up, 200, [325, 405], None, 17, Flags::NONE),
+        (Direction::Up, 350, [470, 570], Some(0), 20, Flags::ROUND),
+    ],
+};
 
 /// The zones of the foot and of the head: a height in design units, and where it is to be, in units.
 const ZONES: [(i16, i32); 2] = [(-12, 0), (712, 8 * PIXEL)];
@@ -35,25 +91,27 @@ const ZONES: [(i16, i32); 2] = [(-12, 0), (712, 8 * PIXEL)];
 /// Stems come to widths of one pixel and of two.
 const RULE: WidthRule<'_> = WidthRule::Snap(&[PIXEL, 2 * PIXEL]);
 
-/// The segments of the sides, linked, and not joined to edges yet.
-fn segments() -> [Segment; 6] {
-    SIDES.map(|(dir, pos, [low, high], link, first)| {
+/// The segments of an axis' sides, linked, and not joined to edges yet.
+fn segments(axis: &Axis<'_>) -> Vec<Segment> {
+    let segment = |&(dir, pos, [low, high], link, first, flags): &Side| {
         Segment::default()
+            .with_flags(flags)
             .with_dir(dir)
             .with_pos(pos)
             .with_min_coord(low)
             .with_max_coord(high)
             .with_height(high - low)
             .with_score(32_000)
-            .with_link(Some(link))
+            .with_link(link)
             .with_first(first)
             .with_last(first + 1)
-    })
+    };
+    axis.sides.iter().map(segment).collect()
 }
 
-/// A height at the scale, in units: to the nearest, halves away from zero.
-fn scaled(height: i32) -> i32 {
-    let product = i64::from(height) * i64::from(SCALE);
+/// A coordinate at the scale, in units: to the nearest, halves away from zero.
+fn scaled(coordinate: i32) -> i32 {
+    let product = i64::from(coordinate) * i64::from(SCALE);
     ((product.abs() + 0x8000) / 0x1_0000 * product.signum()) as i32
 }
 
@@ -87,19 +145,20 @@ fn print_placed(before: &[Edge], edges: &[Edge]) {
     }
 }
 
-/// Builds the edges of segments in a room.
+/// Builds the edges of an axis in a room.
 fn build<'a>(
+    axis: &Axis<'_>,
     segments: &mut [Segment],
     room: &'a mut [Edge; MOST_EDGES],
 ) -> Result<&'a mut [Edge], Refusal> {
     let building = Building {
-        dimension: Dimension::Vertical,
-        major: Direction::Left,
+        dimension: axis.dimension,
+        major: axis.major,
         group: Group::Latin,
         order: Order::BottomToTop,
         scale: SCALE,
         distance: 16,
-        length: 0,
+        length: axis.length,
         width: (PIXEL / 2 * 65_536 + SCALE / 2) / SCALE,
     };
     let edges = compute_edges(segments, room, &building)?;
@@ -107,8 +166,8 @@ fn build<'a>(
         .iter()
         .map(|edge| format!(" {:4}", edge.fpos()))
         .collect();
-    let (sides, made) = (segments.len(), edges.len());
-    println!("  building  {sides} segments make {made} edges, at{places}");
+    let (name, sides, made) = (axis.name, segments.len(), edges.len());
+    println!("  {name:8}  {sides} segments make {made} edges, at{places}");
     Ok(edges)
 }
 
@@ -131,11 +190,15 @@ fn named(edge: Option<u16>) -> String {
     edge.map_or("no edge".into(), |ix| format!("edge {ix}"))
 }
 
-/// Places the stems by the anchor.
-fn place_stems(edges: &mut [Edge], anchor: Option<u16>) -> Result<(), Refusal> {
+/// Places the stems by the anchor, or by the first of them where there is none.
+fn place_stems(
+    dimension: Dimension,
+    edges: &mut [Edge],
+    anchor: Option<u16>,
+) -> Result<(), Refusal> {
     let before = edges.to_vec();
     let pass = StemPass {
-        dimension: Dimension::Vertical,
+        dimension,
         group: Group::Latin,
         stem_adjust: false,
         order: Order::BottomToTop,
@@ -155,10 +218,14 @@ fn place_stems(edges: &mut [Edge], anchor: Option<u16>) -> Result<(), Refusal> {
 }
 
 /// Moves the points of segments whose edges are done with them, and the other points behind these.
-fn align_points(segments: &[Segment], edges: &[Edge]) -> Result<(), Refusal> {
-    let originals = HEIGHTS.map(scaled);
+fn align_points(
+    points: [i32; POINTS],
+    segments: &[Segment],
+    edges: &[Edge],
+) -> Result<[i32; POINTS], Refusal> {
+    let originals = points.map(scaled);
     let mut currents = originals;
-    let mut touched = [0; HEIGHTS.len()];
+    let mut touched = [0; POINTS];
     for segment in segments {
         let edge = segment.edge().map(|ix| edges[usize::from(ix)]);
         if let Some(edge) = edge.filter(|edge| edge.flags().contains(Flags::DONE)) {
@@ -168,35 +235,60 @@ fn align_points(segments: &[Segment], edges: &[Edge]) -> Result<(), Refusal> {
             }
         }
     }
-    align_weak_points(
-        &originals,
-        &mut currents,
-        &touched,
-        &[HEIGHTS.len() as u16 - 1],
-    )?;
+    align_weak_points(&originals, &mut currents, &touched, &ENDS)?;
     let placed = touched.iter().filter(|mark| **mark != 0).count();
-    let points = HEIGHTS.len();
-    println!("  points    {placed} of {points} placed with their edges, the others aligned");
-    let aligned: Vec<String> = (0..points)
-        .filter(|point| touched[*point] == 0)
-        .map(|point| {
-            let [from, to] = [originals[point], currents[point]].map(position);
-            format!("    {point:4}:{from:>10} ->{to:>10}")
-        })
-        .collect();
-    for row in aligned.chunks(3) {
-        println!("{}", row.concat());
+    println!("  points    {placed} of {POINTS} placed with their edges, the others aligned");
+    Ok(currents)
+}
+
+/// Fits an axis, and hands back where its points come to.
+fn fit(axis: &Axis<'_>) -> Result<[i32; POINTS], Refusal> {
+    let mut segments = segments(axis);
+    let mut room = [Edge::default(); MOST_EDGES];
+    let edges = build(axis, &mut segments, &mut room)?;
+    let anchor = match axis.dimension {
+        Dimension::Vertical => put_on_zones(edges)?,
+        Dimension::Horizontal => None,
+    };
+    place_stems(axis.dimension, edges, anchor)?;
+    align_points(axis.points, &segments, edges)
+}
+
+/// A step of a path as text, its places in pixels.
+fn step_text(step: PathStep) -> String {
+    match step {
+        PathStep::Move(to) => format!("M {} {}", to.x, to.y),
+        PathStep::Line(to) => format!("L {} {}", to.x, to.y),
+        PathStep::Curve(by, to) => format!("Q {} {} {} {}", by.x, by.y, to.x, to.y),
+        PathStep::Close => "Z".into(),
+    }
+}
+
+/// Hands out the path of the fitted points, four steps to a line, and each contour on lines of its own.
+fn print_path(xs: &[i32; POINTS], ys: &[i32; POINTS]) -> Result<(), Refusal> {
+    let outline = Outline {
+        xs,
+        ys,
+        marks: &ON_CURVE,
+        ends: &ENDS,
+    };
+    let mut kinds = vec![0; outline.most_steps()];
+    let mut places = vec![0.0; 4 * outline.most_steps()];
+    let steps: Vec<PathStep> = path(&outline, &mut kinds, &mut places)?.collect();
+    println!("  path      {} steps", steps.len());
+    for contour in steps.split_inclusive(|step| *step == PathStep::Close) {
+        let texts: Vec<String> = contour.iter().map(|step| step_text(*step)).collect();
+        let (close, drawn) = texts.split_last().expect("a contour ends in a close");
+        let lines: Vec<String> = drawn.chunks(4).map(|line| line.join("  ")).collect();
+        println!("    {}  {close}", lines.join("\n    "));
     }
     Ok(())
 }
 
 /// Fits the 3.
 fn main() -> Result<(), Refusal> {
-    println!("# digit 3, heights at {PIXELS} pixels to the em");
-    let mut segments = segments();
-    let mut room = [Edge::default(); MOST_EDGES];
-    let edges = build(&mut segments, &mut room)?;
-    let anchor = put_on_zones(edges)?;
-    place_stems(edges, anchor)?;
-    align_points(&segments, edges)
+    println!("# digit 3, at {PIXELS} pixels to the em");
+    let ys = fit(&HEIGHTS)?;
+    let xs = fit(&WIDTHS)?;
+    print_path(&xs, &ys)
 }

@@ -1,9 +1,9 @@
 //! Jobs at document 01's limits, and just beyond.
 
-use super::{edges, job, segments, Random};
+use super::{catalogue, edges, job, path, segments, Random};
 use crate::{
-    job::{Building, Direction, Edge, Job, Points, Segment, Table, WidthRule},
-    limits::{EDGES, LENT, POINTS, SEGMENTS},
+    job::{Building, Catalogue, Direction, Edge, Job, Points, Segment, Table, Walk, WidthRule},
+    limits::{EDGES, LENT, NUMBERS, POINTS, SEGMENTS},
     text,
     words::{encode, Words},
 };
@@ -41,7 +41,7 @@ fn spike(words: &mut Words, random: &mut Random) {
             index(words, "edges", false, random)
         }
         "segment.link" | "segment.serif" | "segment.next" => index(words, "segments", true, random),
-        "end" => index(words, "originals", false, random),
+        "end" => index(words, words.names[1], false, random),
         _ => limit(name, words.values[ix], random),
     };
 }
@@ -63,19 +63,22 @@ const POSITIONS: [i32; 8] = [
 fn limit(name: &str, word: i32, random: &mut Random) -> i32 {
     let ends: &[i32] = match name {
         "original" | "current" | "edge.opos" | "edge.fitted" | "delta" => &[16_383],
+        "x" | "y" => &[49_149],
         "edge.pos" => &[16_777_216],
         "segment.score" | "segment.len" => &[0, 65_535],
         "distance threshold" | "length threshold" | "width threshold" => &[0, 65_535],
         "scale" => &[1, 16_777_216],
         "units per em" => &[16, 16_384],
         "standard" => &[1, 16_383],
-        "touch" => return random.pick(&[0, 1, 255]),
+        "touch" | "mark" | "own answer" => return random.pick(&[0, 1, 255]),
+        "points" | "contours" => return random.pick(&[0, 1, word + 1, 4_096, 65_535]).min(65_535),
+        "cursor" => return random.pick(&[0, word.saturating_add(1), i32::MAX - 1, i32::MAX]),
         "segment.pos" => return side(random.pick(&POSITIONS), true, random).min(32_767),
         "segment.delta" | "segment.min_coord" | "segment.max_coord" | "segment.height"
         | "edge.fpos" => return random.pick(&[-32_768, 32_767, 0]),
         _ => return word,
     };
-    let two_sided = matches!(ends[0], 16_383 | 16_777_216) && ends.len() == 1;
+    let two_sided = matches!(ends[0], 16_383 | 49_149 | 16_777_216) && ends.len() == 1;
     let end = random.pick(ends);
     match random.below(8) {
         0 => random.pick(&[i32::MIN, i32::MAX, -1, 0]),
@@ -121,6 +124,12 @@ fn resize(job: &mut Job, random: &mut Random) {
             let count = m_count(random).min(LENT + 1);
             edges.resize(count, Edge::default());
         }
+        Job::Path(walk) => resize_walk(walk, random),
+        Job::PathStep(walk, cursor) => {
+            resize_walk(walk, random);
+            *cursor = path::cursor(walk, random);
+        }
+        Job::Catalogue(catalogue) => resize_catalogue(catalogue, random),
     }
 }
 
@@ -139,6 +148,77 @@ fn resize_points(points: &mut Points, random: &mut Random) {
         13..=18 => points.touches.push(1),
         19..=24 => points.ends.extend(points.ends.last().copied()),
         _ => points.ends.reverse(),
+    }
+}
+
+/// Makes the lists of an outline long or unlike, or breaks the contour ends' rule.
+fn resize_walk(walk: &mut Walk, random: &mut Random) {
+    match random.below(40) {
+        0 => {
+            let count = random.pick(&[POINTS - 1, POINTS, POINTS + 1, NUMBERS, NUMBERS + 1]);
+            let mark = random.pick(&[0, 1]);
+            walk.xs.resize(count, 5);
+            walk.ys.resize(count, -6);
+            walk.marks.resize(count, mark);
+            let lone = random.coin();
+            let last = count as u16 - 1;
+            walk.ends = if lone {
+                (0..=last).collect()
+            } else {
+                vec![last]
+            };
+        }
+        1..=6 => drop(walk.xs.pop()),
+        7..=12 => walk.ys.push(0),
+        13..=18 => walk.marks.push(1),
+        19..=24 => walk.ends.extend(walk.ends.last().copied()),
+        25..=30 => walk.ends.reverse(),
+        _ => far_apart(walk, random),
+    }
+}
+
+/// Puts all places at the limits, so that halfway points are there too.
+fn far_apart(walk: &mut Walk, random: &mut Random) {
+    for coordinate in walk.xs.iter_mut().chain(&mut walk.ys) {
+        *coordinate = random.pick(&[49_149, 49_148, -49_148, -49_149]);
+    }
+}
+
+/// Makes an outline of a catalogue or a whole list long, or the lists unlike.
+fn resize_catalogue(catalogue: &mut Catalogue, random: &mut Random) {
+    match random.below(40) {
+        0 => {
+            let count = random.pick(&[POINTS - 1, POINTS, POINTS + 1]);
+            catalogue::append(catalogue, long(count, random));
+            catalogue.answers.push(2);
+        }
+        1 => {
+            // Many outlines of no points, as many as a list holds or one more.
+            let count = random.pick(&[NUMBERS, NUMBERS + 1]);
+            catalogue.point_counts.resize(count, 0);
+            catalogue.contour_counts.resize(count, 0);
+            catalogue.answers.resize(count, 2);
+        }
+        2 => {
+            // Together longer than one outline may be.
+            for _ in 0..2 {
+                catalogue::append(catalogue, long(POINTS / 2 + 100, random));
+                catalogue.answers.push(2);
+            }
+        }
+        _ => catalogue::unlike(catalogue, random),
+    }
+}
+
+/// An outline of so many points on one contour.
+fn long(count: usize, random: &mut Random) -> Points {
+    let mut touches = vec![0; count];
+    touches[random.below(count)] = 1;
+    Points {
+        originals: vec![5; count],
+        currents: vec![random.pick(&[6, 16_384]); count],
+        touches,
+        ends: vec![count as u16 - 1],
     }
 }
 

@@ -1,8 +1,11 @@
 //! Jobs made up from a seed.
 
+mod catalogue;
 mod damage;
 mod edges;
 mod limits;
+mod path;
+pub mod patterns;
 mod points;
 mod random;
 mod segments;
@@ -74,6 +77,8 @@ fn job(call: usize, small: bool, random: &mut Random) -> Job {
         3 => Job::Weak(points::points(small, random)),
         4 => segments::link(small, random),
         5 => segments::build(small, random),
+        15 | 16 => path::job(call, small, random),
+        17 => catalogue::job(small, random),
         _ => on_edges(call, small, random),
     }
 }

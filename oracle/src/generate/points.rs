@@ -47,7 +47,7 @@ fn current(original: i32, moves: i32, random: &mut Random) -> i32 {
 }
 
 /// Contour ends: all points, or some left behind the last.
-fn ends(count: usize, random: &mut Random) -> Vec<u16> {
+pub fn ends(count: usize, random: &mut Random) -> Vec<u16> {
     let chance = random.pick(&[1, 2, 4, 30]);
     let mut ends: Vec<u16> = (0..count as u16)
         .filter(|_| random.once_in(chance))

@@ -1,11 +1,20 @@
-//! Document 01's rows, its slips, its refusals, and the word form.
+//! Document 01's rows, its slips, its refusals, the calls of document 02, and the word form.
 
+mod catalogue;
+mod catalogue_slips;
+mod path;
+mod path_slips;
 mod refusals;
 mod rows;
 mod slips;
 mod words;
 
-use crate::job::{Edge, Segment, Table, TopoFlags, WidthRule};
+use crate::{
+    answer::answer_line,
+    decode::decode,
+    job::{Edge, Job, Segment, Table, TopoFlags, Walk, WidthRule},
+    text,
+};
 
 /// The rule that keeps every width.
 fn keep() -> WidthRule {
@@ -49,4 +58,24 @@ fn segment(pos: i16) -> Segment {
         score: 32_000,
         ..Segment::default()
     }
+}
+
+/// An outline to be walked.
+fn walk(xs: &[i32], ys: &[i32], marks: &[u8], ends: &[u16]) -> Walk {
+    Walk {
+        xs: xs.to_vec(),
+        ys: ys.to_vec(),
+        marks: marks.to_vec(),
+        ends: ends.to_vec(),
+    }
+}
+
+/// The words of the answer to a line.
+fn decoded(line: &str) -> Vec<i32> {
+    text::parse(answer_line(line.as_bytes()).as_bytes()).expect("an answer is whole words")
+}
+
+/// The job of a line, if it is one.
+fn job_of(line: &[u8]) -> Option<Job> {
+    text::parse(line).and_then(|words| decode(&words))
 }

@@ -9,9 +9,9 @@ use crate::{
 use oracle::generate::Random;
 
 /// The calls, by short names.
-pub const NAMES: [&str; 13] = [
+pub const NAMES: [&str; 15] = [
     "mid", "weak", "link", "build", "blues", "linked", "serif", "adjust", "bounds", "stem",
-    "stems", "m", "lent",
+    "stems", "m", "lent", "path", "step",
 ];
 
 /// The inputs of one round.
@@ -49,6 +49,8 @@ pub fn cases(name: &str) -> Vec<Case> {
         }),
         "m" => m("m", 13),
         "lent" => m("lent", 14),
+        "path" => path(),
+        "step" => step(),
         _ => unreachable!("the names are those of NAMES"),
     }
 }
@@ -90,6 +92,56 @@ fn weak() -> Vec<Case> {
         }
     }
     cases
+}
+
+/// Outlines whose points are on the curve once in so many, each with what a job of a path has behind its lists.
+fn paths(
+    name: &'static str,
+    call: i32,
+    sizes: &[usize],
+    behind: fn(usize) -> Vec<i32>,
+) -> Vec<Case> {
+    let mut cases = Vec::new();
+    for times in [1, 2, 4] {
+        for size in sizes.iter().copied() {
+            let mut random = Random::new(size as u64);
+            let mut job = |_| {
+                let kind = Outlines::Scattered(times);
+                let mut words = outlines::job(&outlines::outline(kind, size, &mut random));
+                words[0] = call;
+                words.extend(behind(size));
+                words
+            };
+            let jobs: Vec<_> = (0..4_096_usize.div_ceil(size)).map(&mut job).collect();
+            let far = |mut job: Vec<i32>| {
+                job[2 * size + 2] = 49_150;
+                job
+            };
+            cases.push(Case {
+                name,
+                kind: match times {
+                    1 => "all points on the curve".to_string(),
+                    _ => format!("one point in {times} on the curve"),
+                },
+                size,
+                refused: jobs.iter().cloned().map(far).collect(),
+                jobs,
+            });
+        }
+    }
+    cases
+}
+
+/// Whole paths.
+fn path() -> Vec<Case> {
+    paths("path", 15, &[4, 16, 64, 256, 1_024, 4_096], |_| Vec::new())
+}
+
+/// A step in the middle of a path, beside the plain loop's whole path.
+fn step() -> Vec<Case> {
+    paths("step", 16, &[4, 16, 64, 256, 1_024, 4_096], |size| {
+        vec![size as i32 / 2]
+    })
 }
 
 /// The sizes of tables of segments.

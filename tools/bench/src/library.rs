@@ -4,6 +4,7 @@ use crate::{
     port::{Call, Prepared},
     records,
 };
+use khsaemudol::PathStep;
 use oracle::{
     answer::NOT_A_JOB,
     decode,
@@ -48,6 +49,20 @@ pub fn answer(words: &[i32]) -> Vec<i32> {
                 None => answer.extend(old_words),
             }
         }
+        Prepared::Path(_, kinds, places) => {
+            let count = done.map_or(0, |[count, _]| count);
+            answer.push(count);
+            for (kind, places) in kinds.iter().zip(places.chunks(4)).take(count as usize) {
+                answer.push((*kind).into());
+                answer.extend(places[..floats(*kind)].iter().map(|float| bits(*float)));
+            }
+        }
+        Prepared::PathStep(_, cursor, step) => {
+            let (kind, places) = parts(*step);
+            answer.push(kind);
+            answer.extend(places.map(bits));
+            answer.push(done.map_or(*cursor as i32, |[next, _]| next));
+        }
         Prepared::Job(_, out) => answer.extend(out),
         Prepared::Edges(given, edges, call) => {
             answer.extend(beside(call, done));
@@ -59,6 +74,31 @@ pub fn answer(words: &[i32]) -> Vec<i32> {
         }
     }
     answer
+}
+
+/// The floats of a step of a kind.
+fn floats(kind: u8) -> usize {
+    match kind {
+        1 | 2 => 2,
+        3 => 4,
+        _ => 0,
+    }
+}
+
+/// A float by its bits, as a word.
+fn bits(float: f32) -> i32 {
+    float.to_bits() as i32
+}
+
+/// The kind of a step and its places, 0 where it has none.
+fn parts(step: Option<PathStep>) -> (i32, [f32; 4]) {
+    match step {
+        None => (0, [0.0; 4]),
+        Some(PathStep::Move(to)) => (1, [to.x, to.y, 0.0, 0.0]),
+        Some(PathStep::Line(to)) => (2, [to.x, to.y, 0.0, 0.0]),
+        Some(PathStep::Curve(by, to)) => (3, [by.x, by.y, to.x, to.y]),
+        Some(PathStep::Close) => (4, [0.0; 4]),
+    }
 }
 
 /// The words of a table of segments.

@@ -2,11 +2,11 @@
 
 use crate::records;
 use khsaemudol::{
-    Bounds, Building, CjkStem, Dimension, Direction, Edge, Group, Neighbour, Order, Refusal,
-    Segment, StemPass, Stems, WidthRule, MOST_EDGES,
+    Bounds, Building, CjkStem, Dimension, Direction, Edge, Group, Neighbour, Order, Outline,
+    PathStep, Refusal, Segment, StemPass, Stems, WidthRule, MOST_EDGES,
 };
 use oracle::{
-    job::{self, Job, Points, ScriptGroup},
+    job::{self, Job, Points, ScriptGroup, Walk},
     limits::{EDGES, LENT, SEGMENTS},
 };
 use std::hint::black_box;
@@ -17,7 +17,7 @@ extern "C" {
 }
 
 /// The words of the longest answer.
-const LONGEST: usize = 9_091;
+const LONGEST: usize = 36_866;
 
 /// The answer to a word list.
 pub fn answer(words: &[i32]) -> Vec<i32> {
@@ -45,7 +45,19 @@ pub enum Prepared {
         Building,
     ),
     Edges(Vec<Edge>, Vec<Edge>, Call),
+    Path(Walk, Vec<u8>, Vec<f32>),
+    PathStep(Walk, u32, Option<PathStep>),
     Job(Vec<i32>, Vec<i32>),
+}
+
+/// The library's outline of a walk.
+pub fn outline(walk: &Walk) -> Outline<'_> {
+    Outline {
+        xs: &walk.xs,
+        ys: &walk.ys,
+        marks: &walk.marks,
+        ends: &walk.ends,
+    }
 }
 
 /// The calls over edges, with what they are told beside them.
@@ -181,6 +193,12 @@ impl Prepared {
                 let given = records::given(words, LENT);
                 return Self::Edges(given, Vec::new(), Call::M(group(script)));
             }
+            Job::Path(walk) => {
+                let most = outline(&walk).most_steps();
+                return Self::Path(walk, vec![0; most], vec![0.0; 4 * most]);
+            }
+            Job::PathStep(walk, cursor) => return Self::PathStep(walk, cursor, None),
+            Job::Catalogue(..) => return Self::by_job(words),
         };
         Self::Edges(records::given(words, EDGES), Vec::new(), call)
     }
@@ -193,7 +211,7 @@ impl Prepared {
     /// Sets anew what the call changes.
     pub fn restore(&mut self) {
         match self {
-            Self::Middle(..) | Self::Job(..) => {}
+            Self::Middle(..) | Self::Path(..) | Self::PathStep(..) | Self::Job(..) => {}
             Self::Weak(points, currents) => currents.clone_from(&points.currents),
             Self::Link(given, segments, ..) | Self::Build(given, segments, ..) => {
                 segments.clone_from(given);
@@ -227,6 +245,15 @@ impl Prepared {
                 Ok([edges.len() as i32, 0])
             }
             Self::Edges(_, edges, call) => call.run(edges),
+            Self::Path(walk, kinds, places) => {
+                let path = khsaemudol::path(&outline(walk), kinds, places)?;
+                Ok([path.len() as i32, 0])
+            }
+            Self::PathStep(walk, cursor, step) => {
+                let found = khsaemudol::path_step(&outline(walk), *cursor)?;
+                *step = found.map(|(step, _)| step);
+                Ok([found.map_or(*cursor, |(_, next)| next) as i32, 0])
+            }
             Self::Job(words, out) => {
                 black_box(answer_into(words, out));
                 Ok([0; 2])

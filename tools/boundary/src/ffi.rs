@@ -97,6 +97,35 @@ extern "C" {
         found: *mut i32,
     ) -> u8;
     pub fn khs_hint_lowercase_m(edges: *mut i32, edges_len: usize, group: i32) -> u8;
+    pub fn khs_path_step(
+        xs: *const i32,
+        xs_len: usize,
+        ys: *const i32,
+        ys_len: usize,
+        marks: *const u8,
+        marks_len: usize,
+        ends: *const u16,
+        ends_len: usize,
+        cursor: u32,
+        kind: *mut u8,
+        places: *mut f32,
+        next: *mut u32,
+    ) -> u8;
+    pub fn khs_path(
+        xs: *const i32,
+        xs_len: usize,
+        ys: *const i32,
+        ys_len: usize,
+        marks: *const u8,
+        marks_len: usize,
+        ends: *const u16,
+        ends_len: usize,
+        kinds: *mut u8,
+        kinds_len: usize,
+        places: *mut f32,
+        places_len: usize,
+        count: *mut u32,
+    ) -> u8;
 }
 
 // Linux's C library; the numbers below are the same on its processors.

@@ -6,6 +6,7 @@ mod ffi;
 mod function;
 mod memory;
 mod model;
+mod path;
 mod points;
 mod tally;
 
@@ -26,6 +27,7 @@ fn main() -> ExitCode {
     let random = &mut Random::new(seed);
     let mut tallies = points::middles(count as usize, random);
     tallies.push(points::weak(count as usize, random));
+    tallies.extend(path::paths(count as usize, random));
     for function in &FUNCTIONS {
         tallies.push(compare(function, count as usize, random));
     }

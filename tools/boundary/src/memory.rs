@@ -7,7 +7,7 @@ use std::{
 };
 
 /// Bytes that can be read and written; no list that a call may read is longer.
-const OPEN: usize = 1 << 17;
+const OPEN: usize = 1 << 19;
 /// Bytes in front of and behind them, at which the process stops.
 const SHUT: usize = 1 << 20;
 /// Bytes that stand beside a list, and must be as they were.

@@ -3,9 +3,11 @@ use borrow.Author.Needs.{needs}
 use mathlib.Core.Bool.{_&&_}
 use native.Mathlib.Omega.{arith}
 use mathlib.Core.Path.{_≡_, sym, ap, _∙_}
-use Prim.Native.Nat.{_≤_, _-_}
+use Prim.Native.Nat.{ℕ, _≤_, _-_}
 use lib.ListN.{length, drop}
 use mir.Syntax.{w32}
+use mir.Val.{toZ, ofZ}
+use lib.IntN.{ℤ, natAbs}
 use Rattle.signed.proofs.Signed.{is, got}
 use Rattle.contours.specs.Contour.{at}
 use Rattle.outline.specs.Weak.{coordinateHolds, coordinatesHold}
@@ -14,18 +16,22 @@ use Rattle.outline.proofs.accept.coordinates_hold.Statement.{statement}
 use Rattle.outline.proofs.accept.coordinates_hold.Tie as tie
 
 abbrev Inv-loop : tie.InvT-loop
-Inv-loop list all₀ i₀ all i = (i ≤ length list) × (coordinatesHold list ≡ (all && coordinatesHold (drop i list)))
+Inv-loop list most all₀ i₀ all i = (i ≤ length list) × (coordinatesHold (natAbs (toZ w32 most)) list ≡ (all && coordinatesHold (natAbs (toZ w32 most)) (drop i list)))
 
 abbrev μ-loop : tie.MeasureT-loop
-μ-loop list all₀ i₀ all i = length list - i
+μ-loop list most all₀ i₀ all i = length list - i
 
 -- the head of the loop, from behind the turn's test
 abbrev at-loop : tie.After-coordinate-holds Inv-loop μ-loop → tie.At-loop Inv-loop μ-loop
 at-loop c = c .before .before .before
 
+-- the limit, as the loop reads it
+abbrev limit : tie.At-loop Inv-loop μ-loop → ℕ
+limit l = natAbs (toZ w32 (ofZ w32 (l .before .args .most)))
+
 -- what the test says of the element
-told : (c : tie.After-coordinate-holds Inv-loop μ-loop) → c .coordinate-holds .result ≡ coordinateHolds (at (at-loop c .before .args .list .now) (at-loop c .loop .i))
-told c = c .coordinate-holds .ensures ∙ ap coordinateHolds (is (got w32 (at (at-loop c .before .args .list .now) (at-loop c .loop .i)) (c .before .coordinate-holds-arg .given)))
+told : (c : tie.After-coordinate-holds Inv-loop μ-loop) → c .coordinate-holds .result ≡ coordinateHolds (limit (at-loop c)) (at (at-loop c .before .args .list .now) (at-loop c .loop .i))
+told c = c .coordinate-holds .ensures ∙ ap (coordinateHolds (limit (at-loop c))) (is (got w32 (at (at-loop c .before .args .list .now) (at-loop c .loop .i)) (c .before .coordinate-holds-arg .given)))
 
 loop-holds : tie.Need-loop-holds Inv-loop μ-loop
 loop-holds c = search needs
@@ -48,10 +54,13 @@ loop-less c = search needs
 loop-again : tie.Need-loop-again Inv-loop μ-loop
 loop-again c =
     let l = at-loop c in
-    (omega arith, l .loop .inv .1 ∙ coordinates-next (l .before .args .list .now) (l .loop .i) (l .loop .all) (c .coordinate-holds .result) (omega arith) (told c))
+    (omega arith, l .loop .inv .1 ∙ coordinates-next (limit l) (l .before .args .list .now) (l .loop .i) (l .loop .all) (c .coordinate-holds .result) (omega arith) (told c))
 
 returns : tie.Need-returns Inv-loop μ-loop
-returns c = let l = c .before in sym (l .loop .inv .1 ∙ coordinates-end (l .before .args .list .now) (l .loop .i) (l .loop .all) (omega arith))
+returns c =
+    let l = c .before in
+    sym (ap (λ (z : ℤ). coordinatesHold (natAbs z) (l .before .args .list .now)) (sym (is (l .before .fits .most))) ∙ l .loop .inv .1 ∙ coordinates-end (limit l)
+    (l .before .args .list .now) (l .loop .i) (l .loop .all) (omega arith))
 
 pub coordinates-hold-spec : {M : Type 1} → statement M
 coordinates-hold-spec =

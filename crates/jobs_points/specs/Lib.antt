@@ -1,0 +1,2 @@
+-- What the contracts of jobs cite.
+pub mod Limits

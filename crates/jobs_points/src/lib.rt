@@ -1,0 +1,7 @@
+// Jobs of the calls on points, and what the jobs of every call share: their lists, read and written, and the length of the longest answer. A tool, for comparisons: proved safe.
+mod float;
+pub mod limits;
+pub mod list;
+mod number;
+pub mod path;
+pub mod weak;

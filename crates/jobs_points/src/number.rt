@@ -1,0 +1,32 @@
+// Lists of numbers as the narrower numbers that a call takes, and back.
+use words::field::index_at;
+use words::word::count_at;
+ghost use Prim.Native.Nat.{_≤_};
+ghost use lib.ListN.{length};
+
+// Writes the numbers of a list as bytes.
+pub fn read_bytes(numbers: &[i32], bytes: &mut [u8])
+    requires { ⌜ length (now numbers) ≤ length (now bytes) ⌝ }
+{
+    let mut i = 0;
+    while i < numbers.len() {
+        bytes[i] = (count_at(numbers, i) % 256) as u8;
+        i += 1;
+    }
+}
+
+// Writes the numbers of a list as indices or counts.
+pub fn read_indices(numbers: &[i32], indices: &mut [u16])
+    requires { ⌜ length (now numbers) ≤ length (now indices) ⌝ }
+{
+    let mut i = 0;
+    while i < numbers.len() {
+        indices[i] = index_at(numbers, i);
+        i += 1;
+    }
+}
+
+// A byte as a word.
+pub fn byte_word(byte: u8) -> i32 {
+    byte as i32
+}

@@ -1,0 +1,2 @@
+-- Room for the steps of a path.
+pub mod Room

@@ -1,0 +1,2 @@
+-- The laws on steps laid one behind the other, each over plain variables.
+pub mod Lays

@@ -1,0 +1,2 @@
+-- What the contracts of `path_lay` cite.
+pub mod Laying

@@ -1,0 +1,6 @@
+-- The theorems: `Pictures` and `Shapes`, the shape of a path; `Sequence`, that steps and the whole agree; `Exactly`, that places are exact.
+pub mod Pictures
+pub mod Ends
+pub mod Shapes
+pub mod Sequence
+pub mod Exactly

@@ -1,0 +1,10 @@
+-- The whole number that a place of a path is made of.
+use mathlib.Core.List.{List}
+use lib.IntN.{ℤ, _+ℤ_}
+use Rattle.contours.specs.Contour.{at}
+use Rattle.path_shape.specs.Legs.{Spot, point, between}
+
+-- twice the coordinate of a place, in units: this over 128 is its number in pixels
+abbrev pub doubled : List ℤ → Spot → ℤ
+doubled l (point i) = at l i +ℤ at l i
+doubled l (between i j) = at l i +ℤ at l j

@@ -1,0 +1,2 @@
+-- What the contracts of `path_walk` cite.
+pub mod Steps

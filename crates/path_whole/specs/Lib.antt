@@ -1,0 +1,2 @@
+-- What the contracts of `path_whole` cite.
+pub mod Writing
