@@ -24,7 +24,7 @@
  *      khs_align_serif_edge with that as base, another one between the edges that khs_latin_remaining_bounds finds; khs_adjust_link keeps one with a link in order.
  *      None of these calls sets the flag: the caller does, by flags |= KHS_FLAG_DONE.
  *   6. The caller moves the points of every segment whose edge is done, from first to last, to that edge's pos, and touches them. khs_align_weak_points moves the
- *      other points.
+ *      other points, and khs_align_catalogue those of many outlines at once.
  *   7. When both axes are fitted, khs_path makes the path for a rasteriser of the points, in pixels.
  *
  * An example: a bar from 0 to 80 of 1,000 design units to the em, at 12 pixels to the em, whose foot has a zone at 0; it goes clockwise, and its point 2 lies at 40
@@ -69,7 +69,7 @@
  *   4. KHS_BAD_PARAMETER, then KHS_BAD_INDEX, KHS_OUT_OF_RANGE and KHS_NO_ROOM.
  * Every other number of a call takes every word: an edge named in a call, and an anchor other than KHS_NONE, is KHS_BAD_INDEX where it is not below the count
  * of edges, whatever its word; scale, units per em, thresholds and standards are KHS_BAD_PARAMETER and a delta KHS_OUT_OF_RANGE outside of their limits.
- * The calls over points have no such fields, and test KHS_TOO_LONG, KHS_BAD_INDEX and KHS_OUT_OF_RANGE in this order.
+ * The calls over points have no such fields, and test KHS_TOO_LONG, KHS_BAD_INDEX and KHS_OUT_OF_RANGE in this order; khs_align_catalogue so of each outline.
  *
  * A refused call writes nothing: every list and every place holds what it held. With KHS_DONE a list of edges or segments that is not const holds what the
  * call made of it, every word within its field's values, and every place for a result holds the result. Results may leave the limits of what is accepted, and
@@ -93,8 +93,8 @@ typedef uint64_t khs_length;
 /* Answers. */
 enum khs_answer {
     KHS_DONE = 0,          /* done */
-    KHS_TOO_LONG = 1,      /* a list is longer than its limit (4,096 points, 512 segments, 128 edges), lists of one outline differ in length, or a path has
-                            * too little room */
+    KHS_TOO_LONG = 1,      /* a list is longer than its limit (4,096 points, 512 segments, 128 edges), lists of one outline differ in length, a path has too
+                            * little room, or a catalogue's counts do not add up to its lists */
     KHS_BAD_PARAMETER = 2, /* a scale, units per em, threshold or the m call's count is outside its limits, or the standards break their rule */
     KHS_BAD_INDEX = 3,     /* a contour end breaks its rule, or a link, serif, ring index, anchor or named edge is not below its list's length */
     KHS_OUT_OF_RANGE = 4,  /* a coordinate, position, score, len or passed delta is outside its limits; in building also a scaled position */
@@ -174,6 +174,22 @@ int16_t khs_compute_mid_delta(int32_t min, int32_t max);
  * Writes currents. Answers: KHS_DONE, KHS_TOO_LONG, KHS_BAD_INDEX, KHS_OUT_OF_RANGE. */
 uint8_t khs_align_weak_points(const int32_t *originals, khs_length originals_len, int32_t *currents, khs_length currents_len, const uint8_t *touched,
                               khs_length touched_len, const uint16_t *ends, khs_length ends_len);
+
+/* Moves the untouched points of one axis of every outline of a catalogue, as khs_align_weak_points does those of one. The outlines stand one behind another in
+ * shared lists, which have no limit.
+ * originals, currents, touched: one entry for each point of every outline. ends: the contour ends of every outline, each an index from its own outline's first
+ * point on.
+ * point_counts, contour_counts: for each outline how many of the points and of the contour ends are its own; the next outline begins behind them.
+ * answers: one place for each outline; what it holds is not read.
+ * Refused, and then nothing is written, are a catalogue whose point counts do not add up to the length of originals, of currents and of touched, one whose contour
+ * counts do not add up to that of ends, and one whose lists of counts and of answers differ in length. Each sum is tested without wrapping around.
+ * Writes answers and currents, else: the answer of each outline is that of khs_align_weak_points on its own entries, KHS_DONE, KHS_TOO_LONG, KHS_BAD_INDEX or
+ * KHS_OUT_OF_RANGE, and its currents are what that call leaves. So a refused outline keeps its currents, and those behind it are aligned all the same; an outline of
+ * no points and no contours is KHS_DONE. No refusal of an outline shows in the answer of the whole call.
+ * Answers: KHS_DONE, KHS_TOO_LONG. */
+uint8_t khs_align_catalogue(const int32_t *originals, khs_length originals_len, int32_t *currents, khs_length currents_len, const uint8_t *touched,
+                            khs_length touched_len, const uint16_t *ends, khs_length ends_len, const uint16_t *point_counts, khs_length point_counts_len,
+                            const uint16_t *contour_counts, khs_length contour_counts_len, uint8_t *answers, khs_length answers_len);
 
 /* Links CJK segments into stems and serifs.
  * segments: at most 512, KHS_SEGMENT_WORDS words each. major_dir: a direction. units_per_em: 16 to 16,384. scale: 1 to 16,777,216.

@@ -33,7 +33,8 @@ static const char *const formats[] = {
     "Ec",         /* hint_lowercase_m, table form: edges, group */
     "Lc",         /* hint_lowercase_m, lent list: edges, group */
     "NNBI",       /* path: x coordinates, y coordinates, on-curve marks, contour ends */
-    "NNBIk"       /* path_step: the same, cursor */
+    "NNBIk",      /* path_step: the same, cursor */
+    "NNBIIIB"     /* align_catalogue: outlines as of align_weak_points, point counts, contour counts, answers */
 };
 enum { CALLS = sizeof formats / sizeof formats[0], MOST_ITEMS = 10 };
 
@@ -121,7 +122,7 @@ static size_t read_list(char kind, int32_t *words, size_t len, struct list *list
 /* Reads a job from its words; 0 where they are none. */
 static int read_job(int32_t *words, size_t len, struct job *job)
 {
-    if (len == 0 || words[0] < 1 || words[0] >= CALLS)
+    if (len == 0 || words[0] < 1 || words[0] >= CALLS || !formats[words[0]])
         return 0;
     job->call = words[0];
     size_t at = 1, numbers = 0, lists = 0;
@@ -162,9 +163,21 @@ static khs_length lend(const struct list *list, size_t size, size_t most)
     return records * size;
 }
 
-/* The marks and the contour ends of an outline, which have types of their own. */
+/* The marks and the contour ends of an outline, which have types of their own, as counts and answers have. */
 static uint8_t marks[MOST_NUMBERS];
 static uint16_t ends[MOST_NUMBERS];
+
+static void read_bytes(const struct list *list, uint8_t *bytes)
+{
+    for (size_t i = 0; i < list->size; i++)
+        bytes[i] = (uint8_t)list->words[i];
+}
+
+static void read_indices(const struct list *list, uint16_t *indices)
+{
+    for (size_t i = 0; i < list->size; i++)
+        indices[i] = (uint16_t)list->words[i];
+}
 
 /* Weak points. */
 static void answer_weak(const struct job *job)
@@ -216,15 +229,34 @@ static void answer_step(const struct job *job)
     say((int32_t)next);
 }
 
-/* The calls over an outline. */
+/* A catalogue. */
+static void answer_catalogue(const struct job *job)
+{
+    static uint8_t answers[MOST_NUMBERS];
+    static uint16_t points[MOST_NUMBERS], contours[MOST_NUMBERS];
+    const struct list *list = job->list;
+    read_indices(&list[4], points);
+    read_indices(&list[5], contours);
+    read_bytes(&list[6], answers);
+    say(khs_align_catalogue(list[0].words, list[0].size, list[1].words, list[1].size, marks, list[2].size, ends, list[3].size, points, list[4].size, contours,
+                            list[5].size, answers, list[6].size));
+    say_list(list[1].count, list[1].words, list[1].size);
+    say(list[6].count);
+    for (size_t i = 0; i < list[6].size; i++)
+        say(answers[i]);
+}
+
+/* The calls over outlines. */
 static void answer_outline(const struct job *job)
 {
-    const struct list *list = job->list;
-    for (size_t i = 0; i < list[2].size; i++)
-        marks[i] = (uint8_t)list[2].words[i];
-    for (size_t i = 0; i < list[3].size; i++)
-        ends[i] = (uint16_t)list[3].words[i];
-    (job->call == 3 ? answer_weak : job->call == 15 ? answer_path : answer_step)(job);
+    read_bytes(&job->list[2], marks);
+    read_indices(&job->list[3], ends);
+    switch (job->call) {
+    case 3: answer_weak(job); break;
+    case 15: answer_path(job); break;
+    case 16: answer_step(job); break;
+    default: answer_catalogue(job);
+    }
 }
 
 /* Linking and building. Building has no old table in C: one that is too long is refused here, and what a refusal leaves is handed back. */
@@ -304,7 +336,8 @@ static void answer_line(size_t len)
         break;
     case 3:
     case 15:
-    case 16: answer_outline(&job); break;
+    case 16:
+    case 17: answer_outline(&job); break;
     case 4:
     case 5: answer_segments(&job); break;
     default: answer_edges(&job);

@@ -11,7 +11,8 @@ static struct khs_segment segments[KHS_MOST_SEGMENTS];
 static struct khs_edge edges[KHS_MOST_EDGES];
 static int32_t originals[POINTS], currents[POINTS], standards[STANDARDS];
 static uint8_t touched[POINTS];
-static uint16_t ends[POINTS / 4];
+static uint16_t ends[POINTS / 4], point_counts[] = {POINTS}, contour_counts[] = {POINTS / 4};
+static uint8_t own_answer;
 static int32_t first, second;
 static uint8_t kinds[POINTS + 2 * (POINTS / 4)];
 static float places[4 * sizeof kinds];
@@ -26,6 +27,9 @@ static int32_t *segment_words(void) { return (int32_t *)segments; }
 enum { EDGE_LIST = KHS_MOST_EDGES * KHS_EDGE_WORDS, SEGMENT_LIST = KHS_MOST_SEGMENTS * KHS_SEGMENT_WORDS };
 
 static uint8_t weak(void) { return khs_align_weak_points(originals, POINTS, currents, POINTS, touched, POINTS, ends, POINTS / 4); }
+static uint8_t catalogue(void) {
+    return khs_align_catalogue(originals, POINTS, currents, POINTS, touched, POINTS, ends, POINTS / 4, point_counts, 1, contour_counts, 1, &own_answer, 1);
+}
 static uint8_t linking(void) { return khs_link_segments_cjk(segment_words(), SEGMENT_LIST, KHS_DIR_UP, 1000, 65536); }
 static uint8_t building(void) {
     return khs_compute_edges(segment_words(), SEGMENT_LIST, edge_words(), EDGE_LIST, dim, KHS_DIR_UP, group, order, 65536, 3, 0, 65535, &first);
@@ -48,7 +52,7 @@ static uint8_t lowercase_m(void) { return khs_hint_lowercase_m(edge_words(), 12 
 static const struct {
     const char *name;
     uint8_t (*call)(void);
-} calls[] = {{"khs_align_weak_points", weak}, {"khs_link_segments_cjk", linking}, {"khs_compute_edges", building}, {"khs_align_edges_to_blues", blues},
+} calls[] = {{"khs_align_weak_points", weak}, {"khs_align_catalogue", catalogue}, {"khs_link_segments_cjk", linking}, {"khs_compute_edges", building}, {"khs_align_edges_to_blues", blues},
              {"khs_align_linked_edge", linked}, {"khs_align_serif_edge", serif}, {"khs_adjust_link", adjust}, {"khs_latin_remaining_bounds", bounds},
              {"khs_hint_normal_stem_cjk", stem}, {"khs_align_stem_edges", stems}, {"khs_hint_lowercase_m", lowercase_m},
              {"khs_path_step", step}, {"khs_path", path}};

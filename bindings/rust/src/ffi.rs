@@ -3,8 +3,11 @@
 //! What the functions ask of their caller holds by the types: each pointer and length is of one live slice, which is aligned and never null, and what is written is lent
 //! to the call alone.
 
-use crate::path::Outline;
-use crate::records::{Edge, Segment, EDGE_WORDS, SEGMENT_WORDS};
+use crate::{
+    path::Outline,
+    records::{Edge, Segment, EDGE_WORDS, SEGMENT_WORDS},
+    Catalogue,
+};
 
 /// The length of a list, which has 64 bits on every processor.
 type Length = u64;
@@ -23,6 +26,23 @@ extern "C" {
         touched_len: Length,
         ends: *const u16,
         ends_len: Length,
+    ) -> u8;
+
+    fn khs_align_catalogue(
+        originals: *const i32,
+        originals_len: Length,
+        currents: *mut i32,
+        currents_len: Length,
+        touched: *const u8,
+        touched_len: Length,
+        ends: *const u16,
+        ends_len: Length,
+        point_counts: *const u16,
+        point_counts_len: Length,
+        contour_counts: *const u16,
+        contour_counts_len: Length,
+        answers: *mut u8,
+        answers_len: Length,
     ) -> u8;
 
     fn khs_link_segments_cjk(
@@ -196,6 +216,28 @@ pub fn align_weak_points(
             length(touched),
             ends.as_ptr(),
             length(ends),
+        )
+    }
+}
+
+pub fn align_catalogue(catalogue: &Catalogue<'_>, currents: &mut [i32], answers: &mut [u8]) -> u8 {
+    // SAFETY: seven slices, of which `currents` and `answers` are lent to this call alone.
+    unsafe {
+        khs_align_catalogue(
+            catalogue.originals.as_ptr(),
+            length(catalogue.originals),
+            currents.as_mut_ptr(),
+            length(currents),
+            catalogue.touched.as_ptr(),
+            length(catalogue.touched),
+            catalogue.ends.as_ptr(),
+            length(catalogue.ends),
+            catalogue.point_counts.as_ptr(),
+            length(catalogue.point_counts),
+            catalogue.contour_counts.as_ptr(),
+            length(catalogue.contour_counts),
+            answers.as_mut_ptr(),
+            length(answers),
         )
     }
 }

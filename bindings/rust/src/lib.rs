@@ -69,6 +69,50 @@ pub fn align_weak_points(
     Refusal::of(ffi::align_weak_points(originals, currents, touched, ends))
 }
 
+/// The outlines of a catalogue on one axis, one behind another in shared lists: what of them is read. Their currents are lent to [`align`](Self::align).
+#[derive(Clone, Copy, Debug, PartialEq, Eq)]
+pub struct Catalogue<'a> {
+    /// The originals of all points.
+    pub originals: &'a [i32],
+    /// The touch marks of all points; any nonzero mark means touched.
+    pub touched: &'a [u8],
+    /// The contour ends of all outlines, each an index from its own outline's first point on.
+    pub ends: &'a [u16],
+    /// How many points each outline has.
+    pub point_counts: &'a [u16],
+    /// How many contours each outline has.
+    pub contour_counts: &'a [u16],
+}
+
+impl Catalogue<'_> {
+    /// Aligns the weak points of every outline in one call, and hands back the answer of each, as [`align_weak_points`] gives it: a refused outline keeps its currents, and the others are
+    /// aligned all the same.
+    ///
+    /// The whole call is refused, by [`Refusal::TooLong`], where the counts do not add up to the lists or are not equally many.
+    ///
+    /// ```
+    /// use khsaemudol::{Catalogue, Refusal};
+    ///
+    /// let catalogue = Catalogue {
+    ///     originals: &[0, 10, 7],
+    ///     touched: &[1, 0, 0],
+    ///     ends: &[1, 2],
+    ///     point_counts: &[2, 1, 0],
+    ///     contour_counts: &[1, 1, 0],
+    /// };
+    /// let mut currents = [5, 10, 9];
+    /// // the second outline's contour ends behind its only point; the third is empty
+    /// assert_eq!(catalogue.align(&mut currents)?, [Ok(()), Err(Refusal::BadIndex), Ok(())]);
+    /// assert_eq!(currents, [5, 15, 9]);
+    /// # Ok::<(), Refusal>(())
+    /// ```
+    pub fn align(&self, currents: &mut [i32]) -> Result<Vec<Result<(), Refusal>>, Refusal> {
+        let mut answers = vec![0; self.point_counts.len()];
+        Refusal::of(ffi::align_catalogue(self, currents, &mut answers))?;
+        Ok(answers.into_iter().map(Refusal::of).collect())
+    }
+}
+
 /// Links the segments of an axis by CJK's rules: their link, serif, score and overlap.
 ///
 /// ```

@@ -201,6 +201,61 @@ fn weak_points() {
 }
 
 #[test]
+fn catalogue() {
+    let catalogue = Catalogue {
+        originals: &[0, 1, 2, 3, 16_384, 0, 10, 20],
+        touched: &[1, 0, 0, 1, 0, 1, 0, 0],
+        ends: &[3, 0, 2],
+        point_counts: &[4, 0, 1, 3],
+        contour_counts: &[1, 0, 1, 1],
+    };
+    let given = [0, 0, 0, 64, 7, 5, 99, 20];
+    let mut currents = given;
+    let answers = vec![Ok(()), Ok(()), Err(Refusal::OutOfRange), Ok(())];
+    assert_eq!(catalogue.align(&mut currents), Ok(answers));
+    assert_eq!(currents, [0, 21, 43, 64, 7, 5, 15, 25]);
+    let refused = |catalogue: Catalogue<'_>| {
+        let mut currents = given;
+        let answer = catalogue.align(&mut currents);
+        assert_eq!((answer, currents), (Err(Refusal::TooLong), given));
+    };
+    let (one_less, one_more) = ([4, 0, 1, 2], [4, 0, 1, 4]);
+    let point_counts = &one_less;
+    refused(Catalogue {
+        point_counts,
+        ..catalogue
+    });
+    let point_counts = &one_more;
+    refused(Catalogue {
+        point_counts,
+        ..catalogue
+    });
+    let contour_counts = &[1, 0, 2, 1];
+    refused(Catalogue {
+        contour_counts,
+        ..catalogue
+    });
+    let contour_counts = &[1, 0, 1, 1, 0];
+    refused(Catalogue {
+        contour_counts,
+        ..catalogue
+    });
+    let touched = &[0; 7];
+    refused(Catalogue {
+        touched,
+        ..catalogue
+    });
+    let empty = Catalogue {
+        originals: &[],
+        touched: &[],
+        ends: &[],
+        point_counts: &[],
+        contour_counts: &[],
+    };
+    assert_eq!(empty.align(&mut []), Ok(vec![]));
+}
+
+#[test]
 fn linking() {
     let mut segments = [side(Direction::Up, 0), side(Direction::Down, 100)];
     assert_eq!(

@@ -2,6 +2,7 @@
 use super::call::job_of;
 use super::lent::answer_lent;
 use super::table::answer_table;
+use jobs_points::catalogue::answer_catalogue;
 use jobs_points::limits::LONGEST;
 use jobs_points::list::put;
 use jobs_points::path::answer_path;
@@ -48,6 +49,7 @@ pub fn answer(words: &[i32], out: &mut [i32]) -> usize
         14 => answer_lent(words, out),
         15 => answer_path(words, out),
         16 => answer_step(words, out),
+        17 => answer_catalogue(words, out),
         _ => answer_table(call, words, out),
     }
 }

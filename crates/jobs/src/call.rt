@@ -25,7 +25,7 @@ const CURSOR: Range = Range {
 };
 
 // The calls are numbered below this.
-const CALLS: usize = 17;
+const CALLS: usize = 18;
 
 // The items of each call's job behind the call's word, by the digits of `skip_item`, the first item in the last digit. No item has digit 15, so nothing is a job of call 0.
 const FORMATS: [u64; CALLS] = [
@@ -46,6 +46,7 @@ const FORMATS: [u64; CALLS] = [
     0x3b, // hint_lowercase_m, lent list
     0x8766, // path
     0xc8766, // path_step
+    0x7888766, // align_catalogue
 ];
 
 // The place behind a list: its count, at most so much, and its elements, of which a job carries at most so many.

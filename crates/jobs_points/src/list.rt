@@ -37,7 +37,7 @@ pub fn list_at(words: &[i32], at: usize) -> &[i32]
     part(words, at + 1, least(count_at(words, at), MOST_NUMBERS))
 }
 
-// The list k, one of at most seven, of a job whose lists stand one behind the other from its second word on.
+// The list k of a job whose lists stand one behind the other from its second word on; the call with the most has seven.
 pub fn nth_list(words: &[i32], k: usize) -> &[i32]
     requires { ⌜ k ≤ 6 ⌝ }
     ensures { λ r. ⌜ length (now r) ≤ mostNumbers ⌝ }

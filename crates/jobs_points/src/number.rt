@@ -1,6 +1,8 @@
 // Lists of numbers as the narrower numbers that a call takes, and back.
+use super::list::put;
 use words::field::index_at;
 use words::word::count_at;
+use words::word::count_word;
 ghost use Prim.Native.Nat.{_≤_};
 ghost use lib.ListN.{length};
 
@@ -29,4 +31,21 @@ pub fn read_indices(numbers: &[i32], indices: &mut [u16])
 // A byte as a word.
 pub fn byte_word(byte: u8) -> i32 {
     byte as i32
+}
+
+// Writes a count and as many bytes, a word each, from a place on, and tells the place behind them; where there is no room it tells 0.
+pub fn put_bytes(out: &mut [i32], at: usize, bytes: &[u8]) -> usize
+    ensures { λ r. ⌜ r ≤ length (now (out .entry)) ⌝ }
+{
+    let counted = [count_word(bytes.len())];
+    let next = put(out, at, &counted);
+    if out.len() - next < bytes.len() {
+        return 0;
+    }
+    let mut i = 0;
+    while i < bytes.len() {
+        out[next + i] = byte_word(bytes[i]);
+        i += 1;
+    }
+    next + bytes.len()
 }

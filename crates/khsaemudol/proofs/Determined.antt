@@ -7,6 +7,8 @@ use lib.IntN.{ℤ}
 use Rattle.middle.specs.Middle.{ComputesMidPos, ComputesMidDelta}
 use Rattle.outline.specs.Weak.{Outcome}
 use Rattle.outline.proofs.Outcomes as Weak
+use Rattle.catalogue.specs.Catalogue.{Catalogued}
+use Rattle.catalogue.proofs.Outcomes as Whole
 use Rattle.building.specs.declared.numbers.Thresholds.{Thresholds}
 use Rattle.lent.proofs.Determined.{lent-determined}
 use Rattle.flat_segments.specs.Link.{LinkingLent}
@@ -33,6 +35,12 @@ mid-delta-determined min max a b = a ∙ sym b
 -- `khs_align_weak_points`
 pub weak-determined : (o c : List ℤ) (t es : List ℕ) {r r′ : ℕ} {now now′ : List ℤ} → Outcome o c t es r now → Outcome o c t es r′ now′ → (r ≡ r′) × (now ≡ now′)
 weak-determined o c t es {r} {r′} {now} {now′} a b = Weak.determined o c t es r r′ now now′ a b
+
+-- `khs_align_catalogue`
+pub catalogue-determined :
+    (o c : List ℤ) (t es ns ks bs : List ℕ) {r r′ : ℕ} {now now′ : List ℤ} {rs rs′ : List ℕ}
+    → Catalogued o c t es ns ks bs r now rs → Catalogued o c t es ns ks bs r′ now′ rs′ → (r ≡ r′) × ((now ≡ now′) × (rs ≡ rs′))
+catalogue-determined o c t es ns ks bs a b = Whole.determined o c t es ns ks bs a b
 
 -- `khs_link_segments_cjk`
 pub linking-determined :

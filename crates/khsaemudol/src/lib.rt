@@ -1,6 +1,7 @@
 // The static library that gateways link: the public calls under C names. A slice is passed as its pointer and then its length. Edges are lists of 11 words each
 // and segments of 15; the answer is 0 or document 01's number of the refusal, and 255 where a word is none of its field. include/khsaemudol.h documents each.
 use building::numbers::Thresholds;
+use catalogue::align::align_catalogue;
 use flat::fit::lend_adjust;
 use flat::fit::lend_bounds;
 use flat::fit::lend_linked_edge;
@@ -18,6 +19,7 @@ use path::lend::lend_step;
 use path_whole::whole::path;
 ghost use Rattle.middle.specs.Middle.{ComputesMidPos, ComputesMidDelta};
 ghost use Rattle.outline.specs.Weak.{Outcome};
+ghost use Rattle.catalogue.specs.Catalogue.{Catalogued};
 ghost use Rattle.flat_segments.specs.Build.{thresholdsOf, BuiltLent};
 ghost use Rattle.flat.specs.Fit.{LinkedLent, SerifLent, AdjustLent, BoundsLent};
 ghost use Rattle.flat_segments.specs.Link.{LinkingLent};
@@ -56,6 +58,31 @@ pub extern "C" fn khs_align_weak_points(
     ensures { λ r. ⌜ Outcome (now (originals .entry)) (now (currents .entry)) (now (touched .entry)) (now (ends .entry)) r (now (currents .exit)) ⌝ }
 {
     align_weak_points(originals, currents, touched, ends)
+}
+
+// Aligns the weak points of every outline of a catalogue. The answer is 1, and nothing is written, where the counts do not add up; else 0, and each outline has its own.
+#[no_mangle]
+pub extern "C" fn khs_align_catalogue(
+    originals: &[i32],
+    currents: &mut [i32],
+    touched: &[u8],
+    ends: &[u16],
+    point_counts: &[u16],
+    contour_counts: &[u16],
+    answers: &mut [u8],
+) -> u8
+    ensures { λ r. ⌜ Catalogued (now (originals .entry)) (now (currents .entry)) (now (touched .entry)) (now (ends .entry)) (now («point_counts» .entry)) (now («contour_counts» .entry))
+        (now (answers .entry)) r (now (currents .exit)) (now (answers .exit)) ⌝ }
+{
+    align_catalogue(
+        originals,
+        currents,
+        touched,
+        ends,
+        point_counts,
+        contour_counts,
+        answers,
+    )
 }
 
 // Links CJK segments into stems and serifs.

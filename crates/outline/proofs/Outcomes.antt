@@ -39,9 +39,14 @@ module _ (o c : List ℤ) (t es : List ℕ) where
   unfolding result
   result-is e = ap (λ (k : ℕ). answered k (λ _. c) (listOf (alignedAt o c t es) 0 (length c))) e
 
-  -- an accepted outline keeps its length
-  result-length : refusal (weakTests o c t es) ≡ 0 → length (result o c t es) ≡ length c
-  result-length e = ap length (result-is e) ∙ length-listOf (alignedAt o c t es) 0 (length c)
+  -- the currents keep their length, of a refused outline too
+  pub result-length : length (result o c t es) ≡ length c
+  unfolding result
+  result-length = by (refusal (weakTests o c t es))
+    where
+      by : (k : ℕ) → length (answered k (λ _. c) (listOf (alignedAt o c t es) 0 (length c))) ≡ length c
+      by zero = length-listOf (alignedAt o c t es) 0 (length c)
+      by (suc k) = refl
 
   -- each of its points comes to its place
   pub result-at : refusal (weakTests o c t es) ≡ 0 → (i : ℕ) → i < length c → at (result o c t es) i ≡ alignedAt o c t es i
@@ -50,7 +55,7 @@ module _ (o c : List ℤ) (t es : List ℕ) where
   -- and lists with these places are the result
   pub result-done : (d : List ℤ) → refusal (weakTests o c t es) ≡ 0 → AllDone o c t es d → d ≡ result o c t es
   result-done d e a =
-      ext-getD (pos 0) d (result o c t es) (a .len ∙ sym (result-length e)) (λ i h. a .each i (omega (arith, a .len)) ∙ sym (result-at e i (omega (arith, a .len))))
+      ext-getD (pos 0) d (result o c t es) (a .len ∙ sym result-length) (λ i h. a .each i (omega (arith, a .len)) ∙ sym (result-at e i (omega (arith, a .len))))
 
 -- ---- two outcomes that the promise of `align_weak_points` allows coincide
 pub determined : (o c : List ℤ) (t es : List ℕ) (a b : ℕ) (d e : List ℤ) → Outcome o c t es a d → Outcome o c t es b e → (a ≡ b) × (d ≡ e)

@@ -4,7 +4,7 @@ use crate::{
     port::{Call, Prepared},
     records,
 };
-use khsaemudol::PathStep;
+use khsaemudol::{PathStep, Refusal};
 use oracle::{
     answer::NOT_A_JOB,
     decode,
@@ -22,10 +22,13 @@ pub fn answer(words: &[i32]) -> Vec<i32> {
         Job::Build(_, old, _) => old.count,
         _ => 0,
     };
+    // And the wrapper has no list of answers: one that is not as long as the counts is refused here too.
+    let unequal =
+        matches!(&job, Job::Catalogue(given) if given.answers.len() != given.point_counts.len());
     let old_words = old_table(&job, words);
     let mut prepared = Prepared::new(job, words);
     prepared.restore();
-    let result = if old > EDGES {
+    let result = if old > EDGES || unequal {
         Err(1)
     } else {
         prepared.run().map_err(|refusal| refusal.number())
@@ -37,6 +40,17 @@ pub fn answer(words: &[i32]) -> Vec<i32> {
         Prepared::Weak(_, currents) => {
             answer.push(currents.len() as i32);
             answer.extend(currents);
+        }
+        Prepared::Catalogue(given, currents, answers) => {
+            answer.push(currents.len() as i32);
+            answer.extend(currents);
+            answer.push(given.answers.len() as i32);
+            if done.is_some() {
+                let number = |answer: &Result<(), Refusal>| answer.err().map_or(0, Refusal::number);
+                answer.extend(answers.iter().map(number).map(i32::from));
+            } else {
+                answer.extend(given.answers.iter().copied().map(i32::from));
+            }
         }
         Prepared::Link(given, segments, ..) => answer.extend(table(given.len(), segments)),
         Prepared::Build(given, segments, room, _) => {

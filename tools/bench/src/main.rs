@@ -1,8 +1,10 @@
 //! The port, compiled for this machine, as tools use it. `bench all` or `bench CALL..` times it and the given Rust side by side on the same inputs and counts
-//! instructions; `bench answer` answers job lines by `jobs`, which asks the library's functions, and `bench library` by the library as its Rust wrapper calls it.
+//! instructions; `bench answer` answers job lines by `jobs`, which asks the library's functions, and `bench library` by the library as its Rust wrapper calls it;
+//! `bench catalogue` times catalogues of outlines in one call.
 
 mod answer;
 mod cases;
+mod catalogue;
 mod count;
 mod edges;
 mod library;
@@ -25,13 +27,18 @@ fn main() -> ExitCode {
         ["counted", name, ix, side, copies] if cases::NAMES.contains(&name) => {
             count::run(name, ix, side, copies);
         }
-        ["all"] => plot::write(&table::run(&cases::NAMES)),
+        ["all"] => {
+            plot::write(&table::run(&cases::NAMES));
+            println!();
+            catalogue::run();
+        }
+        ["catalogue"] => catalogue::run(),
         ref names if !names.is_empty() && names.iter().all(|name| cases::NAMES.contains(name)) => {
             table::run(names);
         }
         _ => {
             eprintln!(
-                "usage: bench answer | library | all | {}",
+                "usage: bench answer | library | all | catalogue | {}",
                 cases::NAMES.join(" | ")
             );
             return ExitCode::from(2);

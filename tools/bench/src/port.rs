@@ -2,8 +2,8 @@
 
 use crate::records;
 use khsaemudol::{
-    Bounds, Building, CjkStem, Dimension, Direction, Edge, Group, Neighbour, Order, Outline,
-    PathStep, Refusal, Segment, StemPass, Stems, WidthRule, MOST_EDGES,
+    Bounds, Building, Catalogue, CjkStem, Dimension, Direction, Edge, Group, Neighbour, Order,
+    Outline, PathStep, Refusal, Segment, StemPass, Stems, WidthRule, MOST_EDGES,
 };
 use oracle::{
     job::{self, Job, Points, ScriptGroup, Walk},
@@ -37,6 +37,8 @@ fn answer_into(words: &[i32], out: &mut [i32]) -> usize {
 pub enum Prepared {
     Middle(fn(i32, i32) -> i16, i32, i32),
     Weak(Points, Vec<i32>),
+    /// The catalogue, its currents, and the answers of its outlines, once it is done.
+    Catalogue(job::Catalogue, Vec<i32>, Vec<Result<(), Refusal>>),
     Link(Vec<Segment>, Vec<Segment>, Direction, i32, i32),
     Build(
         Vec<Segment>,
@@ -135,6 +137,17 @@ fn neighbour(next: bool) -> Neighbour {
     }
 }
 
+/// The library's catalogue.
+pub fn catalogue(given: &job::Catalogue) -> Catalogue<'_> {
+    Catalogue {
+        originals: &given.shared.originals,
+        touched: &given.shared.touches,
+        ends: &given.shared.ends,
+        point_counts: &given.point_counts,
+        contour_counts: &given.contour_counts,
+    }
+}
+
 /// What a call hands back beside its lists, at most two words.
 pub type Beside = [i32; 2];
 
@@ -198,7 +211,7 @@ impl Prepared {
                 return Self::Path(walk, vec![0; most], vec![0.0; 4 * most]);
             }
             Job::PathStep(walk, cursor) => return Self::PathStep(walk, cursor, None),
-            Job::Catalogue(..) => return Self::by_job(words),
+            Job::Catalogue(given) => return Self::Catalogue(given, Vec::new(), Vec::new()),
         };
         Self::Edges(records::given(words, EDGES), Vec::new(), call)
     }
@@ -213,6 +226,7 @@ impl Prepared {
         match self {
             Self::Middle(..) | Self::Path(..) | Self::PathStep(..) | Self::Job(..) => {}
             Self::Weak(points, currents) => currents.clone_from(&points.currents),
+            Self::Catalogue(given, currents, _) => currents.clone_from(&given.shared.currents),
             Self::Link(given, segments, ..) | Self::Build(given, segments, ..) => {
                 segments.clone_from(given);
             }
@@ -235,6 +249,10 @@ impl Prepared {
                     ..
                 } = points;
                 khsaemudol::align_weak_points(originals, currents, touches, ends).map(|()| [0; 2])
+            }
+            Self::Catalogue(given, currents, answers) => {
+                *answers = catalogue(given).align(currents)?;
+                Ok([0; 2])
             }
             Self::Link(_, segments, major, units_per_em, scale) => {
                 khsaemudol::link_segments_cjk(segments, *major, *units_per_em, *scale)

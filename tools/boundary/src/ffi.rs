@@ -13,6 +13,22 @@ extern "C" {
         ends: *const u16,
         ends_len: usize,
     ) -> u8;
+    pub fn khs_align_catalogue(
+        originals: *const i32,
+        originals_len: usize,
+        currents: *mut i32,
+        currents_len: usize,
+        touched: *const u8,
+        touched_len: usize,
+        ends: *const u16,
+        ends_len: usize,
+        point_counts: *const u16,
+        point_counts_len: usize,
+        contour_counts: *const u16,
+        contour_counts_len: usize,
+        answers: *mut u8,
+        answers_len: usize,
+    ) -> u8;
     pub fn khs_link_segments_cjk(
         segments: *mut i32,
         segments_len: usize,

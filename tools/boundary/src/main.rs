@@ -2,6 +2,7 @@
 //! lent with the oracle behind the order of answers that `model` has. Every list has a guard on one side and memory that is shut on the other.
 
 mod cases;
+mod catalogues;
 mod ffi;
 mod function;
 mod memory;
@@ -28,6 +29,7 @@ fn main() -> ExitCode {
     let mut tallies = points::middles(count as usize, random);
     tallies.push(points::weak(count as usize, random));
     tallies.extend(path::paths(count as usize, random));
+    tallies.push(catalogues::catalogues(count as usize, random));
     for function in &FUNCTIONS {
         tallies.push(compare(function, count as usize, random));
     }
