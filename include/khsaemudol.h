@@ -70,6 +70,7 @@
  * Every other number of a call takes every word: an edge named in a call, and an anchor other than KHS_NONE, is KHS_BAD_INDEX where it is not below the count
  * of edges, whatever its word; scale, units per em, thresholds and standards are KHS_BAD_PARAMETER and a delta KHS_OUT_OF_RANGE outside of their limits.
  * The calls over points have no such fields, and test KHS_TOO_LONG, KHS_BAD_INDEX and KHS_OUT_OF_RANGE in this order; khs_align_catalogue so of each outline.
+ * khs_read_frame tests KHS_NOT_WORDS, a room of another length, and then KHS_NOT_FRAME.
  *
  * A refused call writes nothing: every list and every place holds what it held. With KHS_DONE a list of edges or segments that is not const holds what the
  * call made of it, every word within its field's values, and every place for a result holds the result. Results may leave the limits of what is accepted, and
@@ -99,7 +100,8 @@ enum khs_answer {
     KHS_BAD_INDEX = 3,     /* a contour end breaks its rule, or a link, serif, ring index, anchor or named edge is not below its list's length */
     KHS_OUT_OF_RANGE = 4,  /* a coordinate, position, score, len or passed delta is outside its limits; in building also a scaled position */
     KHS_NO_ROOM = 5,       /* building calls for one edge more than 128 */
-    KHS_NOT_WORDS = 255    /* a length is not that of whole records, or a word is none of its field's values */
+    KHS_NOT_FRAME = 6,     /* a line of a log is not a whole frame */
+    KHS_NOT_WORDS = 255    /* a length is not that of whole records, a room has not exactly its length, or a word is none of its field's values */
 };
 
 /* Words with few values. */
@@ -114,6 +116,7 @@ enum { KHS_FLAG_ROUND = 1, KHS_FLAG_SERIF = 2, KHS_FLAG_DONE = 4, KHS_FLAG_NEUTR
 enum { KHS_FINISHED = 0, KHS_MOVE = 1, KHS_LINE = 2, KHS_CURVE = 3, KHS_CLOSE = 4 };              /* the kind of a path's step */
 
 enum { KHS_EDGE_WORDS = 11, KHS_SEGMENT_WORDS = 15, KHS_MOST_EDGES = 128, KHS_MOST_SEGMENTS = 512 };
+enum { KHS_FRAME_PLACES = 255, KHS_MOST_DIGITS = 3066 }; /* the most points, and contours, of a frame, and the digits of the longest */
 
 /* The words of an edge. "Index" is 0 to 65,535, "link" an index or KHS_NONE. A word outside of what its line gives is KHS_NOT_WORDS, and one outside of what is
  * "accepted" KHS_OUT_OF_RANGE. Link and serif are tested to be below the count of edges that are passed, else KHS_BAD_INDEX. In a struct that is only zeroed, an edge or
@@ -299,6 +302,27 @@ uint8_t khs_path_step(const int32_t *xs, khs_length xs_len, const int32_t *ys, k
  * Answers: KHS_DONE, KHS_TOO_LONG, KHS_BAD_INDEX, KHS_OUT_OF_RANGE. */
 uint8_t khs_path(const int32_t *xs, khs_length xs_len, const int32_t *ys, khs_length ys_len, const uint8_t *marks, khs_length marks_len, const uint16_t *ends,
                  khs_length ends_len, uint8_t *kinds, khs_length kinds_len, float *places, khs_length places_len, uint32_t *count);
+
+/* Writes what khs_align_weak_points is given as one line of a log, so that it can be run again later: `refit` reads such lines. The line is the frame's bytes, each
+ * as two upper-case hexadecimal digits: 01, the count of points, the count of contours, for each point its mark, original and current, then the contour ends. A
+ * number is two bytes, signed, the high one first.
+ * originals, currents, touched: one entry for each point, at most KHS_FRAME_PLACES, numbers from -32,768 to 32,767; a mark is kept as it is. ends: at most
+ * KHS_FRAME_PLACES, each at most 255. They need not be what khs_align_weak_points accepts: what it refuses can be logged too.
+ * line: room for the digits, 6 and 10 for each point and 2 for each contour; KHS_MOST_DIGITS is always enough. The line feed is the caller's.
+ * Writes line, from its beginning on, what stands behind the digits stays; digits, how many they are.
+ * Answers: KHS_DONE, KHS_TOO_LONG (the point lists differ in length, there are more than 255 points or contours, or the line is too short), KHS_BAD_INDEX (an end
+ * above 255), KHS_OUT_OF_RANGE (a number that two signed bytes do not hold). */
+uint8_t khs_write_frame(const int32_t *originals, khs_length originals_len, const int32_t *currents, khs_length currents_len, const uint8_t *touched,
+                        khs_length touched_len, const uint16_t *ends, khs_length ends_len, uint8_t *line, khs_length line_len, uint32_t *digits);
+
+/* Reads a line of a log, which is given without its line feed.
+ * originals, currents, touched, ends: room for exactly KHS_FRAME_PLACES entries each.
+ * Writes the rooms, from their beginnings on, what stands behind stays; points and contours, how many there are. Pass the first `points` entries of the first three
+ * and the first `contours` of ends to khs_align_weak_points, which may refuse them. Written again they are the line, digit for digit.
+ * Answers: KHS_DONE, KHS_NOT_FRAME (lower case, a carriage return or anything else that is no digit, a line that is cut, or has digits left over),
+ * KHS_NOT_WORDS (a room of another length). */
+uint8_t khs_read_frame(const uint8_t *line, khs_length line_len, int32_t *originals, khs_length originals_len, int32_t *currents, khs_length currents_len,
+                       uint8_t *touched, khs_length touched_len, uint16_t *ends, khs_length ends_len, uint32_t *points, uint32_t *contours);
 
 #ifdef __cplusplus
 }

@@ -3,11 +3,12 @@
 use crate::{
     calls,
     decode::decode,
-    job::Job,
+    frames,
+    job::{Job, Points},
     path::Step,
     refusals::{Answer, Refusal},
     text,
-    words::Words,
+    words::{self, Words},
 };
 
 /// The kind of a cursor that names no step.
@@ -45,7 +46,11 @@ pub fn answer(job: Job) -> Words {
             w.segments(&segments);
             w.edges(edges.count, &edges.items);
         }
-        Job::Path(_) | Job::PathStep(..) | Job::Catalogue(_) => of_requests(&mut w, job),
+        Job::Path(_)
+        | Job::PathStep(..)
+        | Job::Catalogue(_)
+        | Job::WriteFrame(..)
+        | Job::ReadFrame(_) => of_requests(&mut w, job),
         Job::MLent(mut edges, group) => {
             done(&mut w, calls::hint_lowercase_m_lent(&mut edges, group));
             w.edges(edges.len(), &edges);
@@ -61,7 +66,7 @@ pub fn answer(job: Job) -> Words {
     w
 }
 
-/// Calls 15 to 17.
+/// The calls of document 02.
 fn of_requests(w: &mut Words, job: Job) {
     match job {
         Job::Path(walk) => {
@@ -80,6 +85,15 @@ fn of_requests(w: &mut Words, job: Job) {
             done(w, calls::align_catalogue(&mut given));
             w.numbers("currents", "current", &given.shared.currents);
             w.numbers("answers", "own answer", &given.answers);
+        }
+        Job::WriteFrame(points, mut line) => {
+            let digits = number(w, frames::write_frame(&points, &mut line));
+            w.count("digits", digits.unwrap_or(0));
+            w.text("line", &line);
+        }
+        Job::ReadFrame(line) => {
+            let points = number(w, frames::read_frame(&line));
+            words::outline(w, &points.unwrap_or_else(Points::none));
         }
         _ => unreachable!("the other calls are document 01's"),
     }

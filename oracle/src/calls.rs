@@ -43,7 +43,7 @@ pub fn align_weak_points(points: &mut Points) -> Answer<()> {
 }
 
 /// The currents that the given Rust makes of these points on one axis.
-fn aligned(points: &Points, dim: Dimension) -> Vec<i32> {
+pub(crate) fn aligned(points: &Points, dim: Dimension) -> Vec<i32> {
     let mut outline = outline(points, dim);
     hint_outline::align_weak_points(&mut outline, dim).expect("contours lie within the points");
     let current = |point: &Point| match dim {

@@ -209,6 +209,8 @@ impl Reader<'_> {
             15 => Job::Path(self.walk()?),
             16 => Job::PathStep(self.walk()?, self.number()?),
             17 => Job::Catalogue(self.catalogue()?),
+            25 => Job::WriteFrame(self.points()?, self.numbers()?),
+            26 => Job::ReadFrame(self.numbers()?),
             _ => return None,
         })
     }

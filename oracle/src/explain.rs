@@ -3,7 +3,7 @@
 use crate::{
     answer::answer,
     decode::decode,
-    job::CALLS,
+    job::name_of,
     text,
     words::{encode, Words},
 };
@@ -14,7 +14,7 @@ pub fn explain(line: &[u8]) -> String {
         return String::from("not a job\n");
     };
     let words = encode(&job);
-    let name = CALLS[call_of(&words)];
+    let name = name_of(call_of(&words)).unwrap_or_default();
     let answer = answer(job);
     format!(
         "{name}\n{}answer\n{}",
@@ -23,9 +23,9 @@ pub fn explain(line: &[u8]) -> String {
     )
 }
 
-/// The call of a job, from 0.
+/// The word of a job's call.
 fn call_of(job: &Words) -> usize {
-    usize::try_from(job.values[0]).expect("a job's call is positive") - 1
+    usize::try_from(job.values[0]).expect("a job's call is positive")
 }
 
 /// How two answers to one job differ: the job, then both answers where they differ.
@@ -94,6 +94,10 @@ fn field(name: &str, value: i32) -> String {
         "place.x" => format!(" ({}", f32::from_bits(value as u32)),
         "place.y" => format!(" {})", f32::from_bits(value as u32)),
         "no place" if value == 0 => String::new(),
+        "byte" => u8::try_from(value).map_or_else(
+            |_| format!(" {value}"),
+            |byte| byte.escape_ascii().to_string(),
+        ),
         _ => {
             let short = name.rsplit('.').next().unwrap_or_default();
             format!(" {short}={}", shown_value(short, value))

@@ -1,4 +1,4 @@
-//! Jobs: the seventeen calls with everything that they are given.
+//! Jobs: the calls with everything that they are given.
 
 pub use crate::given::{
     metrics::{ScaledWidth, WidthRule},
@@ -31,6 +31,18 @@ pub struct Points {
     pub currents: Vec<i32>,
     pub touches: Vec<u8>,
     pub ends: Vec<u16>,
+}
+
+impl Points {
+    /// An outline of no points.
+    pub fn none() -> Self {
+        Self {
+            originals: Vec::new(),
+            currents: Vec::new(),
+            touches: Vec::new(),
+            ends: Vec::new(),
+        }
+    }
 }
 
 /// Both axes of an outline with its on-curve marks, to be walked.
@@ -106,25 +118,35 @@ pub enum Job {
     Path(Walk),
     PathStep(Walk, u32),
     Catalogue(Catalogue),
+    WriteFrame(Points, Vec<u8>),
+    ReadFrame(Vec<u8>),
 }
 
-/// The names of the calls, by their word less one.
-pub const CALLS: [&str; 17] = [
-    "compute_mid_pos",
-    "compute_mid_delta",
-    "align_weak_points",
-    "link_segments_cjk",
-    "compute_edges",
-    "align_edges_to_blues",
-    "align_linked_edge",
-    "align_serif_edge",
-    "adjust_link",
-    "latin_remaining_bounds",
-    "hint_normal_stem_cjk",
-    "align_stem_edges",
-    "hint_lowercase_m (table)",
-    "hint_lowercase_m (lent list)",
-    "path",
-    "path_step",
-    "align_catalogue",
+/// The calls: each one's word in a job, and its name.
+pub const CALLS: &[(usize, &str)] = &[
+    (1, "compute_mid_pos"),
+    (2, "compute_mid_delta"),
+    (3, "align_weak_points"),
+    (4, "link_segments_cjk"),
+    (5, "compute_edges"),
+    (6, "align_edges_to_blues"),
+    (7, "align_linked_edge"),
+    (8, "align_serif_edge"),
+    (9, "adjust_link"),
+    (10, "latin_remaining_bounds"),
+    (11, "hint_normal_stem_cjk"),
+    (12, "align_stem_edges"),
+    (13, "hint_lowercase_m (table)"),
+    (14, "hint_lowercase_m (lent list)"),
+    (15, "path"),
+    (16, "path_step"),
+    (17, "align_catalogue"),
+    (25, "write_frame"),
+    (26, "read_frame"),
 ];
+
+/// The name of the call that a word names, if it names one.
+pub fn name_of(word: usize) -> Option<&'static str> {
+    let call = CALLS.iter().find(|call| call.0 == word)?;
+    Some(call.1)
+}

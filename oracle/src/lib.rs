@@ -6,14 +6,17 @@ pub mod calls;
 pub mod count;
 pub mod decode;
 pub mod explain;
+pub mod frames;
 pub mod generate;
 pub mod given;
 pub mod job;
 pub mod limits;
+pub mod log;
 pub mod path;
 pub mod plain;
 pub mod prepared;
 pub mod refusals;
+pub mod streams;
 pub mod text;
 pub mod words;
 

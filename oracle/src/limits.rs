@@ -26,6 +26,10 @@ pub const M_EDGES: [usize; 2] = [6, 12];
 pub const STANDARDS: usize = 16;
 /// One standard.
 pub const STANDARD: RangeInclusive<i32> = 1..=16_383;
+/// Points of a frame, its contours, and a contour's end in it: one byte each.
+pub const FRAME_BYTE: usize = 255;
+/// A coordinate of a frame: two signed bytes.
+pub const FRAME_NUMBER: RangeInclusive<i32> = -32_768..=32_767;
 /// The longest list of numbers that is a job.
 pub const NUMBERS: usize = 8_191;
 /// The longest lent list of edges that is a job.

@@ -1,14 +1,15 @@
 //! The command `oracle`.
 
 use oracle::{
-    answer::answer_line,
+    answer::{answer_line, NOT_A_JOB},
     explain,
     generate::{self, Profile, Random, PROFILES},
-    job::{Job, CALLS},
-    text,
+    job::{name_of, Job},
+    log, streams, text,
     words::encode,
 };
 use std::{
+    collections::{BTreeMap, BTreeSet},
     env, fs,
     io::{self, BufRead, BufWriter, Read, Write},
     process::ExitCode,
@@ -22,6 +23,9 @@ const USAGE: &str = "usage:
   oracle explain                job lines on stdin, decoded with their answers
   oracle diff JOBS FIRST SECOND compares two files of answers to the jobs
   oracle tally                  job lines on stdin: answers per call and number
+  oracle refit                  a log of frames on stdin to its replies on stdout
+  oracle stream --count C --seed S   prints a made-up log of good frames
+  oracle log --count C --seed S PROGRAM [WORD..]   compares what a program replies to made-up logs
   oracle branches --count C --seed S   (feature `count`) branches of the given Rust";
 
 /// Runs the subcommand that the words name.
@@ -35,6 +39,11 @@ fn main() -> ExitCode {
         ["explain"] => explain_lines(),
         ["diff", jobs, first, second] => return diff(jobs, first, second),
         ["tally"] => tally(),
+        ["refit"] => Some(refit()),
+        ["stream", "--count", count, "--seed", seed] => stream(count, seed),
+        ["log", "--count", count, "--seed", seed, program @ ..] => {
+            return compare_logs(count, seed, program)
+        }
         #[cfg(feature = "count")]
         ["branches", options @ ..] => return branches(options),
         _ => return usage(),
@@ -107,9 +116,7 @@ fn gen(options: &[&str]) -> Done {
     let mut random = Random::new(number(options, "--seed")?);
     let name = option(options, "--profile")?;
     let profile = PROFILES.iter().find(|profile| profile.0 == name)?.1;
-    if !(1..=CALLS.len()).contains(&call) || options.len() != 8 {
-        return None;
-    }
+    name_of(call).filter(|_| options.len() == 8)?;
     Some(print(call, count, profile, &mut random))
 }
 
@@ -140,39 +147,70 @@ fn patterns(options: &[&str]) -> Done {
 fn call_of(line: &[u8]) -> usize {
     let word = line.get(..8).and_then(text::parse);
     let call = word.and_then(|word| usize::try_from(word[0]).ok());
-    call.filter(|call| *call <= CALLS.len()).unwrap_or(0)
+    call.filter(|call| name_of(*call).is_some()).unwrap_or(0)
 }
 
 /// A call's name, for a report.
 fn name(call: usize) -> &'static str {
-    call.checked_sub(1)
-        .map_or("names no call", |call| CALLS[call])
+    name_of(call).unwrap_or("names no call")
 }
 
 /// Counts answers per call and document 01's number.
 fn tally() -> Done {
-    let mut counts = [[0u64; 7]; CALLS.len() + 1];
+    let mut counts: BTreeMap<usize, BTreeMap<i32, u64>> = BTreeMap::new();
     let counted = each_line(|line, _| {
         let answer = text::parse(&answer_line(line).as_bytes()[..8]).unwrap_or_default();
-        counts[call_of(line)][(answer[0] + 1) as usize] += 1;
+        let row = counts.entry(call_of(line)).or_default();
+        *row.entry(answer[0]).or_default() += 1;
         Ok(())
     });
-    println!(
-        "{:30} {:>9} {:>9} {:>8} {:>8} {:>8} {:>8} {:>8}",
-        "call", "no job", "done", 1, 2, 3, 4, 5
-    );
-    for (call, row) in counts
-        .iter()
-        .enumerate()
-        .filter(|(_, row)| row.iter().sum::<u64>() > 0)
-    {
-        print!("{:30} {:>9} {:>9}", name(call), row[0], row[1]);
-        println!(
-            " {:>8} {:>8} {:>8} {:>8} {:>8}",
-            row[2], row[3], row[4], row[5], row[6]
-        );
+    let numbers: BTreeSet<i32> = counts.values().flat_map(BTreeMap::keys).copied().collect();
+    print!("{:30}", "call");
+    for number in &numbers {
+        print!(" {:>9}", column(*number));
+    }
+    println!();
+    for (call, row) in &counts {
+        print!("{:30}", name(*call));
+        for number in &numbers {
+            print!(" {:>9}", row.get(number).unwrap_or(&0));
+        }
+        println!();
     }
     Some(counted)
+}
+
+/// The title of an answer's column.
+fn column(number: i32) -> String {
+    match number {
+        NOT_A_JOB => String::from("no job"),
+        0 => String::from("done"),
+        _ => number.to_string(),
+    }
+}
+
+/// Answers a log.
+fn refit() -> io::Result<()> {
+    let output = BufWriter::with_capacity(1 << 16, io::stdout().lock());
+    log::refit(io::stdin().lock(), output)
+}
+
+/// Prints a log of good frames.
+fn stream(count: &str, seed: &str) -> Done {
+    let (count, seed) = (count.parse().ok()?, seed.parse().ok()?);
+    let stream = generate::good_log(count, &mut Random::new(seed));
+    Some(io::stdout().lock().write_all(&stream))
+}
+
+/// Compares what a program replies to made-up logs of so many lines together.
+fn compare_logs(count: &str, seed: &str, program: &[&str]) -> ExitCode {
+    let (Ok(count), Ok(seed), false) = (count.parse(), seed.parse(), program.is_empty()) else {
+        return usage();
+    };
+    match streams::compare(program, count, &mut Random::new(seed)) {
+        Ok(agree) => ExitCode::from(u8::from(!agree)),
+        Err(error) => failed(&error),
+    }
 }
 
 /// Compares two files of answers, and shows the first differences decoded.
@@ -203,11 +241,11 @@ fn compare(jobs: &[u8], first: &[u8], second: &[u8]) -> ExitCode {
         );
         return ExitCode::FAILURE;
     }
-    let mut agreed = [0u64; CALLS.len() + 1];
+    let mut agreed: BTreeMap<usize, u64> = BTreeMap::new();
     let mut differ = 0;
     for (ix, job) in jobs.iter().enumerate() {
         if first[ix] == second[ix] {
-            agreed[call_of(job)] += 1;
+            *agreed.entry(call_of(job)).or_default() += 1;
             continue;
         }
         differ += 1;
@@ -219,7 +257,7 @@ fn compare(jobs: &[u8], first: &[u8], second: &[u8]) -> ExitCode {
             );
         }
     }
-    for (call, count) in agreed.iter().enumerate().filter(|(_, count)| **count > 0) {
+    for (call, count) in agreed {
         println!("{:30} {count:>9} agree", name(call));
     }
     println!("{differ} of {} differ", jobs.len());
@@ -233,10 +271,10 @@ fn branches(options: &[&str]) -> ExitCode {
         return usage();
     };
     let mut random = Random::new(seed);
-    for call in 1..=CALLS.len() {
+    for (call, _) in oracle::job::CALLS {
         for (_, profile) in PROFILES {
             for _ in 0..count {
-                answer_line(&generate::line(call, profile, &mut random));
+                answer_line(&generate::line(*call, profile, &mut random));
             }
         }
     }

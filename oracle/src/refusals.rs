@@ -47,6 +47,41 @@ pub fn weak(points: &Points) -> Answer<()> {
     )
 }
 
+/// Writing a frame into a line of so many places.
+pub fn write_frame(points: &Points, room: usize) -> Answer<()> {
+    let Points {
+        originals,
+        currents,
+        touches,
+        ends,
+    } = points;
+    let count = originals.len();
+    refuse(
+        1,
+        currents.len() != count
+            || touches.len() != count
+            || count > FRAME_BYTE
+            || ends.len() > FRAME_BYTE
+            || room < frame_digits(count, ends.len()),
+    )?;
+    refuse(3, ends.iter().any(|end| usize::from(*end) > FRAME_BYTE))?;
+    refuse(
+        4,
+        originals
+            .iter()
+            .chain(currents)
+            .any(|c| !FRAME_NUMBER.contains(c)),
+    )
+}
+
+/// The digits of the longest frame: 3,066.
+pub const FRAME_DIGITS: usize = frame_digits(FRAME_BYTE, FRAME_BYTE);
+
+/// The digits of a frame of so many points and contours: two for each byte.
+pub const fn frame_digits(points: usize, contours: usize) -> usize {
+    2 * (3 + 5 * points + contours)
+}
+
 /// CJK linking.
 pub fn link(segments: &Table<Segment>, units_per_em: i32, scale: i32) -> Answer<()> {
     refuse(1, segments.count > SEGMENTS)?;

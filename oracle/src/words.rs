@@ -67,6 +67,16 @@ impl Words {
         }
     }
 
+    /// Appends a list of bytes, which a person reads as text.
+    pub fn text(&mut self, count: &'static str, bytes: &[u8]) {
+        self.rest();
+        self.count(count, bytes.len());
+        self.rest();
+        for byte in bytes {
+            self.put("byte", (*byte).into());
+        }
+    }
+
     /// Appends a width rule.
     pub fn rule(&mut self, rule: &WidthRule) {
         let (kind, standards) = match rule {
@@ -167,22 +177,38 @@ pub fn encode(job: &Job) -> Words {
             w.put("scale", *scale);
         }
         Job::Build(segments, edges, given) => build(&mut w, segments, edges, given),
-        Job::Path(walk) => walked(&mut w, 15, walk),
-        Job::PathStep(walk, cursor) => {
-            walked(&mut w, 16, walk);
-            w.rest();
-            w.put("cursor", *cursor as i32);
-        }
-        Job::Catalogue(given) => catalogue(&mut w, given),
         Job::MLent(edges, group) => {
             w.put("call", 14);
             w.edges(edges.len(), edges);
             w.rest();
             w.group(*group);
         }
-        _ => on_edges(&mut w, job),
+        _ => of_requests(&mut w, job),
     }
     w
+}
+
+/// The calls of document 02, and those on a table of edges.
+fn of_requests(w: &mut Words, job: &Job) {
+    match job {
+        Job::Path(walk) => walked(w, 15, walk),
+        Job::PathStep(walk, cursor) => {
+            walked(w, 16, walk);
+            w.rest();
+            w.put("cursor", *cursor as i32);
+        }
+        Job::Catalogue(given) => catalogue(w, given),
+        Job::WriteFrame(points, line) => {
+            w.put("call", 25);
+            outline(w, points);
+            w.text("line", line);
+        }
+        Job::ReadFrame(line) => {
+            w.put("call", 26);
+            w.text("line", line);
+        }
+        _ => on_edges(w, job),
+    }
 }
 
 /// Calls 1 and 2.
@@ -193,7 +219,7 @@ fn pair(w: &mut Words, call: i32, min: i32, max: i32) {
 }
 
 /// One axis of an outline.
-fn outline(w: &mut Words, points: &Points) {
+pub fn outline(w: &mut Words, points: &Points) {
     w.numbers("originals", "original", &points.originals);
     w.numbers("currents", "current", &points.currents);
     w.numbers("touch marks", "touch", &points.touches);

@@ -10,12 +10,13 @@ enum {
     MOST_WORDS = 65536,  /* of a line; no job is as long */
     MOST_NUMBERS = 8191, /* in a list of a job */
     MOST_LENT = 160,     /* edges in a lent list of a job */
+    MOST_FRAMED = 255,   /* points of a frame, and contours */
     MOST_INDEX = 65535,
     NOT_A_JOB = -1
 };
 
-/* What each call's job holds behind the call's number: w a word, i an index, l an index or none, c a choice, d a direction, k a cursor; lists with their counts in front:
- * N numbers, B bytes, I indices, S segments, E edges, L lent edges. */
+/* What each call's job holds behind the call's number, NULL where that is no call: w a word, i an index, l an index or none, c a choice, d a direction, k a cursor; lists
+ * with their counts in front: N numbers, B bytes, I indices, S segments, E edges, L lent edges. */
 static const char *const formats[] = {
     NULL,
     "ww",         /* compute_mid_pos: min, max */
@@ -34,7 +35,9 @@ static const char *const formats[] = {
     "Lc",         /* hint_lowercase_m, lent list: edges, group */
     "NNBI",       /* path: x coordinates, y coordinates, on-curve marks, contour ends */
     "NNBIk",      /* path_step: the same, cursor */
-    "NNBIIIB"     /* align_catalogue: outlines as of align_weak_points, point counts, contour counts, answers */
+    "NNBIIIB",    /* align_catalogue: outlines as of align_weak_points, point counts, contour counts, answers */
+    [25] = "NNBIB", /* write_frame: an outline as of align_weak_points, line */
+    [26] = "B"      /* read_frame: line */
 };
 enum { CALLS = sizeof formats / sizeof formats[0], MOST_ITEMS = 10 };
 
@@ -154,6 +157,14 @@ static void say_list(int32_t count, const int32_t *words, size_t len)
     answered += len;
 }
 
+/* Says a count and bytes. */
+static void say_bytes(const uint8_t *bytes, size_t len)
+{
+    say((int32_t)len);
+    for (size_t i = 0; i < len; i++)
+        say(bytes[i]);
+}
+
 /* Fills the table with that of a job, whose records have a size, and tells its length: of more records than its limit it has one more than that, which is empty. */
 static khs_length lend(const struct list *list, size_t size, size_t most)
 {
@@ -241,9 +252,21 @@ static void answer_catalogue(const struct job *job)
     say(khs_align_catalogue(list[0].words, list[0].size, list[1].words, list[1].size, marks, list[2].size, ends, list[3].size, points, list[4].size, contours,
                             list[5].size, answers, list[6].size));
     say_list(list[1].count, list[1].words, list[1].size);
-    say(list[6].count);
-    for (size_t i = 0; i < list[6].size; i++)
-        say(answers[i]);
+    say_bytes(answers, list[6].size);
+}
+
+/* The line of a frame. */
+static uint8_t frame[MOST_NUMBERS];
+
+/* Writing a frame. */
+static void answer_write(const struct job *job)
+{
+    const struct list *list = job->list;
+    uint32_t count = 0;
+    read_bytes(&list[4], frame);
+    say(khs_write_frame(list[0].words, list[0].size, list[1].words, list[1].size, marks, list[2].size, ends, list[3].size, frame, list[4].size, &count));
+    say((int32_t)count);
+    say_bytes(frame, list[4].size);
 }
 
 /* The calls over outlines. */
@@ -255,8 +278,25 @@ static void answer_outline(const struct job *job)
     case 3: answer_weak(job); break;
     case 15: answer_path(job); break;
     case 16: answer_step(job); break;
+    case 25: answer_write(job); break;
     default: answer_catalogue(job);
     }
+}
+
+/* Reading a frame. */
+static void answer_read(const struct job *job)
+{
+    static int32_t originals[MOST_FRAMED], currents[MOST_FRAMED];
+    const struct list *list = job->list;
+    uint32_t points = 0, contours = 0;
+    read_bytes(&list[0], frame);
+    say(khs_read_frame(frame, list[0].size, originals, MOST_FRAMED, currents, MOST_FRAMED, marks, MOST_FRAMED, ends, MOST_FRAMED, &points, &contours));
+    say_list((int32_t)points, originals, points);
+    say_list((int32_t)points, currents, points);
+    say_bytes(marks, points);
+    say((int32_t)contours);
+    for (size_t i = 0; i < contours; i++)
+        say(ends[i]);
 }
 
 /* Linking and building. Building has no old table in C: one that is too long is refused here, and what a refusal leaves is handed back. */
@@ -337,7 +377,9 @@ static void answer_line(size_t len)
     case 3:
     case 15:
     case 16:
-    case 17: answer_outline(&job); break;
+    case 17:
+    case 25: answer_outline(&job); break;
+    case 26: answer_read(&job); break;
     case 4:
     case 5: answer_segments(&job); break;
     default: answer_edges(&job);

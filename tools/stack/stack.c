@@ -5,7 +5,7 @@
 
 int printf(const char *format, ...);
 
-enum { DEPTH = 1 << 20, NEAR = 512, PAINT = 0xA5, POINTS = 4096, STANDARDS = 16 };
+enum { DEPTH = 1 << 20, NEAR = 512, PAINT = 0xA5, POINTS = 4096, STANDARDS = 16, FRAMED = 255 };
 
 static struct khs_segment segments[KHS_MOST_SEGMENTS];
 static struct khs_edge edges[KHS_MOST_EDGES];
@@ -16,7 +16,8 @@ static uint8_t own_answer;
 static int32_t first, second;
 static uint8_t kinds[POINTS + 2 * (POINTS / 4)];
 static float places[4 * sizeof kinds];
-static uint32_t number;
+static uint32_t number, contours;
+static uint8_t line[2 * (3 + 6 * FRAMED)];
 
 /* The choices that a function is called with in turn: dimension, group, order, and whether widths are snapped. */
 static int32_t dim, group, order, rule;
@@ -47,6 +48,10 @@ static uint8_t step(void) { return khs_path_step(originals, POINTS, currents, PO
 static uint8_t path(void) {
     return khs_path(originals, POINTS, currents, POINTS, touched, POINTS, ends, POINTS / 4, kinds, sizeof kinds, places, sizeof places / sizeof *places, &number);
 }
+static uint8_t write_frame(void) { return khs_write_frame(originals, FRAMED, currents, FRAMED, touched, FRAMED, ends, FRAMED / 4, line, sizeof line, &number); }
+static uint8_t read_frame(void) {
+    return khs_read_frame(line, sizeof line, originals, FRAMED, currents, FRAMED, touched, FRAMED, ends, FRAMED, &number, &contours);
+}
 static uint8_t lowercase_m(void) { return khs_hint_lowercase_m(edge_words(), 12 * KHS_EDGE_WORDS, group); }
 
 static const struct {
@@ -55,9 +60,9 @@ static const struct {
 } calls[] = {{"khs_align_weak_points", weak}, {"khs_align_catalogue", catalogue}, {"khs_link_segments_cjk", linking}, {"khs_compute_edges", building}, {"khs_align_edges_to_blues", blues},
              {"khs_align_linked_edge", linked}, {"khs_align_serif_edge", serif}, {"khs_adjust_link", adjust}, {"khs_latin_remaining_bounds", bounds},
              {"khs_hint_normal_stem_cjk", stem}, {"khs_align_stem_edges", stems}, {"khs_hint_lowercase_m", lowercase_m},
-             {"khs_path_step", step}, {"khs_path", path}};
+             {"khs_path_step", step}, {"khs_path", path}, {"khs_write_frame", write_frame}, {"khs_read_frame", read_frame}};
 
-/* Segments in pairs, the pairs on 128 heights; edges in stems, each with a zone or done here and there; points touched here and there. */
+/* Segments in pairs, the pairs on 128 heights; edges in stems, each with a zone or done here and there; points touched here and there; the longest frame, all zeros. */
 static void fill(void) {
     for (int32_t i = 0; i < KHS_MOST_SEGMENTS; i++) {
         segments[i] = (struct khs_segment){
@@ -87,6 +92,9 @@ static void fill(void) {
     }
     for (int32_t i = 0; i < STANDARDS; i++) {
         standards[i] = 30 * (i + 1);
+    }
+    for (size_t i = 0; i < sizeof line; i++) {
+        line[i] = (uint8_t)(i < 6 ? "01FFFF"[i] : '0');
     }
 }
 

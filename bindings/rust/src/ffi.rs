@@ -169,6 +169,35 @@ extern "C" {
         places_len: Length,
         count: *mut u32,
     ) -> u8;
+
+    fn khs_write_frame(
+        originals: *const i32,
+        originals_len: Length,
+        currents: *const i32,
+        currents_len: Length,
+        touched: *const u8,
+        touched_len: Length,
+        ends: *const u16,
+        ends_len: Length,
+        line: *mut u8,
+        line_len: Length,
+        digits: *mut u32,
+    ) -> u8;
+
+    fn khs_read_frame(
+        line: *const u8,
+        line_len: Length,
+        originals: *mut i32,
+        originals_len: Length,
+        currents: *mut i32,
+        currents_len: Length,
+        touched: *mut u8,
+        touched_len: Length,
+        ends: *mut u16,
+        ends_len: Length,
+        points: *mut u32,
+        contours: *mut u32,
+    ) -> u8;
 }
 
 /// The length of a list as the library takes it.
@@ -178,7 +207,10 @@ fn length<T>(list: &[T]) -> Length {
 
 /// The words of lent edges. An edge is its words and nothing else.
 fn edge_words(edges: &mut [Edge]) -> (*mut i32, Length) {
-    (edges.as_mut_ptr().cast(), length(edges) * EDGE_WORDS as Length)
+    (
+        edges.as_mut_ptr().cast(),
+        length(edges) * EDGE_WORDS as Length,
+    )
 }
 
 /// The words of lent segments. A segment is its words and nothing else.
@@ -450,6 +482,60 @@ pub fn path(outline: &Outline<'_>, kinds: &mut [u8], places: &mut [f32], count: 
             places.as_mut_ptr(),
             length(places),
             count,
+        )
+    }
+}
+
+pub fn write_frame(
+    originals: &[i32],
+    currents: &[i32],
+    touched: &[u8],
+    ends: &[u16],
+    line: &mut [u8],
+    digits: &mut u32,
+) -> u8 {
+    // SAFETY: five slices, of which `line` is lent to this call alone, as is `digits`.
+    unsafe {
+        khs_write_frame(
+            originals.as_ptr(),
+            length(originals),
+            currents.as_ptr(),
+            length(currents),
+            touched.as_ptr(),
+            length(touched),
+            ends.as_ptr(),
+            length(ends),
+            line.as_mut_ptr(),
+            length(line),
+            digits,
+        )
+    }
+}
+
+pub fn read_frame(
+    line: &[u8],
+    originals: &mut [i32],
+    currents: &mut [i32],
+    touched: &mut [u8],
+    ends: &mut [u16],
+    points: &mut u32,
+    contours: &mut u32,
+) -> u8 {
+    // SAFETY: five slices, of which the last four are lent to this call alone, as are the two counts.
+    unsafe {
+        khs_read_frame(
+            line.as_ptr(),
+            length(line),
+            originals.as_mut_ptr(),
+            length(originals),
+            currents.as_mut_ptr(),
+            length(currents),
+            touched.as_mut_ptr(),
+            length(touched),
+            ends.as_mut_ptr(),
+            length(ends),
+            points,
+            contours,
         )
     }
 }

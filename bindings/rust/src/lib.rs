@@ -23,12 +23,14 @@ mod choices;
 #[allow(unsafe_code)]
 mod ffi;
 mod field;
+mod log;
 mod path;
 mod records;
 mod refusal;
 
 pub use choices::{Dimension, Group, Neighbour, Order, WidthRule};
 pub use field::{Direction, Flags};
+pub use log::{Job, MOST_DIGITS};
 pub use path::{path, path_step, Outline, Path, PathStep, PixelPoint};
 pub use records::{Edge, Segment, EDGE_WORDS, SEGMENT_WORDS};
 pub use refusal::Refusal;

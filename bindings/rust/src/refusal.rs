@@ -28,6 +28,8 @@ pub enum Refusal {
     OutOfRange,
     /// 5: building calls for more than 128 edges.
     NoRoom,
+    /// 6: a line of a log is not a whole frame.
+    NotFrame,
     /// 255: a word is none of its field's values. Records made by this crate have no such words, and no call of it answers so.
     NotWords,
     /// A number of a later library, which this crate does not know.
@@ -44,6 +46,7 @@ impl Refusal {
             3 => Self::BadIndex,
             4 => Self::OutOfRange,
             5 => Self::NoRoom,
+            6 => Self::NotFrame,
             255 => Self::NotWords,
             other => Self::Other(other),
         })
@@ -57,6 +60,7 @@ impl Refusal {
             Self::BadIndex => 3,
             Self::OutOfRange => 4,
             Self::NoRoom => 5,
+            Self::NotFrame => 6,
             Self::NotWords => 255,
             Self::Other(number) => number,
         }
@@ -72,6 +76,7 @@ impl Refusal {
             }
             Self::OutOfRange => "a coordinate, position, score, len or delta is outside its limits",
             Self::NoRoom => "the segments make more edges than there is room for",
+            Self::NotFrame => "the line is not a whole frame",
             Self::NotWords => "a word is none of its field's values",
             Self::Other(_) => "this number is not known here",
         }

@@ -162,10 +162,11 @@ fn refusals_have_numbers_and_one_line() {
         BadIndex,
         OutOfRange,
         NoRoom,
+        NotFrame,
         NotWords,
         Other(7),
     ];
-    assert_eq!(all.map(Refusal::number), [1, 2, 3, 4, 5, 255, 7]);
+    assert_eq!(all.map(Refusal::number), [1, 2, 3, 4, 5, 6, 255, 7]);
     for refusal in all {
         let text = refusal.to_string();
         assert!(text.starts_with(&format!("refused by {}: ", refusal.number())));
@@ -616,4 +617,59 @@ fn path_refuses() {
         assert_eq!(path_step(&outline, 0), Err(refusal));
         assert_eq!(path_step(&outline, u32::MAX), Err(refusal));
     }
+}
+
+#[test]
+fn jobs_are_lines_of_a_log() {
+    let job = Job {
+        originals: vec![0, -1, -32_768],
+        currents: vec![5, 99, 32_767],
+        touched: vec![1, 0, 255],
+        ends: vec![2, 255],
+    };
+    let line = "010302 0100000005 00FFFF0063 FF80007FFF 02FF".replace(' ', "");
+    assert_eq!(job.line(), Ok(line.clone()));
+    assert_eq!(Job::read(line.as_bytes()), Ok(job));
+    // the shortest, and the longest
+    assert_eq!(Job::default().line(), Ok("010000".to_owned()));
+    let most = Job {
+        originals: vec![-1; 255],
+        currents: vec![1; 255],
+        touched: vec![7; 255],
+        ends: vec![255; 255],
+    };
+    assert_eq!(most.line().map(|line| line.len()), Ok(MOST_DIGITS));
+    assert_eq!(Job::read(most.line().unwrap().as_bytes()), Ok(most));
+}
+
+#[test]
+fn jobs_and_lines_are_refused() {
+    let job = |originals: Vec<i32>, ends: Vec<u16>| Job {
+        currents: vec![0; originals.len()],
+        touched: vec![0; originals.len()],
+        originals,
+        ends,
+    };
+    assert_eq!(
+        job(vec![32_768; 256], vec![256]).line(),
+        Err(Refusal::TooLong)
+    );
+    assert_eq!(job(vec![], vec![0; 256]).line(), Err(Refusal::TooLong));
+    assert_eq!(job(vec![32_768], vec![256]).line(), Err(Refusal::BadIndex));
+    assert_eq!(job(vec![32_768], vec![]).line(), Err(Refusal::OutOfRange));
+    assert_eq!(job(vec![-32_769], vec![]).line(), Err(Refusal::OutOfRange));
+    for line in [
+        "", "01000", "0100000", "01000000", "020000", "01000a", "010000\r", " 010000", "010100",
+    ] {
+        assert_eq!(
+            Job::read(line.as_bytes()),
+            Err(Refusal::NotFrame),
+            "{line:?}"
+        );
+    }
+    // a line of 3,068 digits
+    assert_eq!(
+        Job::read("01FFFF".repeat(512)[..3_068].as_bytes()),
+        Err(Refusal::NotFrame)
+    );
 }

@@ -2,6 +2,8 @@
 use super::call::job_of;
 use super::lent::answer_lent;
 use super::table::answer_table;
+use jobs_log::answer_read;
+use jobs_log::answer_write;
 use jobs_points::catalogue::answer_catalogue;
 use jobs_points::limits::LONGEST;
 use jobs_points::list::put;
@@ -50,6 +52,8 @@ pub fn answer(words: &[i32], out: &mut [i32]) -> usize
         15 => answer_path(words, out),
         16 => answer_step(words, out),
         17 => answer_catalogue(words, out),
+        25 => answer_write(words, out),
+        26 => answer_read(words, out),
         _ => answer_table(call, words, out),
     }
 }

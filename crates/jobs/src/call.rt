@@ -25,9 +25,9 @@ const CURSOR: Range = Range {
 };
 
 // The calls are numbered below this.
-const CALLS: usize = 18;
+const CALLS: usize = 27;
 
-// The items of each call's job behind the call's word, by the digits of `skip_item`, the first item in the last digit. No item has digit 15, so nothing is a job of call 0.
+// The items of each call's job behind the call's word, by the digits of `skip_item`, the first item in the last digit. No item has digit 15, so nothing is a job of call 0, nor of a number that is no call.
 const FORMATS: [u64; CALLS] = [
     0xf, // none
     0x11, // compute_mid_pos
@@ -47,6 +47,15 @@ const FORMATS: [u64; CALLS] = [
     0x8766, // path
     0xc8766, // path_step
     0x7888766, // align_catalogue
+    0xf, // none, to 24
+    0xf,
+    0xf,
+    0xf,
+    0xf,
+    0xf,
+    0xf,
+    0x78766, // write_frame
+    0x7, // read_frame
 ];
 
 // The place behind a list: its count, at most so much, and its elements, of which a job carries at most so many.

@@ -3,6 +3,6 @@ pub mod catalogue;
 mod float;
 pub mod limits;
 pub mod list;
-mod number;
+pub mod number;
 pub mod path;
 pub mod weak;

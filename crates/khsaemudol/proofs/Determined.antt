@@ -11,6 +11,8 @@ use Rattle.catalogue.specs.Catalogue.{Catalogued}
 use Rattle.catalogue.proofs.Outcomes as Whole
 use Rattle.building.specs.declared.numbers.Thresholds.{Thresholds}
 use Rattle.lent.proofs.Determined.{lent-determined}
+use Rattle.frames.specs.Frame.{Frame}
+use Rattle.frames_lent.specs.Lent.{WritesLent, ReadsLent}
 use Rattle.flat_segments.specs.Link.{LinkingLent}
 use Rattle.flat_segments.specs.Build.{BuiltLent}
 use Rattle.flat_stems.specs.Zones.{ZonesLent}
@@ -103,3 +105,14 @@ step-determined xs ys marks es cursor kind places next a b = Step.lent-determine
 -- `khs_path`
 pub path-determined : (xs ys : List ℤ) (marks es : List ℕ) (l : Lent) {r r′ : ℕ} {m m′ : Lent} → WritesPath xs ys marks es l r m → WritesPath xs ys marks es l r′ m′ → (r ≡ r′) × (m ≡ m′)
 path-determined xs ys marks es l a b = Path.determined xs ys marks es l a b
+
+-- `khs_write_frame`
+pub write-frame-determined :
+    (f : Frame) (line : List ℕ) (digits : ℕ) {r r′ : ℕ} {now now′ : List ℕ × ℕ} → WritesLent f line digits r now → WritesLent f line digits r′ now′ → (r ≡ r′) × (now ≡ now′)
+write-frame-determined f line digits a b = lent-determined a b
+
+-- `khs_read_frame`
+pub read-frame-determined :
+    (line : List ℕ) (rooms : Frame) (points contours : ℕ) {r r′ : ℕ} {now now′ : Frame × (ℕ × ℕ)}
+    → ReadsLent line rooms points contours r now → ReadsLent line rooms points contours r′ now′ → (r ≡ r′) × (now ≡ now′)
+read-frame-determined line rooms points contours a b = lent-determined a b

@@ -12,6 +12,8 @@ use flat_segments::link::lend_linking;
 use flat_stems::pass::lend_stems;
 use flat_stems::stem::lend_stem;
 use flat_stems::zones::lend_zones;
+use frames_lent::lend_read;
+use frames_lent::lend_write;
 use middle::compute_mid_delta;
 use middle::compute_mid_pos;
 use outline::weak::align_weak_points;
@@ -20,6 +22,8 @@ use path_whole::whole::path;
 ghost use Rattle.middle.specs.Middle.{ComputesMidPos, ComputesMidDelta};
 ghost use Rattle.outline.specs.Weak.{Outcome};
 ghost use Rattle.catalogue.specs.Catalogue.{Catalogued};
+ghost use Rattle.frames.specs.Frame.{frameOf};
+ghost use Rattle.frames_lent.specs.Lent.{WritesLent, ReadsLent};
 ghost use Rattle.flat_segments.specs.Build.{thresholdsOf, BuiltLent};
 ghost use Rattle.flat.specs.Fit.{LinkedLent, SerifLent, AdjustLent, BoundsLent};
 ghost use Rattle.flat_segments.specs.Link.{LinkingLent};
@@ -292,4 +296,37 @@ pub extern "C" fn khs_path(
         r (lent (now (kinds .exit)) (now (places .exit)) (now (count .exit))) ⌝ }
 {
     path(xs, ys, marks, ends, kinds, places, count)
+}
+
+// Writes a weak-point job as one line of a log.
+#[no_mangle]
+pub extern "C" fn khs_write_frame(
+    originals: &[i32],
+    currents: &[i32],
+    touched: &[u8],
+    ends: &[u16],
+    line: &mut [u8],
+    digits: &mut u32,
+) -> u8
+    ensures { λ r. ⌜ WritesLent (frameOf (now (originals .entry)) (now (currents .entry)) (now (touched .entry)) (now (ends .entry))) (now (line .entry)) (now (digits .entry))
+        r (now (line .exit), now (digits .exit)) ⌝ }
+{
+    lend_write(originals, currents, touched, ends, line, digits)
+}
+
+// Reads a line of a log as a weak-point job.
+#[no_mangle]
+pub extern "C" fn khs_read_frame(
+    line: &[u8],
+    originals: &mut [i32],
+    currents: &mut [i32],
+    touched: &mut [u8],
+    ends: &mut [u16],
+    points: &mut u32,
+    contours: &mut u32,
+) -> u8
+    ensures { λ r. ⌜ ReadsLent (now (line .entry)) (frameOf (now (originals .entry)) (now (currents .entry)) (now (touched .entry)) (now (ends .entry))) (now (points .entry)) (now (contours .entry))
+        r (frameOf (now (originals .exit)) (now (currents .exit)) (now (touched .exit)) (now (ends .exit)), (now (points .exit), now (contours .exit))) ⌝ }
+{
+    lend_read(line, originals, currents, touched, ends, points, contours)
 }

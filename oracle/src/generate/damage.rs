@@ -1,7 +1,7 @@
 //! Good jobs, damaged.
 
 use super::{job, Random};
-use crate::{job::CALLS, text, words::encode};
+use crate::{text, words::encode};
 
 /// Words that stand at or beyond some field's values.
 const WORDS: [i32; 20] = [
@@ -48,7 +48,7 @@ fn damage_words(words: &mut Vec<i32>, random: &mut Random) {
         1 => words.push(random.pick(&WORDS)),
         2 => words.insert(at, random.pick(&WORDS)),
         3 => drop(words.remove(at)),
-        4 => words[0] = random.between(-1, CALLS.len() as i32 + 2),
+        4 => words[0] = random.between(-1, 28),
         5 => words.truncate(words.len() - 1),
         6 => words[at] = words[at].wrapping_add(random.pick(&[-1, 1])),
         7 => words[at] = random.bits() as i32,

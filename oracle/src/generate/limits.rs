@@ -1,6 +1,6 @@
 //! Jobs at document 01's limits, and just beyond.
 
-use super::{catalogue, edges, job, path, segments, Random};
+use super::{catalogue, edges, frames, job, path, segments, Random};
 use crate::{
     job::{Building, Catalogue, Direction, Edge, Job, Points, Segment, Table, Walk, WidthRule},
     limits::{EDGES, LENT, NUMBERS, POINTS, SEGMENTS},
@@ -22,6 +22,9 @@ pub fn line(call: usize, random: &mut Random) -> Vec<u8> {
     text::write(&words.values).into_bytes()
 }
 
+/// The word of call 25, whose numbers have limits of their own.
+const WRITE_FRAME: i32 = 25;
+
 /// Puts one word at a limit of its field.
 fn spike(words: &mut Words, random: &mut Random) {
     let mut names = words.names.clone();
@@ -41,6 +44,11 @@ fn spike(words: &mut Words, random: &mut Random) {
             index(words, "edges", false, random)
         }
         "segment.link" | "segment.serif" | "segment.next" => index(words, "segments", true, random),
+        "original" | "current" if words.values[0] == WRITE_FRAME => {
+            random.pick(&[32_767, 32_768, -32_768, -32_769, i32::MAX, i32::MIN])
+        }
+        "end" if words.values[0] == WRITE_FRAME => random.pick(&[0, 254, 255, 256, 65_535]),
+        "byte" => i32::from(frames::character(random)),
         "end" => index(words, words.names[1], false, random),
         _ => limit(name, words.values[ix], random),
     };
@@ -108,6 +116,21 @@ fn resize(job: &mut Job, random: &mut Random) {
             }
         }
         Job::Build(segments, old, given) => resize_building(segments, old, given, random),
+        Job::Path(walk) => resize_walk(walk, random),
+        Job::PathStep(walk, cursor) => {
+            resize_walk(walk, random);
+            *cursor = path::cursor(walk, random);
+        }
+        Job::Catalogue(catalogue) => resize_catalogue(catalogue, random),
+        Job::WriteFrame(points, line) => frames::resize(points, line, random),
+        Job::ReadFrame(line) => frames::lengthen(line, random),
+        _ => resize_on_edges(job, random),
+    }
+}
+
+/// The same of a call on edges.
+fn resize_on_edges(job: &mut Job, random: &mut Random) {
+    match job {
         Job::Blues(edges, _, _, rule) | Job::Linked(edges, rule, ..) => {
             resize_either(edges, rule, random);
         }
@@ -124,12 +147,7 @@ fn resize(job: &mut Job, random: &mut Random) {
             let count = m_count(random).min(LENT + 1);
             edges.resize(count, Edge::default());
         }
-        Job::Path(walk) => resize_walk(walk, random),
-        Job::PathStep(walk, cursor) => {
-            resize_walk(walk, random);
-            *cursor = path::cursor(walk, random);
-        }
-        Job::Catalogue(catalogue) => resize_catalogue(catalogue, random),
+        _ => unreachable!("the other calls are not on edges"),
     }
 }
 

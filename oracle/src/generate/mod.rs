@@ -3,13 +3,16 @@
 mod catalogue;
 mod damage;
 mod edges;
+mod frames;
 mod limits;
+mod logs;
 mod path;
 pub mod patterns;
 mod points;
 mod random;
 mod segments;
 
+pub use logs::{good_log, log};
 pub use random::Random;
 
 use crate::{
@@ -79,6 +82,8 @@ fn job(call: usize, small: bool, random: &mut Random) -> Job {
         5 => segments::build(small, random),
         15 | 16 => path::job(call, small, random),
         17 => catalogue::job(small, random),
+        25 => frames::write(small, random),
+        26 => frames::read(small, random),
         _ => on_edges(call, small, random),
     }
 }

@@ -1,7 +1,9 @@
-//! Document 01's rows, its slips, its refusals, the calls of document 02, and the word form.
+//! Document 01's rows, its slips, its refusals, the calls of document 02, the log, and the word form.
 
 mod catalogue;
 mod catalogue_slips;
+mod frames;
+mod log;
 mod path;
 mod path_slips;
 mod refusals;

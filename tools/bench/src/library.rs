@@ -1,7 +1,7 @@
-//! Job lines answered by the library's functions, each by its own call, with no use of `jobs`.
+//! Job lines answered by the library's functions, each by its own call; `jobs` answers those alone whose call the wrapper does not have.
 
 use crate::{
-    port::{Call, Prepared},
+    port::{self, Call, Prepared},
     records,
 };
 use khsaemudol::{PathStep, Refusal};
@@ -17,6 +17,9 @@ pub fn answer(words: &[i32]) -> Vec<i32> {
     let Some(job) = decode::decode(words) else {
         return vec![NOT_A_JOB];
     };
+    if matches!(job, Job::WriteFrame(..) | Job::ReadFrame(..)) {
+        return port::answer(words);
+    }
     // The library's building has no old table: what a refusal hands back is the job's, and a table that is too long is refused here.
     let old = match &job {
         Job::Build(_, old, _) => old.count,

@@ -142,6 +142,33 @@ extern "C" {
         places_len: usize,
         count: *mut u32,
     ) -> u8;
+    pub fn khs_write_frame(
+        originals: *const i32,
+        originals_len: usize,
+        currents: *const i32,
+        currents_len: usize,
+        touched: *const u8,
+        touched_len: usize,
+        ends: *const u16,
+        ends_len: usize,
+        line: *mut u8,
+        line_len: usize,
+        digits: *mut u32,
+    ) -> u8;
+    pub fn khs_read_frame(
+        line: *const u8,
+        line_len: usize,
+        originals: *mut i32,
+        originals_len: usize,
+        currents: *mut i32,
+        currents_len: usize,
+        touched: *mut u8,
+        touched_len: usize,
+        ends: *mut u16,
+        ends_len: usize,
+        points: *mut u32,
+        contours: *mut u32,
+    ) -> u8;
 }
 
 // Linux's C library; the numbers below are the same on its processors.

@@ -4,6 +4,7 @@
 mod cases;
 mod catalogues;
 mod ffi;
+mod frames;
 mod function;
 mod memory;
 mod model;
@@ -30,6 +31,7 @@ fn main() -> ExitCode {
     tallies.push(points::weak(count as usize, random));
     tallies.extend(path::paths(count as usize, random));
     tallies.push(catalogues::catalogues(count as usize, random));
+    tallies.extend(frames::frames(count as usize, random));
     for function in &FUNCTIONS {
         tallies.push(compare(function, count as usize, random));
     }

@@ -1,0 +1,2 @@
+-- What the contracts of `frames_lent` cite.
+pub mod Lent

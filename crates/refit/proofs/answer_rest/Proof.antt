@@ -1,0 +1,35 @@
+-- `refit::answer_rest` is safe: what was written lies within the buffer. Assumes nothing.
+use borrow.Author.Needs.{needs}
+use mathlib.Core.Path.{sym}
+use lib.Seq.{length-take-le}
+use Rattle.refit.proofs.answer_rest.Statement.{statement}
+use Rattle.refit.proofs.answer_rest.Tie as tie
+
+refit-rest-requires : tie.Need-refit-rest-requires
+refit-rest-requires c κs = search needs
+
+slice-reshare-prefix-write-all : tie.Need-slice-reshare-prefix-write-all
+slice-reshare-prefix-write-all c = search needs
+
+slice-aggregate-write-all : tie.Need-slice-aggregate-write-all
+slice-aggregate-write-all c = sym (length-take-le _ _ (c .before .before .before .refit-rest .ensures .within))
+
+write-all-requires : tie.Need-write-all-requires
+write-all-requires c κs = search needs
+
+same-length : tie.Need-same-length
+same-length c = search needs
+
+returns : tie.Need-returns
+returns c = search needs
+
+pub answer-rest-spec : {M : Type 1} → statement M
+answer-rest-spec =
+    tie.close
+    (tie.spec
+    refit-rest-requires
+    slice-reshare-prefix-write-all
+    slice-aggregate-write-all
+    write-all-requires
+    same-length
+    returns)
