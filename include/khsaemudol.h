@@ -26,6 +26,7 @@
  *   6. The caller moves the points of every segment whose edge is done, from first to last, to that edge's pos, and touches them. khs_align_weak_points moves the
  *      other points, and khs_align_catalogue those of many outlines at once.
  *   7. When both axes are fitted, khs_path makes the path for a rasteriser of the points, in pixels.
+ * Edges stand by rising positions. Tables that were built and saved the other way, from top to bottom, go through khs_turn_over once.
  *
  * An example: a bar from 0 to 80 of 1,000 design units to the em, at 12 pixels to the em, whose foot has a zone at 0; it goes clockwise, and its point 2 lies at 40
  * between the sides. It leaves 64 64 33 0 0 in currents. In the repository examples/three.c fits a figure 3 so.
@@ -66,7 +67,7 @@
  *   2. KHS_TOO_LONG: there are more edges or segments than their limit. None of their words has been read then.
  *   3. KHS_NOT_WORDS: a word is none of its field's values. The fields are those of the two structs, and also these numbers of a call: a direction, dimension,
  *      group, rule or neighbour, and a number that is 0 or 1. So dim 2 and stem_adjust -1 are KHS_NOT_WORDS.
- *   4. KHS_BAD_PARAMETER, then KHS_BAD_INDEX, KHS_OUT_OF_RANGE and KHS_NO_ROOM.
+ *   4. KHS_RETIRED, then KHS_BAD_PARAMETER, KHS_BAD_INDEX, KHS_OUT_OF_RANGE and KHS_NO_ROOM.
  * Every other number of a call takes every word: an edge named in a call, and an anchor other than KHS_NONE, is KHS_BAD_INDEX where it is not below the count
  * of edges, whatever its word; scale, units per em, thresholds and standards are KHS_BAD_PARAMETER and a delta KHS_OUT_OF_RANGE outside of their limits.
  * The calls over points have no such fields, and test KHS_TOO_LONG, KHS_BAD_INDEX and KHS_OUT_OF_RANGE in this order; khs_align_catalogue so of each outline.
@@ -74,11 +75,12 @@
  *
  * A refused call writes nothing: every list and every place holds what it held. With KHS_DONE a list of edges or segments that is not const holds what the
  * call made of it, every word within its field's values, and every place for a result holds the result. Results may leave the limits of what is accepted, and
- * are then refused if they are passed again. But the edges that khs_compute_edges and khs_align_edges_to_blues leave are accepted by every call over edges.
+ * are then refused if they are passed again. But the edges that khs_compute_edges and khs_align_edges_to_blues leave are accepted by every call over edges,
+ * but for khs_turn_over, which holds first and last against the segments too.
  *
  * No call allocates, keeps a pointer, prints or fails otherwise. Each may be called from any thread, and on other lists at the same time. Working tables stand on
- * the stack, of which the x86-64 library was measured to use up to 158 KiB in linking and building, 41 KiB in the other calls over edges, and less than 1 KiB
- * in the rest; the same code on aarch64 164 KiB, 41 KiB and 1 KiB. */
+ * the stack, of which the x86-64 library was measured to use up to 158 KiB in linking and building, 143 KiB in khs_turn_over, 41 KiB in the other calls over
+ * edges, and less than 1 KiB in the rest; the same code on aarch64 164 KiB, 143 KiB, 41 KiB and 1 KiB. */
 #ifndef KHSAEMUDOL_H
 #define KHSAEMUDOL_H
 
@@ -94,13 +96,14 @@ typedef uint64_t khs_length;
 /* Answers. */
 enum khs_answer {
     KHS_DONE = 0,          /* done */
-    KHS_TOO_LONG = 1,      /* a list is longer than its limit (4,096 points, 512 segments, 128 edges), lists of one outline differ in length, a path has too
-                            * little room, or a catalogue's counts do not add up to its lists */
+    KHS_TOO_LONG = 1,      /* a list is longer than its limit (4,096 points, 512 segments, 128 edges), lists of one outline differ in length, a path or a
+                            * line has too little room, a frame more than 255 points or contours, or a catalogue's counts do not fit its lists */
     KHS_BAD_PARAMETER = 2, /* a scale, units per em, threshold or the m call's count is outside its limits, or the standards break their rule */
     KHS_BAD_INDEX = 3,     /* a contour end breaks its rule, or a link, serif, ring index, anchor or named edge is not below its list's length */
     KHS_OUT_OF_RANGE = 4,  /* a coordinate, position, score, len or passed delta is outside its limits; in building also a scaled position */
     KHS_NO_ROOM = 5,       /* building calls for one edge more than 128 */
     KHS_NOT_FRAME = 6,     /* a line of a log is not a whole frame */
+    KHS_RETIRED = 10,      /* the order from top to bottom is asked for, which is retired: on either axis and for either group */
     KHS_NOT_WORDS = 255    /* a length is not that of whole records, a room has not exactly its length, or a word is none of its field's values */
 };
 
@@ -131,11 +134,11 @@ struct khs_edge {
     int32_t blue_fitted; /* the zone's fitted position in units, accepted from -16,383 to 16,383; 0 where blue is 0, else KHS_NOT_WORDS */
     int32_t link;        /* link: the edge on the other side of the stem */
     int32_t serif;       /* link: the edge that this one is a serif of */
-    int32_t first;       /* index of its first segment, as building wrote it; held against no list */
+    int32_t first;       /* index of its first segment, as building wrote it; held against no list but by khs_turn_over */
     int32_t last;        /* index of its last segment; the same */
 };
 
-/* The words of a segment, in the same way. Link and serif, and in linking also next, are tested to be below the count of segments. */
+/* The words of a segment, in the same way. Link and serif, in linking also next, and in khs_turn_over next and edge, are tested to be below their list's count. */
 struct khs_segment {
     int32_t flags;     /* 0 to 15; KHS_FLAG_ROUND, where the outline is curved there, is read by building, and no other */
     int32_t dir;       /* the direction in which it runs; KHS_DIR_NONE for a single point */
@@ -203,7 +206,7 @@ uint8_t khs_link_segments_cjk(int32_t *segments, khs_length segments_len, int32_
  * segments: at most 512; their old edge and next are forgotten, and may be any link. edges: room for KHS_MOST_EDGES edges, exactly 1,408 words, not read.
  * dim: a dimension. major_dir: a direction; of edges with the same fpos a new one goes behind the others where it has that direction, and else in front of them.
  * group: a group. scale: 1 to 16,777,216; every segment's pos at that scale must be from -16,383 to 16,383 units.
- * top_to_bottom: 0 or 1, the order of edges: by rising positions, or by falling ones with 1. On the horizontal axis and for KHS_CJK it is ignored, and they rise.
+ * top_to_bottom: 0; 1 is KHS_RETIRED. Edges stand by rising positions.
  * distance, length, width: thresholds in design units, 0 to 65,535. One segment after the other joins the first edge of its direction whose fpos is less than distance
  * from its pos; where there is none it makes one. Of distance at most a quarter of a pixel counts, and for KHS_LATIN it is rounded to units and back. For KHS_CJK the
  * nearest such edge is joined, and by a segment with a link only one whose segments' links are all less than distance from its own.
@@ -216,7 +219,7 @@ uint8_t khs_link_segments_cjk(int32_t *segments, khs_length segments_len, int32_
  * fewer than are not, and serif. Each of its segments names an edge, if any: that of its serif, where it is another one, as the edge's serif, or else that of its link
  * as the edge's link. The first stays, until a segment is nearer to the one that it names than the edge is to the one that it has. An edge with a link keeps no serif.
  * Pass the first count * KHS_EDGE_WORDS words to the calls below.
- * Answers: all of enum khs_answer. */
+ * Answers: KHS_DONE, KHS_TOO_LONG, KHS_RETIRED, KHS_BAD_PARAMETER, KHS_BAD_INDEX, KHS_OUT_OF_RANGE, KHS_NO_ROOM, KHS_NOT_WORDS. */
 uint8_t khs_compute_edges(int32_t *segments, khs_length segments_len, int32_t *edges, khs_length edges_len, int32_t dim, int32_t major_dir, int32_t group,
                           int32_t top_to_bottom, int32_t scale, int32_t distance, int32_t length, int32_t width, int32_t *count);
 
@@ -242,11 +245,11 @@ uint8_t khs_align_serif_edge(int32_t *edges, khs_length edges_len, int32_t base,
 
 /* Gives an edge the pos of its neighbour where it has passed it, and its link's pos is more than 16 units from the previous edge's, whichever the neighbour.
  * It is not made done.
- * dir: KHS_PREVIOUS, the edge before it in the list, or KHS_NEXT, the edge behind it. top_to_bottom: 0 or 1. With 0 an edge has passed the previous one where it
- * is below it, and the next one where it is above it; with 1 the other way round.
+ * dir: KHS_PREVIOUS, the edge before it in the list, or KHS_NEXT, the edge behind it. top_to_bottom: 0; 1 is KHS_RETIRED. An edge has passed the previous one
+ * where it is below it, and the next one where it is above it.
  * Edge 0 stays, whichever the neighbour, and so does an edge without link. Toward the next edge an edge stays where that one is not done, or is not there.
  * Writes pos of the edge, or nothing: KHS_DONE is the answer whether or not it moved.
- * Answers: KHS_DONE, KHS_TOO_LONG, KHS_BAD_INDEX, KHS_OUT_OF_RANGE, KHS_NOT_WORDS. */
+ * Answers: KHS_DONE, KHS_TOO_LONG, KHS_RETIRED, KHS_BAD_INDEX, KHS_OUT_OF_RANGE, KHS_NOT_WORDS. */
 uint8_t khs_adjust_link(int32_t *edges, khs_length edges_len, int32_t edge, int32_t dir, int32_t top_to_bottom);
 
 /* Finds what a remaining edge stands between: the edge before it, done or not, and the edge behind it where that is done.
@@ -263,13 +266,13 @@ uint8_t khs_hint_normal_stem_cjk(int32_t *edges, khs_length edges_len, int32_t d
 
 /* Aligns all stems that are not done, one edge after the other. An edge without link, and a CJK stem less than a pixel behind the last one, is passed over and
  * counted; an edge that is done already is neither.
- * dim: a dimension. group: a group. stem_adjust: 0 or 1, read for KHS_CJK. top_to_bottom: 0 or 1, the order in which the edges were built, read for KHS_LATIN.
+ * dim: a dimension. group: a group. stem_adjust: 0 or 1, read for KHS_CJK. top_to_bottom: 0; 1 is KHS_RETIRED, for KHS_CJK too.
  * anchor: the edge that KHS_LATIN's stems are placed by, as khs_align_edges_to_blues hands it back, or KHS_NONE: then the first stem is placed by itself and is
  * the anchor of the others. For KHS_CJK every stem that is placed with both its edges becomes the anchor. rule, standards: the width rule.
  * Beside an anchor, a thin stem's centre moves at most half a pixel from where the anchor's shift puts it, before its edge is held to the previous one (thin:
  * KHS_LATIN, a fitted width below 96, and a link that is neither done nor on a zone).
  * Writes pos and flags of edges; count, how many edges were passed over, with 0 of which every edge is done; found, the anchor afterwards, or KHS_NONE.
- * Answers: KHS_DONE, KHS_TOO_LONG, KHS_BAD_PARAMETER, KHS_BAD_INDEX, KHS_OUT_OF_RANGE, KHS_NOT_WORDS. */
+ * Answers: KHS_DONE, KHS_TOO_LONG, KHS_RETIRED, KHS_BAD_PARAMETER, KHS_BAD_INDEX, KHS_OUT_OF_RANGE, KHS_NOT_WORDS. */
 uint8_t khs_align_stem_edges(int32_t *edges, khs_length edges_len, int32_t dim, int32_t group, int32_t stem_adjust, int32_t top_to_bottom, int32_t anchor,
                              int32_t rule, const int32_t *standards, khs_length standards_len, int32_t *count, int32_t *found);
 
@@ -323,6 +326,14 @@ uint8_t khs_write_frame(const int32_t *originals, khs_length originals_len, cons
  * KHS_NOT_WORDS (a room of another length). */
 uint8_t khs_read_frame(const uint8_t *line, khs_length line_len, int32_t *originals, khs_length originals_len, int32_t *currents, khs_length currents_len,
                        uint8_t *touched, khs_length touched_len, uint16_t *ends, khs_length ends_len, uint32_t *points, uint32_t *contours);
+
+/* Turns the edges of an axis over, so that a table that was saved from top to bottom stands as the calls above want it: the last edge comes first, and so on.
+ * segments: at most 512. edges: at most 128, KHS_EDGE_WORDS words each, and no room behind them. Either order is taken, and rings as they are, sound or not: turning
+ * over twice gives both lists back. Every index is held against its list: link, serif, next and edge of segments, link, serif, first and last of edges.
+ * A turned table need not be what khs_compute_edges makes of the segments.
+ * Writes edges: each comes to stand in the place counted from the other end, with link and serif renumbered and all else as it was; and edge of segments, renumbered.
+ * Answers: KHS_DONE, KHS_TOO_LONG, KHS_BAD_INDEX, KHS_OUT_OF_RANGE, KHS_NOT_WORDS. */
+uint8_t khs_turn_over(int32_t *segments, khs_length segments_len, int32_t *edges, khs_length edges_len);
 
 #ifdef __cplusplus
 }

@@ -7,7 +7,7 @@ use crate::{
     job::{Job, Points},
     path::Step,
     refusals::{Answer, Refusal},
-    text,
+    text, turn,
     words::{self, Words},
 };
 
@@ -49,6 +49,7 @@ pub fn answer(job: Job) -> Words {
         Job::Path(_)
         | Job::PathStep(..)
         | Job::Catalogue(_)
+        | Job::TurnOver(..)
         | Job::WriteFrame(..)
         | Job::ReadFrame(_) => of_requests(&mut w, job),
         Job::MLent(mut edges, group) => {
@@ -85,6 +86,11 @@ fn of_requests(w: &mut Words, job: Job) {
             done(w, calls::align_catalogue(&mut given));
             w.numbers("currents", "current", &given.shared.currents);
             w.numbers("answers", "own answer", &given.answers);
+        }
+        Job::TurnOver(mut segments, mut edges) => {
+            done(w, turn::turn_over(&mut segments, &mut edges));
+            w.segments(&segments);
+            w.edges(edges.count, &edges.items);
         }
         Job::WriteFrame(points, mut line) => {
             let digits = number(w, frames::write_frame(&points, &mut line));

@@ -1,4 +1,4 @@
-//! The seventeen public calls: document 01's refusals, then the given Rust; for the path, which it does not have, the plain walk of `path`.
+//! Calls 1 to 17: document 01's refusals, then the given Rust; for the path, which it does not have, the plain walk of `path`.
 //!
 //! What is lent is changed in place, and not at all by a refusal.
 
@@ -213,7 +213,7 @@ pub fn adjust_link(
     next: bool,
     top_to_bottom: bool,
 ) -> Answer<()> {
-    refusals::edges(edges, &[edge])?;
+    refusals::adjust_link(edges, edge, top_to_bottom)?;
     let dir = if next { LinkDir::Next } else { LinkDir::Prev };
     hint_edges::adjust_link(
         &mut edges.items,

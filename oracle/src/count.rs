@@ -1,6 +1,6 @@
 //! Which branches of the given Rust were taken, and which no accepted input can take.
 
-use std::sync::atomic::{AtomicU64, Ordering::Relaxed};
+use std::sync::atomic::{AtomicBool, AtomicU64, Ordering::Relaxed};
 
 /// A counted branch; a match arm is one-sided.
 pub struct Branch {
@@ -19,6 +19,16 @@ static TAKEN: [[AtomicU64; 2]; BRANCHES.len()] =
 
 /// Sides that no accepted input takes: file, text, side, reason.
 const UNREACHABLE: &[(&str, &str, bool, &str)] = &[
+    (
+        "topo/mod.rs",
+        "(top_to_bottom_hinting && prev_fpos > edge.fpos)",
+        true,
+        OLD_ORDER,
+    ),
+    ("topo/mod.rs", "top_to_bottom_hinting", true, OLD_ORDER),
+    ("topo/mod.rs", "prev_fpos > edge.fpos", true, OLD_ORDER),
+    ("topo/mod.rs", "prev_fpos > edge.fpos", false, OLD_ORDER),
+    ("topo/mod.rs", "!top_to_bottom_hinting", false, OLD_ORDER),
     (
         "topo/edges.rs",
         "if let Some(next) = seg1.next_in_edge(&axis.segments)",
@@ -90,12 +100,28 @@ const UNREACHABLE: &[(&str, &str, bool, &str)] = &[
     ),
 ];
 
+/// Why nothing is built from top to bottom.
+const OLD_ORDER: &str = "top to bottom is refused by 10";
+
 /// Why a point is always found.
 const CONTOUR: &str = "the points of a contour are in the outline";
 
+/// Whether what is taken is counted: not while jobs are made up, which runs the given Rust too.
+static COUNTING: AtomicBool = AtomicBool::new(true);
+
+/// Runs something whose branches are not counted.
+pub fn uncounted<T>(run: impl FnOnce() -> T) -> T {
+    COUNTING.store(false, Relaxed);
+    let result = run();
+    COUNTING.store(true, Relaxed);
+    result
+}
+
 /// Counts one side.
 pub fn went(id: usize, side: bool) {
-    TAKEN[id][usize::from(side)].fetch_add(1, Relaxed);
+    if COUNTING.load(Relaxed) {
+        TAKEN[id][usize::from(side)].fetch_add(1, Relaxed);
+    }
 }
 
 /// Counts a condition and hands it on.

@@ -209,6 +209,7 @@ impl Reader<'_> {
             15 => Job::Path(self.walk()?),
             16 => Job::PathStep(self.walk()?, self.number()?),
             17 => Job::Catalogue(self.catalogue()?),
+            24 => Job::TurnOver(self.segments()?, self.edges()?),
             25 => Job::WriteFrame(self.points()?, self.numbers()?),
             26 => Job::ReadFrame(self.numbers()?),
             _ => return None,

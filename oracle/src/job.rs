@@ -118,6 +118,7 @@ pub enum Job {
     Path(Walk),
     PathStep(Walk, u32),
     Catalogue(Catalogue),
+    TurnOver(Table<Segment>, Table<Edge>),
     WriteFrame(Points, Vec<u8>),
     ReadFrame(Vec<u8>),
 }
@@ -141,6 +142,7 @@ pub const CALLS: &[(usize, &str)] = &[
     (15, "path"),
     (16, "path_step"),
     (17, "align_catalogue"),
+    (24, "turn_over"),
     (25, "write_frame"),
     (26, "read_frame"),
 ];

@@ -18,6 +18,7 @@ pub mod prepared;
 pub mod refusals;
 pub mod streams;
 pub mod text;
+pub mod turn;
 pub mod words;
 
 #[cfg(test)]

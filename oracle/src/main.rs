@@ -1,5 +1,7 @@
 //! The command `oracle`.
 
+#[cfg(feature = "count")]
+use oracle::count;
 use oracle::{
     answer::{answer_line, NOT_A_JOB},
     explain,
@@ -274,11 +276,12 @@ fn branches(options: &[&str]) -> ExitCode {
     for (call, _) in oracle::job::CALLS {
         for (_, profile) in PROFILES {
             for _ in 0..count {
-                answer_line(&generate::line(*call, profile, &mut random));
+                let line = count::uncounted(|| generate::line(*call, profile, &mut random));
+                answer_line(&line);
             }
         }
     }
-    let (report, complete) = oracle::count::report();
+    let (report, complete) = count::report();
     print!("{report}");
     ExitCode::from(u8::from(!complete))
 }

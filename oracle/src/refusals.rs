@@ -97,6 +97,7 @@ pub fn link(segments: &Table<Segment>, units_per_em: i32, scale: i32) -> Answer<
 /// Building, but for refusal 5: that shows while the edges are built.
 pub fn build(segments: &Table<Segment>, edges: &Table<Edge>, given: &Building) -> Answer<()> {
     refuse(1, segments.count > SEGMENTS || edges.count > EDGES)?;
+    bottom_to_top(given.top_to_bottom)?;
     let thresholds = [given.distance, given.length, given.width];
     refuse(
         2,
@@ -133,8 +134,17 @@ pub fn cjk_stem(edges: &Table<Edge>, given: &CjkStem) -> Answer<()> {
     refuse(4, !COORDINATE.contains(&given.delta))
 }
 
+/// `adjust_link`.
+pub fn adjust_link(table: &Table<Edge>, edge: u16, top_to_bottom: bool) -> Answer<()> {
+    refuse(1, table.count > EDGES)?;
+    bottom_to_top(top_to_bottom)?;
+    edges(table, &[edge])
+}
+
 /// The stem pass.
 pub fn stems(edges: &Table<Edge>, given: &Stems) -> Answer<()> {
+    refuse(1, edges.count > EDGES)?;
+    bottom_to_top(given.top_to_bottom)?;
     edges_and_rule(edges, &given.rule, given.anchor.as_slice())
 }
 
@@ -183,6 +193,29 @@ fn sum(counts: &[u16]) -> usize {
     counts.iter().map(|count| usize::from(*count)).sum()
 }
 
+/// Turning an axis over: the indices into both of its tables are tested.
+pub fn turn_over(segments: &Table<Segment>, edges: &Table<Edge>) -> Answer<()> {
+    refuse(1, segments.count > SEGMENTS || edges.count > EDGES)?;
+    refuse(
+        3,
+        names_beyond(segments, |s| [s.link_ix, s.serif_ix, s.edge_next_ix])
+            || names_beyond(edges, |e| [e.link_ix, e.serif_ix])
+            || name_beyond(segments, edges.count, |s| [s.edge_ix])
+            || name_beyond(edges, segments.count, |e| {
+                [Some(e.first_ix), Some(e.last_ix)]
+            }),
+    )?;
+    refuse(
+        4,
+        !segments.items.iter().all(measures_fit) || !edges.items.iter().all(edge_fits),
+    )
+}
+
+/// Refusal 10: a call that asks for the old order, on whichever axis and for whichever group.
+fn bottom_to_top(top_to_bottom: bool) -> Answer<()> {
+    refuse(10, top_to_bottom)
+}
+
 /// Refusal 3 on edges: a link, a serif, or an edge named in the call.
 fn edge_indices(edges: &Table<Edge>, named: &[u16]) -> Answer<()> {
     refuse(
@@ -192,12 +225,21 @@ fn edge_indices(edges: &Table<Edge>, named: &[u16]) -> Answer<()> {
     )
 }
 
-/// Whether an index of some element is not below the list's length.
+/// Whether an index of some element into its own list is not below its length.
 fn names_beyond<T, const N: usize>(
     table: &Table<T>,
     indices: impl Fn(&T) -> [Option<u16>; N],
 ) -> bool {
-    let beyond = |ix: &u16| usize::from(*ix) >= table.count;
+    name_beyond(table, table.count, indices)
+}
+
+/// Whether an index of some element is not below this length.
+fn name_beyond<T, const N: usize>(
+    table: &Table<T>,
+    length: usize,
+    indices: impl Fn(&T) -> [Option<u16>; N],
+) -> bool {
+    let beyond = |ix: &u16| usize::from(*ix) >= length;
     table
         .items
         .iter()

@@ -198,6 +198,11 @@ fn of_requests(w: &mut Words, job: &Job) {
             w.put("cursor", *cursor as i32);
         }
         Job::Catalogue(given) => catalogue(w, given),
+        Job::TurnOver(segments, edges) => {
+            w.put("call", 24);
+            w.segments(segments);
+            w.edges(edges.count, &edges.items);
+        }
         Job::WriteFrame(points, line) => {
             w.put("call", 25);
             outline(w, points);

@@ -36,6 +36,7 @@ static const char *const formats[] = {
     "NNBI",       /* path: x coordinates, y coordinates, on-curve marks, contour ends */
     "NNBIk",      /* path_step: the same, cursor */
     "NNBIIIB",    /* align_catalogue: outlines as of align_weak_points, point counts, contour counts, answers */
+    [24] = "SE",    /* turn_over: segments, edges */
     [25] = "NNBIB", /* write_frame: an outline as of align_weak_points, line */
     [26] = "B"      /* read_frame: line */
 };
@@ -318,6 +319,19 @@ static void answer_segments(const struct job *job)
     say_list(count, edges, KHS_EDGE_WORDS * (size_t)(count > KHS_MOST_EDGES ? KHS_MOST_EDGES : count));
 }
 
+/* Turning over: a table of edges that is too long has one edge more than its limit, too. */
+static void answer_turned(const struct job *job)
+{
+    static int32_t edges[KHS_EDGE_WORDS * (KHS_MOST_EDGES + 1)];
+    const struct list *given = &job->list[1], *segments = &job->list[0];
+    khs_length edges_len = lend(given, KHS_EDGE_WORDS, KHS_MOST_EDGES);
+    memcpy(edges, table, sizeof edges);
+    khs_length len = lend(segments, KHS_SEGMENT_WORDS, KHS_MOST_SEGMENTS);
+    say(khs_turn_over(table, len, edges, edges_len));
+    say_list(segments->count, table, segments->size);
+    say_list(given->count, edges, given->size);
+}
+
 /* The calls over edges. What they hand back beside stands between their number and the edges. */
 static void answer_edges(const struct job *job)
 {
@@ -379,6 +393,7 @@ static void answer_line(size_t len)
     case 16:
     case 17:
     case 25: answer_outline(&job); break;
+    case 24: answer_turned(&job); break;
     case 26: answer_read(&job); break;
     case 4:
     case 5: answer_segments(&job); break;

@@ -19,8 +19,8 @@ static float places[4 * sizeof kinds];
 static uint32_t number, contours;
 static uint8_t line[2 * (3 + 6 * FRAMED)];
 
-/* The choices that a function is called with in turn: dimension, group, order, and whether widths are snapped. */
-static int32_t dim, group, order, rule;
+/* The choices that a function is called with in turn: dimension, group, whether stems are adjusted, and whether widths are snapped. */
+static int32_t dim, group, adjusted, rule;
 
 static int32_t *edge_words(void) { return (int32_t *)edges; }
 static int32_t *segment_words(void) { return (int32_t *)segments; }
@@ -33,21 +33,22 @@ static uint8_t catalogue(void) {
 }
 static uint8_t linking(void) { return khs_link_segments_cjk(segment_words(), SEGMENT_LIST, KHS_DIR_UP, 1000, 65536); }
 static uint8_t building(void) {
-    return khs_compute_edges(segment_words(), SEGMENT_LIST, edge_words(), EDGE_LIST, dim, KHS_DIR_UP, group, order, 65536, 3, 0, 65535, &first);
+    return khs_compute_edges(segment_words(), SEGMENT_LIST, edge_words(), EDGE_LIST, dim, KHS_DIR_UP, group, 0, 65536, 3, 0, 65535, &first);
 }
 static uint8_t blues(void) { return khs_align_edges_to_blues(edge_words(), EDGE_LIST, dim, group, rule, standards, STANDARDS, &first); }
 static uint8_t linked(void) { return khs_align_linked_edge(edge_words(), EDGE_LIST, rule, standards, STANDARDS, 1, 2); }
 static uint8_t serif(void) { return khs_align_serif_edge(edge_words(), EDGE_LIST, 1, 2); }
-static uint8_t adjust(void) { return khs_adjust_link(edge_words(), EDGE_LIST, 2, dim, order); }
+static uint8_t adjust(void) { return khs_adjust_link(edge_words(), EDGE_LIST, 2, dim, 0); }
 static uint8_t bounds(void) { return khs_latin_remaining_bounds(edge_words(), EDGE_LIST, 2, &first, &second); }
 static uint8_t stem(void) { return khs_hint_normal_stem_cjk(edge_words(), EDGE_LIST, dim, group, rule, standards, STANDARDS, 1, 2, 3, &first); }
 static uint8_t stems(void) {
-    return khs_align_stem_edges(edge_words(), EDGE_LIST, dim, group, order, order, KHS_NONE, rule, standards, STANDARDS, &first, &second);
+    return khs_align_stem_edges(edge_words(), EDGE_LIST, dim, group, adjusted, 0, KHS_NONE, rule, standards, STANDARDS, &first, &second);
 }
 static uint8_t step(void) { return khs_path_step(originals, POINTS, currents, POINTS, touched, POINTS, ends, POINTS / 4, 4000, kinds, places, &number); }
 static uint8_t path(void) {
     return khs_path(originals, POINTS, currents, POINTS, touched, POINTS, ends, POINTS / 4, kinds, sizeof kinds, places, sizeof places / sizeof *places, &number);
 }
+static uint8_t turn(void) { return khs_turn_over(segment_words(), SEGMENT_LIST, edge_words(), EDGE_LIST); }
 static uint8_t write_frame(void) { return khs_write_frame(originals, FRAMED, currents, FRAMED, touched, FRAMED, ends, FRAMED / 4, line, sizeof line, &number); }
 static uint8_t read_frame(void) {
     return khs_read_frame(line, sizeof line, originals, FRAMED, currents, FRAMED, touched, FRAMED, ends, FRAMED, &number, &contours);
@@ -60,7 +61,7 @@ static const struct {
 } calls[] = {{"khs_align_weak_points", weak}, {"khs_align_catalogue", catalogue}, {"khs_link_segments_cjk", linking}, {"khs_compute_edges", building}, {"khs_align_edges_to_blues", blues},
              {"khs_align_linked_edge", linked}, {"khs_align_serif_edge", serif}, {"khs_adjust_link", adjust}, {"khs_latin_remaining_bounds", bounds},
              {"khs_hint_normal_stem_cjk", stem}, {"khs_align_stem_edges", stems}, {"khs_hint_lowercase_m", lowercase_m},
-             {"khs_path_step", step}, {"khs_path", path}, {"khs_write_frame", write_frame}, {"khs_read_frame", read_frame}};
+             {"khs_path_step", step}, {"khs_path", path}, {"khs_turn_over", turn}, {"khs_write_frame", write_frame}, {"khs_read_frame", read_frame}};
 
 /* Segments in pairs, the pairs on 128 heights; edges in stems, each with a zone or done here and there; points touched here and there; the longest frame, all zeros. */
 static void fill(void) {
@@ -117,7 +118,7 @@ int main(void) {
         size_t most = 0;
         for (int choices = 0; choices < 16; choices++) {
             uint8_t answer;
-            dim = choices & 1, group = choices >> 1 & 1, order = choices >> 2 & 1, rule = choices >> 3;
+            dim = choices & 1, group = choices >> 1 & 1, adjusted = choices >> 2 & 1, rule = choices >> 3;
             fill();
             size_t bytes = depth(calls[i].call, &answer);
             most = bytes > most ? bytes : most;

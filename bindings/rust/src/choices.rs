@@ -25,7 +25,8 @@ pub enum Order {
     /// By rising positions.
     #[default]
     BottomToTop = 0,
-    /// By falling ones; read on the vertical axis, for Latin.
+    /// By falling ones: retired, and refused by [`Refusal::Retired`](crate::Refusal::Retired). Tables that were saved so are turned over by
+    /// [`turn_over`](crate::turn_over).
     TopToBottom = 1,
 }
 

@@ -198,6 +198,13 @@ extern "C" {
         points: *mut u32,
         contours: *mut u32,
     ) -> u8;
+
+    fn khs_turn_over(
+        segments: *mut i32,
+        segments_len: Length,
+        edges: *mut i32,
+        edges_len: Length,
+    ) -> u8;
 }
 
 /// The length of a list as the library takes it.
@@ -538,4 +545,11 @@ pub fn read_frame(
             contours,
         )
     }
+}
+
+pub fn turn_over(segments: &mut [Segment], edges: &mut [Edge]) -> u8 {
+    let (words, len) = segment_words(segments);
+    let (edges, edges_len) = edge_words(edges);
+    // SAFETY: two slices, lent to this call alone.
+    unsafe { khs_turn_over(words, len, edges, edges_len) }
 }

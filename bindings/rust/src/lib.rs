@@ -442,3 +442,23 @@ pub fn align_stem_edges(edges: &mut [Edge], given: &StemPass<'_>) -> Result<Stem
 pub fn hint_lowercase_m(edges: &mut [Edge], group: Group) -> Result<(), Refusal> {
     Refusal::of(ffi::hint_lowercase_m(edges, group as i32))
 }
+
+/// Turns the edges of an axis over, with the indices that lead to them: tables that were saved from top to bottom come to stand from bottom to top. Twice, it gives
+/// both lists back.
+///
+/// ```
+/// use khsaemudol::{turn_over, Edge, Segment};
+///
+/// let mut segments = [Segment::default().with_edge(Some(0)), Segment::default().with_edge(Some(1))];
+/// let mut edges = [
+///     Edge::default().with_fpos(405).with_link(Some(1)),
+///     Edge::default().with_fpos(325).with_first(1).with_last(1).with_link(Some(0)),
+/// ];
+/// turn_over(&mut segments, &mut edges)?;
+/// assert_eq!(edges.map(|edge| (edge.fpos(), edge.link())), [(325, Some(1)), (405, Some(0))]);
+/// assert_eq!(segments.map(|segment| segment.edge()), [Some(1), Some(0)]);
+/// # Ok::<(), khsaemudol::Refusal>(())
+/// ```
+pub fn turn_over(segments: &mut [Segment], edges: &mut [Edge]) -> Result<(), Refusal> {
+    Refusal::of(ffi::turn_over(segments, edges))
+}

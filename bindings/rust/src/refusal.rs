@@ -22,7 +22,8 @@ pub enum Refusal {
     TooLong,
     /// 2: a scale, units per em, a threshold or the edge count of the m rule is outside its limits, or the standards of a width rule break its rule.
     BadParameter,
-    /// 3: a contour end breaks its rule, or a link, a serif, an anchor or an edge named in the call is not below its list's length.
+    /// 3: a contour end breaks its rule, or a link, a serif, an anchor or an edge named in the call is not below its list's length; in turning over also any other
+    /// index.
     BadIndex,
     /// 4: a coordinate, position, score, len or delta is outside its limits; in building also a scaled position.
     OutOfRange,
@@ -30,6 +31,8 @@ pub enum Refusal {
     NoRoom,
     /// 6: a line of a log is not a whole frame.
     NotFrame,
+    /// 10: the order from top to bottom is asked for, which is retired.
+    Retired,
     /// 255: a word is none of its field's values. Records made by this crate have no such words, and no call of it answers so.
     NotWords,
     /// A number of a later library, which this crate does not know.
@@ -47,6 +50,7 @@ impl Refusal {
             4 => Self::OutOfRange,
             5 => Self::NoRoom,
             6 => Self::NotFrame,
+            10 => Self::Retired,
             255 => Self::NotWords,
             other => Self::Other(other),
         })
@@ -61,6 +65,7 @@ impl Refusal {
             Self::OutOfRange => 4,
             Self::NoRoom => 5,
             Self::NotFrame => 6,
+            Self::Retired => 10,
             Self::NotWords => 255,
             Self::Other(number) => number,
         }
@@ -77,6 +82,7 @@ impl Refusal {
             Self::OutOfRange => "a coordinate, position, score, len or delta is outside its limits",
             Self::NoRoom => "the segments make more edges than there is room for",
             Self::NotFrame => "the line is not a whole frame",
+            Self::Retired => "the order from top to bottom is retired",
             Self::NotWords => "a word is none of its field's values",
             Self::Other(_) => "this number is not known here",
         }

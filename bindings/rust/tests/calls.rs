@@ -300,13 +300,6 @@ fn building() {
     );
     assert_eq!(segments.map(|segment| segment.edge()), [Some(1), Some(0)]);
     assert_eq!(segments.map(|segment| segment.next()), [Some(0), Some(1)]);
-    let top_to_bottom = Building {
-        order: Order::TopToBottom,
-        ..BUILDING
-    };
-    let edges =
-        compute_edges(&mut segments, &mut room, &top_to_bottom).expect("the order is accepted");
-    assert_eq!(edges.iter().map(Edge::fpos).collect::<Vec<_>>(), [80, 0]);
 }
 
 #[test]
@@ -323,6 +316,23 @@ fn building_refused() {
     };
     let one = side(Direction::Right, 0);
     refused(&[one; MOST_SEGMENTS + 1], &BUILDING, Refusal::TooLong);
+    // the retired order, behind too many segments and in front of a parameter, on either axis and for either group
+    let retired = Building {
+        order: Order::TopToBottom,
+        scale: 0,
+        ..BUILDING
+    };
+    refused(&[one; MOST_SEGMENTS + 1], &retired, Refusal::TooLong);
+    refused(&[one], &retired, Refusal::Retired);
+    refused(
+        &[one],
+        &Building {
+            dimension: Dimension::Horizontal,
+            group: Group::Cjk,
+            ..retired
+        },
+        Refusal::Retired,
+    );
     refused(
         &[one],
         &Building {
@@ -408,7 +418,7 @@ fn adjusted_link() {
     );
     assert_eq!(
         adjusted(edges, Neighbour::Previous, Order::TopToBottom),
-        Ok(90)
+        Err(Refusal::Retired)
     );
     assert_eq!(adjusted(edges, Neighbour::Next, Order::BottomToTop), Ok(90));
     let next_done = [edges[0], edges[1], done(50)];
@@ -510,6 +520,24 @@ fn stem_pass() {
     let wrong = |given: StemPass<'static>, refusal| {
         refused(&edges, refusal, |edges| align_stem_edges(edges, &given));
     };
+    let retired = StemPass {
+        order: Order::TopToBottom,
+        rule: WidthRule::Snap(&[16_384]),
+        ..PASS
+    };
+    wrong(retired, Refusal::Retired);
+    wrong(
+        StemPass {
+            dimension: Dimension::Horizontal,
+            group: Group::Cjk,
+            ..retired
+        },
+        Refusal::Retired,
+    );
+    let many = [Edge::default(); MOST_EDGES + 1];
+    refused(&many, Refusal::TooLong, |edges| {
+        align_stem_edges(edges, &retired)
+    });
     wrong(
         StemPass {
             rule: WidthRule::Snap(&[16_384]),
@@ -672,4 +700,67 @@ fn jobs_and_lines_are_refused() {
         Job::read("01FFFF".repeat(512)[..3_068].as_bytes()),
         Err(Refusal::NotFrame)
     );
+}
+
+#[test]
+fn turned_over() {
+    let edge = |fpos, segment: u16| {
+        Edge::default()
+            .with_fpos(fpos)
+            .with_first(segment)
+            .with_last(segment)
+    };
+    let edges = [
+        edge(80, 0).with_link(Some(2)),
+        edge(40, 1).with_serif(Some(0)).with_flags(Flags::SERIF),
+        edge(0, 2).with_link(Some(0)),
+    ];
+    let segments = [0, 1, 2].map(|ix| {
+        side(Direction::Right, 80)
+            .with_edge(Some(ix))
+            .with_next(Some(ix))
+    });
+    let (mut turned, mut table) = (edges, segments);
+    assert_eq!(turn_over(&mut table, &mut turned), Ok(()));
+    assert_eq!(
+        turned,
+        [
+            edges[2].with_link(Some(2)),
+            edges[1].with_serif(Some(2)),
+            edges[0].with_link(Some(0)),
+        ]
+    );
+    assert_eq!(
+        table.map(|segment| segment.edge()),
+        [Some(2), Some(1), Some(0)]
+    );
+    assert_eq!(
+        table.map(|segment| segment.next()),
+        segments.map(|segment| segment.next())
+    );
+    assert_eq!(turn_over(&mut table, &mut turned), Ok(()));
+    assert_eq!((turned, table), (edges, segments));
+    assert_eq!(turn_over(&mut [], &mut []), Ok(()));
+}
+
+#[test]
+fn turning_over_refused() {
+    let refused = |segments: &[Segment], edges: &[Edge], refusal| {
+        let (mut table, mut turned) = (segments.to_vec(), edges.to_vec());
+        assert_eq!(turn_over(&mut table, &mut turned), Err(refusal));
+        assert_eq!((&table[..], &turned[..]), (segments, edges));
+    };
+    let segment = Segment::default();
+    let edge = Edge::default();
+    refused(&[segment; MOST_SEGMENTS + 1], &[edge], Refusal::TooLong);
+    refused(&[segment], &[edge; MOST_EDGES + 1], Refusal::TooLong);
+    refused(&[segment.with_link(Some(1))], &[edge], Refusal::BadIndex);
+    refused(&[segment.with_next(Some(1))], &[edge], Refusal::BadIndex);
+    refused(&[segment.with_edge(Some(1))], &[edge], Refusal::BadIndex);
+    refused(&[segment], &[edge.with_serif(Some(1))], Refusal::BadIndex);
+    refused(&[segment], &[edge.with_first(1)], Refusal::BadIndex);
+    refused(&[segment], &[edge.with_last(1)], Refusal::BadIndex);
+    refused(&[], &[edge], Refusal::BadIndex);
+    refused(&[segment.with_score(-1)], &[edge], Refusal::OutOfRange);
+    refused(&[segment], &[edge.with_opos(16_384)], Refusal::OutOfRange);
 }

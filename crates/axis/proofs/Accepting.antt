@@ -41,7 +41,7 @@ unfolding blueHolds
 blue-holds Blues.None h = refl
 blue-holds (Blues.Fitted z) h = within-holds mostUnits z (h .at z refl)
 
-every-holds : (p : ℕ → Bool) (n : ℕ) → ((i : ℕ) → i < n → p i ≡ true) → every p n ≡ true
+pub every-holds : (p : ℕ → Bool) (n : ℕ) → ((i : ℕ) → i < n → p i ≡ true) → every p n ≡ true
 unfolding every
 every-holds p zero h = refl
 every-holds p (suc n) h = rw (every-holds p n (λ i l. h i (omega arith))) (h n (omega arith))

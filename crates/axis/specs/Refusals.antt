@@ -1,10 +1,10 @@
 -- The tests that calls over edges and segments share (document 01, "Five refusals, tested in this order"); each call lists them in its order, with its own.
-use mathlib.Core.Bool.{Bool, true, _&&_}
+use mathlib.Core.Bool.{Bool, true, not, _&&_}
 use Prim.Native.Nat.{ℕ, zero, suc, min}
 use lib.Dec.{ltb, leb}
 use lib.IntN.{ℤ, pos, negℤ}
 use lib.Signed.{leZ}
-use Rattle.refusals.specs.Refusal.{Test, _unless_, tooLong, badIndex, outOfRange}
+use Rattle.refusals.specs.Refusal.{Test, _unless_, tooLong, badIndex, outOfRange, retired}
 use Rattle.axis.specs.declared.kinds.Link.{Link}
 use Rattle.axis.specs.declared.kinds.Link.the-variants as Links
 use Rattle.axis.specs.declared.kinds.Blue.{Blue}
@@ -94,7 +94,11 @@ segmentsNumbers t = everySegment segmentNumbers t
 abbrev pub edgesShort : Axis → Test
 edgesShort axis = tooLong unless leb (axis .len) mostEdges
 
--- their indices, their numbers
+-- edges stand from bottom to top: a call that asks for top to bottom asks for an order that is retired
+abbrev pub bottomToTop : Bool → Test
+bottomToTop topToBottom = retired unless not topToBottom
+
+-- the indices of edges, their numbers
 abbrev pub edgesIndexed : Axis → Test
 edgesIndexed axis = badIndex unless edgesIndices axis
 

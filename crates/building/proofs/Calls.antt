@@ -29,15 +29,16 @@ pub record Accepted (t : Segments) (scale : ℤ) (by : Thresholds) : Type 0 wher
   pub numbers : numbersHold scale by ≡ true
   pub products : productsHold t scale ≡ true
 
-pub accepted : (t : Segments) (edges : ℕ) (scale : ℤ) (by : Thresholds) (k : ℕ) → k ≡ refusal (buildingTests t edges scale by) → k ≤ 0 → Accepted t scale by
-accepted t edges scale by k e h =
+pub accepted : (t : Segments) (edges : ℕ) (ttb : Bool) (scale : ℤ) (by : Thresholds) (k : ℕ) → k ≡ refusal (buildingTests t edges ttb scale by) → k ≤ 0 → Accepted t scale by
+accepted t edges ttb scale by k e h =
     let z : k ≡ 0 = omega arith in
-    let a = all-hold (buildingTests t edges scale by) refl (sym e ∙ z) in
-    record { within = segments-within t (a .0) (a .1 .1 .1 .0) (a .1 .1 .1 .1 .0); numbers = a .1 .1 .0; products = a .1 .1 .1 .1 .1 .0 }
+    let a = all-hold (buildingTests t edges ttb scale by) refl (sym e ∙ z) in
+    let b = a .1 .1 .1 in
+    record { within = segments-within t (a .0) (b .1 .0) (b .1 .1 .0); numbers = b .0; products = b .1 .1 .1 .0 }
 
-pub joinable : (t : Segments) (scale : ℤ) (by : Thresholds) → Accepted t scale by → (dim : Dimension) (major : Direction) (cjk down : Bool) (r : Rules)
-    → r ≡ rulesOf dim major cjk down scale by → Joinable t r
-joinable t scale by A dim major cjk down r e =
+pub joinable : (t : Segments) (scale : ℤ) (by : Thresholds) → Accepted t scale by → (dim : Dimension) (major : Direction) (cjk : Bool) (r : Rules)
+    → r ≡ rulesOf dim major cjk scale by → Joinable t r
+joinable t scale by A dim major cjk r e =
     let q = right scale by (A .numbers) in
     rw e (record { few = A .within .few; length = q .length; opos = products-within t scale (A .within .few) (A .products) })
 

@@ -112,12 +112,12 @@ module _ (t : Segments) (r : Rules) (W : SegmentsWithin t) where
       }
 
 -- ---- the call
-module _ (t : Segments) (old : Axis) (group : Group) (down : Bool) (scale : ℤ) (by : Thresholds) where
+module _ (t : Segments) (old : Axis) (group : Group) (ttb : Bool) (scale : ℤ) (by : Thresholds) where
   abbrev rules : Rules
-  rules = rulesOf (old .dim) (old .«major_dir») (isCjk group) down scale by
+  rules = rulesOf (old .dim) (old .«major_dir») (isCjk group) scale by
 
   abbrev handed : Built
-  handed = computeEdges t old group down scale by
+  handed = computeEdges t old group ttb scale by
 
   built-answer : (s : State) → built t old rules s .answer ≡ cond (s .full) noRoom 0
   unfolding built
@@ -127,21 +127,21 @@ module _ (t : Segments) (old : Axis) (group : Group) (down : Bool) (scale : ℤ)
       by-room true = refl
       by-room false = refl
 
-  -- accepted segments, at most 128 old edges, and numbers and products within the table are refused by 5 alone, where a 129th edge is called for
-  pub accepts : SegmentsAccepted t → leb (old .len) mostEdges ≡ true → numbersHold scale by ≡ true → productsHold t scale ≡ true
-      → computeEdges t old group down scale by .answer ≡ cond (lastState t rules .full) noRoom 0
-  accepts a few n p =
+  -- accepted segments, at most 128 old edges, from bottom to top, and numbers and products within the table are refused by 5 alone, where a 129th edge is called for
+  pub accepts : SegmentsAccepted t → leb (old .len) mostEdges ≡ true → not ttb ≡ true → numbersHold scale by ≡ true → productsHold t scale ≡ true
+      → computeEdges t old group ttb scale by .answer ≡ cond (lastState t rules .full) noRoom 0
+  accepts a few b n p =
       ap (λ (b : Built). b .answer)
-      (not-refused t old group down scale by (no-refusal (buildingTests t (old .len) scale by) (a .short, (few, (n, (a .indexed, (a .in-range, (p, refl))))))))
+      (not-refused t old group ttb scale by (no-refusal (buildingTests t (old .len) ttb scale by) (a .short, (few, (b, (n, (a .indexed, (a .in-range, (p, refl)))))))))
       ∙ built-answer (lastState t rules)
 
-  module _ (e : computeEdges t old group down scale by .answer ≡ 0) where
-    unrefused : refusal (buildingTests t (old .len) scale by) ≡ 0
+  module _ (e : computeEdges t old group ttb scale by .answer ≡ 0) where
+    unrefused : refusal (buildingTests t (old .len) ttb scale by) ≡ 0
     unfolding computeEdges
-    unrefused = none-refused (beside t old) (built t old rules (lastState t rules)) (λ (b : Built). b .answer) (λ j. refl) (refusal (buildingTests t (old .len) scale by)) e
+    unrefused = none-refused (beside t old) (built t old rules (lastState t rules)) (λ (b : Built). b .answer) (λ j. refl) (refusal (buildingTests t (old .len) ttb scale by)) e
 
     room : lastState t rules .full ≡ false
-    room = go (lastState t rules .full) (sym (built-answer (lastState t rules)) ∙ sym (ap (λ (b : Built). b .answer) (not-refused t old group down scale by unrefused)) ∙ e)
+    room = go (lastState t rules .full) (sym (built-answer (lastState t rules)) ∙ sym (ap (λ (b : Built). b .answer) (not-refused t old group ttb scale by unrefused)) ∙ e)
       where
         go : (full : Bool) → cond full noRoom 0 ≡ 0 → full ≡ false
         go true h = absurd (omega (arith, h))
@@ -149,28 +149,28 @@ module _ (t : Segments) (old : Axis) (group : Group) (down : Bool) (scale : ℤ)
 
     outcome : handed ≡ beside (builtSegments t (lastState t rules)) (edgeProperties (builtEdges t rules (lastState t rules)) (builtSegments t (lastState t rules))) 0
     unfolding built
-    outcome = not-refused t old group down scale by unrefused ∙ cond-false _ _ _ room
+    outcome = not-refused t old group ttb scale by unrefused ∙ cond-false _ _ _ room
 
     taken : Accepted t scale by
-    taken = accepted t (old .len) scale by 0 (sym unrefused) (omega arith)
+    taken = accepted t (old .len) ttb scale by 0 (sym unrefused) (omega arith)
 
     ready-to-join : Joinable t rules
-    ready-to-join = joinable t scale by taken _ _ _ _ rules refl
+    ready-to-join = joinable t scale by taken _ _ _ rules refl
 
     -- with answer 0 its edges pass the tests that blue zones, stems, the calls on one edge and the m rule make of edges
-    pub edges-handed-on : EdgesAccepted (computeEdges t old group down scale by .axis)
+    pub edges-handed-on : EdgesAccepted (computeEdges t old group ttb scale by .axis)
     edges-handed-on = rw outcome (edges-accepted _ (properties-within t rules (taken .within) ready-to-join))
 
     -- and its segments those of building and of linking
-    pub segments-handed-on : SegmentsAccepted (computeEdges t old group down scale by .segments)
+    pub segments-handed-on : SegmentsAccepted (computeEdges t old group ttb scale by .segments)
     segments-handed-on = rw outcome (segments-accepted _ (segments-within t rules (taken .within) ready-to-join))
 
-    pub nexts-handed-on : segmentsNexts (computeEdges t old group down scale by .segments) ≡ true
+    pub nexts-handed-on : segmentsNexts (computeEdges t old group ttb scale by .segments) ≡ true
     nexts-handed-on =
         let R = built-rows t rules (shown t rules (lastState t rules)) refl (taken .within) in
         rw outcome (nexts-hold (builtSegments t (lastState t rules)) (λ i h. rw (R .size) (nexts-built t rules (taken .within) .at i (rw (R .size) at h))))
 
     -- every edge that is handed back is a sound ring over the segments that are
-    pub rings-sound : Typed t → (k : ℕ) → k < computeEdges t old group down scale by .axis .len
-        → Sound (computeEdges t old group down scale by .axis) (computeEdges t old group down scale by .segments) k
+    pub rings-sound : Typed t → (k : ℕ) → k < computeEdges t old group ttb scale by .axis .len
+        → Sound (computeEdges t old group ttb scale by .axis) (computeEdges t old group ttb scale by .segments) k
     rings-sound T k h = rw outcome (sound-kept t rules (taken .within) T k (rw outcome at h))

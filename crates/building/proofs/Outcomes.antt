@@ -9,7 +9,6 @@ use Rattle.signed.specs.Range.{Between}
 use Rattle.refusals.specs.Refusal.{refusal}
 use Rattle.fixed.specs.Point.{mulFix}
 use Rattle.axis.specs.declared.edge.Axis.{Axis}
-use Rattle.axis.specs.declared.kinds.Blue.{Blue}
 use Rattle.axis.specs.declared.kinds.Blue.the-variants as Blues
 use Rattle.axis.specs.declared.kinds.Group.{Group}
 use Rattle.axis.specs.declared.segment.Segments.{Segments}
@@ -70,20 +69,20 @@ module _ (t : Segments) (r : Rules) (W : SegmentsWithin t) (J : Joinable t r) wh
   pub properties-within : AxisWithin mostPos (edgeProperties (builtEdges t r (lastState t r)) (builtSegments t (lastState t r)))
   properties-within = within-kept _ _ (ready t r (shown t r (lastState t r)) refl W) mostPos edges-within
 
-module _ (t : Segments) (old : Axis) (group : Group) (down : Bool) (scale : ℤ) (by : Thresholds) where
+module _ (t : Segments) (old : Axis) (group : Group) (ttb : Bool) (scale : ℤ) (by : Thresholds) where
   abbrev rules : Rules
-  rules = rulesOf (old .dim) (old .«major_dir») (isCjk group) down scale by
+  rules = rulesOf (old .dim) (old .«major_dir») (isCjk group) scale by
 
   -- a refusal hands back its number, and segments and edges as they were
-  pub refused : (k : ℕ) → refusal (buildingTests t (old .len) scale by) ≡ suc k → computeEdges t old group down scale by ≡ beside t old (suc k)
+  pub refused : (k : ℕ) → refusal (buildingTests t (old .len) ttb scale by) ≡ suc k → computeEdges t old group ttb scale by ≡ beside t old (suc k)
   unfolding computeEdges
   refused k e = rw e
 
   -- an accepted call hands back what is built
-  pub not-refused : refusal (buildingTests t (old .len) scale by) ≡ 0 → computeEdges t old group down scale by ≡ built t old rules (lastState t rules)
+  pub not-refused : refusal (buildingTests t (old .len) ttb scale by) ≡ 0 → computeEdges t old group ttb scale by ≡ built t old rules (lastState t rules)
   unfolding computeEdges
   not-refused e = rw e
 
   -- two outcomes that the promise of `compute_edges` allows coincide
-  pub determined : (a b : Built) → ComputesEdges t old group down scale by a → ComputesEdges t old group down scale by b → a ≡ b
+  pub determined : (a b : Built) → ComputesEdges t old group ttb scale by a → ComputesEdges t old group ttb scale by b → a ≡ b
   determined a b p q = p ∙ sym q

@@ -1,5 +1,5 @@
 -- The numbers of an accepted call, and the distance threshold.
-use mathlib.Core.Path.{_≡_, refl}
+use mathlib.Core.Path.{_≡_}
 use mathlib.Core.Bool.{Bool, true, false}
 use Prim.Native.Nat.{ℕ, _≤_, _<_, min}
 use native.Mathlib.Omega.{arith}
@@ -12,8 +12,6 @@ use Rattle.signed.proofs.Signed.{signed, range, one-zero, natAbs-is}
 use Rattle.fixed.specs.Point.{rounded, mulFix, divFix}
 use Rattle.fixed.proofs.Rounding.{mul-fits, div-abs}
 use Rattle.refusals.proofs.Tests.{and-first, and-second}
-use Rattle.axis.specs.declared.kinds.Dimension.{Dimension}
-use Rattle.axis.specs.declared.kinds.Dimension.the-variants as Dimensions
 use Rattle.axis.specs.declared.segment.Segments.{Segments}
 use Rattle.axis.specs.Limits.{mostSegments, mostUnits, mostScore, leastScale, mostScale}
 use Rattle.axis.specs.Refusals.{inside}
@@ -21,7 +19,7 @@ use Rattle.axis.specs.Segment.{segmentAt}
 use Rattle.axis.proofs.Acceptance.{inside-between, within-between}
 use Rattle.axis.proofs.Tests.{every-at}
 use Rattle.building.specs.declared.numbers.Thresholds.{Thresholds}
-use Rattle.building.specs.Building.{numbersHold, scaledHolds, productsHold, goesDown, mostDistance, distanceThreshold}
+use Rattle.building.specs.Building.{numbersHold, scaledHolds, productsHold, mostDistance, distanceThreshold}
 
 -- ---- what numbers that hold are
 pub record Right (scale : ℤ) (by : Thresholds) : Type 0 where
@@ -77,8 +75,3 @@ under-cjk cjk first scale h e = rw (e, h)
 pub under-latin : (cjk : Bool) (first scale : ℤ) → ltZ mostDistance (mulFix first scale) ≡ false → cjk ≡ false → distanceThreshold cjk first scale ≡ divFix (mulFix first scale) scale
 unfolding distanceThreshold
 under-latin cjk first scale h e = rw (e, h)
-
--- ---- top to bottom
-pub never-down : (dim : Dimension) (cjk down : Bool) → cjk ≡ true → false ≡ goesDown dim cjk down
-never-down Dimensions.Horizontal cjk down e = refl
-never-down Dimensions.Vertical cjk down e = rw e

@@ -42,12 +42,12 @@ abbrev table : List Segment → Segments
 table ss = record { segments = ss; len = length ss }
 
 -- a segment joins what is nearer than 10; up is the major direction
-abbrev rules : Bool → Bool → Rules
-rules cjk down = record { dim = Dimensions.Vertical; «major_dir» = Directions.Up; cjk = cjk; «top_to_bottom» = down; scale = pos 65536; near = 10; length = pos 64; width = pos 32 }
+abbrev rules : Bool → Rules
+rules cjk = record { dim = Dimensions.Vertical; «major_dir» = Directions.Up; cjk = cjk; scale = pos 65536; near = 10; length = pos 64; width = pos 32 }
 
 -- the members of the edges 0 and 1
-abbrev pairs : List Segment → Bool → Bool → List (List ℕ)
-pairs ss cjk down = group (lastState (table ss) (rules cjk down)) 0 ∷ group (lastState (table ss) (rules cjk down)) 1 ∷ []
+abbrev pairs : List Segment → Bool → List (List ℕ)
+pairs ss cjk = group (lastState (table ss) (rules cjk)) 0 ∷ group (lastState (table ss) (rules cjk)) 1 ∷ []
 
 abbrev up : ℕ → Segment
 up p = segment p Directions.Up Links.None
@@ -56,40 +56,35 @@ abbrev down : ℕ → Segment
 down p = segment p Directions.Down Links.None
 
 -- edges stand in the order of their positions, and a segment joins the first edge that is near
-in-order : pairs (up 100 ∷ up 50 ∷ up 109 ∷ []) false false ≡ (1 ∷ []) ∷ (0 ∷ 2 ∷ []) ∷ []
+in-order : pairs (up 100 ∷ up 50 ∷ up 109 ∷ []) false ≡ (1 ∷ []) ∷ (0 ∷ 2 ∷ []) ∷ []
 unfolding same passedOver skips fits fitsIn stopsBehind settle start seek mayJoin behind placeOf create joinOrCreate visit after begun
 in-order = refl
 
--- or the other way round, top to bottom
-top-to-bottom : pairs (up 50 ∷ up 100 ∷ []) false true ≡ (1 ∷ []) ∷ (0 ∷ []) ∷ []
-unfolding same passedOver skips fits fitsIn stopsBehind settle start seek mayJoin behind placeOf create joinOrCreate visit after begun
-top-to-bottom = refl
-
 -- at one position the edge in the major direction is the second
-major-second : pairs (up 50 ∷ down 50 ∷ []) false false ≡ (1 ∷ []) ∷ (0 ∷ []) ∷ []
+major-second : pairs (up 50 ∷ down 50 ∷ []) false ≡ (1 ∷ []) ∷ (0 ∷ []) ∷ []
 unfolding same passedOver skips fits fitsIn stopsBehind settle start seek mayJoin behind placeOf create joinOrCreate visit after begun
 major-second = refl
 
 -- 10 away is not near
-apart : pairs (up 100 ∷ up 110 ∷ []) false false ≡ (0 ∷ []) ∷ (1 ∷ []) ∷ []
+apart : pairs (up 100 ∷ up 110 ∷ []) false ≡ (0 ∷ []) ∷ (1 ∷ []) ∷ []
 unfolding same passedOver skips fits fitsIn stopsBehind settle start seek mayJoin behind placeOf create joinOrCreate visit after begun
 apart = refl
 
 -- between two edges Latin takes the first and CJK the nearest
-latin-first : pairs (up 100 ∷ up 112 ∷ up 107 ∷ []) false false ≡ (0 ∷ 2 ∷ []) ∷ (1 ∷ []) ∷ []
+latin-first : pairs (up 100 ∷ up 112 ∷ up 107 ∷ []) false ≡ (0 ∷ 2 ∷ []) ∷ (1 ∷ []) ∷ []
 unfolding same passedOver skips fits fitsIn stopsBehind settle start seek mayJoin behind placeOf create joinOrCreate visit after begun
 latin-first = refl
 
-cjk-nearest : pairs (up 100 ∷ up 112 ∷ up 107 ∷ []) true false ≡ (0 ∷ []) ∷ (1 ∷ 2 ∷ []) ∷ []
+cjk-nearest : pairs (up 100 ∷ up 112 ∷ up 107 ∷ []) true ≡ (0 ∷ []) ∷ (1 ∷ 2 ∷ []) ∷ []
 unfolding same passedOver skips fits fitsIn linksNear agrees stopsBehind settle start seek mayJoin behind placeOf create joinOrCreate visit after begun
 cjk-nearest = refl
 
 -- one whose link is far from those of an edge's segments makes an edge of its own in CJK
-links-apart : pairs (segment 100 Directions.Up (Links.To 2) ∷ segment 104 Directions.Up (Links.To 3) ∷ down 300 ∷ down 400 ∷ []) true false ≡ (0 ∷ []) ∷ (1 ∷ []) ∷ []
+links-apart : pairs (segment 100 Directions.Up (Links.To 2) ∷ segment 104 Directions.Up (Links.To 3) ∷ down 300 ∷ down 400 ∷ []) true ≡ (0 ∷ []) ∷ (1 ∷ []) ∷ []
 unfolding same passedOver skips fits fitsIn linksNear agrees stopsBehind settle start seek mayJoin behind placeOf create joinOrCreate visit after begun
 links-apart = refl
 
 -- Latin's second loop finds an edge for a segment without direction
-undirected : pairs (segment 103 Directions.None Links.None ∷ up 100 ∷ []) false false ≡ (1 ∷ 0 ∷ []) ∷ [] ∷ []
+undirected : pairs (segment 103 Directions.None Links.None ∷ up 100 ∷ []) false ≡ (1 ∷ 0 ∷ []) ∷ [] ∷ []
 unfolding same passedOver skips fits fitsIn stopsBehind settle start seek mayJoin behind placeOf create joinOrCreate visit after begun
 undirected = refl

@@ -10,14 +10,13 @@ use Rattle.refusals.specs.Refusal.{Test, _unless_, refusal, answered, tooLong, 
 use Rattle.fixed.specs.Point.{mulFix, divFix}
 use Rattle.axis.specs.declared.edge.Axis.{Axis}
 use Rattle.axis.specs.declared.kinds.Dimension.{Dimension}
-use Rattle.axis.specs.declared.kinds.Dimension.the-variants as Dimensions
 use Rattle.axis.specs.declared.kinds.Direction.{Direction}
 use Rattle.axis.specs.declared.kinds.Group.{Group}
 use Rattle.axis.specs.declared.kinds.Group.the-variants as Groups
 use Rattle.axis.specs.declared.segment.Segment.{Segment}
 use Rattle.axis.specs.declared.segment.Segments.{Segments}
 use Rattle.axis.specs.Limits.{mostEdges, mostUnits, mostScore, leastScale, mostScale}
-use Rattle.axis.specs.Refusals.{inside, within, everySegment, segmentsShort, segmentsIndexed, segmentsInRange}
+use Rattle.axis.specs.Refusals.{inside, within, everySegment, bottomToTop, segmentsShort, segmentsIndexed, segmentsInRange}
 use Rattle.joining.specs.declared.rules.Rules.{Rules}
 use Rattle.joining.specs.Joining.{State, shown, stateAt}
 use Rattle.properties.specs.Properties.{edgeProperties}
@@ -42,21 +41,16 @@ scaledHolds scale s = within mostUnits (mulFix (s .pos) scale)
 unfoldable pub productsHold : Segments → ℤ → Bool
 productsHold t scale = everySegment (scaledHolds scale) t
 
--- the tests of refusals 1 to 4 in document 01's order; of the old edges only the count is tested
-abbrev pub buildingTests : Segments → ℕ → ℤ → Thresholds → List Test
-buildingTests t edges scale by =
-    segmentsShort t ∷ tooLong unless leb edges mostEdges ∷ badParameter unless numbersHold scale by ∷ segmentsIndexed t ∷ segmentsInRange t ∷ outOfRange unless productsHold t scale ∷ []
+-- the tests of refusals 1, 10 and 2 to 4 in their order; of the old edges only the count is tested
+abbrev pub buildingTests : Segments → ℕ → Bool → ℤ → Thresholds → List Test
+buildingTests t edges ttb scale by =
+    segmentsShort t ∷ tooLong unless leb edges mostEdges ∷ bottomToTop ttb ∷ badParameter unless numbersHold scale by ∷ segmentsIndexed t ∷ segmentsInRange t ∷ outOfRange unless productsHold t scale ∷ []
 
 -- ---- the rules
 -- CJK's rules apply
 abbrev pub isCjk : Group → Bool
 isCjk Groups.Default = false
 isCjk Groups.Cjk = true
-
--- edges go from top to bottom: never on the horizontal axis nor in CJK
-abbrev pub goesDown : Dimension → Bool → Bool → Bool
-goesDown Dimensions.Horizontal cjk down = false
-goesDown Dimensions.Vertical cjk down = not cjk && down
 
 -- a quarter of a pixel, the most that the distance threshold comes to at the scale
 abbrev pub mostDistance : ℤ
@@ -72,12 +66,11 @@ abbrev pub nearOf : Bool → ℤ → ℤ → ℕ
 nearOf cjk first scale = natAbs (distanceThreshold cjk first scale)
 
 -- what joining is told
-abbrev pub rulesOf : Dimension → Direction → Bool → Bool → ℤ → Thresholds → Rules
-rulesOf dim major cjk down scale by = record {
+abbrev pub rulesOf : Dimension → Direction → Bool → ℤ → Thresholds → Rules
+rulesOf dim major cjk scale by = record {
   dim = dim;
   «major_dir» = major;
   cjk = cjk;
-  «top_to_bottom» = goesDown dim cjk down;
   scale = scale;
   near = nearOf cjk (by .distance) scale;
   length = by .length;
@@ -107,10 +100,10 @@ built t old r s = cond (s .full) (beside t old noRoom) (beside (builtSegments t 
 
 -- what the call hands back; beside a refusal segments and edges as they were
 unfoldable pub computeEdges : Segments → Axis → Group → Bool → ℤ → Thresholds → Built
-computeEdges t old group down scale by =
-    answered (refusal (buildingTests t (old .len) scale by)) (beside t old)
-    (built t old (rulesOf (old .dim) (old .«major_dir») (isCjk group) down scale by) (lastState t (rulesOf (old .dim) (old .«major_dir») (isCjk group) down scale by)))
+computeEdges t old group ttb scale by =
+    answered (refusal (buildingTests t (old .len) ttb scale by)) (beside t old)
+    (built t old (rulesOf (old .dim) (old .«major_dir») (isCjk group) scale by) (lastState t (rulesOf (old .dim) (old .«major_dir») (isCjk group) scale by)))
 
 -- what the call owes its caller: the answer, the segments and the axis
 abbrev pub ComputesEdges : Segments → Axis → Group → Bool → ℤ → Thresholds → Built → Type 0
-ComputesEdges t old group down scale by r = r ≡ computeEdges t old group down scale by
+ComputesEdges t old group ttb scale by r = r ≡ computeEdges t old group ttb scale by

@@ -23,6 +23,7 @@ use refusals::order::BAD_INDEX;
 use refusals::order::BAD_PARAMETER;
 use refusals::order::NO_ROOM;
 use refusals::order::OUT_OF_RANGE;
+use refusals::order::RETIRED;
 use refusals::order::TOO_LONG;
 use refusals::order::or_refused;
 ghost use mathlib.Core.Path.{_≡_};
@@ -31,7 +32,7 @@ ghost use Rattle.refusals.specs.Refusal.{refusal};
 ghost use Rattle.axis.specs.Accepted.{SegmentsWithin};
 ghost use Rattle.joining.specs.Joining.{shown};
 ghost use Rattle.joining.specs.Walks.{Joinable};
-ghost use Rattle.building.specs.Building.{isCjk, buildingTests, goesDown, numbersHold, rulesOf, lastState, ComputesEdges};
+ghost use Rattle.building.specs.Building.{isCjk, buildingTests, numbersHold, rulesOf, lastState, ComputesEdges};
 
 // The answer, 0 or document 01's number of the refusal, the segments and the edges.
 pub struct Built {
@@ -50,32 +51,17 @@ fn is_cjk(group: Group) -> bool
     }
 }
 
-// Whether edges go from top to bottom: never on the horizontal axis nor in CJK.
-fn goes_down(dim: Dimension, cjk: bool, top_to_bottom: bool) -> bool
-    ensures { λ r. ⌜ r ≡ goesDown dim cjk «top_to_bottom» ⌝ }
-{
-    if cjk {
-        return false;
-    }
-    match dim {
-        Dimension::Horizontal => false,
-        Dimension::Vertical => top_to_bottom,
-    }
-}
-
 // What joining is told.
 fn rules_of(
     dim: Dimension,
     major_dir: Direction,
     cjk: bool,
-    top_to_bottom: bool,
     scale: i32,
     thresholds: Thresholds,
 ) -> Rules
     requires { ⌜ numbersHold scale thresholds ≡ true ⌝ }
-    ensures { λ r. ⌜ r ≡ rulesOf dim «major_dir» cjk «top_to_bottom» scale thresholds ⌝ }
+    ensures { λ r. ⌜ r ≡ rulesOf dim «major_dir» cjk scale thresholds ⌝ }
 {
-    let down = goes_down(dim, cjk, top_to_bottom);
     let near = near_of(thresholds.distance, scale, cjk);
     let length = thresholds.length;
     let width = thresholds.width;
@@ -83,7 +69,6 @@ fn rules_of(
         dim,
         major_dir,
         cjk,
-        top_to_bottom: down,
         scale,
         near,
         length,
@@ -110,19 +95,27 @@ fn join_all(segments: Segments, rules: Rules) -> Joined
     join_segments(segments, &stems, rules, true, joined)
 }
 
-// The refusal of the call, 1 to 4, or 0.
-fn building_refusal(segments: Segments, edges: usize, scale: i32, thresholds: Thresholds) -> u8
-    ensures { λ r. ⌜ r ≡ refusal (buildingTests segments edges scale thresholds) ⌝ }
+// The refusal of the call, 1, 10 or 2 to 4, or 0.
+fn building_refusal(
+    segments: Segments,
+    edges: usize,
+    top_to_bottom: bool,
+    scale: i32,
+    thresholds: Thresholds,
+) -> u8
+    ensures { λ r. ⌜ r ≡ refusal (buildingTests segments edges «top_to_bottom» scale thresholds) ⌝ }
 {
     let answer = or_refused(0, few_segments(segments.len), TOO_LONG);
     let answer = or_refused(answer, few_edges(edges), TOO_LONG);
+    let answer = or_refused(answer, !top_to_bottom, RETIRED);
     let answer = or_refused(answer, numbers_hold(scale, thresholds), BAD_PARAMETER);
     let answer = or_refused(answer, segments_indices(segments), BAD_INDEX);
     let answer = or_refused(answer, segments_numbers(segments), OUT_OF_RANGE);
     or_refused(answer, products_hold(segments, scale), OUT_OF_RANGE)
 }
 
-// Builds the edges of an axis from its segments. A refusal, 1 to 5, hands segments and edges back as they were.
+// Builds the edges of an axis from its segments, from bottom to top. A refusal, 1 to 5, or 10 where top to bottom is asked for, which is retired, hands segments
+// and edges back as they were.
 pub fn compute_edges(
     segments: Segments,
     old: Axis,
@@ -133,7 +126,7 @@ pub fn compute_edges(
 ) -> Built
     ensures { λ r. ⌜ ComputesEdges segments old group «top_to_bottom» scale thresholds r ⌝ }
 {
-    let answer = building_refusal(segments, old.len, scale, thresholds);
+    let answer = building_refusal(segments, old.len, top_to_bottom, scale, thresholds);
     if 0 < answer {
         return Built {
             answer,
@@ -144,7 +137,7 @@ pub fn compute_edges(
     let dim = old.dim;
     let major_dir = old.major_dir;
     let cjk = is_cjk(group);
-    let rules = rules_of(dim, major_dir, cjk, top_to_bottom, scale, thresholds);
+    let rules = rules_of(dim, major_dir, cjk, scale, thresholds);
     let joined = join_all(segments, rules);
     if joined.full {
         return Built {

@@ -1,5 +1,5 @@
 -- One by one: each outline of a catalogue is answered and aligned as if it had been called alone, and so demand 3 holds of each.
-use mathlib.Core.Path.{_≡_, refl, sym, _∙_, ap, subst}
+use mathlib.Core.Path.{_≡_, refl, sym, _∙_, ap}
 use mathlib.Core.List.{List, [], _∷_, _++_}
 use Prim.Native.Nat.{ℕ, zero, suc, _+_, _≤_, _<_}
 use native.Mathlib.Omega.{arith}
@@ -14,7 +14,6 @@ use Rattle.outline.proofs.Parts.{part}
 use Rattle.outline.proofs.Outcomes.{result-length}
 use Rattle.outline.proofs.Faithful.{demand-3}
 use Rattle.catalogue.specs.Catalogue.{total, catalogueTests, answersOf, currentsOf, Catalogued}
-use Rattle.catalogue.specs.Steps.{AddsUp}
 use Rattle.catalogue.proofs.Outcomes.{adding}
 
 -- the outline j of the shared lists: its points begin behind those of the outlines in front of it, by the counts, and its contour ends likewise; a and d are the

@@ -1,5 +1,5 @@
 -- What a call hands back with answer 0 is accepted by the calls behind it, whose own parameters are right: linking, building, blue zones, stems, and the others beside.
-use mathlib.Core.Path.{_≡_}
+use mathlib.Core.Path.{_≡_, refl}
 use mathlib.Core.Bool.{Bool, true, false, cond}
 use mathlib.Core.List.{List}
 use mathlib.Core.Logic.{_⊎_, inl, inr}
@@ -39,7 +39,7 @@ accepts axis a = record {
   bounds = Fitting.bounds-accepts axis a;
   adjust = Fitting.adjust-accepts axis a;
   cjk = λ adjust rule xs i j d r b w. Cjk.accepts axis adjust rule xs i j d a r b w;
-  stems = λ group adjust ttb anchor rule xs b r. Stems.accepts axis group adjust ttb anchor rule xs a b r;
+  stems = λ group adjust anchor rule xs b r. Stems.accepts axis group adjust false anchor rule xs a refl b r;
   m = λ group c. M.accepts axis group a c;
 }
 
@@ -53,28 +53,28 @@ module _ (t : Segments) (dir : Direction) (upem scale : ℤ) (e : linkSegmentsCj
   linked = linkSegmentsCjk t dir upem scale .segments
 
   -- what linking hands back, building refuses by 5 alone
-  pub linked-built : (old : Axis) (group : Group) (down : Bool) (at : ℤ) (by : Thresholds)
+  pub linked-built : (old : Axis) (group : Group) (at : ℤ) (by : Thresholds)
       → leb (old .len) mostEdges ≡ true → numbersHold at by ≡ true → productsHold (linkSegmentsCjk t dir upem scale .segments) at ≡ true
-      → (computeEdges (linkSegmentsCjk t dir upem scale .segments) old group down at by .answer ≡ 0)
-      ⊎ (computeEdges (linkSegmentsCjk t dir upem scale .segments) old group down at by .answer ≡ noRoom)
-  linked-built old group down at by few n p =
-      roomy (lastState linked (rulesOf (old .dim) (old .«major_dir») (isCjk group) down at by) .full) _
-      (Building.accepts linked old group down at by (Linking.handed-on t dir upem scale e c) few n p)
+      → (computeEdges (linkSegmentsCjk t dir upem scale .segments) old group false at by .answer ≡ 0)
+      ⊎ (computeEdges (linkSegmentsCjk t dir upem scale .segments) old group false at by .answer ≡ noRoom)
+  linked-built old group at by few n p =
+      roomy (lastState linked (rulesOf (old .dim) (old .«major_dir») (isCjk group) at by) .full) _
+      (Building.accepts linked old group false at by (Linking.handed-on t dir upem scale e c) few refl n p)
 
   -- and linking accepts
   pub linked-linked : (major : Direction) (em at : ℤ) → L.numbersHold em at ≡ true → linkSegmentsCjk (linkSegmentsCjk t dir upem scale .segments) major em at .answer ≡ 0
   linked-linked major em at n = Linking.accepts linked major em at (Linking.handed-on t dir upem scale e c) (Linking.nexts-handed-on t dir upem scale e) n
 
 -- ---- building
-module _ (t : Segments) (old : Axis) (group : Group) (down : Bool) (scale : ℤ) (by : Thresholds) (e : computeEdges t old group down scale by .answer ≡ 0) where
+module _ (t : Segments) (old : Axis) (group : Group) (ttb : Bool) (scale : ℤ) (by : Thresholds) (e : computeEdges t old group ttb scale by .answer ≡ 0) where
   -- the edges that building hands back, every call over edges accepts
-  pub built-accepted : Accepts (computeEdges t old group down scale by .axis)
-  built-accepted = accepts _ (Building.edges-handed-on t old group down scale by e)
+  pub built-accepted : Accepts (computeEdges t old group ttb scale by .axis)
+  built-accepted = accepts _ (Building.edges-handed-on t old group ttb scale by e)
 
   -- and its segments linking
-  pub built-linked : (major : Direction) (em at : ℤ) → L.numbersHold em at ≡ true → linkSegmentsCjk (computeEdges t old group down scale by .segments) major em at .answer ≡ 0
+  pub built-linked : (major : Direction) (em at : ℤ) → L.numbersHold em at ≡ true → linkSegmentsCjk (computeEdges t old group ttb scale by .segments) major em at .answer ≡ 0
   built-linked major em at n =
-      Linking.accepts _ major em at (Building.segments-handed-on t old group down scale by e) (Building.nexts-handed-on t old group down scale by e) n
+      Linking.accepts _ major em at (Building.segments-handed-on t old group ttb scale by e) (Building.nexts-handed-on t old group ttb scale by e) n
 
 -- ---- blue zones
 module _ (axis : Axis) (group : Group) (rule : WidthRule) (xs : List ℤ) (e : alignEdgesToBlues axis group rule xs .answer ≡ 0) where
@@ -83,6 +83,6 @@ module _ (axis : Axis) (group : Group) (rule : WidthRule) (xs : List ℤ) (e : a
   zoned-accepted = accepts _ (Blues.handed-on axis group rule xs e)
 
   -- and stems the anchor with them
-  pub zoned-stems : (g : Group) (adjust ttb : Bool) (by : WidthRule) (ys : List ℤ) → ruleHolds by ys ≡ true
-      → alignStemEdges (alignEdgesToBlues axis group rule xs .axis) g adjust ttb (alignEdgesToBlues axis group rule xs .anchor) by ys .answer ≡ 0
-  zoned-stems g adjust ttb by ys r = zoned-accepted .stems g adjust ttb _ by ys (Blues.anchor-handed-on axis group rule xs e) r
+  pub zoned-stems : (g : Group) (adjust : Bool) (by : WidthRule) (ys : List ℤ) → ruleHolds by ys ≡ true
+      → alignStemEdges (alignEdgesToBlues axis group rule xs .axis) g adjust false (alignEdgesToBlues axis group rule xs .anchor) by ys .answer ≡ 0
+  zoned-stems g adjust by ys r = zoned-accepted .stems g adjust _ by ys (Blues.anchor-handed-on axis group rule xs e) r

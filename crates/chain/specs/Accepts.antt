@@ -1,6 +1,6 @@
 -- Which calls answer edges by 0, with their own parameters right.
 use mathlib.Core.Path.{_≡_}
-use mathlib.Core.Bool.{Bool, true}
+use mathlib.Core.Bool.{Bool, true, false}
 use mathlib.Core.List.{List}
 use Prim.Native.Nat.{ℕ}
 use lib.Dec.{ltb}
@@ -27,9 +27,9 @@ pub record Accepts (axis : Axis) : Type 0 where
   pub linked : (rule : WidthRule) (xs : List ℤ) (base stem : ℕ) → ruleHolds rule xs ≡ true → bothBelow (axis .len) base stem ≡ true → alignLinkedEdge axis rule xs base stem .answer ≡ 0
   pub serif : (base serif : ℕ) → bothBelow (axis .len) base serif ≡ true → alignSerifEdge axis base serif .answer ≡ 0
   pub bounds : (i : ℕ) → ltb i (axis .len) ≡ true → latinRemainingBounds axis i .answer ≡ 0
-  pub adjust : (i : ℕ) (dir : LinkDir) (ttb : Bool) → ltb i (axis .len) ≡ true → adjustLink axis i dir ttb .answer ≡ 0
+  pub adjust : (i : ℕ) (dir : LinkDir) → ltb i (axis .len) ≡ true → adjustLink axis i dir false .answer ≡ 0
   pub cjk : (adjust : Bool) (rule : WidthRule) (xs : List ℤ) (i j : ℕ) (d : ℤ) → ruleHolds rule xs ≡ true → bothBelow (axis .len) i j ≡ true → within mostUnits d ≡ true
       → hintNormalStemCjk axis adjust rule xs i j d .answer ≡ 0
-  pub stems : (group : Group) (adjust ttb : Bool) (anchor : Link) (rule : WidthRule) (xs : List ℤ) → Below (axis .len) anchor → ruleHolds rule xs ≡ true
-      → alignStemEdges axis group adjust ttb anchor rule xs .answer ≡ 0
+  pub stems : (group : Group) (adjust : Bool) (anchor : Link) (rule : WidthRule) (xs : List ℤ) → Below (axis .len) anchor → ruleHolds rule xs ≡ true
+      → alignStemEdges axis group adjust false anchor rule xs .answer ≡ 0
   pub m : (group : Group) → countHolds (axis .len) ≡ true → hintLowercaseM axis group .answer ≡ 0

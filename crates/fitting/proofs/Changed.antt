@@ -18,7 +18,7 @@ use Rattle.placing.specs.Placing.{linkedPos, serifPos, lowerBound, upperBound}
 use Rattle.placing.proofs.Changed.{position-put, adjusted-only}
 use Rattle.fitting.specs.declared.place.Fitted.{Fitted}
 use Rattle.fitting.specs.declared.bounds.Bounds.{Bounds}
-use Rattle.fitting.specs.Fitting.{linkedTests, serifTests, edgeTests, fitted, bounds, alignLinkedEdge, alignSerifEdge, latinRemainingBounds, adjustLink}
+use Rattle.fitting.specs.Fitting.{linkedTests, serifTests, edgeTests, adjustTests, fitted, bounds, alignLinkedEdge, alignSerifEdge, latinRemainingBounds, adjustLink}
 use Rattle.fitting.specs.Fitting.{AlignsLinkedEdge, AlignsSerifEdge, FindsLatinRemainingBounds, AdjustsLink}
 
 -- nothing but the position of edge i
@@ -47,7 +47,7 @@ align-serif-edge axis base serif p =
 pub adjust-link : (axis : Axis) (edge : ℕ) (dir : LinkDir) (ttb : Bool) {r : Fitted} → AdjustsLink axis edge dir ttb r
     → Changes (OnlyAxis (wherever (eqb edge) position)) (r .answer) axis (r .axis)
 unfolding adjustLink
-adjust-link axis edge dir ttb p = call axis _ (refusal (edgeTests axis edge)) edge p (adjusted-only axis edge dir ttb)
+adjust-link axis edge dir ttb p = call axis _ (refusal (adjustTests axis edge ttb)) edge p (adjusted-only axis edge dir)
 
 -- `latin_remaining_bounds` hands back no axis; a refusal hands back no bounds either
 pub latin-remaining-bounds : (axis : Axis) (edge : ℕ) {r : Bounds} → FindsLatinRemainingBounds axis edge r → 0 < r .answer → r ≡ bounds Links.None Links.None (r .answer)

@@ -1,11 +1,10 @@
 -- Edges that are accepted, with parameters that are right, are answered by 0 by each of the calls.
 use mathlib.Core.Path.{_≡_, refl, ap}
-use mathlib.Core.Bool.{Bool, true}
+use mathlib.Core.Bool.{true, false}
 use mathlib.Core.List.{List}
 use Prim.Native.Nat.{ℕ}
 use lib.Dec.{ltb}
 use lib.IntN.{ℤ}
-use Rattle.refusals.specs.Refusal.{refusal}
 use Rattle.refusals.proofs.Answers.{worked}
 use Rattle.refusals.proofs.Tests.{no-refusal}
 use Rattle.fixed.specs.declared.width.WidthRule.{WidthRule}
@@ -17,7 +16,7 @@ use Rattle.placing.specs.declared.adjust.LinkDir.{LinkDir}
 use Rattle.placing.specs.Placing.{bothBelow}
 use Rattle.fitting.specs.declared.place.Fitted.{Fitted}
 use Rattle.fitting.specs.declared.bounds.Bounds.{Bounds}
-use Rattle.fitting.specs.Fitting.{linkedTests, serifTests, edgeTests, fitted, bounds, alignLinkedEdge, alignSerifEdge, latinRemainingBounds, adjustLink}
+use Rattle.fitting.specs.Fitting.{linkedTests, serifTests, edgeTests, adjustTests, fitted, bounds, alignLinkedEdge, alignSerifEdge, latinRemainingBounds, adjustLink}
 
 module _ (axis : Axis) (a : EdgesAccepted axis) where
   pub linked-accepts : (rule : WidthRule) (xs : List ℤ) (base stem : ℕ) → ruleHolds rule xs ≡ true → bothBelow (axis .len) base stem ≡ true → alignLinkedEdge axis rule xs base stem .answer ≡ 0
@@ -29,13 +28,12 @@ module _ (axis : Axis) (a : EdgesAccepted axis) where
   unfolding alignSerifEdge
   serif-accepts base serif b = ap (λ (f : Fitted). f .answer) (worked (fitted axis) _ _ (no-refusal (serifTests axis base serif) (a .short, (a .indexed, (b, (a .in-range, refl))))))
 
-  one-edge : (i : ℕ) → ltb i (axis .len) ≡ true → refusal (edgeTests axis i) ≡ 0
-  one-edge i b = no-refusal (edgeTests axis i) (a .short, (a .indexed, (b, (a .in-range, refl))))
-
   pub bounds-accepts : (i : ℕ) → ltb i (axis .len) ≡ true → latinRemainingBounds axis i .answer ≡ 0
   unfolding latinRemainingBounds
-  bounds-accepts i b = ap (λ (f : Bounds). f .answer) (worked (bounds Links.None Links.None) _ _ (one-edge i b))
+  bounds-accepts i b =
+      ap (λ (f : Bounds). f .answer) (worked (bounds Links.None Links.None) _ _ (no-refusal (edgeTests axis i) (a .short, (a .indexed, (b, (a .in-range, refl))))))
 
-  pub adjust-accepts : (i : ℕ) (dir : LinkDir) (ttb : Bool) → ltb i (axis .len) ≡ true → adjustLink axis i dir ttb .answer ≡ 0
+  pub adjust-accepts : (i : ℕ) (dir : LinkDir) → ltb i (axis .len) ≡ true → adjustLink axis i dir false .answer ≡ 0
   unfolding adjustLink
-  adjust-accepts i dir ttb b = ap (λ (f : Fitted). f .answer) (worked (fitted axis) _ _ (one-edge i b))
+  adjust-accepts i dir b =
+      ap (λ (f : Fitted). f .answer) (worked (fitted axis) _ _ (no-refusal (adjustTests axis i false) (a .short, (refl, (a .indexed, (b, (a .in-range, refl)))))))

@@ -12,7 +12,7 @@ use Rattle.axis.specs.declared.kinds.Link.{Link}
 use Rattle.axis.specs.declared.kinds.Link.the-variants as Links
 use Rattle.axis.specs.declared.edge.Axis.{Axis}
 use Rattle.axis.specs.Edge.{edgeAt, putEdge}
-use Rattle.axis.specs.Refusals.{edgesShort, edgesIndexed, edgesInRange}
+use Rattle.axis.specs.Refusals.{edgesShort, bottomToTop, edgesIndexed, edgesInRange}
 use Rattle.placing.specs.declared.adjust.LinkDir.{LinkDir}
 use Rattle.placing.specs.Placing.{bothBelow, linkedEdge, serifEdge, lowerBound, upperBound, adjusted}
 use Rattle.fitting.specs.declared.place.Fitted.{Fitted}
@@ -28,9 +28,13 @@ linkedTests axis rule xs base stem =
 abbrev pub serifTests : Axis → ℕ → ℕ → List Test
 serifTests axis base serif = edgesShort axis ∷ edgesIndexed axis ∷ badIndex unless bothBelow (axis .len) base serif ∷ edgesInRange axis ∷ []
 
--- of `latin_remaining_bounds` and `adjust_link`
+-- of `latin_remaining_bounds`
 abbrev pub edgeTests : Axis → ℕ → List Test
 edgeTests axis i = edgesShort axis ∷ edgesIndexed axis ∷ badIndex unless ltb i (axis .len) ∷ edgesInRange axis ∷ []
+
+-- of `adjust_link`
+abbrev pub adjustTests : Axis → ℕ → Bool → List Test
+adjustTests axis i ttb = edgesShort axis ∷ bottomToTop ttb ∷ edgesIndexed axis ∷ badIndex unless ltb i (axis .len) ∷ edgesInRange axis ∷ []
 
 -- ---- the calls, and what each owes its caller
 -- an answer and an axis
@@ -69,7 +73,7 @@ FindsLatinRemainingBounds axis i r = r ≡ latinRemainingBounds axis i
 
 -- `adjust_link`: the refusal and the axis as it came, or 0 and the axis with the edge adjusted, moved or not
 unfoldable pub adjustLink : Axis → ℕ → LinkDir → Bool → Fitted
-adjustLink axis i dir ttb = answered (refusal (edgeTests axis i)) (fitted axis) (fitted (adjusted axis i dir ttb) 0)
+adjustLink axis i dir ttb = answered (refusal (adjustTests axis i ttb)) (fitted axis) (fitted (adjusted axis i dir) 0)
 
 abbrev pub AdjustsLink : Axis → ℕ → LinkDir → Bool → Fitted → Type 0
 AdjustsLink axis i dir ttb r = r ≡ adjustLink axis i dir ttb

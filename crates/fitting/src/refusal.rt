@@ -42,7 +42,7 @@ pub fn serif_refusal(axis: Axis, base: usize, serif: usize) -> u8
     or_refused(answer, edges_numbers(axis), OUT_OF_RANGE)
 }
 
-// The refusal of the calls on one edge and its neighbours, or 0.
+// The refusal of the call on an edge's bounds, or 0.
 pub fn edge_refusal(axis: Axis, edge: usize) -> u8
     ensures { λ r. ⌜ r ≡ refusal (edgeTests axis edge) ⌝ }
 {

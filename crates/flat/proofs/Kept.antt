@@ -16,7 +16,7 @@ use Rattle.axis.specs.declared.edge.Axis.{Axis}
 use Rattle.axis.specs.Edge.{edgeAt, putEdge, placed}
 use Rattle.placing.specs.declared.adjust.LinkDir.{LinkDir}
 use Rattle.placing.specs.Placing.{hasPassed, isFar, neighbour, heldTo, boundBy, adjusted}
-use Rattle.fitting.specs.Fitting.{linkedTests, serifTests, edgeTests, fitted, alignLinkedEdge, alignSerifEdge, adjustLink}
+use Rattle.fitting.specs.Fitting.{linkedTests, serifTests, adjustTests, fitted, alignLinkedEdge, alignSerifEdge, adjustLink}
 use Rattle.words.specs.Word.{wordAt}
 use Rattle.words.specs.Edge.{posPlace, wordOfEdge}
 use Rattle.words.specs.Field.{choiceOf, ruleOf, linkDirOf, groupOf}
@@ -64,24 +64,24 @@ held-moved axis h i k (Links.To l) =
     either-way (SameEdges (posOf (λ (n : ℕ). eqb n i)) axis) (isFar (edgeAt axis l .pos) (edgeAt axis h .pos)) (putEdge axis i (placed (edgeAt axis i) (edgeAt axis k .pos))) axis
     (one-moved axis i (edgeAt axis k .pos)) (none-moved (λ (n : ℕ). eqb n i) axis)
 
-bound-moved : (axis : Axis) (h i : ℕ) (dir : LinkDir) (ttb : Bool) (l : Link) → SameEdges (posOf (λ (n : ℕ). eqb n i)) axis (boundBy axis h i dir ttb l)
+bound-moved : (axis : Axis) (h i : ℕ) (dir : LinkDir) (l : Link) → SameEdges (posOf (λ (n : ℕ). eqb n i)) axis (boundBy axis h i dir l)
 unfolding boundBy
-bound-moved axis h i dir ttb Links.None = none-moved (λ (n : ℕ). eqb n i) axis
-bound-moved axis h i dir ttb (Links.To k) =
-    either-way (SameEdges (posOf (λ (n : ℕ). eqb n i)) axis) (hasPassed dir ttb (edgeAt axis i .pos) (edgeAt axis k .pos)) (heldTo axis h i k (edgeAt axis i .link)) axis
+bound-moved axis h i dir Links.None = none-moved (λ (n : ℕ). eqb n i) axis
+bound-moved axis h i dir (Links.To k) =
+    either-way (SameEdges (posOf (λ (n : ℕ). eqb n i)) axis) (hasPassed dir (edgeAt axis i .pos) (edgeAt axis k .pos)) (heldTo axis h i k (edgeAt axis i .link)) axis
     (held-moved axis h i k (edgeAt axis i .link)) (none-moved (λ (n : ℕ). eqb n i) axis)
 
-adjusted-moved : (axis : Axis) (i : ℕ) (dir : LinkDir) (ttb : Bool) → SameEdges (posOf (λ (n : ℕ). eqb n i)) axis (adjusted axis i dir ttb)
+adjusted-moved : (axis : Axis) (i : ℕ) (dir : LinkDir) → SameEdges (posOf (λ (n : ℕ). eqb n i)) axis (adjusted axis i dir)
 unfolding adjusted
-adjusted-moved axis zero dir ttb = none-moved (λ (n : ℕ). eqb n 0) axis
-adjusted-moved axis (suc h) dir ttb = bound-moved axis h (suc h) dir ttb (neighbour dir axis (suc h))
+adjusted-moved axis zero dir = none-moved (λ (n : ℕ). eqb n 0) axis
+adjusted-moved axis (suc h) dir = bound-moved axis h (suc h) dir (neighbour dir axis (suc h))
 
 pub adjust-kept : (ws : List ℤ) (edge dir ttb : ℤ) {r : ℕ} {now : List ℤ} → AdjustLent ws edge dir ttb r now → KeptBut (ofEdges (posOf (λ (i : ℕ). eqb i (namedEdge edge)))) ws now
 unfolding adjustLink
 adjust-kept ws edge dir ttb l =
     let axis = edgesOf ws in
     edges-left (posOf (λ (i : ℕ). eqb i (namedEdge edge))) ws (bothIn choice dir ttb) Dimensions.Horizontal Directions.None (adjustFitted ws edge dir ttb .axis) l
-    (λ e. by-answer (λ (i : ℕ). eqb i (namedEdge edge)) axis _ (refusal (edgeTests axis (namedEdge edge))) (adjusted-moved axis (namedEdge edge) (linkDirOf dir) (choiceOf ttb)))
+    (λ e. by-answer (λ (i : ℕ). eqb i (namedEdge edge)) axis _ (refusal (adjustTests axis (namedEdge edge) (choiceOf ttb))) (adjusted-moved axis (namedEdge edge) (linkDirOf dir)))
 
 -- ---- word by word: every word but that position stays
 pub linked-word : (ws : List ℤ) (rule : ℤ) (standards : List ℤ) (base stem : ℤ) {r : ℕ} {now : List ℤ} → LinkedLent ws rule standards base stem r now

@@ -26,7 +26,7 @@ serifFitted ws base serif = alignSerifEdge (edgesOf ws) (namedEdge base) (namedE
 abbrev pub SerifLent : List ℤ → ℤ → ℤ → ℕ → List ℤ → Type 0
 SerifLent ws base serif = Lent (edgesFront ws true) (serifFitted ws base serif .answer) (edgesOver ws (serifFitted ws base serif .axis)) ws
 
--- ---- the adjustment: edges, the edge, its neighbour and the order
+-- ---- the adjustment: edges, the edge, its neighbour, and whether the retired order is asked for
 abbrev pub adjustFitted : List ℤ → ℤ → ℤ → ℤ → Fitted
 adjustFitted ws edge dir ttb = adjustLink (edgesOf ws) (namedEdge edge) (linkDirOf dir) (choiceOf ttb)
 

@@ -21,20 +21,20 @@ use Rattle.words.specs.Segment.{flatSegments}
 use Rattle.flat_segments.specs.Build as Build
 
 -- the edges that were there, or as many as a table holds
-call-few : (t : Segments) (old : Axis) (group : Group) (down : Bool) (scale : ℤ) (by : Thresholds) → old .len ≤ mostEdges → computeEdges t old group down scale by .axis .len ≤ mostEdges
+call-few : (t : Segments) (old : Axis) (group : Group) (ttb : Bool) (scale : ℤ) (by : Thresholds) → old .len ≤ mostEdges → computeEdges t old group ttb scale by .axis .len ≤ mostEdges
 unfolding built
-call-few t old group down scale by h = go (refusal (buildingTests t (old .len) scale by)) refl
+call-few t old group ttb scale by h = go (refusal (buildingTests t (old .len) ttb scale by)) refl
   where
-    full : (b : Bool) → lastState t (rulesOf (old .dim) (old .«major_dir») (isCjk group) down scale by) .full ≡ b → refusal (buildingTests t (old .len) scale by) ≡ 0
-        → computeEdges t old group down scale by .axis .len ≤ mostEdges
-    full true q e = rw (not-refused t old group down scale by e, q) h
+    full : (b : Bool) → lastState t (rulesOf (old .dim) (old .«major_dir») (isCjk group) scale by) .full ≡ b → refusal (buildingTests t (old .len) ttb scale by) ≡ 0
+        → computeEdges t old group ttb scale by .axis .len ≤ mostEdges
+    full true q e = rw (not-refused t old group ttb scale by e, q) h
     full false q e =
-        let a : computeEdges t old group down scale by .answer ≡ 0 = rw (not-refused t old group down scale by e, q) in
-        leb-true (computeEdges t old group down scale by .axis .len) mostEdges (edges-handed-on t old group down scale by a .short)
+        let a : computeEdges t old group ttb scale by .answer ≡ 0 = rw (not-refused t old group ttb scale by e, q) in
+        leb-true (computeEdges t old group ttb scale by .axis .len) mostEdges (edges-handed-on t old group ttb scale by a .short)
 
-    go : (k : ℕ) → refusal (buildingTests t (old .len) scale by) ≡ k → computeEdges t old group down scale by .axis .len ≤ mostEdges
-    go zero e = full (lastState t (rulesOf (old .dim) (old .«major_dir») (isCjk group) down scale by) .full) refl e
-    go (suc k) e = rw (refused t old group down scale by k e) h
+    go : (k : ℕ) → refusal (buildingTests t (old .len) ttb scale by) ≡ k → computeEdges t old group ttb scale by .axis .len ≤ mostEdges
+    go zero e = full (lastState t (rulesOf (old .dim) (old .«major_dir») (isCjk group) scale by) .full) refl e
+    go (suc k) e = rw (refused t old group ttb scale by k e) h
 
 pub built-few : (ws : List ℤ) (dim major group ttb scale : ℤ) (t : Thresholds) → Build.built ws dim major group ttb scale t .axis .len ≤ mostEdges
 built-few ws dim major group ttb scale t = call-few (flatSegments ws) (emptyAxis (dimensionOf dim) (directionOf major)) (groupOf group) (choiceOf ttb) scale t (omega arith)

@@ -105,16 +105,16 @@ same-built : (t : Segments) (s : State) → Same t (builtSegments t s)
 unfolding builtSegments cleared
 same-built t s = same-groups t (clear (t .len) t) s (s .count) (same-clear t (t .len))
 
-computed-same : (t : Segments) (old : Axis) (group : Group) (down : Bool) (scale : ℤ) (by : Thresholds) → Same t (computeEdges t old group down scale by .segments)
+computed-same : (t : Segments) (old : Axis) (group : Group) (ttb : Bool) (scale : ℤ) (by : Thresholds) → Same t (computeEdges t old group ttb scale by .segments)
 unfolding built
-computed-same t old group down scale by = go (refusal (buildingTests t (old .len) scale by)) refl
+computed-same t old group ttb scale by = go (refusal (buildingTests t (old .len) ttb scale by)) refl
   where
-    go : (k : ℕ) → refusal (buildingTests t (old .len) scale by) ≡ k → Same t (computeEdges t old group down scale by .segments)
+    go : (k : ℕ) → refusal (buildingTests t (old .len) ttb scale by) ≡ k → Same t (computeEdges t old group ttb scale by .segments)
     go zero e =
-        let s = lastState t (rulesOf (old .dim) (old .«major_dir») (isCjk group) down scale by) in
-        subst (λ (b : Built). Same t (b .segments)) (sym (Building.not-refused t old group down scale by e))
+        let s = lastState t (rulesOf (old .dim) (old .«major_dir») (isCjk group) scale by) in
+        subst (λ (b : Built). Same t (b .segments)) (sym (Building.not-refused t old group ttb scale by e))
         (either-way (λ (b : Built). Same t (b .segments)) (s .full) _ _ (λ i j f. refl) (same-built t s))
-    go (suc k) e = subst (λ (b : Built). Same t (b .segments)) (sym (Building.refused t old group down scale by k e)) (λ i j f. refl)
+    go (suc k) e = subst (λ (b : Built). Same t (b .segments)) (sym (Building.refused t old group ttb scale by k e)) (λ i j f. refl)
 
 pub building-kept :
     (ws room : List ℤ) (dim major group ttb scale : ℤ) (t : Thresholds) (count : ℤ) {r : ℕ} {now edges : List ℤ} {n : ℤ}

@@ -1,5 +1,5 @@
--- Edge building over lent segments, room for a table of edges, the dimension, the major direction, the group, top to bottom, the scale and the three
--- thresholds; a place is lent for the count of edges.
+-- Edge building over lent segments, room for a table of edges, the dimension, the major direction, the group, whether the retired order is asked for, the scale
+-- and the three thresholds; a place is lent for the count of edges.
 use mathlib.Core.Bool.{_&&_}
 use mathlib.Core.List.{List}
 use Prim.Native.Nat.{ℕ}

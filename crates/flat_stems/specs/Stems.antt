@@ -1,4 +1,4 @@
--- The stem pass over lent edges, the dimension, the group, stem adjust, top to bottom, the anchor or its absence and the width rule with its standards; places
+-- The stem pass over lent edges, the dimension, the group, stem adjust, whether the retired order is asked for, the anchor or its absence and the width rule with its standards; places
 -- are lent for the count of the edges passed over and for the anchor found.
 use mathlib.Core.Bool.{_&&_}
 use mathlib.Core.List.{List}

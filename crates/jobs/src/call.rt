@@ -47,13 +47,13 @@ const FORMATS: [u64; CALLS] = [
     0x8766, // path
     0xc8766, // path_step
     0x7888766, // align_catalogue
-    0xf, // none, to 24
+    0xf, // 18 to 23: none
     0xf,
     0xf,
     0xf,
     0xf,
     0xf,
-    0xf,
+    0xa9, // turn_over
     0x78766, // write_frame
     0x7, // read_frame
 ];

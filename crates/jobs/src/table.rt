@@ -1,4 +1,4 @@
-// The calls on a table, of segments (4 and 5) or of edges (6 to 13): from the words of their jobs to those of their answers.
+// The calls on a table, of segments (4, 5 and 24) or of edges (6 to 13): from the words of their jobs to those of their answers.
 use axis::accept::least;
 use axis::limits::MOST_EDGES;
 use axis::limits::MOST_SEGMENTS;
@@ -17,6 +17,7 @@ use khsaemudol::khs_hint_lowercase_m;
 use khsaemudol::khs_hint_normal_stem_cjk;
 use khsaemudol::khs_latin_remaining_bounds;
 use khsaemudol::khs_link_segments_cjk;
+use khsaemudol::khs_turn_over;
 use words::edge::EDGE_WORDS;
 use words::edge::TABLE_WORDS;
 use words::segment::SEGMENT_WORDS;
@@ -29,12 +30,28 @@ ghost use Rattle.jobs_points.specs.Limits.{longest};
 ghost use Rattle.axis.specs.Limits.{mostSegments};
 ghost use Rattle.words.specs.Segment.{segmentSize};
 
+// Whether a call hands back edges behind its table of segments.
+fn has_edges(call: usize) -> bool {
+    if call == 5 {
+        return true;
+    }
+    call == 24
+}
+
+// Whether a call's table is one of segments.
+fn has_segments(call: usize) -> bool {
+    if call < 6 {
+        return true;
+    }
+    has_edges(call)
+}
+
 // The words of a call's table of so many records, at most as many as its limit and so many more.
 fn size(call: usize, count: usize, more: usize) -> usize
     requires { ⌜ more ≤ 1 ⌝ }
     ensures { λ r. ⌜ r ≤ segmentSize * (mostSegments + 1) ⌝ }
 {
-    if call < 6 {
+    if has_segments(call) {
         return SEGMENT_WORDS * least(count, MOST_SEGMENTS + more);
     }
     EDGE_WORDS * least(count, MOST_EDGES + more)
@@ -75,6 +92,21 @@ fn ask_building(segments: &mut [i32], rest: &[i32], edges: &mut [i32], count: &m
         word_at(behind, 7),
         count,
     )
+}
+
+// Turns edges over, which are put into their room, with their count beside; more than their limit are refused here.
+fn ask_turning(segments: &mut [i32], rest: &[i32], edges: &mut [i32], count: &mut i32) -> u8 {
+    let given = count_at(rest, 0);
+    let n = put(
+        edges,
+        0,
+        part(rest, 1, EDGE_WORDS * least(given, MOST_EDGES)),
+    );
+    *count = count_word(given);
+    if MOST_EDGES < given {
+        return 1;
+    }
+    khs_turn_over(segments, &mut edges[0..n])
 }
 
 // Places a stem edge: the width rule, the base edge and the stem edge.
@@ -123,7 +155,7 @@ fn ask_stems(edges: &mut [i32], rest: &[i32], count: &mut i32, found: &mut i32) 
     )
 }
 
-// The answer of a call on a table, whose other words are the rest, and what it hands back beside: a delta or a count first, else an index; edges that are built.
+// The answer of a call on a table, whose other words are the rest, and what it hands back beside: a delta or a count first, else an index; edges that are built or turned over.
 fn ask(
     call: usize,
     table: &mut [i32],
@@ -151,11 +183,12 @@ fn ask(
         }
         11 => ask_stem(table, rest, first),
         12 => ask_stems(table, rest, first, second),
+        24 => ask_turning(table, rest, edges, first),
         _ => khs_hint_lowercase_m(table, a),
     }
 }
 
-// Writes what a call handed back: the first words of the head in front of its table, which ends at a place, and behind that the edges that it built.
+// Writes what a call handed back: the first words of the head in front of its table, which ends at a place, and behind that the edges that it built or turned over.
 fn put_result(
     call: usize,
     out: &mut [i32],
@@ -171,7 +204,7 @@ fn put_result(
     if call == 10 {
         return at;
     }
-    if call != 5 {
+    if !has_edges(call) {
         return end;
     }
     let built = count_at(head, 1);

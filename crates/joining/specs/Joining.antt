@@ -66,9 +66,9 @@ agrees t near l [] = true
 agrees t near l (m ∷ ms) = linksNear t near l (segmentAt t m .link) && agrees t near l ms
 
 -- ---- adding an edge
--- an edge that is added stops behind another: where that is before it (behind it when top to bottom), or equal while the new one has the major direction
+-- an edge that is added stops behind another: where that is before it, or equal while the new one has the major direction
 unfoldable pub stopsBehind : Rules → Edge → Edge → Bool
-stopsBehind r e prev = cond (ltZ (prev .fpos) (e .fpos)) (not (r .«top_to_bottom»)) (cond (ltZ (e .fpos) (prev .fpos)) (r .«top_to_bottom») (same (e .dir) (r .«major_dir»)))
+stopsBehind r e prev = cond (ltZ (prev .fpos) (e .fpos)) true (cond (ltZ (e .fpos) (prev .fpos)) false (same (e .dir) (r .«major_dir»)))
 
 -- x is added to the first i places of a list with room for it: walking back from there, what does not stop it moves up by one
 unfoldable pub settle : {A : Type 0} → (A → Bool) → A → A → List A → ℕ → List A

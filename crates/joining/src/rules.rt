@@ -25,7 +25,6 @@ pub struct Rules {
     pub dim: Dimension,
     pub major_dir: Direction,
     pub cjk: bool,
-    pub top_to_bottom: bool,
     pub scale: i32,
     pub near: u64,
     pub length: i32,
@@ -98,10 +97,10 @@ pub fn stops_behind(prev: Edge, edge: Edge, rules: Rules) -> bool
     ensures { λ r. ⌜ r ≡ stopsBehind rules edge prev ⌝ }
 {
     if prev.fpos < edge.fpos {
-        return !rules.top_to_bottom;
+        return true;
     }
     if edge.fpos < prev.fpos {
-        return rules.top_to_bottom;
+        return false;
     }
     let dir = edge.dir;
     let major_dir = rules.major_dir;

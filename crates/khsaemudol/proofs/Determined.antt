@@ -25,6 +25,7 @@ use Rattle.path.proofs.Outcomes as Step
 use Rattle.path_lay.specs.Laying.{Lent}
 use Rattle.path_whole.specs.Writing.{WritesPath}
 use Rattle.path_whole.proofs.Outcomes as Path
+use Rattle.flat_turning.specs.Turn.{TurnedLent}
 
 -- `khs_compute_mid_pos`
 pub mid-pos-determined : (min max : ℤ) {r r′ : ℤ} → ComputesMidPos min max r → ComputesMidPos min max r′ → r ≡ r′
@@ -116,3 +117,7 @@ pub read-frame-determined :
     (line : List ℕ) (rooms : Frame) (points contours : ℕ) {r r′ : ℕ} {now now′ : Frame × (ℕ × ℕ)}
     → ReadsLent line rooms points contours r now → ReadsLent line rooms points contours r′ now′ → (r ≡ r′) × (now ≡ now′)
 read-frame-determined line rooms points contours a b = lent-determined a b
+
+-- `khs_turn_over`
+pub turning-determined : (ws es : List ℤ) {r r′ : ℕ} {now now′ : List ℤ × List ℤ} → TurnedLent ws es r now → TurnedLent ws es r′ now′ → (r ≡ r′) × (now ≡ now′)
+turning-determined ws es a b = lent-determined a b

@@ -1,5 +1,5 @@
 // The static library that gateways link: the public calls under C names. A slice is passed as its pointer and then its length. Edges are lists of 11 words each
-// and segments of 15; the answer is 0 or document 01's number of the refusal, and 255 where a word is none of its field. include/khsaemudol.h documents each.
+// and segments of 15; the answer is 0 or the number of the refusal, and 255 where a length or a word is none. include/khsaemudol.h documents each.
 use building::numbers::Thresholds;
 use catalogue::align::align_catalogue;
 use flat::fit::lend_adjust;
@@ -12,6 +12,7 @@ use flat_segments::link::lend_linking;
 use flat_stems::pass::lend_stems;
 use flat_stems::stem::lend_stem;
 use flat_stems::zones::lend_zones;
+use flat_turning::turn::lend_turning;
 use frames_lent::lend_read;
 use frames_lent::lend_write;
 use middle::compute_mid_delta;
@@ -34,6 +35,7 @@ ghost use Rattle.flat_stems.specs.Zones.{ZonesLent};
 ghost use Rattle.path.specs.Lending.{StepLent};
 ghost use Rattle.path_lay.specs.Laying.{lent};
 ghost use Rattle.path_whole.specs.Writing.{WritesPath};
+ghost use Rattle.flat_turning.specs.Turn.{TurnedLent};
 
 // The middle of two coordinates.
 #[no_mangle]
@@ -329,4 +331,12 @@ pub extern "C" fn khs_read_frame(
         r (frameOf (now (originals .exit)) (now (currents .exit)) (now (touched .exit)) (now (ends .exit)), (now (points .exit), now (contours .exit))) ⌝ }
 {
     lend_read(line, originals, currents, touched, ends, points, contours)
+}
+
+// Turns the edges of an axis over, with the indices that lead to them.
+#[no_mangle]
+pub extern "C" fn khs_turn_over(segments: &mut [i32], edges: &mut [i32]) -> u8
+    ensures { λ r. ⌜ TurnedLent (now (segments .entry)) (now (edges .entry)) r (now (segments .exit), now (edges .exit)) ⌝ }
+{
+    lend_turning(segments, edges)
 }

@@ -34,7 +34,7 @@ use Rattle.lent.specs.Kept.{KeptBut, ofEdges, ofSegments}
 use Rattle.lent.proofs.Whole.{edges-long, segments-long, edges-whole, segments-whole}
 
 -- every word stays
-all-kept : (named : ℕ → Bool) (ws : List ℤ) → KeptBut named ws ws
+pub all-kept : (named : ℕ → Bool) (ws : List ℤ) → KeptBut named ws ws
 all-kept named ws = record { size = refl; word = λ k f. refl }
 
 -- behind the end of both lists there is no word
@@ -105,7 +105,7 @@ module _ (named : ℕ → ℕ → Bool) (ws : List ℤ) (new : Segments) (shown 
       let q : wordOfSegment (k / segmentSize) (k % segmentSize) ≡ k = omega arith in
       subst (λ (m : ℕ). wordAt (segmentsOver ws new) m ≡ wordAt ws m) q (segments-at (k / segmentSize) (k % segmentSize) (omega (arith, l, h)) (omega arith) f)
 
-  segments-kept : KeptBut (ofSegments named) ws (segmentsOver ws new)
+  pub segments-kept : KeptBut (ofSegments named) ws (segmentsOver ws new)
   segments-kept = record {
     size = segments-size;
     word = λ k f. ⊎-elim (λ (h : k < length ws). segments-inside k h f) (λ (h : length ws ≤ k). no-word (segmentsOver ws new) ws k segments-size h) (lt-or-le k (length ws));
@@ -118,7 +118,7 @@ segments-again ws shown few =
 
 -- ---- a call
 -- answer 0 is the call's own, behind tests that hold
-passed : (tests : List Test) (answer : ℕ) → 0 ≡ refusedOr tests answer → (refusal tests ≡ 0) × (answer ≡ 0)
+pub passed : (tests : List Test) (answer : ℕ) → 0 ≡ refusedOr tests answer → (refusal tests ≡ 0) × (answer ≡ 0)
 unfolding refusedOr
 passed tests answer e = by (refusal tests) refl e
   where
@@ -127,7 +127,7 @@ passed tests answer e = by (refusal tests) refl e
     by (suc k) q e = absurd (omega arith)
 
 -- a refusal hands back nothing
-not-new : {A : Type 0} (k : ℕ) (new old : A) → cond (eqb (suc k) 0) new old ≡ old
+pub not-new : {A : Type 0} (k : ℕ) (new old : A) → cond (eqb (suc k) 0) new old ≡ old
 not-new k new old = rw (ne-eqb (suc k) 0 (λ e. omega arith))
 
 -- over edges: with a refusal every word stays

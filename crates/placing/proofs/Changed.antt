@@ -1,6 +1,5 @@
 -- The adjustment changes nothing but the position of its edge.
 use mathlib.Core.Path.{refl}
-use mathlib.Core.Bool.{Bool}
 use Prim.Native.Nat.{ℕ, zero, suc}
 use borrow.Author.Tests.{eq-eqb}
 use lib.Dec.{eqb}
@@ -32,12 +31,12 @@ module _ (axis : Axis) (i : ℕ) where
   held h k (Links.To l) =
       either-way Kept (isFar (edgeAt axis l .pos) (edgeAt axis h .pos)) _ axis (position-put axis i _ (placed-only (edgeAt axis i) (edgeAt axis k .pos))) as-it-was
 
-  bound : (h : ℕ) (dir : LinkDir) (ttb : Bool) (l : Link) → Kept (boundBy axis h i dir ttb l)
+  bound : (h : ℕ) (dir : LinkDir) (l : Link) → Kept (boundBy axis h i dir l)
   unfolding boundBy
-  bound h dir ttb Links.None = as-it-was
-  bound h dir ttb (Links.To k) = either-way Kept (hasPassed dir ttb (edgeAt axis i .pos) (edgeAt axis k .pos)) _ axis (held h k (edgeAt axis i .link)) as-it-was
+  bound h dir Links.None = as-it-was
+  bound h dir (Links.To k) = either-way Kept (hasPassed dir (edgeAt axis i .pos) (edgeAt axis k .pos)) _ axis (held h k (edgeAt axis i .link)) as-it-was
 
-pub adjusted-only : (axis : Axis) (i : ℕ) (dir : LinkDir) (ttb : Bool) → OnlyAxis (wherever (eqb i) position) axis (adjusted axis i dir ttb)
+pub adjusted-only : (axis : Axis) (i : ℕ) (dir : LinkDir) → OnlyAxis (wherever (eqb i) position) axis (adjusted axis i dir)
 unfolding adjusted
-adjusted-only axis zero dir ttb = as-it-was axis zero
-adjusted-only axis (suc h) dir ttb = bound axis (suc h) h dir ttb (neighbour dir axis (suc h))
+adjusted-only axis zero dir = as-it-was axis zero
+adjusted-only axis (suc h) dir = bound axis (suc h) h dir (neighbour dir axis (suc h))

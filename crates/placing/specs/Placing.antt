@@ -1,5 +1,5 @@
 -- How one edge is placed (document 01, module 5): by its link, by its serif, by its neighbours.
-use mathlib.Core.Bool.{Bool, not, cond, _&&_}
+use mathlib.Core.Bool.{Bool, cond, _&&_}
 use mathlib.Core.List.{List}
 use Prim.Native.Nat.{ℕ, zero, suc, _+_}
 use lib.Dec.{ltb}
@@ -48,14 +48,10 @@ unfoldable pub upperBound : Axis → ℕ → Link
 upperBound axis i = cond (ltb (i + 1) (axis .len) && edgeAt axis (i + 1) .flags .done) (Links.To (i + 1)) Links.None
 
 -- ---- the adjustment
--- p is above q, or below it
-abbrev pub outOfOrder : Bool → ℤ → ℤ → Bool
-outOfOrder above p q = cond above (ltZ q p) (ltZ p q)
-
--- an edge at p has passed its neighbour at q: from bottom to top it is below the previous or above the next one, from top to bottom the other way round
-unfoldable pub hasPassed : LinkDir → Bool → ℤ → ℤ → Bool
-hasPassed Prev ttb p q = outOfOrder ttb p q
-hasPassed Next ttb p q = outOfOrder (not ttb) p q
+-- an edge at p has passed its neighbour at q: it is below the previous or above the next one
+unfoldable pub hasPassed : LinkDir → ℤ → ℤ → Bool
+hasPassed Prev p q = ltZ p q
+hasPassed Next p q = ltZ q p
 
 -- two positions are more than 16 apart
 abbrev pub isFar : ℤ → ℤ → Bool
@@ -72,11 +68,11 @@ heldTo axis h i k Links.None = axis
 heldTo axis h i k (Links.To l) = cond (isFar (edgeAt axis l .pos) (edgeAt axis h .pos)) (putEdge axis i (placed (edgeAt axis i) (edgeAt axis k .pos))) axis
 
 -- where it has passed the neighbour
-unfoldable pub boundBy : Axis → ℕ → ℕ → LinkDir → Bool → Link → Axis
-boundBy axis h i dir ttb Links.None = axis
-boundBy axis h i dir ttb (Links.To k) = cond (hasPassed dir ttb (edgeAt axis i .pos) (edgeAt axis k .pos)) (heldTo axis h i k (edgeAt axis i .link)) axis
+unfoldable pub boundBy : Axis → ℕ → ℕ → LinkDir → Link → Axis
+boundBy axis h i dir Links.None = axis
+boundBy axis h i dir (Links.To k) = cond (hasPassed dir (edgeAt axis i .pos) (edgeAt axis k .pos)) (heldTo axis h i k (edgeAt axis i .link)) axis
 
 -- the first edge has no previous one, and stays
-unfoldable pub adjusted : Axis → ℕ → LinkDir → Bool → Axis
-adjusted axis zero dir ttb = axis
-adjusted axis (suc h) dir ttb = boundBy axis h (suc h) dir ttb (neighbour dir axis (suc h))
+unfoldable pub adjusted : Axis → ℕ → LinkDir → Axis
+adjusted axis zero dir = axis
+adjusted axis (suc h) dir = boundBy axis h (suc h) dir (neighbour dir axis (suc h))

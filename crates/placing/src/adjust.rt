@@ -10,7 +10,7 @@ ghost use Prim.Native.Nat.{_<_, _≤_};
 ghost use Rattle.signed.specs.Range.{Between};
 ghost use Rattle.axis.specs.Limits.{mostEdges, mostPos};
 ghost use Rattle.axis.specs.Accepted.{AxisWithin};
-ghost use Rattle.placing.specs.Placing.{outOfOrder, hasPassed, isFar, neighbour, adjusted};
+ghost use Rattle.placing.specs.Placing.{hasPassed, isFar, neighbour, adjusted};
 ghost use Rattle.placing.specs.Steps.{mostReach};
 
 // Which neighbour an edge is held to.
@@ -19,23 +19,13 @@ pub enum LinkDir {
     Next,
 }
 
-// Whether two positions are out of order: the first above the second, or below it.
-fn out_of_order(above: bool, pos1: i32, pos2: i32) -> bool
-    ensures { λ r. ⌜ r ≡ outOfOrder above pos1 pos2 ⌝ }
-{
-    if above {
-        return pos2 < pos1;
-    }
-    pos1 < pos2
-}
-
 // Whether an edge at pos1 has passed its neighbour at pos2.
-pub fn has_passed(dir: LinkDir, top_to_bottom: bool, pos1: i32, pos2: i32) -> bool
-    ensures { λ r. ⌜ r ≡ hasPassed dir «top_to_bottom» pos1 pos2 ⌝ }
+pub fn has_passed(dir: LinkDir, pos1: i32, pos2: i32) -> bool
+    ensures { λ r. ⌜ r ≡ hasPassed dir pos1 pos2 ⌝ }
 {
     match dir {
-        LinkDir::Prev => out_of_order(top_to_bottom, pos1, pos2),
-        LinkDir::Next => out_of_order(!top_to_bottom, pos1, pos2),
+        LinkDir::Prev => pos1 < pos2,
+        LinkDir::Next => pos2 < pos1,
     }
 }
 
@@ -60,9 +50,9 @@ fn neighbour_of(axis: Axis, edge: usize, dir: LinkDir) -> Link
 }
 
 // Puts the edge to its neighbour's position, where it has passed it and its link is far from the previous edge.
-pub fn adjust(axis: Axis, edge: usize, dir: LinkDir, top_to_bottom: bool) -> Axis
+pub fn adjust(axis: Axis, edge: usize, dir: LinkDir) -> Axis
     requires { ⌜ AxisWithin mostPos axis × (edge < axis .len) ⌝ }
-    ensures { λ r. ⌜ r ≡ adjusted axis edge dir «top_to_bottom» ⌝ }
+    ensures { λ r. ⌜ r ≡ adjusted axis edge dir ⌝ }
 {
     if edge == 0 {
         return axis;
@@ -73,7 +63,7 @@ pub fn adjust(axis: Axis, edge: usize, dir: LinkDir, top_to_bottom: bool) -> Axi
     };
     let edge1 = axis.edges[edge];
     let edge2 = axis.edges[k as usize];
-    if !has_passed(dir, top_to_bottom, edge1.pos, edge2.pos) {
+    if !has_passed(dir, edge1.pos, edge2.pos) {
         return axis;
     }
     let link = edge1.link;

@@ -25,6 +25,10 @@ outOfRange = 4
 abbrev pub noRoom : ℕ
 noRoom = 5
 
+-- an order of edges is asked for that is retired (request #114); the tests have it right behind 1
+abbrev pub retired : ℕ
+retired = 10
+
 -- ---- the tests
 -- a test, and the number of the refusal where it fails
 pub record Test : Type 0 where

@@ -13,6 +13,9 @@ pub const OUT_OF_RANGE: u8 = 4;
 
 pub const NO_ROOM: u8 = 5;
 
+// Request #114's, of an order of edges that is retired.
+pub const RETIRED: u8 = 10;
+
 // The refusal so far, or, where there is none, that of one test more.
 pub fn or_refused(answer: u8, holds: bool, number: u8) -> u8
     ensures { λ r. ⌜ r ≡ orRefused answer holds number ⌝ }

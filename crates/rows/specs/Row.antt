@@ -1,6 +1,6 @@
 -- What a starred row says of the definitions, by part.
 use mathlib.Core.Path.{_≡_}
-use mathlib.Core.Bool.{Bool}
+use mathlib.Core.Bool.{Bool, false}
 use mathlib.Core.List.{List, [], _∷_, _++_}
 use Prim.Native.Nat.{ℕ, _-_}
 use lib.IntN.{ℤ}
@@ -42,9 +42,9 @@ pub data Row : Type 0 where
   -- a dimension, STEM_ADJUST or not, a width rule without standards, the two edges of a CJK stem and a passed delta; the answer, the delta handed back, and
   -- the edges at the end
   stemCjk : Dimension → Bool → WidthRule → List Edge → ℤ → ℕ → ℤ → List Edge → Row
-  -- a dimension, a group, STEM_ADJUST or not, top to bottom or not, the anchor or none, a width rule without standards and the edges of a stem pass; the
+  -- a dimension, a group, STEM_ADJUST or not, the anchor or none, a width rule without standards and the edges of a stem pass; the
   -- answer, the count, the anchor handed back, and the edges at the end
-  stems : Dimension → Group → Bool → Bool → Link → WidthRule → List Edge → ℕ → ℕ → Link → List Edge → Row
+  stems : Dimension → Group → Bool → Link → WidthRule → List Edge → ℕ → ℕ → Link → List Edge → Row
   -- a group, the first threshold and the scale; the distance threshold
   build : Group → ℤ → ℤ → ℤ → Row
   -- a group and the edges of an m; the answer, and the edges at the end
@@ -58,8 +58,8 @@ Holds (weak originals currents touched ends answer after) =
     (refusal (weakTests originals currents touched ends) ≡ answer) × (result originals currents touched ends ≡ after)
 Holds (stemCjk dim adjust rule edges d answer delta after) =
     hintNormalStemCjk (axisOf dim edges) adjust rule [] 0 1 d ≡ hintedCjk (axisOf dim after) delta answer
-Holds (stems dim group adjust ttb anchor rule edges answer count anchor′ after) =
-    alignStemEdges (axisOf dim edges) group adjust ttb anchor rule [] ≡ aligned count anchor′ (axisOf dim after) answer
+Holds (stems dim group adjust anchor rule edges answer count anchor′ after) =
+    alignStemEdges (axisOf dim edges) group adjust false anchor rule [] ≡ aligned count anchor′ (axisOf dim after) answer
 Holds (build group first scale threshold) = distanceThreshold (isCjk group) first scale ≡ threshold
 Holds (m group edges answer after) = hintLowercaseM (axisOf Horizontal edges) group ≡ hinted (axisOf Horizontal after) answer
 Holds (link segments major upem scale answer after) = linkSegmentsCjk (segmentsOf segments) major upem scale ≡ beside (segmentsOf after) answer

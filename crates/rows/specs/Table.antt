@@ -91,10 +91,10 @@ table =
     -- the same, currents 5, 99, 20: 5, 15, 25
     ∷ weak (pos 0 ∷ pos 10 ∷ pos 20 ∷ []) (pos 5 ∷ pos 99 ∷ pos 20 ∷ []) (1 ∷ 0 ∷ 0 ∷ []) (2 ∷ []) 0 (pos 5 ∷ pos 15 ∷ pos 25 ∷ [])
     -- Latin, Keep, bottom to top; edge 0 is the anchor, done, unlinked, at 0 and unmoved; edges 1 and 2 have opos 100 and 160, linked to each other: 130 and 190
-    ∷ stems Vertical Default false false (Links.To 0) Keep (finished (edge 0 0) ∷ linked 100 100 2 ∷ linked 160 160 1 ∷ [])
+    ∷ stems Vertical Default false (Links.To 0) Keep (finished (edge 0 0) ∷ linked 100 100 2 ∷ linked 160 160 1 ∷ [])
     0 0 (Links.To 0) (finished (edge 0 0) ∷ finished (linked 100 130 2) ∷ finished (linked 160 190 1) ∷ [])
     -- the same, 87 and 157 (tie between offsets 38 and 26): 119 and 189
-    ∷ stems Vertical Default false false (Links.To 0) Keep (finished (edge 0 0) ∷ linked 87 87 2 ∷ linked 157 157 1 ∷ [])
+    ∷ stems Vertical Default false (Links.To 0) Keep (finished (edge 0 0) ∷ linked 87 87 2 ∷ linked 157 157 1 ∷ [])
     0 0 (Links.To 0) (finished (edge 0 0) ∷ finished (linked 87 119 2) ∷ finished (linked 157 189 1) ∷ [])
     -- CJK, Keep, vertical, not round, no STEM_ADJUST, passed delta 0, 40 and 80: 26 and 66
     ∷ stemCjk Vertical false Keep (edge 40 40 ∷ edge 80 80 ∷ []) (pos 0) 0 (minus 14) (edge 40 26 ∷ edge 80 66 ∷ [])

@@ -41,9 +41,9 @@ second-only e Stays = same-edge place e
 second-only e (Placed p) = position-place e _ (placed-only e p)
 second-only e (Fixed p) = fixed-only e p
 
-held-only : (ttb : Bool) (plan : Plan) (i : ℕ) (e prev link : Edge) → Only place e (heldEdge ttb plan i e prev link)
+held-only : (plan : Plan) (i : ℕ) (e prev link : Edge) → Only place e (heldEdge plan i e prev link)
 unfolding heldEdge
-held-only ttb plan i e prev link = either-way (Only place e) (isBounded plan i && isOver ttb e prev link) _ e (position-place e _ (placed-only e (prev .pos))) (same-edge place e)
+held-only plan i e prev link = either-way (Only place e) (isBounded plan i && isOver e prev link) _ e (position-place e _ (placed-only e (prev .pos))) (same-edge place e)
 
 -- ---- the pass
 module _ (m : Mode) (xs : List ℤ) (old : Axis) (b : ℕ) (within : AxisWithin b old) where
@@ -56,14 +56,14 @@ module _ (m : Mode) (xs : List ℤ) (old : Axis) (b : ℕ) (within : AxisWithin 
   put : (axis : Axis) (i : ℕ) (e : Edge) → i < old .len → Kept axis → Only place (edgeAt axis i) e → Kept (putEdge axis i e)
   put axis i e q h o = also-put _ old axis i e h (named (λ (k : ℕ). ltb k (old .len)) place i (edgeAt axis i) e (lt-ltb i (old .len) q) o)
 
-  carried : (s : State) (i k : ℕ) (plan : Plan) → i < old .len → k < old .len → KeptBy s → KeptBy (carriedOut m s i k plan)
+  carried : (s : State) (i k : ℕ) (plan : Plan) → i < old .len → k < old .len → KeptBy s → KeptBy (carriedOut s i k plan)
   unfolding carriedOut
   carried s i k plan p q h =
       let one = firstPut plan i (s .axis) in
       let two = secondPut plan k one in
       put two i _ p
       (put one k _ q (put (s .axis) i _ p h (fixed-only (edgeAt (s .axis) i) (plan .first))) (second-only (edgeAt one k) (plan .second)))
-      (held-only (m .«top_to_bottom») plan i (edgeAt two i) (edgeAt two (i - 1)) (edgeAt two k))
+      (held-only plan i (edgeAt two i) (edgeAt two (i - 1)) (edgeAt two k))
 
   by-link : (s : State) (i : ℕ) (l : Link) → Below (old .len) l → i < old .len → KeptBy s → KeptBy (stepLink m xs s i l)
   unfolding stepLink
@@ -93,8 +93,8 @@ pub changed : (axis : Axis) (group : Group) (adjust ttb : Bool) (anchor : Link) 
 unfolding alignStemEdges
 changed axis group adjust ttb anchor rule xs p =
     let Small = OnlyAxis (wherever (λ (i : ℕ). ltb i (axis .len)) place) in
-    let m = modeOf axis group adjust ttb rule in
+    let m = modeOf axis group adjust rule in
     subst (λ (r : Stems). Changes Small (r .answer) axis (r .axis)) (sym p)
-    (call-changes Small (refusal (stemsTests axis anchor rule xs)) axis (λ (k : ℕ). stems 0 Links.None axis k) (stemsOf m xs anchor axis) (λ (r : Stems). r .answer) (λ (r : Stems). r .axis)
+    (call-changes Small (refusal (stemsTests axis ttb anchor rule xs)) axis (λ (k : ℕ). stems 0 Links.None axis k) (stemsOf m xs anchor axis) (λ (r : Stems). r .answer) (λ (r : Stems). r .axis)
     (λ (k : ℕ). refl) (same-axis _ axis) (stems-done m xs anchor axis)
-    (λ e. let t = all-hold (stemsTests axis anchor rule xs) refl e in pass m xs axis mostPos (axis-within axis (t .0) (t .1 .1 .0) (t .1 .1 .1 .1 .0)) anchor))
+    (λ e. let t = all-hold (stemsTests axis ttb anchor rule xs) refl e in pass m xs axis mostPos (axis-within axis (t .0) (t .1 .1 .1 .0) (t .1 .1 .1 .1 .1 .0)) anchor))

@@ -1,6 +1,6 @@
 -- What the call hands on: its positions are within `mostFitted`; and which calls it accepts.
 use mathlib.Core.Path.{_≡_, refl, ap}
-use mathlib.Core.Bool.{Bool, true}
+use mathlib.Core.Bool.{Bool, true, not}
 use mathlib.Core.List.{List}
 use lib.IntN.{ℤ}
 use Rattle.refusals.specs.Refusal.{refusal}
@@ -23,24 +23,24 @@ use Rattle.stems.proofs.Kept.{pass-keeps}
 
 module _ (axis : Axis) (group : Group) (adjust ttb : Bool) (anchor : Link) (rule : WidthRule) (xs : List ℤ) where
   abbrev work : Stems
-  work = stemsOf (modeOf axis group adjust ttb rule) xs anchor axis
+  work = stemsOf (modeOf axis group adjust rule) xs anchor axis
 
-  outcome : refusal (stemsTests axis anchor rule xs) ≡ 0 → alignStemEdges axis group adjust ttb anchor rule xs ≡ work
+  outcome : refusal (stemsTests axis ttb anchor rule xs) ≡ 0 → alignStemEdges axis group adjust ttb anchor rule xs ≡ work
   unfolding alignStemEdges
-  outcome e = worked (stems 0 Links.None axis) work (refusal (stemsTests axis anchor rule xs)) e
+  outcome e = worked (stems 0 Links.None axis) work (refusal (stemsTests axis ttb anchor rule xs)) e
 
-  -- edges that are accepted, an anchor among them or none, and a rule that holds are answered by 0
-  pub accepts : EdgesAccepted axis → Below (axis .len) anchor → ruleHolds rule xs ≡ true → alignStemEdges axis group adjust ttb anchor rule xs .answer ≡ 0
+  -- edges that are accepted, from bottom to top, an anchor among them or none, and a rule that holds are answered by 0
+  pub accepts : EdgesAccepted axis → not ttb ≡ true → Below (axis .len) anchor → ruleHolds rule xs ≡ true → alignStemEdges axis group adjust ttb anchor rule xs .answer ≡ 0
   unfolding stemsOf
-  accepts a b r =
+  accepts a u b r =
       ap (λ (s : Stems). s .answer)
-      (outcome (no-refusal (stemsTests axis anchor rule xs) (a .short, (r, (a .indexed, (link-holds (axis .len) anchor b, (a .in-range, refl)))))))
+      (outcome (no-refusal (stemsTests axis ttb anchor rule xs) (a .short, (u, (r, (a .indexed, (link-holds (axis .len) anchor b, (a .in-range, refl))))))))
 
   -- with answer 0 every position is within `mostFitted`, and original positions, zones, links and serifs are as they are in accepted edges
   pub handed-within : alignStemEdges axis group adjust ttb anchor rule xs .answer ≡ 0 → AxisWithin mostFitted (alignStemEdges axis group adjust ttb anchor rule xs .axis)
   unfolding alignStemEdges
   handed-within e =
-      let z = none-refused (stems 0 Links.None axis) work (λ (s : Stems). s .answer) (λ j. refl) (refusal (stemsTests axis anchor rule xs)) e in
-      let t = all-hold (stemsTests axis anchor rule xs) refl z in
-      let indexed = t .1 .1 in
-      rw z (pass-keeps (modeOf axis group adjust ttb rule) xs anchor axis (axis-within axis (t .0) (indexed .0) (indexed .1 .1 .0)) (link-below _ _ (indexed .1 .0)) .positions)
+      let z = none-refused (stems 0 Links.None axis) work (λ (s : Stems). s .answer) (λ j. refl) (refusal (stemsTests axis ttb anchor rule xs)) e in
+      let t = all-hold (stemsTests axis ttb anchor rule xs) refl z in
+      let indexed = t .1 .1 .1 in
+      rw z (pass-keeps (modeOf axis group adjust rule) xs anchor axis (axis-within axis (t .0) (indexed .0) (indexed .1 .1 .0)) (link-below _ _ (indexed .1 .0)) .positions)

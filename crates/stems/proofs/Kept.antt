@@ -48,9 +48,9 @@ second-within c n e Stays h g = h
 second-within c n e (Placed z) h g = moved-within c n e z h (g .placed z refl)
 second-within c n e (Fixed z) h g = fixed-within c n e z h (g .fixed z refl)
 
-held-within : (c n : ℕ) (ttb : Bool) (plan : Plan) (i : ℕ) (e prev link : Edge) → EdgeWithin c n e → EdgeWithin c n prev → EdgeWithin c n (heldEdge ttb plan i e prev link)
+held-within : (c n : ℕ) (plan : Plan) (i : ℕ) (e prev link : Edge) → EdgeWithin c n e → EdgeWithin c n prev → EdgeWithin c n (heldEdge plan i e prev link)
 unfolding heldEdge
-held-within c n ttb plan i e prev link h g = either-way (EdgeWithin c n) (isBounded plan i && isOver ttb e prev link) _ e (moved-within c n e (prev .pos) h (g .pos)) h
+held-within c n plan i e prev link h g = either-way (EdgeWithin c n) (isBounded plan i && isOver e prev link) _ e (moved-within c n e (prev .pos) h (g .pos)) h
 
 pub first-put : (c i : ℕ) (plan : Plan) (axis : Axis) → AxisWithin c axis → i < axis .len → PlanWithin c plan → AxisWithin c (firstPut plan i axis)
 first-put c i plan axis h q g = put-within c i axis _ h (fixed-within c (axis .len) (edgeAt axis i) (plan .first) (h .edge i q) (g .first))
@@ -58,9 +58,9 @@ first-put c i plan axis h q g = put-within c i axis _ h (fixed-within c (axis .l
 pub second-put : (c k : ℕ) (plan : Plan) (axis : Axis) → AxisWithin c axis → k < axis .len → PlanWithin c plan → AxisWithin c (secondPut plan k axis)
 second-put c k plan axis h q g = put-within c k axis _ h (second-within c (axis .len) (edgeAt axis k) (plan .second) (h .edge k q) (g .second))
 
-held-put : (c i k : ℕ) (ttb : Bool) (plan : Plan) (axis : Axis) → AxisWithin c axis → i < axis .len → AxisWithin c (heldPut ttb plan i k axis)
-held-put c i k ttb plan axis h q =
-    put-within c i axis _ h (held-within c (axis .len) ttb plan i (edgeAt axis i) (edgeAt axis (i - 1)) (edgeAt axis k) (h .edge i q) (h .edge (i - 1) (omega (arith, q))))
+held-put : (c i k : ℕ) (plan : Plan) (axis : Axis) → AxisWithin c axis → i < axis .len → AxisWithin c (heldPut plan i k axis)
+held-put c i k plan axis h q =
+    put-within c i axis _ h (held-within c (axis .len) plan i (edgeAt axis i) (edgeAt axis (i - 1)) (edgeAt axis k) (h .edge i q) (h .edge (i - 1) (omega (arith, q))))
 
 -- ---- a step
 -- a state after i visits of n edges, its positions within b
@@ -108,9 +108,9 @@ pub plan-in : (b n i k : ℕ) (m : Mode) (xs : List ℤ) (s : State) → Reached
 plan-in b n i k m xs s r h q p =
     plan-within b r m xs _ _ _ (s .anchor) _ (s .trail) (edge-in b n i i s h q) (edge-in b n i k s h p) (edge-in b n i _ s h (anchor-or n i (s .anchor) (h .anchor-in) q)) (h .trail-in)
 
-carried-sound : (b n i k : ℕ) (m : Mode) (s : State) (plan : Plan) → Sound b n i s → i < n → k < n → PlanWithin (b + mostGrowth) plan → Sound (b + mostGrowth) n (i + 1) (carriedOut m s i k plan)
+carried-sound : (b n i k : ℕ) (s : State) (plan : Plan) → Sound b n i s → i < n → k < n → PlanWithin (b + mostGrowth) plan → Sound (b + mostGrowth) n (i + 1) (carriedOut s i k plan)
 unfolding carriedOut
-carried-sound b n i k m s plan h q p g =
+carried-sound b n i k s plan h q p g =
     let c = b + mostGrowth in
     let a = within-more b c (s .axis) (omega arith) (h .axis-in) in
     let e = h .len in
@@ -118,7 +118,7 @@ carried-sound b n i k m s plan h q p g =
     let a2 = second-put c k plan (firstPut plan i (s .axis)) a1 (omega arith) g in
     record {
       len = e;
-      axis-in = held-put c i k (m .«top_to_bottom») plan (secondPut plan k (firstPut plan i (s .axis))) a2 (omega arith);
+      axis-in = held-put c i k plan (secondPut plan k (firstPut plan i (s .axis))) a2 (omega arith);
       count-in = omega (arith, h .count-in);
       anchor-in = anchor-kept n i plan (s .anchor) (h .anchor-in) q;
       trail-in = g .trail;
@@ -131,7 +131,7 @@ link-sound b n i m xs s (Links.To k) r h q e =
     let p = link-in b n i k s h q e in
     either-way (Sound (b + mostGrowth) n (i + 1)) (tooClose (m .group) (s .trail .last) (edgeAt (s .axis) i) (edgeAt (s .axis) k)) (counted s) _
     (counted-sound b (b + mostGrowth) n i s (omega arith) h)
-    (carried-sound b n i k m s (planAt m xs s i k) h q p (plan-in b n i k m xs s r h q p))
+    (carried-sound b n i k s (planAt m xs s i k) h q p (plan-in b n i k m xs s r h q p))
 
 step-sound : (b n i : ℕ) (m : Mode) (xs : List ℤ) (s : State) → Reached b → Sound b n i s → i < n → Sound (b + mostGrowth) n (i + 1) (step m xs s i)
 unfolding step
@@ -214,13 +214,13 @@ pass-keeps m xs anchor axis h g =
 pub call-counts : (axis : Axis) (group : Group) (adjust ttb : Bool) (anchor : Link) (rule : WidthRule) (xs : List ℤ)
     → alignStemEdges axis group adjust ttb anchor rule xs .count ≤ mostEdges
 unfolding alignStemEdges
-call-counts axis group adjust ttb anchor rule xs = by (refusal (stemsTests axis anchor rule xs)) refl
+call-counts axis group adjust ttb anchor rule xs = by (refusal (stemsTests axis ttb anchor rule xs)) refl
   where
-    by : (k : ℕ) → refusal (stemsTests axis anchor rule xs) ≡ k
-        → answered k (stems 0 Links.None axis) (stemsOf (modeOf axis group adjust ttb rule) xs anchor axis) .count ≤ mostEdges
+    by : (k : ℕ) → refusal (stemsTests axis ttb anchor rule xs) ≡ k
+        → answered k (stems 0 Links.None axis) (stemsOf (modeOf axis group adjust rule) xs anchor axis) .count ≤ mostEdges
     by zero e =
-        let t = all-hold (stemsTests axis anchor rule xs) refl e in
-        let indexed = t .1 .1 in
+        let t = all-hold (stemsTests axis ttb anchor rule xs) refl e in
+        let indexed = t .1 .1 .1 in
         let within = axis-within axis (t .0) (indexed .0) (indexed .1 .1 .0) in
-        omega (arith, pass-keeps (modeOf axis group adjust ttb rule) xs anchor axis within (link-below _ _ (indexed .1 .0)) .counts, within .few)
+        omega (arith, pass-keeps (modeOf axis group adjust rule) xs anchor axis within (link-below _ _ (indexed .1 .0)) .counts, within .few)
     by (suc k) e = omega arith

@@ -55,14 +55,14 @@ unfolding heldTo
 far-held axis h i k l e = rw e
 
 -- the edge that a plan bounds, linked to edge k
-bound-is-adjusted : (axis : Axis) (i k : ℕ) (ttb : Bool) (plan : Plan) → plan .bounded ≡ true → edgeAt axis i .link ≡ Links.To k → heldPut ttb plan i k axis ≡ adjusted axis i Prev ttb
+bound-is-adjusted : (axis : Axis) (i k : ℕ) (plan : Plan) → plan .bounded ≡ true → edgeAt axis i .link ≡ Links.To k → heldPut plan i k axis ≡ adjusted axis i Prev
 unfolding heldEdge adjusted boundBy neighbour lowerBound
-bound-is-adjusted axis zero k ttb plan h e = rw h (put-same axis zero)
-bound-is-adjusted axis (suc j) k ttb plan h e =
+bound-is-adjusted axis zero k plan h e = rw h (put-same axis zero)
+bound-is-adjusted axis (suc j) k plan h e =
     let z : ltb 0 (suc j) ≡ true = lt-ltb 0 (suc j) (omega arith) in
     let p : suc j - 1 ≡ j = omega arith in
-    rw (h, z, p) (one-store axis (suc j) _ (hasPassed Prev ttb (edgeAt axis (suc j) .pos) (edgeAt axis j .pos)) (isFar (edgeAt axis k .pos) (edgeAt axis j .pos))
-    ∙ ap (λ (u : Axis). cond (hasPassed Prev ttb (edgeAt axis (suc j) .pos) (edgeAt axis j .pos)) u axis) (sym (far-held axis j (suc j) k _ e)))
+    rw (h, z, p) (one-store axis (suc j) _ (hasPassed Prev (edgeAt axis (suc j) .pos) (edgeAt axis j .pos)) (isFar (edgeAt axis k .pos) (edgeAt axis j .pos))
+    ∙ ap (λ (u : Axis). cond (hasPassed Prev (edgeAt axis (suc j) .pos) (edgeAt axis j .pos)) u axis) (sym (far-held axis j (suc j) k _ e)))
 
 -- ---- stores that keep a field of every edge
 linkOf : Edge → Link
@@ -120,13 +120,13 @@ withEdges axis es = record { dim = axis .dim; «major_dir» = axis .«major_dir�
 abbrev anchorState : State → ℕ → Trail → Axis → State
 anchorState s i t axis = record { axis = axis; count = s .count; anchor = Links.To i; trail = t }
 
-by-lower : (m : Mode) (s : State) (i k : ℕ) (p w d : ℤ) (lower : Bool) → (i ≡ k → w ≡ pos 0)
-    → carriedOut m s i k (cond lower (fixedPlan p (p +ℤ w) d) (fixedPlan (p +ℤ w) p d))
+by-lower : (s : State) (i k : ℕ) (p w d : ℤ) (lower : Bool) → (i ≡ k → w ≡ pos 0)
+    → carriedOut s i k (cond lower (fixedPlan p (p +ℤ w) d) (fixedPlan (p +ℤ w) p d))
     ≡ anchorState s i (record { last = LastStems.At (cond lower (p +ℤ w) p); delta = d })
     (bothDone i k (cond lower (placedStem (s .axis) i k p w) (placedStem (s .axis) k i p w)))
 unfolding carriedOut secondEdge heldEdge anchorAfter placedStem
-by-lower m s i k p w d true h = ap (anchorState s i _) (put-same _ i ∙ ap (withEdges (s .axis)) (rising (s .axis .edges) i k p (p +ℤ w)))
-by-lower m s i k p w d false h = ap (anchorState s i _) (put-same _ i ∙ ap (withEdges (s .axis)) (falling (s .axis .edges) i k (p +ℤ w) p (λ (e : i ≡ k). plus-none p w (h e))))
+by-lower s i k p w d true h = ap (anchorState s i _) (put-same _ i ∙ ap (withEdges (s .axis)) (rising (s .axis .edges) i k p (p +ℤ w)))
+by-lower s i k p w d false h = ap (anchorState s i _) (put-same _ i ∙ ap (withEdges (s .axis)) (falling (s .axis .edges) i k (p +ℤ w) p (λ (e : i ≡ k). plus-none p w (h e))))
   where
     plus-none : (p w : ℤ) → w ≡ pos 0 → p +ℤ w ≡ p
     plus-none p w e = rw e (same (omega (arith, add-law p (pos 0))))
@@ -156,56 +156,56 @@ module _ (m : Mode) (xs : List ℤ) (s : State) (i k : ℕ) where
   abbrev e2 : Edge
   e2 = edgeAt (s .axis) k
 
-  linked-is : (t : Trail) → carriedOut m s i k (linkedPlan (m .rule) xs e e2 t) ≡ axisState s t (fixByLink (m .rule) xs (s .axis) i k)
+  linked-is : (t : Trail) → carriedOut s i k (linkedPlan (m .rule) xs e e2 t) ≡ axisState s t (fixByLink (m .rule) xs (s .axis) i k)
   unfolding carriedOut secondEdge heldEdge anchorAfter
   linked-is t = ap (axisState s t) (put-same _ i ∙ put-same _ k)
 
-  normal-is : carriedOut m s i k (normalPlan m xs e e2 (s .anchor) (s .trail)) ≡ normalStem m s i k (stemOf (m .dim) (m .«stem_adjust») (m .rule) xs e e2 (s .trail .delta))
+  normal-is : carriedOut s i k (normalPlan m xs e e2 (s .anchor) (s .trail)) ≡ normalStem m s i k (stemOf (m .dim) (m .«stem_adjust») (m .rule) xs e e2 (s .trail .delta))
   unfolding stemPlan hintedStem
-  normal-is = by-lower m s i k _ _ _ (ltZ (e .opos) (e2 .opos)) (stem-alone m xs (s .axis) i k (s .trail .delta))
+  normal-is = by-lower s i k _ _ _ (ltZ (e .opos) (e2 .opos)) (stem-alone m xs (s .axis) i k (s .trail .delta))
 
-  cjk-is : carriedOut m s i k (cjkPlan m xs e e2 (s .anchor) (ltb k i) (s .trail)) ≡ cjkStem m xs s i k
+  cjk-is : carriedOut s i k (cjkPlan m xs e e2 (s .anchor) (ltb k i) (s .trail)) ≡ cjkStem m xs s i k
   unfolding cjkPlan cjkStem
   cjk-is = by (ltb k i)
     where
       by : (before : Bool)
-          → carriedOut m s i k
+          → carriedOut s i k
           (cond before (linkedPlan (m .rule) xs e e2 (record { last = LastStems.At (e .pos); delta = s .trail .delta })) (normalPlan m xs e e2 (s .anchor) (s .trail)))
           ≡ cond before (backStem m xs s i k) (normalStem m s i k (stemOf (m .dim) (m .«stem_adjust») (m .rule) xs e e2 (s .trail .delta)))
       by true = linked-is _
       by false = normal-is
 
   module _ (h : e .link ≡ Links.To k) where
-    behind-is : carriedOut m s i k (behindPlan e2 (widthOf (m .rule) xs e e2) (s .trail))
-        ≡ axisState s (s .trail) (adjusted (fixAt (s .axis) i (e2 .pos -ℤ widthOf (m .rule) xs e e2)) i Prev (m .«top_to_bottom»))
+    behind-is : carriedOut s i k (behindPlan e2 (widthOf (m .rule) xs e e2) (s .trail))
+        ≡ axisState s (s .trail) (adjusted (fixAt (s .axis) i (e2 .pos -ℤ widthOf (m .rule) xs e e2)) i Prev)
     unfolding carriedOut secondEdge anchorAfter
     behind-is =
         let p = e2 .pos -ℤ widthOf (m .rule) xs e e2 in
         let plan = behindPlan e2 (widthOf (m .rule) xs e e2) (s .trail) in
         ap (axisState s (s .trail))
-        (ap (heldPut (m .«top_to_bottom») plan i k) (put-same (fixAt (s .axis) i p) k)
-        ∙ bound-is-adjusted (fixAt (s .axis) i p) i k (m .«top_to_bottom») plan refl (fix-keeps-link (s .axis) i i p ∙ h))
+        (ap (heldPut plan i k) (put-same (fixAt (s .axis) i p) k)
+        ∙ bound-is-adjusted (fixAt (s .axis) i p) i k plan refl (fix-keeps-link (s .axis) i i p ∙ h))
 
-    centred-is : (p n w : ℤ) → carriedOut m s i k (centredPlan p n w (s .trail)) ≡ axisState s (s .trail) (adjusted (centredStem (s .axis) i k p n w) i Prev (m .«top_to_bottom»))
+    centred-is : (p n w : ℤ) → carriedOut s i k (centredPlan p n w (s .trail)) ≡ axisState s (s .trail) (adjusted (centredStem (s .axis) i k p n w) i Prev)
     unfolding carriedOut secondEdge anchorAfter
     centred-is p n w =
         ap (axisState s (s .trail))
-        (bound-is-adjusted _ i k (m .«top_to_bottom») (centredPlan p n w (s .trail)) refl
+        (bound-is-adjusted _ i k (centredPlan p n w (s .trail)) refl
         (fix-keeps-link (fixAt (s .axis) i (anchoredFirst p n w)) k i (anchoredSecond p n w) ∙ fix-keeps-link (s .axis) i i (anchoredFirst p n w) ∙ h))
 
-    anchored-is : (a : ℕ) → carriedOut m s i k (anchoredPlan (m .rule) xs e e2 (edgeAt (s .axis) a) (s .trail))
-        ≡ axisState s (s .trail) (adjusted (besideAnchor (m .rule) xs (s .axis) i k a) i Prev (m .«top_to_bottom»))
+    anchored-is : (a : ℕ) → carriedOut s i k (anchoredPlan (m .rule) xs e e2 (edgeAt (s .axis) a) (s .trail))
+        ≡ axisState s (s .trail) (adjusted (besideAnchor (m .rule) xs (s .axis) i k a) i Prev)
     unfolding anchoredPlan besideAnchor
     anchored-is a = by (e2 .flags .done) _ _ _ _ behind-is (centred-is _ _ _)
       where
         by : (t : Bool) (x y : Plan) (u v : Axis)
-            → carriedOut m s i k x ≡ axisState s (s .trail) (adjusted u i Prev (m .«top_to_bottom»))
-            → carriedOut m s i k y ≡ axisState s (s .trail) (adjusted v i Prev (m .«top_to_bottom»))
-            → carriedOut m s i k (cond t x y) ≡ axisState s (s .trail) (adjusted (cond t u v) i Prev (m .«top_to_bottom»))
+            → carriedOut s i k x ≡ axisState s (s .trail) (adjusted u i Prev)
+            → carriedOut s i k y ≡ axisState s (s .trail) (adjusted v i Prev)
+            → carriedOut s i k (cond t x y) ≡ axisState s (s .trail) (adjusted (cond t u v) i Prev)
         by true x y u v p q = p
         by false x y u v p q = q
 
-    free-is : carriedOut m s i k (freePlan (m .rule) xs e e2 (s .trail)) ≡ anchorState s i (s .trail) (firstStem (m .rule) xs (s .axis) i k (freePos (m .rule) xs e e2))
+    free-is : carriedOut s i k (freePlan (m .rule) xs e e2 (s .trail)) ≡ anchorState s i (s .trail) (firstStem (m .rule) xs (s .axis) i k (freePos (m .rule) xs e e2))
     unfolding carriedOut freePlan secondEdge heldEdge anchorAfter
     free-is =
         let p = freePos (m .rule) xs e e2 in
@@ -213,17 +213,17 @@ module _ (m : Mode) (xs : List ℤ) (s : State) (i k : ℕ) where
         ap (anchorState s i (s .trail))
         (put-same _ i ∙ ap (λ (o : ℤ). putEdge u k (placed (edgeAt u k) (linkedPos (m .rule) xs p (e .opos) o))) (sym (fix-keeps-opos (s .axis) i k p)))
 
-    latin-is : (l : Link) → s .anchor ≡ l → carriedOut m s i k (latinPlan (m .rule) xs e e2 (edgeAt (s .axis) (indexOr i l)) l (s .trail)) ≡ latinStem m xs s i k l
+    latin-is : (l : Link) → s .anchor ≡ l → carriedOut s i k (latinPlan (m .rule) xs e e2 (edgeAt (s .axis) (indexOr i l)) l (s .trail)) ≡ latinStem m xs s i k l
     unfolding latinPlan latinStem
     latin-is Links.None g = free-is
     latin-is (Links.To a) g = anchored-is a
 
-    group-is : (g : Group) → carriedOut m s i k (groupPlan g m xs e e2 (edgeAt (s .axis) (indexOr i (s .anchor))) (s .anchor) (ltb k i) (s .trail)) ≡ groupStem g m xs s i k
+    group-is : (g : Group) → carriedOut s i k (groupPlan g m xs e e2 (edgeAt (s .axis) (indexOr i (s .anchor))) (s .anchor) (ltb k i) (s .trail)) ≡ groupStem g m xs s i k
     unfolding groupPlan groupStem
     group-is Default = latin-is (s .anchor) refl
     group-is Cjk = cjk-is
 
-    zone-is : (b : Blue) → carriedOut m s i k (zonePlan b m xs e e2 (edgeAt (s .axis) (indexOr i (s .anchor))) (s .anchor) (ltb k i) (s .trail)) ≡ zoneStem b m xs s i k
+    zone-is : (b : Blue) → carriedOut s i k (zonePlan b m xs e e2 (edgeAt (s .axis) (indexOr i (s .anchor))) (s .anchor) (ltb k i) (s .trail)) ≡ zoneStem b m xs s i k
     unfolding zonePlan zoneStem
     zone-is Blues.None = group-is (m .group)
     zone-is (Blues.Fitted z) = linked-is (s .trail)

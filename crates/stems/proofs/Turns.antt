@@ -56,7 +56,7 @@ module _ (m : Mode) (xs : List ℤ) (s : State) (i : ℕ) where
     pub first : e ≡ fixedAt (edgeAt (s .axis) i) (plan .first)
     pub second : g ≡ secondEdge (edgeAt (putEdge (s .axis) i e) k) (plan .second)
     pub prev-is : prev ≡ i - 1
-    pub third : h ≡ heldEdge (m .«top_to_bottom») plan i (edgeAt (twoPut k e g) i) (edgeAt (twoPut k e g) prev) (edgeAt (twoPut k e g) k)
+    pub third : h ≡ heldEdge plan i (edgeAt (twoPut k e g) i) (edgeAt (twoPut k e g) prev) (edgeAt (twoPut k e g) k)
     pub anchor : a ≡ anchorAfter plan (s .anchor) i
 
   -- the axis after two stores, and after all three
@@ -64,16 +64,16 @@ module _ (m : Mode) (xs : List ℤ) (s : State) (i : ℕ) where
       → putEdge (putEdge (s .axis) i e) k g ≡ secondPut plan k (firstPut plan i (s .axis))
   two-puts k plan e g h1 h2 = cc
 
-  three-puts : (k prev : ℕ) (plan : Plan) (u v : Axis) (h : Edge) → u ≡ v → prev ≡ i - 1 → h ≡ heldEdge (m .«top_to_bottom») plan i (edgeAt u i) (edgeAt u prev) (edgeAt u k)
-      → putEdge u i h ≡ heldPut (m .«top_to_bottom») plan i k v
+  three-puts : (k prev : ℕ) (plan : Plan) (u v : Axis) (h : Edge) → u ≡ v → prev ≡ i - 1 → h ≡ heldEdge plan i (edgeAt u i) (edgeAt u prev) (edgeAt u k)
+      → putEdge u i h ≡ heldPut plan i k v
   three-puts k prev plan u v h e p q = cc
 
   pub plan-at : (k base : ℕ) (plan : Plan) → base ≡ indexOr i (s .anchor)
       → plan ≡ planOf m xs (edgeAt (s .axis) i) (edgeAt (s .axis) k) (edgeAt (s .axis) base) (s .anchor) (ltb k i) (s .trail) → plan ≡ planAt m xs s i k
   plan-at k base plan e q = q ∙ ap (λ (j : ℕ). planOf m xs (edgeAt (s .axis) i) (edgeAt (s .axis) k) (edgeAt (s .axis) j) (s .anchor) (ltb k i) (s .trail)) e
 
-  carried : (k : ℕ) (plan : Plan) (u : Axis) (a : Link) → u ≡ heldPut (m .«top_to_bottom») plan i k (secondPut plan k (firstPut plan i (s .axis))) → a ≡ anchorAfter plan (s .anchor) i
-      → carriedOut m s i k plan ≡ record { axis = u; count = s .count; anchor = a; trail = plan .trail }
+  carried : (k : ℕ) (plan : Plan) (u : Axis) (a : Link) → u ≡ heldPut plan i k (secondPut plan k (firstPut plan i (s .axis))) → a ≡ anchorAfter plan (s .anchor) i
+      → carriedOut s i k plan ≡ record { axis = u; count = s .count; anchor = a; trail = plan .trail }
   unfolding carriedOut
   carried k plan u a e q =
       ap (λ (v : Axis). record { axis = v; count = s .count; anchor = anchorAfter plan (s .anchor) i; trail = plan .trail }) (sym e)
@@ -85,5 +85,5 @@ module _ (m : Mode) (xs : List ℤ) (s : State) (i : ℕ) where
   step-put k plan e g h a p =
       by-link (Links.To k) (p .not-done) (p .link)
       ∙ cond-false _ _ _ (p .not-close)
-      ∙ ap (carriedOut m s i k) (sym (plan-at k (p .base) plan (p .base-is) (p .plan-is)))
+      ∙ ap (carriedOut s i k) (sym (plan-at k (p .base) plan (p .base-is) (p .plan-is)))
       ∙ carried k plan _ a (three-puts k (p .prev) plan _ _ h (two-puts k plan e g (p .first) (p .second)) (p .prev-is) (p .third)) (p .anchor)

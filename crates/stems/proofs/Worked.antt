@@ -1,6 +1,6 @@
 -- Passes worked out by hand from document 01 and the Rust: what is counted, what becomes the anchor, and what the neighbour bound does.
 use mathlib.Core.Path.{_≡_, refl}
-use mathlib.Core.Bool.{Bool, true, false}
+use mathlib.Core.Bool.{false}
 use mathlib.Core.List.{List, [], _∷_}
 use Prim.Native.Nat.{ℕ}
 use lib.ListN.{length}
@@ -34,39 +34,37 @@ edge o p l = joinedTo (placed (freshEdge (pos 0) (pos o) Directions.None 0) (pos
 abbrev axisOf : List Edge → Axis
 axisOf es = record { dim = Vertical; «major_dir» = Directions.None; edges = es; len = length es }
 
--- the pass without STEM_ADJUST, by the width rule and its list, the group, top to bottom or not, the anchor and the edges
-abbrev passBy : WidthRule → List ℤ → Group → Bool → Link → List Edge → Stems
-passBy rule xs group ttb anchor es = stemsOf (modeOf (axisOf es) group false ttb rule) xs anchor (axisOf es)
+-- the pass without STEM_ADJUST, by the width rule and its list, the group, the anchor and the edges
+abbrev passBy : WidthRule → List ℤ → Group → Link → List Edge → Stems
+passBy rule xs group anchor es = stemsOf (modeOf (axisOf es) group false rule) xs anchor (axisOf es)
 
 -- the same with Keep
-abbrev passOf : Group → Bool → Link → List Edge → Stems
+abbrev passOf : Group → Link → List Edge → Stems
 passOf = passBy Keep []
 
 pub record Worked : Type 0 where
   -- an edge with no link is counted, one that is done is not; the first stem, from 10 to 74, goes to 0 and 64 and is the anchor
-  pub first-stem : passOf Default false Links.None (edge 5 5 Links.None ∷ finished (edge 8 8 Links.None) ∷ edge 10 10 (Links.To 3) ∷ edge 74 74 (Links.To 2) ∷ [])
+  pub first-stem : passOf Default Links.None (edge 5 5 Links.None ∷ finished (edge 8 8 Links.None) ∷ edge 10 10 (Links.To 3) ∷ edge 74 74 (Links.To 2) ∷ [])
       ≡ stems 1 (Links.To 2) (axisOf (edge 5 5 Links.None ∷ finished (edge 8 8 Links.None) ∷ finished (edge 10 0 (Links.To 3)) ∷ finished (edge 74 64 (Links.To 2)) ∷ [])) 0
   -- its second edge, linked to no edge, is placed and not done, and counted when it is visited
-  pub second-edge : passOf Default false Links.None (edge 10 10 (Links.To 1) ∷ edge 74 74 Links.None ∷ [])
+  pub second-edge : passOf Default Links.None (edge 10 10 (Links.To 1) ∷ edge 74 74 Links.None ∷ [])
       ≡ stems 1 (Links.To 0) (axisOf (finished (edge 10 0 (Links.To 1)) ∷ edge 74 64 Links.None ∷ [])) 0
-  -- a stem from 130 to 190 whose first edge has passed the edge before it, at 300, more than 16 from the second, is held to that; from top to bottom it is not
-  pub bounded : passOf Default false (Links.To 0) (finished (edge 0 0 Links.None) ∷ finished (edge 50 300 Links.None) ∷ edge 100 100 (Links.To 3) ∷ edge 160 160 (Links.To 2) ∷ [])
+  -- a stem from 130 to 190 whose first edge has passed the edge before it, at 300, more than 16 from the second, is held to that
+  pub bounded : passOf Default (Links.To 0) (finished (edge 0 0 Links.None) ∷ finished (edge 50 300 Links.None) ∷ edge 100 100 (Links.To 3) ∷ edge 160 160 (Links.To 2) ∷ [])
       ≡ stems 0 (Links.To 0) (axisOf (finished (edge 0 0 Links.None) ∷ finished (edge 50 300 Links.None) ∷ finished (edge 100 300 (Links.To 3)) ∷ finished (edge 160 190 (Links.To 2)) ∷ [])) 0
-  pub not-bounded : passOf Default true (Links.To 0) (finished (edge 0 0 Links.None) ∷ finished (edge 50 300 Links.None) ∷ edge 100 100 (Links.To 3) ∷ edge 160 160 (Links.To 2) ∷ [])
-      ≡ stems 0 (Links.To 0) (axisOf (finished (edge 0 0 Links.None) ∷ finished (edge 50 300 Links.None) ∷ finished (edge 100 130 (Links.To 3)) ∷ finished (edge 160 190 (Links.To 2)) ∷ [])) 0
   -- a CJK stem goes to 26 and 66; the next, whose first edge at 129 is less than 64 behind, is passed over, and both its edges are counted
-  pub too-close : passOf Cjk false Links.None (edge 40 40 (Links.To 1) ∷ edge 80 80 (Links.To 0) ∷ edge 129 129 (Links.To 3) ∷ edge 170 170 (Links.To 2) ∷ [])
+  pub too-close : passOf Cjk Links.None (edge 40 40 (Links.To 1) ∷ edge 80 80 (Links.To 0) ∷ edge 129 129 (Links.To 3) ∷ edge 170 170 (Links.To 2) ∷ [])
       ≡ stems 2 (Links.To 0) (axisOf (finished (edge 40 26 (Links.To 1)) ∷ finished (edge 80 66 (Links.To 0)) ∷ edge 129 129 (Links.To 3) ∷ edge 170 170 (Links.To 2) ∷ [])) 0
   -- request #112: edge 1, linked to itself, has width 0 by either rule, and goes from 100 to the centre chosen, 96
-  pub self-linked : passOf Default false (Links.To 0) (finished (edge 0 0 Links.None) ∷ edge 100 100 (Links.To 1) ∷ [])
+  pub self-linked : passOf Default (Links.To 0) (finished (edge 0 0 Links.None) ∷ edge 100 100 (Links.To 1) ∷ [])
       ≡ stems 0 (Links.To 0) (axisOf (finished (edge 0 0 Links.None) ∷ finished (edge 100 96 (Links.To 1)) ∷ [])) 0
-  pub self-linked-snap : passBy Snap (pos 10 ∷ []) Default false (Links.To 0) (finished (edge 0 0 Links.None) ∷ edge 100 100 (Links.To 1) ∷ [])
+  pub self-linked-snap : passBy Snap (pos 10 ∷ []) Default (Links.To 0) (finished (edge 0 0 Links.None) ∷ edge 100 100 (Links.To 1) ∷ [])
       ≡ stems 0 (Links.To 0) (axisOf (finished (edge 0 0 Links.None) ∷ finished (edge 100 96 (Links.To 1)) ∷ [])) 0
   -- an anchor that is the edge itself, at 110, and an odd width, 61: the stem's centre, 110 and half of 61, goes from 140 to 160
-  pub own-anchor : passOf Default false (Links.To 0) (edge 100 110 (Links.To 1) ∷ edge 161 200 (Links.To 0) ∷ [])
+  pub own-anchor : passOf Default (Links.To 0) (edge 100 110 (Links.To 1) ∷ edge 161 200 (Links.To 0) ∷ [])
       ≡ stems 0 (Links.To 0) (axisOf (finished (edge 100 130 (Links.To 1)) ∷ finished (edge 161 190 (Links.To 0)) ∷ [])) 0
   -- request #102: with Snap a stem of 10 units, from 100 to 110, is drawn a pixel wide, about the centre chosen, 96
-  pub not-vanishing : passBy Snap [] Default false (Links.To 0) (finished (edge 0 0 Links.None) ∷ edge 100 100 (Links.To 2) ∷ edge 110 110 (Links.To 1) ∷ [])
+  pub not-vanishing : passBy Snap [] Default (Links.To 0) (finished (edge 0 0 Links.None) ∷ edge 100 100 (Links.To 2) ∷ edge 110 110 (Links.To 1) ∷ [])
       ≡ stems 0 (Links.To 0) (axisOf (finished (edge 0 0 Links.None) ∷ finished (edge 100 64 (Links.To 2)) ∷ finished (edge 110 128 (Links.To 1)) ∷ [])) 0
 
 pub worked : Worked
@@ -78,7 +76,6 @@ worked = record {
   first-stem = refl;
   second-edge = refl;
   bounded = refl;
-  not-bounded = refl;
   too-close = refl;
   self-linked = refl;
   self-linked-snap = refl;

@@ -50,6 +50,6 @@ pub record ThinStem (m : Mode) (xs : List ℤ) (s : State) (i k a : ℕ) : Type 
 
 -- shown: the visit is the bound after what is before it, there the positions of both edges add up to twice the centre chosen, and that is chosen as `Chosen` says
 pub record Centred (m : Mode) (xs : List ℤ) (s : State) (i k a : ℕ) : Type 0 where
-  pub bound-after : visit m xs s i ≡ record { axis = adjusted (beforeBound m xs s i k a) i Prev (m .«top_to_bottom»); count = s .count; anchor = s .anchor; trail = s .trail }
+  pub bound-after : visit m xs s i ≡ record { axis = adjusted (beforeBound m xs s i k a) i Prev; count = s .count; anchor = s .anchor; trail = s .trail }
   pub about : edgeAt (beforeBound m xs s i k a) i .pos +ℤ edgeAt (beforeBound m xs s i k a) k .pos ≡ pos 2 *ℤ chosenCentre m xs s i k a
   pub chosen : ChosenFor (shiftedCentre s i k a) (stemWidth m xs s i k) (chosenCentre m xs s i k a)

@@ -18,7 +18,7 @@ use Rattle.axis.specs.declared.kinds.Group.the-variants.{Default, Cjk}
 use Rattle.axis.specs.declared.edge.Edge.{Edge}
 use Rattle.axis.specs.declared.edge.Axis.{Axis}
 use Rattle.axis.specs.Edge.{edgeAt, putEdge, finished, fixedAt}
-use Rattle.axis.specs.Refusals.{linkHolds, edgesShort, edgesIndexed, edgesInRange}
+use Rattle.axis.specs.Refusals.{linkHolds, edgesShort, bottomToTop, edgesIndexed, edgesInRange}
 use Rattle.axis.specs.Visits.{visits}
 use Rattle.placing.specs.declared.adjust.LinkDir.the-variants.{Prev}
 use Rattle.placing.specs.Placing.{linkedEdge, adjusted}
@@ -77,7 +77,7 @@ firstStem rule xs axis i k p = putEdge (fixAt axis i p) k (linkedEdge rule xs (f
 
 -- by the anchor: beside one, edge i is then held to the previous edge, as `adjust_link` does; with none, edge i becomes the anchor
 unfoldable pub latinStem : Mode → List ℤ → State → ℕ → ℕ → Link → State
-latinStem m xs s i k (Links.To a) = record { axis = adjusted (besideAnchor (m .rule) xs (s .axis) i k a) i Prev (m .«top_to_bottom»); count = s .count; anchor = s .anchor; trail = s .trail }
+latinStem m xs s i k (Links.To a) = record { axis = adjusted (besideAnchor (m .rule) xs (s .axis) i k a) i Prev; count = s .count; anchor = s .anchor; trail = s .trail }
 latinStem m xs s i k Links.None = record {
   axis = firstStem (m .rule) xs (s .axis) i k (freePos (m .rule) xs (edgeAt (s .axis) i) (edgeAt (s .axis) k));
   count = s .count;
@@ -154,13 +154,14 @@ unfoldable pub stemsOf : Mode → List ℤ → Link → Axis → Stems
 stemsOf m xs anchor axis = outcome (visits (visit m xs) (axis .len) 0 (begun anchor axis))
 
 -- what is the same for every visit
-abbrev pub modeOf : Axis → Group → Bool → Bool → WidthRule → Mode
-modeOf axis group adjust ttb rule = record { dim = axis .dim; group = group; «stem_adjust» = adjust; «top_to_bottom» = ttb; rule = rule }
+abbrev pub modeOf : Axis → Group → Bool → WidthRule → Mode
+modeOf axis group adjust rule = record { dim = axis .dim; group = group; «stem_adjust» = adjust; rule = rule }
 
--- the tests of `align_stem_edges`, in document 01's order
-abbrev pub stemsTests : Axis → Link → WidthRule → List ℤ → List Test
-stemsTests axis anchor rule xs =
+-- the tests of `align_stem_edges`, in their order
+abbrev pub stemsTests : Axis → Bool → Link → WidthRule → List ℤ → List Test
+stemsTests axis ttb anchor rule xs =
     edgesShort axis
+    ∷ bottomToTop ttb
     ∷ badParameter unless ruleHolds rule xs
     ∷ edgesIndexed axis
     ∷ badIndex unless linkHolds (axis .len) anchor
@@ -170,8 +171,8 @@ stemsTests axis anchor rule xs =
 -- `align_stem_edges`: the refusal, count 0, no anchor and the axis as it came, or 0, the count, the anchor or its absence, and the axis
 unfoldable pub alignStemEdges : Axis → Group → Bool → Bool → Link → WidthRule → List ℤ → Stems
 alignStemEdges axis group adjust ttb anchor rule xs =
-    answered (refusal (stemsTests axis anchor rule xs)) (stems 0 Links.None axis)
-    (stemsOf (modeOf axis group adjust ttb rule) xs anchor axis)
+    answered (refusal (stemsTests axis ttb anchor rule xs)) (stems 0 Links.None axis)
+    (stemsOf (modeOf axis group adjust rule) xs anchor axis)
 
 -- what the call owes its caller: the answer, the count, the anchor and the axis
 abbrev pub AlignsStemEdges : Axis → Group → Bool → Bool → Link → WidthRule → List ℤ → Stems → Type 0

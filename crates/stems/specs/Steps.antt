@@ -1,5 +1,5 @@
 -- A visit along one path: a plan, and three stores that may change nothing. `steps-are` shows that steps are visits.
-use mathlib.Core.Bool.{Bool, cond}
+use mathlib.Core.Bool.{cond}
 use mathlib.Core.List.{List}
 use Prim.Native.Nat.{ℕ, _-_}
 use lib.Dec.{ltb}
@@ -26,13 +26,13 @@ firstPut plan i axis = putEdge axis i (fixedAt (edgeAt axis i) (plan .first))
 abbrev pub secondPut : Plan → ℕ → Axis → Axis
 secondPut plan k axis = putEdge axis k (secondEdge (edgeAt axis k) (plan .second))
 
-abbrev pub heldPut : Bool → Plan → ℕ → ℕ → Axis → Axis
-heldPut ttb plan i k axis = putEdge axis i (heldEdge ttb plan i (edgeAt axis i) (edgeAt axis (i - 1)) (edgeAt axis k))
+abbrev pub heldPut : Plan → ℕ → ℕ → Axis → Axis
+heldPut plan i k axis = putEdge axis i (heldEdge plan i (edgeAt axis i) (edgeAt axis (i - 1)) (edgeAt axis k))
 
 -- the state once a plan for edge i and its link k is carried out
-unfoldable pub carriedOut : Mode → State → ℕ → ℕ → Plan → State
-carriedOut m s i k plan = record {
-  axis = heldPut (m .«top_to_bottom») plan i k (secondPut plan k (firstPut plan i (s .axis)));
+unfoldable pub carriedOut : State → ℕ → ℕ → Plan → State
+carriedOut s i k plan = record {
+  axis = heldPut plan i k (secondPut plan k (firstPut plan i (s .axis)));
   count = s .count;
   anchor = anchorAfter plan (s .anchor) i;
   trail = plan .trail;
@@ -42,7 +42,7 @@ carriedOut m s i k plan = record {
 unfoldable pub stepLink : Mode → List ℤ → State → ℕ → Link → State
 stepLink m xs s i Links.None = counted s
 stepLink m xs s i (Links.To k) =
-    cond (tooClose (m .group) (s .trail .last) (edgeAt (s .axis) i) (edgeAt (s .axis) k)) (counted s) (carriedOut m s i k (planAt m xs s i k))
+    cond (tooClose (m .group) (s .trail .last) (edgeAt (s .axis) i) (edgeAt (s .axis) k)) (counted s) (carriedOut s i k (planAt m xs s i k))
 
 -- the step of edge i
 unfoldable pub step : Mode → List ℤ → State → ℕ → State

@@ -30,7 +30,7 @@ pub record VisitedStem (m : Mode) (xs : List ℤ) (s : State) (i k : ℕ) : Type
 pub record BoundAfter (m : Mode) (xs : List ℤ) (s : State) (i k : ℕ) (before : Axis) (t : State) : Type 0 where
   pub anchor : ℕ
   pub beside : before ≡ besideAnchor (m .rule) xs (s .axis) i k anchor
-  pub bound : t .axis ≡ adjusted before i Prev (m .«top_to_bottom»)
+  pub bound : t .axis ≡ adjusted before i Prev
 
 -- shown of the state t that the visit comes to: it has an axis, or the neighbour bound after it, in which the two edges are at least a pixel apart
 pub record NotVanishing (m : Mode) (xs : List ℤ) (s : State) (i k : ℕ) (t : State) : Type 0 where

@@ -13,6 +13,7 @@ use fixed::width::rule_holds;
 use refusals::order::BAD_INDEX;
 use refusals::order::BAD_PARAMETER;
 use refusals::order::OUT_OF_RANGE;
+use refusals::order::RETIRED;
 use refusals::order::TOO_LONG;
 use refusals::order::or_refused;
 use stems_plan::kinds::Mode;
@@ -21,17 +22,25 @@ ghost use Rattle.refusals.specs.Refusal.{refusal};
 ghost use Rattle.stems.specs.Stems.{stemsTests, AlignsStemEdges};
 
 // The refusal of the call, or 0.
-fn stems_refusal(axis: Axis, anchor: Link, rule: WidthRule, standards: &[i32]) -> u8
-    ensures { λ r. ⌜ r ≡ refusal (stemsTests axis anchor rule (now (standards .entry))) ⌝ }
+fn stems_refusal(
+    axis: Axis,
+    top_to_bottom: bool,
+    anchor: Link,
+    rule: WidthRule,
+    standards: &[i32],
+) -> u8
+    ensures { λ r. ⌜ r ≡ refusal (stemsTests axis «top_to_bottom» anchor rule (now (standards .entry))) ⌝ }
 {
     let answer = or_refused(0, few_edges(axis.len), TOO_LONG);
+    let answer = or_refused(answer, !top_to_bottom, RETIRED);
     let answer = or_refused(answer, rule_holds(rule, standards), BAD_PARAMETER);
     let answer = or_refused(answer, edges_indices(axis), BAD_INDEX);
     let answer = or_refused(answer, link_holds(anchor, axis.len), BAD_INDEX);
     or_refused(answer, edges_numbers(axis), OUT_OF_RANGE)
 }
 
-// Aligns all stem edges, and hands back how many edges it passed over, and the anchor.
+// Aligns all stem edges, from bottom to top, and hands back how many edges it passed over, and the anchor. Top to bottom can be asked for only to be refused: it is
+// retired.
 pub fn align_stem_edges(
     axis: Axis,
     group: Group,
@@ -43,7 +52,7 @@ pub fn align_stem_edges(
 ) -> Stems
     ensures { λ r. ⌜ AlignsStemEdges axis group «stem_adjust» «top_to_bottom» anchor rule (now (standards .entry)) r ⌝ }
 {
-    let answer = stems_refusal(axis, anchor, rule, standards);
+    let answer = stems_refusal(axis, top_to_bottom, anchor, rule, standards);
     if 0 < answer {
         return Stems {
             answer,
@@ -57,7 +66,6 @@ pub fn align_stem_edges(
         dim,
         group,
         stem_adjust,
-        top_to_bottom,
         rule,
     };
     align_stems(axis, mode, standards, anchor)

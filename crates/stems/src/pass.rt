@@ -63,14 +63,7 @@ pub fn align_stems(axis: Axis, mode: Mode, standards: &[i32], start: Link) -> St
         aligned.edges[i] = first_edge(edge, plan);
         aligned.edges[edge2_ix] = second_edge(aligned.edges[edge2_ix], plan);
         let prev = aligned.edges[before(i)];
-        aligned.edges[i] = hold(
-            mode,
-            plan,
-            i,
-            aligned.edges[i],
-            prev,
-            aligned.edges[edge2_ix],
-        );
+        aligned.edges[i] = hold(plan, i, aligned.edges[i], prev, aligned.edges[edge2_ix]);
         anchor = anchor_after(plan, anchor, i);
         trail = plan.trail;
     }

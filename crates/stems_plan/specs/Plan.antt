@@ -109,16 +109,16 @@ secondEdge e (Placed p) = placed e p
 secondEdge e (Fixed p) = fixedAt e p
 
 -- the neighbour bound, as `adjust_link` has it: the edge has passed the previous one, and its link is far from that
-abbrev pub isOver : Bool → Edge → Edge → Edge → Bool
-isOver ttb e prev link = hasPassed Prev ttb (e .pos) (prev .pos) && isFar (link .pos) (prev .pos)
+abbrev pub isOver : Edge → Edge → Edge → Bool
+isOver e prev link = hasPassed Prev (e .pos) (prev .pos) && isFar (link .pos) (prev .pos)
 
 -- edge i is held to it where the plan says so, and there is a previous edge
 abbrev pub isBounded : Plan → ℕ → Bool
 isBounded plan i = plan .bounded && ltb 0 i
 
 -- edge i then takes the previous edge's position
-unfoldable pub heldEdge : Bool → Plan → ℕ → Edge → Edge → Edge → Edge
-heldEdge ttb plan i e prev link = cond (isBounded plan i && isOver ttb e prev link) (placed e (prev .pos)) e
+unfoldable pub heldEdge : Plan → ℕ → Edge → Edge → Edge → Edge
+heldEdge plan i e prev link = cond (isBounded plan i && isOver e prev link) (placed e (prev .pos)) e
 
 -- edge i becomes the anchor where the plan says so
 unfoldable pub anchorAfter : Plan → Link → ℕ → Link

@@ -8,7 +8,6 @@ pub struct Mode {
     pub dim: Dimension,
     pub group: Group,
     pub stem_adjust: bool,
-    pub top_to_bottom: bool,
     pub rule: WidthRule,
 }
 

@@ -1,5 +1,4 @@
 // What the stores of a visit put into the table.
-use super::kinds::Mode;
 use super::kinds::Plan;
 use super::kinds::Second;
 use axis::edge::Edge;
@@ -49,11 +48,11 @@ pub fn before(i: usize) -> usize
 }
 
 // Whether an edge has passed the previous one, and its link is far from that.
-fn is_over(top_to_bottom: bool, edge: Edge, prev: Edge, link: Edge) -> bool
+fn is_over(edge: Edge, prev: Edge, link: Edge) -> bool
     requires { ⌜ InReach edge × InReach prev × InReach link ⌝ }
-    ensures { λ r. ⌜ r ≡ isOver «top_to_bottom» edge prev link ⌝ }
+    ensures { λ r. ⌜ r ≡ isOver edge prev link ⌝ }
 {
-    if has_passed(LinkDir::Prev, top_to_bottom, edge.pos, prev.pos) {
+    if has_passed(LinkDir::Prev, edge.pos, prev.pos) {
         return is_far(link.pos, prev.pos);
     }
     false
@@ -70,12 +69,12 @@ fn is_bounded(plan: Plan, i: usize) -> bool
 }
 
 // Edge i, put back to the previous edge where that bounds it.
-pub fn hold(mode: Mode, plan: Plan, i: usize, edge: Edge, prev: Edge, link: Edge) -> Edge
+pub fn hold(plan: Plan, i: usize, edge: Edge, prev: Edge, link: Edge) -> Edge
     requires { ⌜ InReach edge × InReach prev × InReach link ⌝ }
-    ensures { λ r. ⌜ r ≡ heldEdge (mode .«top_to_bottom») plan i edge prev link ⌝ }
+    ensures { λ r. ⌜ r ≡ heldEdge plan i edge prev link ⌝ }
 {
     if is_bounded(plan, i) {
-        if is_over(mode.top_to_bottom, edge, prev, link) {
+        if is_over(edge, prev, link) {
             return with_pos(edge, prev.pos);
         }
     }

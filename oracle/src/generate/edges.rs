@@ -33,6 +33,7 @@ pub fn edges(small: bool, random: &mut Random) -> Vec<Edge> {
 fn built(random: &mut Random) -> Vec<Edge> {
     let mut given = segments::building(random);
     given.scale = random.between(1_000, 32_000);
+    given.top_to_bottom = false;
     let mut made = segments::linked(&mut given, random);
     let mut edges = Table::of(Vec::new());
     match calls::compute_edges(&mut made, &mut edges, &given) {
@@ -66,7 +67,7 @@ fn placed(count: usize, random: &mut Random) -> Vec<Edge> {
 }
 
 /// Moves edges and gives flags, blues, links and serifs.
-fn dress(edges: &mut [Edge], random: &mut Random) {
+pub fn dress(edges: &mut [Edge], random: &mut Random) {
     let chances = Chances {
         done: random.pick(&[2, 4, 100]),
         blue: random.pick(&[2, 4, 100]),

@@ -44,6 +44,9 @@ fn spike(words: &mut Words, random: &mut Random) {
             index(words, "edges", false, random)
         }
         "segment.link" | "segment.serif" | "segment.next" => index(words, "segments", true, random),
+        "segment.edge" => index(words, "edges", true, random),
+        "edge.first" | "edge.last" => index(words, "segments", false, random),
+        "top to bottom" => 1,
         "original" | "current" if words.values[0] == WRITE_FRAME => {
             random.pick(&[32_767, 32_768, -32_768, -32_769, i32::MAX, i32::MIN])
         }
@@ -109,13 +112,20 @@ fn resize(job: &mut Job, random: &mut Random) {
     match job {
         Job::MidPos(..) | Job::MidDelta(..) => {}
         Job::Weak(points) => resize_points(points, random),
+        Job::TurnOver(segments, edges) => resize_axis(segments, edges, random),
         Job::Link(segments, _, _, scale) => {
             resize_segments(segments, random);
             if segments.count > SEGMENTS && random.coin() {
                 *scale = 0;
             }
         }
-        Job::Build(segments, old, given) => resize_building(segments, old, given, random),
+        Job::Build(segments, old, given) => {
+            resize_building(segments, old, given, random);
+            if random.once_in(6) {
+                given.top_to_bottom = true;
+                given.scale *= random.below(2) as i32;
+            }
+        }
         Job::Path(walk) => resize_walk(walk, random),
         Job::PathStep(walk, cursor) => {
             resize_walk(walk, random);
@@ -135,8 +145,15 @@ fn resize_on_edges(job: &mut Job, random: &mut Random) {
             resize_either(edges, rule, random);
         }
         Job::CjkStem(edges, given) => resize_either(edges, &mut given.rule, random),
-        Job::Stems(edges, given) => resize_either(edges, &mut given.rule, random),
-        Job::Serif(edges, ..) | Job::Adjust(edges, ..) | Job::Bounds(edges, _) => {
+        Job::Stems(edges, given) => {
+            resize_either(edges, &mut given.rule, random);
+            given.top_to_bottom |= random.once_in(4);
+        }
+        Job::Adjust(edges, _, _, top_to_bottom) => {
+            resize_edges(edges, random);
+            *top_to_bottom |= random.once_in(4);
+        }
+        Job::Serif(edges, ..) | Job::Bounds(edges, _) => {
             resize_edges(edges, random);
         }
         Job::M(edges, _) => {
@@ -260,6 +277,34 @@ fn resize_building(
             segments.items[0].pos = pos.clamp(-32_768, 32_767) as i16;
         }
         _ => resize_segments(segments, random),
+    }
+}
+
+/// Makes a table of an axis as long as its limit or one longer, or empty, or its edges one or two.
+fn resize_axis(segments: &mut Table<Segment>, edges: &mut Table<Edge>, random: &mut Random) {
+    match random.below(6) {
+        0 => {
+            let count = random.pick(&[SEGMENTS - 1, SEGMENTS, SEGMENTS + 1, 65_535]);
+            let items = segments.items.iter().copied().cycle();
+            segments.items = items.take(count.min(SEGMENTS)).collect();
+            if !segments.items.is_empty() {
+                segments.count = count;
+            }
+        }
+        1 => {
+            *edges = Table::of(Vec::new());
+            for segment in segments.items.iter_mut().filter(|_| random.coin()) {
+                segment.edge_ix = None;
+            }
+        }
+        2 => {
+            edges.items.truncate(random.pick(&[1, 2]));
+            edges.count = edges.items.len();
+        }
+        _ => {
+            let count = random.pick(&[EDGES - 1, EDGES, EDGES, EDGES + 1, 65_535]);
+            resize_to(edges, count, random);
+        }
     }
 }
 

@@ -1,5 +1,6 @@
 //! Jobs made up from a seed.
 
+mod axes;
 mod catalogue;
 mod damage;
 mod edges;
@@ -82,6 +83,7 @@ fn job(call: usize, small: bool, random: &mut Random) -> Job {
         5 => segments::build(small, random),
         15 | 16 => path::job(call, small, random),
         17 => catalogue::job(small, random),
+        24 => axes::turn_over(small, random),
         25 => frames::write(small, random),
         26 => frames::read(small, random),
         _ => on_edges(call, small, random),
@@ -105,7 +107,12 @@ fn on_edges(call: usize, small: bool, random: &mut Random) -> Job {
         6 => Job::Blues(table, dimension(random), group(random), rule),
         7 => Job::Linked(table, rule, named(count, random), named(count, random)),
         8 => Job::Serif(table, named(count, random), named(count, random)),
-        9 => Job::Adjust(table, named(count, random), random.coin(), random.coin()),
+        9 => Job::Adjust(
+            table,
+            named(count, random),
+            random.coin(),
+            old_order(random),
+        ),
         10 => Job::Bounds(table, named(count, random)),
         11 => cjk_stem(table, rule, random),
         _ => stem_pass(table, rule, random),
@@ -123,7 +130,7 @@ fn stem_pass(table: Table<Edge>, rule: WidthRule, random: &mut Random) -> Job {
         dim: dimension(random),
         group: group(random),
         stem_adjust: random.coin(),
-        top_to_bottom: random.coin(),
+        top_to_bottom: old_order(random),
         anchor: random.coin().then(|| named(table.count, random)),
         rule,
     };
@@ -188,6 +195,11 @@ fn delta(random: &mut Random) -> i32 {
         2 => random.between(-80, 80),
         _ => random.between(-16_383, 16_383),
     }
+}
+
+/// Whether the old order is asked for: seldom, since it is refused.
+fn old_order(random: &mut Random) -> bool {
+    random.once_in(24)
 }
 
 /// A dimension.

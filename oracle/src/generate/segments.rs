@@ -1,6 +1,6 @@
 //! Segments for linking and building.
 
-use super::{dimension, edges, group, Random};
+use super::{dimension, edges, group, old_order, Random};
 use crate::{
     calls,
     given::metrics::{derived_constant, fixed_div},
@@ -287,7 +287,7 @@ pub fn building(random: &mut Random) -> Building {
         dim: dimension(random),
         major: MAJOR[random.below(41) / 10].0,
         group: group(random),
-        top_to_bottom: random.coin(),
+        top_to_bottom: old_order(random),
         scale,
         distance: distance.clamp(0, 65_535),
         length: random.pick(&[0, 0, 1, 10, 21, 64, 500]),

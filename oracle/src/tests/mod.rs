@@ -4,6 +4,7 @@ mod catalogue;
 mod catalogue_slips;
 mod frames;
 mod log;
+mod order;
 mod path;
 mod path_slips;
 mod refusals;

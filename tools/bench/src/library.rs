@@ -17,7 +17,10 @@ pub fn answer(words: &[i32]) -> Vec<i32> {
     let Some(job) = decode::decode(words) else {
         return vec![NOT_A_JOB];
     };
-    if matches!(job, Job::WriteFrame(..) | Job::ReadFrame(..)) {
+    if matches!(
+        job,
+        Job::TurnOver(..) | Job::WriteFrame(..) | Job::ReadFrame(..)
+    ) {
         return port::answer(words);
     }
     // The library's building has no old table: what a refusal hands back is the job's, and a table that is too long is refused here.

@@ -212,7 +212,9 @@ impl Prepared {
             }
             Job::PathStep(walk, cursor) => return Self::PathStep(walk, cursor, None),
             Job::Catalogue(given) => return Self::Catalogue(given, Vec::new(), Vec::new()),
-            Job::WriteFrame(..) | Job::ReadFrame(..) => return Self::by_job(words),
+            Job::TurnOver(..) | Job::WriteFrame(..) | Job::ReadFrame(..) => {
+                return Self::by_job(words)
+            }
         };
         Self::Edges(records::given(words, EDGES), Vec::new(), call)
     }

@@ -1,7 +1,9 @@
 //! What functions over edges or segments are given: the oracle's jobs, damaged, and small cases one after the other.
 
 use crate::{
-    function::{Function, Given, Kind, Lent, Record, BUILDING, EDGE, LOWERCASE_M, SEGMENT},
+    function::{
+        Function, Given, Kind, Lent, Record, BUILDING, EDGE, LOWERCASE_M, SEGMENT, TURNING,
+    },
     memory::SHUT_WORDS,
 };
 use oracle::{
@@ -42,12 +44,18 @@ fn passed(function: &Function, words: &[i32], random: &mut Random) -> Given {
     let mut given = plain(function, 0, random);
     given.lent.table = words[2..2 + carried].to_vec();
     if count > record.most {
-        lengthen(record, &mut given, random);
+        lengthen(record, &mut given.lent.table, random);
     }
     let mut rest = &words[2 + carried..];
     if function.call == BUILDING {
         let old = (rest[0] as usize).min(EDGE.most);
         rest = &rest[1 + old * EDGE.words..];
+    }
+    if function.call == TURNING {
+        given.lent.room = rest[1..].to_vec();
+        if rest[0] as usize > EDGE.most {
+            lengthen(&EDGE, &mut given.lent.room, random);
+        }
     }
     for ix in 0..function.numbers.len() {
         given.numbers[ix] = rest[0];
@@ -64,10 +72,10 @@ fn passed(function: &Function, words: &[i32], random: &mut Random) -> Given {
 /// Accepted numbers, so many plain records, and what is lent to be written full of words.
 fn plain(function: &Function, count: usize, random: &mut Random) -> Given {
     let mut words = |count: usize| (0..count).map(|_| random.bits() as i32).collect();
-    let room = if function.call == BUILDING {
-        words(EDGE.most * EDGE.words)
-    } else {
-        Vec::new()
+    let room = match function.call {
+        BUILDING => words(EDGE.most * EDGE.words),
+        TURNING => plain_record(&EDGE).repeat(2),
+        _ => Vec::new(),
     };
     Given {
         lent: Lent {
@@ -143,6 +151,7 @@ fn damage(function: &Function, given: &mut Given, random: &mut Random) {
     let record = function.record;
     match random.below(12) {
         0..=3 => damage_word(&mut given.lent.table, random),
+        4..=6 if function.call == TURNING => damage_word(&mut given.lent.room, random),
         4..=6 => damage_number(function, given, random),
         7 => {
             let words = random.below(record.words - 1) + 1;
@@ -153,7 +162,10 @@ fn damage(function: &Function, given: &mut Given, random: &mut Random) {
                 given.lent.table.truncate(left);
             }
         }
-        8 => lengthen(record, given, random),
+        8 if function.call == TURNING && random.coin() => {
+            lengthen(&EDGE, &mut given.lent.room, random)
+        }
+        8 => lengthen(record, &mut given.lent.table, random),
         9 => {
             let least = (record.most + 1) * record.words;
             given.shut = Some(least + random.below(SHUT_WORDS - least));
@@ -164,6 +176,10 @@ fn damage(function: &Function, given: &mut Given, random: &mut Random) {
         10 if function.call == BUILDING => {
             let len = random.pick(&[0, 1, 11, 1_397, 1_407, 1_409, 1_419, 2_816]);
             given.lent.room.resize(len, 7);
+        }
+        10 if function.call == TURNING => {
+            let len = given.lent.room.len() + random.below(2 * EDGE.words);
+            given.lent.room.resize(len.saturating_sub(EDGE.words), 0);
         }
         10 | 11 => damage_standards(&mut given.lent.standards, random),
         _ => unreachable!(),
@@ -207,10 +223,9 @@ fn damage_number(function: &Function, given: &mut Given, random: &mut Random) {
     };
 }
 
-/// Makes the list one to forty records longer than its limit.
-fn lengthen(record: &Record, given: &mut Given, random: &mut Random) {
+/// Makes a list one to forty records longer than its limit.
+fn lengthen(record: &Record, table: &mut Vec<i32>, random: &mut Random) {
     let count = record.most + 1 + random.below(40);
-    let table = &mut given.lent.table;
     while table.len() < count * record.words {
         table.push(random.pick(&WORDS));
     }
@@ -260,13 +275,21 @@ fn lengths(function: &Function, random: &mut Random) -> Vec<Given> {
     lengths.map(cut).collect()
 }
 
-/// Every word of a few records, each with every word at the ends of fields.
+/// Every word of a few records, and of the edges that are turned over, each with every word at the ends of fields.
 fn words(function: &Function, random: &mut Random) -> Vec<Given> {
     let given = plain(function, few(function), random);
-    let places = 0..given.lent.table.len();
+    let table = given.lent.table.len();
+    let edges = match function.call {
+        TURNING => given.lent.room.len(),
+        _ => 0,
+    };
+    let places = 0..table + edges;
     let with = |(at, word): (usize, i32)| {
         let mut given = given.clone();
-        given.lent.table[at] = word;
+        match at.checked_sub(table) {
+            Some(at) => given.lent.room[at] = word,
+            None => given.lent.table[at] = word,
+        }
         given
     };
     places
@@ -341,8 +364,11 @@ const FAULTS: [Fault; 10] = [
             given.lent.table.extend(plain_record(record));
         }
     },
-    // the room is too short
-    |_, given| given.lent.room.truncate(EDGE.most * EDGE.words - 1),
+    // the room is too short, or the edges are not whole records
+    |function, given| match function.call {
+        TURNING => given.lent.room.push(0),
+        _ => given.lent.room.truncate(EDGE.most * EDGE.words - 1),
+    },
     // the list is not of whole records
     |_, given| given.lent.table.push(0),
 ];

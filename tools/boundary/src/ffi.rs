@@ -169,6 +169,12 @@ extern "C" {
         points: *mut u32,
         contours: *mut u32,
     ) -> u8;
+    pub fn khs_turn_over(
+        segments: *mut i32,
+        segments_len: usize,
+        edges: *mut i32,
+        edges_len: usize,
+    ) -> u8;
 }
 
 // Linux's C library; the numbers below are the same on its processors.

@@ -99,7 +99,7 @@ pub struct Function {
 }
 
 /// All of them.
-pub static FUNCTIONS: [Function; 10] = [
+pub static FUNCTIONS: [Function; 11] = [
     Function {
         name: "khs_link_segments_cjk",
         call: 4,
@@ -200,19 +200,30 @@ pub static FUNCTIONS: [Function; 10] = [
         scale: None,
         places: 0,
     },
+    Function {
+        name: "khs_turn_over",
+        call: 24,
+        record: &SEGMENT,
+        numbers: &[],
+        rule: None,
+        plain: &[],
+        scale: None,
+        places: 0,
+    },
 ];
 
-/// The call that builds edges, the call that finds bounds, which does not write its edges, and the m rule.
+/// The call that builds edges, the call that finds bounds, which does not write its edges, the m rule, and the call that turns edges over.
 pub const BUILDING: i32 = 5;
 pub const BOUNDS: i32 = 10;
 pub const LOWERCASE_M: i32 = 13;
+pub const TURNING: i32 = 24;
 
 /// What everything lent holds, before a call or after it.
 #[derive(Clone, PartialEq, Debug)]
 pub struct Lent {
     /// The words of the edges or segments.
     pub table: Vec<i32>,
-    /// Building's room for edges.
+    /// Building's room for edges, and the edges that are turned over.
     pub room: Vec<i32>,
     pub standards: Vec<i32>,
     /// The places for results.
@@ -389,6 +400,7 @@ fn call(call: i32, lists: &Pointers, n: &[i32]) -> u8 {
                 second,
             ),
             13 => ffi::khs_hint_lowercase_m(table, len, n[0]),
+            24 => ffi::khs_turn_over(table, len, room, room_len),
             _ => unreachable!("no function has this call"),
         }
     }

@@ -9,6 +9,7 @@
 
 use crate::function::{
     Function, Given, Kind, Lent, Outcome, Record, BLUE, BOUNDS, BUILDING, EDGE, EMPTY_EDGE, FITTED,
+    TURNING,
 };
 use oracle::{answer, decode::decode};
 
@@ -37,10 +38,14 @@ pub fn expected(function: &Function, given: &Given) -> Outcome {
 fn answer_to_words(function: &Function, given: &Given) -> Option<u8> {
     let record = function.record;
     let whole = given.table_len().is_multiple_of(record.words);
-    let roomy = function.call != BUILDING || given.lent.room.len() == EDGE.most * EDGE.words;
+    let room = given.lent.room.len();
+    let roomy = match function.call {
+        BUILDING => room == EDGE.most * EDGE.words,
+        _ => room.is_multiple_of(EDGE.words),
+    };
     if !whole || !roomy {
         Some(NOT_WORDS)
-    } else if given.table_len() / record.words > record.most {
+    } else if given.table_len() / record.words > record.most || room / EDGE.words > EDGE.most {
         Some(TOO_LONG)
     } else if !are_words(function, given) {
         Some(NOT_WORDS)
@@ -54,7 +59,9 @@ fn are_words(function: &Function, given: &Given) -> bool {
     let record = function.record;
     let records = given.lent.table.chunks(record.words);
     let mut numbers = function.numbers.iter().zip(&given.numbers);
+    let mut edges = given.lent.room.chunks(EDGE.words);
     let words = records.into_iter().all(|words| is_record(record, words))
+        && (function.call != TURNING || edges.all(|words| is_record(&EDGE, words)))
         && numbers.all(|(kind, number)| match kind {
             Kind::Choice => (0..=1).contains(number),
             Kind::Direction => (0..=4).contains(number),
@@ -82,6 +89,10 @@ fn job(function: &Function, given: &Given) -> Vec<i32> {
     job.extend(&given.lent.table);
     if function.call == BUILDING {
         job.push(0); // no old edges
+    }
+    if function.call == TURNING {
+        job.push((given.lent.room.len() / EDGE.words) as i32);
+        job.extend(&given.lent.room);
     }
     for (ix, (kind, number)) in function.numbers.iter().zip(&given.numbers).enumerate() {
         job.push(match kind {
@@ -121,6 +132,12 @@ fn changed(function: &Function, lent: &Lent, words: &[i32]) -> Lent {
         lent.room = edges[1..].to_vec();
         lent.room.extend(EMPTY_EDGE.repeat(EDGE.most - count));
         lent.places = vec![edges[0]];
+        return lent;
+    }
+    if function.call == TURNING {
+        let (segments, edges) = words.split_at(1 + lent.table.len());
+        lent.table = segments[1..].to_vec();
+        lent.room = edges[1..].to_vec();
         return lent;
     }
     let (places, table) = words.split_at(function.places);

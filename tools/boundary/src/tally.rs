@@ -4,7 +4,7 @@ use crate::ffi;
 use std::sync::atomic::{AtomicUsize, Ordering};
 
 /// The answers that are counted.
-pub const ANSWERS: [u8; 8] = [0, 1, 2, 3, 4, 5, 6, 255];
+pub const ANSWERS: [u8; 9] = [0, 1, 2, 3, 4, 5, 6, 10, 255];
 /// So many differences of a function are shown.
 const SHOWN: usize = 3;
 

@@ -3,7 +3,7 @@ use borrow.Author.Needs.{needs}
 use mathlib.Core.Path.{refl, ap, _∙_}
 use lib.IntN.{ℤ}
 use Rattle.signed.proofs.Signed.{is}
-use Rattle.refusals.specs.Refusal.{tooLong, badParameter, badIndex, outOfRange}
+use Rattle.refusals.specs.Refusal.{tooLong, badParameter, badIndex, outOfRange, retired}
 use Rattle.refusals.proofs.Tests.{none-tested, then-tested}
 use Rattle.building.specs.Building.{numbersHold, productsHold}
 use Rattle.building.proofs.build.building_refusal.Statement.{statement}
@@ -21,29 +21,32 @@ few-edges-requires c κs = search needs
 or-refused-requires-2 : tie.Need-or-refused-requires-2
 or-refused-requires-2 c κs = search needs
 
-numbers-hold-requires : tie.Need-numbers-hold-requires
-numbers-hold-requires c κs = search needs
-
 or-refused-requires-3 : tie.Need-or-refused-requires-3
 or-refused-requires-3 c κs = search needs
 
-segments-indices-requires : tie.Need-segments-indices-requires
-segments-indices-requires c κs = search needs
+numbers-hold-requires : tie.Need-numbers-hold-requires
+numbers-hold-requires c κs = search needs
 
 or-refused-requires-4 : tie.Need-or-refused-requires-4
 or-refused-requires-4 c κs = search needs
 
-segments-numbers-requires : tie.Need-segments-numbers-requires
-segments-numbers-requires c κs = search needs
+segments-indices-requires : tie.Need-segments-indices-requires
+segments-indices-requires c κs = search needs
 
 or-refused-requires-5 : tie.Need-or-refused-requires-5
 or-refused-requires-5 c κs = search needs
 
-products-hold-requires : tie.Need-products-hold-requires
-products-hold-requires c κs = search needs
+segments-numbers-requires : tie.Need-segments-numbers-requires
+segments-numbers-requires c κs = search needs
 
 or-refused-requires-6 : tie.Need-or-refused-requires-6
 or-refused-requires-6 c κs = search needs
+
+products-hold-requires : tie.Need-products-hold-requires
+products-hold-requires c κs = search needs
+
+or-refused-requires-7 : tie.Need-or-refused-requires-7
+or-refused-requires-7 c κs = search needs
 
 returns : tie.Need-returns
 returns c =
@@ -54,17 +57,19 @@ returns c =
     let indices = indexed .before in
     let right = indices .before in
     let numbers = right .before in
-    let short = numbers .before in
+    let upward = numbers .before in
+    let short = upward .before in
     let edges = short .before in
     let few = edges .before in
     let segments = few .before in
     let start = segments .before in
     let one = then-tested tooLong none-tested refl (few .or-refused .ensures) (segments .few-segments .ensures) in
     let two = then-tested tooLong one refl (short .or-refused2 .ensures) (edges .few-edges .ensures) in
-    let three = then-tested badParameter two refl (right .or-refused3 .ensures) (numbers .numbers-hold .ensures ∙ ap (λ (z : ℤ). numbersHold z (start .args .thresholds)) (is (start .fits .scale))) in
-    let four = then-tested badIndex three refl (indexed .or-refused4 .ensures) (indices .segments-indices .ensures) in
-    let five = then-tested outOfRange four refl (ranged .or-refused5 .ensures) (range .segments-numbers .ensures) in
-    then-tested outOfRange five refl (c .or-refused6 .ensures) (products .products-hold .ensures ∙ ap (productsHold (start .args .segments)) (is (start .fits .scale))) .refused
+    let three = then-tested retired two refl (upward .or-refused3 .ensures) refl in
+    let four = then-tested badParameter three refl (right .or-refused4 .ensures) (numbers .numbers-hold .ensures ∙ ap (λ (z : ℤ). numbersHold z (start .args .thresholds)) (is (start .fits .scale))) in
+    let five = then-tested badIndex four refl (indexed .or-refused5 .ensures) (indices .segments-indices .ensures) in
+    let six = then-tested outOfRange five refl (ranged .or-refused6 .ensures) (range .segments-numbers .ensures) in
+    then-tested outOfRange six refl (c .or-refused7 .ensures) (products .products-hold .ensures ∙ ap (productsHold (start .args .segments)) (is (start .fits .scale))) .refused
 
 pub building-refusal-spec : {M : Type 1} → statement M
 building-refusal-spec =
@@ -74,12 +79,13 @@ building-refusal-spec =
     or-refused-requires
     few-edges-requires
     or-refused-requires-2
-    numbers-hold-requires
     or-refused-requires-3
-    segments-indices-requires
+    numbers-hold-requires
     or-refused-requires-4
-    segments-numbers-requires
+    segments-indices-requires
     or-refused-requires-5
-    products-hold-requires
+    segments-numbers-requires
     or-refused-requires-6
+    products-hold-requires
+    or-refused-requires-7
     returns)

@@ -16,14 +16,14 @@ use Rattle.building.proofs.build.compute_edges.Tie as tie
 
 -- the answer is the refusal of the definition
 answer-is : (c : tie.After-building-refusal)
-    → c .building-refusal .result ≡ refusal (B.buildingTests (c .before .args .segments) (c .before .args .old .len) (c .before .args .scale) (c .before .args .thresholds))
+    → c .building-refusal .result ≡ refusal (B.buildingTests (c .before .args .segments) (c .before .args .old .len) (c .before .args .top-to-bottom) (c .before .args .scale) (c .before .args .thresholds))
 answer-is c =
     let start = c .before in
-    c .building-refusal .ensures ∙ ap (λ (z : ℤ). refusal (B.buildingTests (start .args .segments) (start .args .old .len) z (start .args .thresholds))) (is (start .fits .scale))
+    c .building-refusal .ensures ∙ ap (λ (z : ℤ). refusal (B.buildingTests (start .args .segments) (start .args .old .len) (start .args .top-to-bottom) z (start .args .thresholds))) (is (start .fits .scale))
 
 -- where the code goes on, the call is accepted
 taken : (c : tie.Else1) → Accepted (c .before .before .args .segments) (c .before .before .args .scale) (c .before .before .args .thresholds)
-taken c = accepted _ (c .before .before .args .old .len) _ _ (c .before .building-refusal .result) (answer-is (c .before)) (c .if1 .left)
+taken c = accepted _ (c .before .before .args .old .len) (c .before .before .args .top-to-bottom) _ _ (c .before .building-refusal .result) (answer-is (c .before)) (c .if1 .left)
 
 building-refusal-requires : tie.Need-building-refusal-requires
 building-refusal-requires c κs = search needs
@@ -47,18 +47,18 @@ rules-of-requires c κs =
 rules-are : (c : tie.After-rules-of)
     → c .rules-of .result
     ≡ B.rulesOf (c .before .before .before .before .args .old .dim) (c .before .before .before .before .args .old .«major_dir») (B.isCjk (c .before .before .before .before .args .group))
-    (c .before .before .before .before .args .top-to-bottom) (c .before .before .before .before .args .scale) (c .before .before .before .before .args .thresholds)
+    (c .before .before .before .before .args .scale) (c .before .before .before .before .args .thresholds)
 rules-are c =
     let is-cjk = c .before in
     let start = is-cjk .before .before .before in
     let g = start .args in
-    by₂ (λ (cjk : Bool) (z : ℤ). B.rulesOf (g .old .dim) (g .old .«major_dir») cjk (g .top-to-bottom) z (g .thresholds)) (c .rules-of .ensures) (is-cjk .is-cjk .ensures) (is (start .fits .scale))
+    by₂ (λ (cjk : Bool) (z : ℤ). B.rulesOf (g .old .dim) (g .old .«major_dir») cjk z (g .thresholds)) (c .rules-of .ensures) (is-cjk .is-cjk .ensures) (is (start .fits .scale))
 
 join-all-requires : tie.Need-join-all-requires
 join-all-requires c κs =
     let else1 = c .before .before in
     let a = taken else1 in
-    (a .within, joinable _ _ _ a _ _ _ _ _ (rules-are c))
+    (a .within, joinable _ _ _ a _ _ _ _ (rules-are c))
 
 returns-2 : tie.Need-returns-2
 unfolding B.computeEdges

@@ -1,5 +1,4 @@
 -- `building::build::rules_of` meets its contract. Assumes nothing.
-use borrow.Author.Needs.{needs}
 use mir.Syntax.{w32}
 use Rattle.signed.proofs.Signed.{is}
 use Rattle.signed.proofs.Reading.{back}
@@ -7,12 +6,9 @@ use Rattle.building.proofs.Scales.{right}
 use Rattle.building.proofs.build.rules_of.Statement.{statement}
 use Rattle.building.proofs.build.rules_of.Tie as tie
 
-goes-down-requires : tie.Need-goes-down-requires
-goes-down-requires c κs = search needs
-
 near-of-requires : tie.Need-near-of-requires
 near-of-requires c κs =
-    let start = c .before .before in
+    let start = c .before in
     let r = right (start .args .scale) (start .args .thresholds) (start .pre) in
     rw (back w32 (start .args .thresholds .distance) (c .struct-told .given .0 .1), is (start .fits .scale)) (r .distance, r .scale-within, r .scale-not-0)
 
@@ -21,16 +17,14 @@ returns c =
     let told2 = c .before in
     let near-of = told2 .before in
     let told = near-of .before in
-    let goes-down = told .before in
-    let start = goes-down .before in
+    let start = told .before in
     let near = rw (back w32 (start .args .thresholds .distance) (told .struct-told .given .0 .1), is (start .fits .scale)) at (near-of .near-of .ensures) in
     rw (
       back w32 (start .args .thresholds .length) (told2 .struct-told2 .given .1 .0 .1),
       back w32 (start .args .thresholds .width) (c .struct-told3 .given .1 .1 .0 .1),
       is (start .fits .scale),
       near,
-      goes-down .goes-down .ensures,
     )
 
 pub rules-of-spec : {M : Type 1} → statement M
-rules-of-spec = tie.close (tie.spec goes-down-requires near-of-requires returns)
+rules-of-spec = tie.close (tie.spec near-of-requires returns)

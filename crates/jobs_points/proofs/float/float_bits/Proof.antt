@@ -1,7 +1,7 @@
 -- `jobs_points::float::float_bits` is safe: what is equal to itself is a number. Assumes nothing.
 use borrow.Author.Needs.{needs}
-use mathlib.Core.Path.{_≡_, sym, subst}
-use mathlib.Core.Bool.{Bool, true, false, not}
+use mathlib.Core.Path.{_≡_, subst}
+use mathlib.Core.Bool.{false, not}
 use lib.Dec.{T}
 use lib.Ieee.{Float, nan, inf, fin, isNan, ne}
 use Rattle.jobs_points.proofs.float.float_bits.Statement.{statement}

@@ -321,7 +321,7 @@ new-edge-requires : tie.Need-new-edge-requires Inv-loop2 μ-loop2 Inv-loop3 μ-l
 new-edge-requires c κs =
     let in-outer = c .before .before .before .before .before .before .before .before .before in
     let start = in-outer .before .before .before .before in
-    rw (back w32 (start .args .rules .scale) (c .struct-told .given .1 .1 .1 .1 .0 .1)) (fits-in w32 (start .pre .0 .0 .opos _ (in-outer .loop-test .taken)) tt tt)
+    rw (back w32 (start .args .rules .scale) (c .struct-told .given .1 .1 .1 .0 .1)) (fits-in w32 (start .pre .0 .0 .opos _ (in-outer .loop-test .taken)) tt tt)
 
 loop3-holds : tie.Need-loop3-holds Inv-loop2 μ-loop2 Inv-loop3 μ-loop3 Inv-loop μ-loop
 loop3-holds c =
@@ -401,7 +401,7 @@ loop-again-4 c =
       omega arith,
       rw (walk .loop3 .inv .3, walk .loop3 .inv .4) (turn-made (start .args .t1) (start .args .rules) (start .args .second) (outer .loop .i) (outer .loop .axis)
           (outer .loop .next) (start .pre .0 .0 .few) (start .pre .0 .2) (outer .loop .inv .1) (in-outer .loop-test .taken) (free else1) _ (found left-inner) (else4 .if4 .left)
-          (else5 .if5 .left) (walk .loop3 .inv .1) _ _ _ (rw (back w32 (start .args .rules .scale) (told .struct-told .given .1 .1 .1 .1 .0 .1)) at (new-edge .new-edge .ensures)) (settled c) refl),
+          (else5 .if5 .left) (walk .loop3 .inv .1) _ _ _ (rw (back w32 (start .args .rules .scale) (told .struct-told .given .1 .1 .1 .0 .1)) at (new-edge .new-edge .ensures)) (settled c) refl),
     )
 
 returns-2 : tie.Need-returns-2 Inv-loop2 μ-loop2 Inv-loop3 μ-loop3 Inv-loop μ-loop

@@ -16,7 +16,7 @@ long c =
     let told2 = c .before in
     let told = told2 .before .before in
     let g = told .before .before .args in
-    short-lt (g .segment .height) (g .rules .length) (told .struct-told .given .1 .1 .1 .1 .1 .1 .0 .1) (told2 .struct-told2 .given .1 .1 .1 .1 .1 .1 .0 .1) (c .if1 .left)
+    short-lt (g .segment .height) (g .rules .length) (told .struct-told .given .1 .1 .1 .1 .1 .1 .0 .1) (told2 .struct-told2 .given .1 .1 .1 .1 .1 .0 .1) (c .if1 .left)
 
 narrow : (c : tie.Else2)
     → let g = c .before .before .before .before .before .before .before .before .before .before .args in
@@ -25,7 +25,7 @@ narrow c =
     let told4 = c .before in
     let told3 = told4 .before .before in
     let g = told3 .before .before .before .before .before .before .before .args in
-    lt-short (g .segment .delta) (g .rules .width) (told3 .struct-told3 .given .1 .1 .1 .0 .1) (told4 .struct-told4 .given .1 .1 .1 .1 .1 .1 .1 .0 .1) (c .if2 .left)
+    lt-short (g .segment .delta) (g .rules .width) (told3 .struct-told3 .given .1 .1 .1 .0 .1) (told4 .struct-told4 .given .1 .1 .1 .1 .1 .1 .0 .1) (c .if2 .left)
 
 cast-height : tie.Need-cast-height
 cast-height c = cast-16 (c .before .before .args .segment .height) (c .struct-told .given .1 .1 .1 .1 .1 .1 .0 .1)
@@ -36,7 +36,7 @@ returns c =
     let told = told2 .before .before in
     let g = told .before .before .args in
     P.too-short (g .rules) (g .segment) (short-lt (g .segment .height) (g .rules .length) (told .struct-told .given .1 .1 .1 .1 .1 .1 .0 .1)
-    (told2 .struct-told2 .given .1 .1 .1 .1 .1 .1 .0 .1) (c .if1 .taken))
+    (told2 .struct-told2 .given .1 .1 .1 .1 .1 .0 .1) (c .if1 .taken))
 
 cast-if2 : tie.Need-cast-if2
 cast-if2 c = cast-16 (c .before .before .before .before .before .before .before .args .segment .delta) (c .struct-told3 .given .1 .1 .1 .0 .1)
@@ -48,7 +48,7 @@ returns-2 c =
     let else1 = told3 .before .before in
     let g = else1 .before .before .before .before .before .args in
     P.too-wide (g .rules) (g .segment) (long else1) (lt-short (g .segment .delta) (g .rules .width) (told3 .struct-told3 .given .1 .1 .1 .0 .1)
-    (told4 .struct-told4 .given .1 .1 .1 .1 .1 .1 .1 .0 .1) (c .if2 .taken))
+    (told4 .struct-told4 .given .1 .1 .1 .1 .1 .1 .0 .1) (c .if2 .taken))
 
 same-requires : tie.Need-same-requires
 same-requires c κs = search needs
@@ -78,7 +78,7 @@ is-short-serif-requires c κs =
     let g = start .args in (
       rw (back-16 (g .segment .height) (told .struct-told .given .1 .1 .1 .1 .1 .1 .0 .1)) (short (g .segment .height) (told .struct-told .given .1 .1 .1 .1 .1 .1 .0 .1)),
       rw
-          (back w32 (g .rules .length) (c .struct-told5 .given .1 .1 .1 .1 .1 .1 .0 .1)) (start .pre),
+          (back w32 (g .rules .length) (c .struct-told5 .given .1 .1 .1 .1 .1 .0 .1)) (start .pre),
     )
 
 returns-5 : tie.Need-returns-5
@@ -91,7 +91,7 @@ returns-5 c =
     let told = else1 .before .before .before in
     let g = told .before .before .args in
     P.a-serif _ _ (long else1) (narrow else2) (sym (else3 .before .same .ensures) ∙ else3 .if3 .left) (sym (else4 .before .is-linked .ensures) ∙ not-false _ (else4 .if4 .left)) _
-    (rw (back-16 (g .segment .height) (told .struct-told .given .1 .1 .1 .1 .1 .1 .0 .1), back w32 (g .rules .length) (told5 .struct-told5 .given .1 .1 .1 .1 .1 .1 .0 .1)) at
+    (rw (back-16 (g .segment .height) (told .struct-told .given .1 .1 .1 .1 .1 .1 .0 .1), back w32 (g .rules .length) (told5 .struct-told5 .given .1 .1 .1 .1 .1 .0 .1)) at
     (c .is-short-serif .ensures))
 
 pub is-passed-over-spec : {M : Type 1} → statement M

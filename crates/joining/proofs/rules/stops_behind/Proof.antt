@@ -20,11 +20,10 @@ not-before c =
 returns : tie.Need-returns
 unfolding J.stopsBehind
 returns c =
-    let then1 = c .before in
-    let told2 = then1 .before in
+    let told2 = c .before in
     let told = told2 .before .before in
     let g = told .before .before .args in
-    rw (lt-was w16 (g .prev .fpos) (g .edge .fpos) (told .struct-told .given .0 .1) (told2 .struct-told2 .given .0 .1) (then1 .if1 .taken))
+    rw (lt-was w16 (g .prev .fpos) (g .edge .fpos) (told .struct-told .given .0 .1) (told2 .struct-told2 .given .0 .1) (c .if1 .taken))
 
 returns-2 : tie.Need-returns-2
 unfolding J.stopsBehind

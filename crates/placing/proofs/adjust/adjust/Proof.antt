@@ -72,7 +72,7 @@ previous-edge c = let s = link-start c in let h = s .pre .1 in omega arith
 -- ---- the answers of the two tests
 -- whether the edge has passed its neighbour
 abbrev Passed : tie.After-has-passed → Bool
-Passed c = let s = passed-start c in hasPassed (s .args .dir) (s .args .top-to-bottom) (posAt s (s .args .edge)) (posAt s (neighbourOf (passed-neighbour c)))
+Passed c = let s = passed-start c in hasPassed (s .args .dir) (posAt s (s .args .edge)) (posAt s (neighbourOf (passed-neighbour c)))
 
 passed-is : (c : tie.After-has-passed) → c .has-passed .result ≡ Passed c
 passed-is c =
@@ -87,7 +87,7 @@ far-is c =
     rw (reach-read _ (reaches s _ (link-edge l) .pos), reach-read _ (reaches s _ (previous-edge l) .pos)) at (c .is-far .ensures)
 
 returns : tie.Need-returns
-returns c = adjusted-first _ _ _ _ (c .if1 .taken)
+returns c = adjusted-first _ _ _ (c .if1 .taken)
 
 neighbour-of-requires : tie.Need-neighbour-of-requires
 neighbour-of-requires c κs = search needs
@@ -103,7 +103,7 @@ unfolding boundBy
 returns-2 c =
     let n = c .before .before in
     let o = n .before in
-    rw (adjusted-later _ _ _ _ (o .if1 .left), sym (n .neighbour-of .ensures) ∙ c .enum-told .given .1)
+    rw (adjusted-later _ _ _ (o .if1 .left), sym (n .neighbour-of .ensures) ∙ c .enum-told .given .1)
 
 mul-edge1 : tie.Need-mul-edge1
 mul-edge1 c = search needs
@@ -129,7 +129,7 @@ returns-3 c =
     let p = c .before in
     let n = passed-neighbour p in
     let o = n .before .before .before in
-    rw (adjusted-later _ _ _ _ (o .if1 .left), neighbour-is n, sym (passed-is p) ∙ not-true _ (c .if2 .taken))
+    rw (adjusted-later _ _ _ (o .if1 .left), neighbour-is n, sym (passed-is p) ∙ not-true _ (c .if2 .taken))
 
 enum-known-link : tie.Need-enum-known-link
 enum-known-link c = search needs
@@ -147,7 +147,7 @@ returns-4 c =
     let e = c .before .before in
     let n = passed-neighbour (e .before) in
     let o = n .before .before .before in
-    rw (adjusted-later _ _ _ _ (o .if1 .left), neighbour-is n, passed-held e, c .enum-told2 .given .1)
+    rw (adjusted-later _ _ _ (o .if1 .left), neighbour-is n, passed-held e, c .enum-told2 .given .1)
 
 cast-linked : tie.Need-cast-linked
 cast-linked c = search needs
@@ -183,13 +183,13 @@ returns-5 c =
     let e = link-held l in
     let n = passed-neighbour (e .before) in
     let o = n .before .before .before in
-    rw (adjusted-later _ _ _ _ (o .if1 .left), neighbour-is n, passed-held e, l .link .given .1, sym (far-is f) ∙ not-true _ (c .if3 .taken))
+    rw (adjusted-later _ _ _ (o .if1 .left), neighbour-is n, passed-held e, l .link .given .1, sym (far-is f) ∙ not-true _ (c .if3 .taken))
 
 with-pos-requires : tie.Need-with-pos-requires
 with-pos-requires c κs = search needs
 
-mul-t21 : tie.Need-mul-t21
-mul-t21 c = let h = edge-inside (far-start (c .before .before .before)) in search needs
+mul-t20 : tie.Need-mul-t20
+mul-t20 c = let h = edge-inside (far-start (c .before .before .before)) in search needs
 
 element-set-from-held : tie.Need-element-set-from-held
 element-set-from-held c = edge-inside (far-start (c .before .before .before))
@@ -205,7 +205,7 @@ returns-6 c =
     let o = n .before .before .before in
     let s = o .before in
     let w = rw (reach-read _ (reaches s _ (neighbour-edge n) .pos)) at (c .with-pos .ensures) in
-    rw (adjusted-later _ _ _ _ (o .if1 .left), neighbour-is n, passed-held e, l .link .given .1, sym (far-is f) ∙ not-false _ (t .if3 .left), w)
+    rw (adjusted-later _ _ _ (o .if1 .left), neighbour-is n, passed-held e, l .link .given .1, sym (far-is f) ∙ not-false _ (t .if3 .left), w)
 
 pub adjust-spec : {M : Type 1} → statement M
 adjust-spec =
@@ -235,6 +235,6 @@ adjust-spec =
     is-far-requires
     returns-5
     with-pos-requires
-    mul-t21
+    mul-t20
     element-set-from-held
     returns-6)

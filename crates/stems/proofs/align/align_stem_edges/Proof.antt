@@ -18,9 +18,9 @@ returns c = answered-no _ _ (stems 0 Links.None (c .before .before .args .axis))
 align-stems-requires : tie.Need-align-stems-requires
 align-stems-requires c κs =
     let a = c .before .before .args in
-    let t = all-held {ts = stemsTests (a .axis) (a .anchor) (a .rule) (a .standards .now)} (record { refused = c .before .stems-refusal .ensures; numbers = refl }) (c .if1 .left) in
-    let indexed = t .1 .1 in
-    (t .1 .0, (axis-within (a .axis) (t .0) (indexed .0) (indexed .1 .1 .0), link-below _ _ (indexed .1 .0)))
+    let t = all-held {ts = stemsTests (a .axis) (a .top-to-bottom) (a .anchor) (a .rule) (a .standards .now)} (record { refused = c .before .stems-refusal .ensures; numbers = refl }) (c .if1 .left) in
+    let indexed = t .1 .1 .1 in
+    (t .1 .1 .0, (axis-within (a .axis) (t .0) (indexed .0) (indexed .1 .1 .0), link-below _ _ (indexed .1 .0)))
 
 returns-2 : tie.Need-returns-2
 unfolding alignStemEdges

@@ -1,0 +1,2 @@
+-- Which words the call can change.
+pub mod Kept

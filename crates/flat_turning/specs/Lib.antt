@@ -1,0 +1,2 @@
+-- What the contracts of `flat_turning` cite.
+pub mod Turn

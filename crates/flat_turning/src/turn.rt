@@ -1,0 +1,56 @@
+// The converter over lent segments and lent edges.
+use axis::accept::few_edges;
+use axis::accept::few_segments;
+use lent::edges::axis_of;
+use lent::edges::give_edges;
+use lent::segments::give_segments;
+use lent::shown::NOT_WORDS;
+use lent::shown::both;
+use refusals::order::TOO_LONG;
+use shape::element::is_edges;
+use shape::element::is_segments;
+use turning::turn::turn_over;
+use words::edge::EDGE_WORDS;
+use words::segment::SEGMENT_WORDS;
+use words::segment::flat_segments;
+ghost use mathlib.Core.Path.{_≡_};
+ghost use Rattle.refusals.specs.Refusal.{refusal};
+ghost use Rattle.flat_turning.specs.Turn.{turnFront, TurnedLent};
+
+// The refusal in front of the call: the lengths, how many segments and edges they are, and only then their words.
+fn turning_front(segments: &[i32], edges: &[i32]) -> u8
+    ensures { λ r. ⌜ r ≡ refusal (turnFront (now (segments .entry)) (now (edges .entry))) ⌝ }
+{
+    if !both(
+        segments.len() % SEGMENT_WORDS == 0,
+        edges.len() % EDGE_WORDS == 0,
+    ) {
+        return NOT_WORDS;
+    }
+    let few = few_segments(segments.len() / SEGMENT_WORDS);
+    if !both(few, few_edges(edges.len() / EDGE_WORDS)) {
+        return TOO_LONG;
+    }
+    let shown = is_segments(segments);
+    if both(shown, is_edges(edges)) {
+        return 0;
+    }
+    NOT_WORDS
+}
+
+// Turns the edges of an axis over, with the indices that lead to them.
+pub fn lend_turning(segments: &mut [i32], edges: &mut [i32]) -> u8
+    ensures { λ r. ⌜ TurnedLent (now (segments .entry)) (now (edges .entry)) r (now (segments .exit), now (edges .exit)) ⌝ }
+{
+    let refusal = turning_front(segments, edges);
+    if 0 < refusal {
+        return refusal;
+    }
+    let table = flat_segments(segments);
+    let axis = axis_of(edges);
+    let turned = turn_over(axis, table);
+    let table = turned.segments;
+    let axis = turned.axis;
+    give_edges(edges, turned.answer, axis);
+    give_segments(segments, turned.answer, table)
+}

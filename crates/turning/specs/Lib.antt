@@ -1,0 +1,3 @@
+-- What the contracts of `turning` cite.
+pub mod Indices
+pub mod Turning
