@@ -99,7 +99,12 @@ static void print_width(int32_t units) {
     }
 }
 
-/* Prints the edges that a step placed: where each was and is, its stem, and whether it is on its zone. */
+/* What gave an edge its position, by its mark. */
+static const char *const marks[] = {
+    "nothing yet", "blue anchor", "blue", "linked", "anchor", "stem", "adjusted", "bound", "serif", "lowercase m",
+};
+
+/* Prints the edges that a step placed: where each was and is, its stem, and what placed it. */
 static void print_placed(const struct khs_edge *before, const struct khs_edge *edges, int32_t count) {
     for (int32_t i = 0; i < count; i++) {
         const struct khs_edge *edge = &edges[i];
@@ -119,7 +124,7 @@ static void print_placed(const struct khs_edge *before, const struct khs_edge *e
             printf(" -> ");
             print_width(edges[edge->link].pos - edge->pos);
         }
-        printf(edge->blue && edge->pos == edge->blue_fitted ? "  on its zone\n" : "\n");
+        printf("  %s\n", marks[edge->mark]);
     }
 }
 

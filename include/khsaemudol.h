@@ -55,7 +55,7 @@
  * Lists. A list is passed as a pointer to its first element and its length in elements. Edges and segments are lists of 32-bit words: an edge has KHS_EDGE_WORDS
  * words and a segment KHS_SEGMENT_WORDS, in the order of struct khs_edge and struct khs_segment, and nothing stands in front of the first. An array of n
  * such structs is passed as `(int32_t *)array, n * KHS_EDGE_WORDS`: the length is in words. A length in records is refused, but where it happens to be that of whole
- * records too: 11 means one edge, and 15 one segment. Of every list and of every place for a result:
+ * records too: KHS_EDGE_WORDS means one edge, and KHS_SEGMENT_WORDS one segment. Of every list and of every place for a result:
  *   - It is never NULL: a list of length 0 has a pointer too, to anything of its type, and so have standards with KHS_KEEP.
  *   - Its pointer is aligned as C asks of its type: to 4 bytes for int32_t, uint32_t and float, 2 for uint16_t.
  *   - It overlaps no other list or place of the same call, unless both are const.
@@ -73,10 +73,10 @@
  * The calls over points have no such fields, and test KHS_TOO_LONG, KHS_BAD_INDEX and KHS_OUT_OF_RANGE in this order; khs_align_catalogue so of each outline.
  * khs_read_frame tests KHS_NOT_WORDS, a room of another length, and then KHS_NOT_FRAME.
  *
- * A refused call writes nothing: every list and every place holds what it held. With KHS_DONE a list of edges or segments that is not const holds what the
- * call made of it, every word within its field's values, and every place for a result holds the result. Results may leave the limits of what is accepted, and
- * are then refused if they are passed again. But the edges that khs_compute_edges and khs_align_edges_to_blues leave are accepted by every call over edges,
- * but for khs_turn_over, which holds first and last against the segments too.
+ * A refused call writes nothing: every list and every place holds what it held, marks too. With KHS_DONE a list of edges or segments that is not const holds what
+ * the call made of it, every word within its field's values, and every place for a result holds the result. Results may leave the limits of what is accepted, and
+ * are then refused if they are passed again. But the edges that khs_compute_edges and khs_align_edges_to_blues leave are accepted by every call over edges, but for
+ * khs_turn_over, which holds first and last against the segments too.
  *
  * No call allocates, keeps a pointer, prints or fails otherwise. Each may be called from any thread, and on other lists at the same time. Working tables stand on
  * the stack, of which the x86-64 library was measured to use up to 158 KiB in linking and building, 143 KiB in khs_turn_over, 41 KiB in the other calls over
@@ -118,7 +118,22 @@ enum { KHS_FLAG_ROUND = 1, KHS_FLAG_SERIF = 2, KHS_FLAG_DONE = 4, KHS_FLAG_NEUTR
 
 enum { KHS_FINISHED = 0, KHS_MOVE = 1, KHS_LINE = 2, KHS_CURVE = 3, KHS_CLOSE = 4 };              /* the kind of a path's step */
 
-enum { KHS_EDGE_WORDS = 11, KHS_SEGMENT_WORDS = 15, KHS_MOST_EDGES = 128, KHS_MOST_SEGMENTS = 512 };
+/* The mark of an edge: what last gave it its position, if only the one that it had. A call writes mark where it writes pos, but for an edge that is done already when
+ * khs_align_edges_to_blues puts it on its zone: that one keeps its mark. No call reads marks: positions, answers and refusals are as without them. */
+enum khs_mark {
+    KHS_MARK_NOTHING = 0,     /* nothing yet: it stands where building put it */
+    KHS_MARK_BLUE_ANCHOR = 1, /* its blue zone, the first zone that the call came to */
+    KHS_MARK_BLUE = 2,        /* its blue zone, another one */
+    KHS_MARK_LINKED = 3,      /* an edge on the other side of the stem, at the fitted width from it */
+    KHS_MARK_ANCHOR = 4,      /* its own stem, the first one, where there was no anchor yet */
+    KHS_MARK_STEM = 5,        /* its stem, both of whose edges were placed */
+    KHS_MARK_ADJUSTED = 6,    /* its link, which was done before, for a stem beside an anchor */
+    KHS_MARK_BOUND = 7,       /* its neighbour, which it had passed */
+    KHS_MARK_SERIF = 8,       /* the edge that it was placed by as a serif */
+    KHS_MARK_LOWERCASE_M = 9  /* the rule of the lowercase m, whose third stem it moves with */
+};
+
+enum { KHS_EDGE_WORDS = 12, KHS_SEGMENT_WORDS = 15, KHS_MOST_EDGES = 128, KHS_MOST_SEGMENTS = 512 };
 enum { KHS_FRAME_PLACES = 255, KHS_MOST_DIGITS = 3066 }; /* the most points, and contours, of a frame, and the digits of the longest */
 
 /* The words of an edge. "Index" is 0 to 65,535, "link" an index or KHS_NONE. A word outside of what its line gives is KHS_NOT_WORDS, and one outside of what is
@@ -136,6 +151,7 @@ struct khs_edge {
     int32_t serif;       /* link: the edge that this one is a serif of */
     int32_t first;       /* index of its first segment, as building wrote it; held against no list but by khs_turn_over */
     int32_t last;        /* index of its last segment; the same */
+    int32_t mark;        /* 0 to 9, of enum khs_mark: a negative word or one above 9 is KHS_NOT_WORDS */
 };
 
 /* The words of a segment, in the same way. Link and serif, in linking also next, and in khs_turn_over next and edge, are tested to be below their list's count. */
@@ -203,7 +219,7 @@ uint8_t khs_align_catalogue(const int32_t *originals, khs_length originals_len, 
 uint8_t khs_link_segments_cjk(int32_t *segments, khs_length segments_len, int32_t major_dir, int32_t units_per_em, int32_t scale);
 
 /* Builds the edges of segments.
- * segments: at most 512; their old edge and next are forgotten, and may be any link. edges: room for KHS_MOST_EDGES edges, exactly 1,408 words, not read.
+ * segments: at most 512; their old edge and next are forgotten, and may be any link. edges: room for exactly KHS_MOST_EDGES edges, not read.
  * dim: a dimension. major_dir: a direction; of edges with the same fpos a new one goes behind the others where it has that direction, and else in front of them.
  * group: a group. scale: 1 to 16,777,216; every segment's pos at that scale must be from -16,383 to 16,383 units.
  * top_to_bottom: 0; 1 is KHS_RETIRED. Edges stand by rising positions.
@@ -214,10 +230,11 @@ uint8_t khs_link_segments_cjk(int32_t *segments, khs_length segments_len, int32_
  * height is below length, or below one and a half of it where it has a serif, or if its delta is above width. As width pass half a pixel, (32 * 65,536 + scale / 2) /
  * scale in whole numbers; as length 0 on the vertical axis and on the horizontal one a pixel, (64 * 65,536 + s / 2) / s, where s is the scale of the vertical axis.
  * The Rust code of which this is a port, skrifa 0.49.0, takes the same.
- * Writes edge and next of segments; edges, the built ones first, in their order, and empty ones (0, links KHS_NONE) behind; count, how many were built. A built
- * edge has fpos and dir of its first segment, opos and pos at the scaled position, no zone, and of the flags at most round, where some of its segments are and not
- * fewer than are not, and serif. Each of its segments names an edge, if any: that of its serif, where it is another one, as the edge's serif, or else that of its link
- * as the edge's link. The first stays, until a segment is nearer to the one that it names than the edge is to the one that it has. An edge with a link keeps no serif.
+ * Writes edge and next of segments; edges, the built ones first, in their order, and empty ones (0, links KHS_NONE) behind; count, how many were built. A built edge
+ * has fpos and dir of its first segment, opos and pos at the scaled position, no zone, KHS_MARK_NOTHING, and of the flags at most round, where some of its segments
+ * are and not fewer than are not, and serif. Each of its segments names an edge, if any: that of its serif, where it is another one, as the edge's serif, or else
+ * that of its link as the edge's link. The first stays, until a segment is nearer to the one that it names than the edge is to the one that it has. An edge with a
+ * link keeps no serif.
  * Pass the first count * KHS_EDGE_WORDS words to the calls below.
  * Answers: KHS_DONE, KHS_TOO_LONG, KHS_RETIRED, KHS_BAD_PARAMETER, KHS_BAD_INDEX, KHS_OUT_OF_RANGE, KHS_NO_ROOM, KHS_NOT_WORDS. */
 uint8_t khs_compute_edges(int32_t *segments, khs_length segments_len, int32_t *edges, khs_length edges_len, int32_t dim, int32_t major_dir, int32_t group,
@@ -229,18 +246,20 @@ uint8_t khs_compute_edges(int32_t *segments, khs_length segments_len, int32_t *e
  * KHS_LATIN has zones on the vertical axis alone: on the horizontal one the answer is KHS_DONE behind the same refusals, the edges stay as they are, and the
  * anchor is KHS_NONE.
  * dim: a dimension. group: a group. rule, standards: the width rule.
- * Writes pos, flags, blue and blue_fitted of edges; anchor, the first edge whose visit found a zone, its own or its link's, or KHS_NONE.
+ * Writes pos, mark, flags, blue and blue_fitted of edges; anchor, the first edge whose visit found a zone, its own or its link's, or KHS_NONE. The edge that comes
+ * to its zone in the anchor's visit is marked KHS_MARK_BLUE_ANCHOR, and in a later one KHS_MARK_BLUE; the other of the two KHS_MARK_LINKED, done before or not. So
+ * the anchor may be marked as linked.
  * Answers: KHS_DONE, KHS_TOO_LONG, KHS_BAD_PARAMETER, KHS_BAD_INDEX, KHS_OUT_OF_RANGE, KHS_NOT_WORDS. */
 uint8_t khs_align_edges_to_blues(int32_t *edges, khs_length edges_len, int32_t dim, int32_t group, int32_t rule, const int32_t *standards,
                                  khs_length standards_len, int32_t *anchor);
 
 /* Places the edge stem by the edge base: its fitted width away from base's pos. Neither is made done.
- * Writes pos of the edge stem. Answers: KHS_DONE, KHS_TOO_LONG, KHS_BAD_PARAMETER, KHS_BAD_INDEX, KHS_OUT_OF_RANGE, KHS_NOT_WORDS. */
+ * Writes pos and mark, KHS_MARK_LINKED, of the edge stem. Answers: KHS_DONE, KHS_TOO_LONG, KHS_BAD_PARAMETER, KHS_BAD_INDEX, KHS_OUT_OF_RANGE, KHS_NOT_WORDS. */
 uint8_t khs_align_linked_edge(int32_t *edges, khs_length edges_len, int32_t rule, const int32_t *standards, khs_length standards_len, int32_t base,
                               int32_t stem);
 
 /* Places the edge serif as far from the edge base as it was: base's pos and the distance of their opos. Neither is made done.
- * Writes pos of the edge serif. Answers: KHS_DONE, KHS_TOO_LONG, KHS_BAD_INDEX, KHS_OUT_OF_RANGE, KHS_NOT_WORDS. */
+ * Writes pos and mark, KHS_MARK_SERIF, of the edge serif. Answers: KHS_DONE, KHS_TOO_LONG, KHS_BAD_INDEX, KHS_OUT_OF_RANGE, KHS_NOT_WORDS. */
 uint8_t khs_align_serif_edge(int32_t *edges, khs_length edges_len, int32_t base, int32_t serif);
 
 /* Gives an edge the pos of its neighbour where it has passed it, and its link's pos is more than 16 units from the previous edge's, whichever the neighbour.
@@ -248,7 +267,7 @@ uint8_t khs_align_serif_edge(int32_t *edges, khs_length edges_len, int32_t base,
  * dir: KHS_PREVIOUS, the edge before it in the list, or KHS_NEXT, the edge behind it. top_to_bottom: 0; 1 is KHS_RETIRED. An edge has passed the previous one
  * where it is below it, and the next one where it is above it.
  * Edge 0 stays, whichever the neighbour, and so does an edge without link. Toward the next edge an edge stays where that one is not done, or is not there.
- * Writes pos of the edge, or nothing: KHS_DONE is the answer whether or not it moved.
+ * Writes pos and mark, KHS_MARK_BOUND, of the edge, or nothing: KHS_DONE is the answer whether or not it moved.
  * Answers: KHS_DONE, KHS_TOO_LONG, KHS_RETIRED, KHS_BAD_INDEX, KHS_OUT_OF_RANGE, KHS_NOT_WORDS. */
 uint8_t khs_adjust_link(int32_t *edges, khs_length edges_len, int32_t edge, int32_t dir, int32_t top_to_bottom);
 
@@ -259,7 +278,7 @@ uint8_t khs_latin_remaining_bounds(const int32_t *edges, khs_length edges_len, i
 /* Places both edges of a CJK stem, at its fitted width, moved so that it meets the pixels. Neither is made done.
  * dim: a dimension. stem_adjust: 0 or 1; with 0 a stem is moved by at most 14 units, and not at all where it is wide and a side of it is near a pixel's side already.
  * rule, standards: the width rule. edge, edge2: the stem's two edges. delta: the passed delta, from -16,383 to 16,383 units, by which the stem's centre is shifted first.
- * Writes pos of both edges; own_delta, the stem's own delta, to which the passed one is not added.
+ * Writes pos and mark, KHS_MARK_STEM, of both edges; own_delta, the stem's own delta, to which the passed one is not added.
  * Answers: KHS_DONE, KHS_TOO_LONG, KHS_BAD_PARAMETER, KHS_BAD_INDEX, KHS_OUT_OF_RANGE, KHS_NOT_WORDS. */
 uint8_t khs_hint_normal_stem_cjk(int32_t *edges, khs_length edges_len, int32_t dim, int32_t stem_adjust, int32_t rule, const int32_t *standards,
                                  khs_length standards_len, int32_t edge, int32_t edge2, int32_t delta, int32_t *own_delta);
@@ -271,7 +290,10 @@ uint8_t khs_hint_normal_stem_cjk(int32_t *edges, khs_length edges_len, int32_t d
  * the anchor of the others. For KHS_CJK every stem that is placed with both its edges becomes the anchor. rule, standards: the width rule.
  * Beside an anchor, a thin stem's centre moves at most half a pixel from where the anchor's shift puts it, before its edge is held to the previous one (thin:
  * KHS_LATIN, a fitted width below 96, and a link that is neither done nor on a zone).
- * Writes pos and flags of edges; count, how many edges were passed over, with 0 of which every edge is done; found, the anchor afterwards, or KHS_NONE.
+ * Writes pos, mark and flags of edges; count, how many edges were passed over, with 0 of which every edge is done; found, the anchor afterwards, or KHS_NONE. Both
+ * edges of a stem are marked KHS_MARK_STEM. But beside an anchor a KHS_LATIN edge whose link is done is marked alone, KHS_MARK_ADJUSTED, and one that is then held
+ * to the previous edge KHS_MARK_BOUND; the edge that becomes KHS_LATIN's anchor KHS_MARK_ANCHOR, and its link KHS_MARK_LINKED, until that one's own visit adjusts
+ * it; and an edge whose link is on a zone, or for KHS_CJK in front of it, KHS_MARK_LINKED.
  * Answers: KHS_DONE, KHS_TOO_LONG, KHS_RETIRED, KHS_BAD_PARAMETER, KHS_BAD_INDEX, KHS_OUT_OF_RANGE, KHS_NOT_WORDS. */
 uint8_t khs_align_stem_edges(int32_t *edges, khs_length edges_len, int32_t dim, int32_t group, int32_t stem_adjust, int32_t top_to_bottom, int32_t anchor,
                              int32_t rule, const int32_t *standards, khs_length standards_len, int32_t *count, int32_t *found);
@@ -279,7 +301,8 @@ uint8_t khs_align_stem_edges(int32_t *edges, khs_length edges_len, int32_t dim, 
 /* Evens out the three stems of a lowercase m by moving the third to the distance that the first two have.
  * edges: 6, whose stems begin at edges 0, 2 and 4, or 12, at edges 1, 5 and 9; else KHS_BAD_PARAMETER. group: a group.
  * Nothing moves where the two distances of their opos differ by 8 units or more, or for KHS_CJK where a stem is not linked to the edge behind it.
- * Writes pos and flags of the third stem and of its link, which are done then, and of twelve edges pos of edges 8 and 11.
+ * Writes pos, mark and flags of the third stem and of its link, which are done then, and of twelve edges pos and mark of edges 8 and 11; the mark is
+ * KHS_MARK_LOWERCASE_M, also where the third stem stood at that distance already.
  * Answers: KHS_DONE, KHS_TOO_LONG, KHS_BAD_PARAMETER, KHS_BAD_INDEX, KHS_OUT_OF_RANGE, KHS_NOT_WORDS. */
 uint8_t khs_hint_lowercase_m(int32_t *edges, khs_length edges_len, int32_t group);
 
@@ -331,7 +354,8 @@ uint8_t khs_read_frame(const uint8_t *line, khs_length line_len, int32_t *origin
  * segments: at most 512. edges: at most 128, KHS_EDGE_WORDS words each, and no room behind them. Either order is taken, and rings as they are, sound or not: turning
  * over twice gives both lists back. Every index is held against its list: link, serif, next and edge of segments, link, serif, first and last of edges.
  * A turned table need not be what khs_compute_edges makes of the segments.
- * Writes edges: each comes to stand in the place counted from the other end, with link and serif renumbered and all else as it was; and edge of segments, renumbered.
+ * Writes edges: each comes to stand in the place counted from the other end, with link and serif renumbered and all else, its mark too, as it was; and edge of
+ * segments, renumbered.
  * Answers: KHS_DONE, KHS_TOO_LONG, KHS_BAD_INDEX, KHS_OUT_OF_RANGE, KHS_NOT_WORDS. */
 uint8_t khs_turn_over(int32_t *segments, khs_length segments_len, int32_t *edges, khs_length edges_len);
 

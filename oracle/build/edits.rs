@@ -89,6 +89,13 @@ pub struct Edit {
 /// Every edit.
 pub const EDITS: &[Edit] = &[
     Edit {
+        name: "mark of an edge",
+        file: "topo/mod.rs",
+        from: "pub(crate) last_ix: u16,\n}",
+        to: "pub(crate) last_ix: u16, pub(crate) mark: Mark,\n}",
+        times: 1,
+    },
+    Edit {
         name: "visibility of functions",
         file: "topo/segments.rs",
         from: "\nfn ",
@@ -107,6 +114,13 @@ pub const EDITS: &[Edit] = &[
         file: "hint/edges.rs",
         from: "\nenum LinkDir {",
         to: "\npub(crate) enum LinkDir {",
+        times: 1,
+    },
+    Edit {
+        name: "CJK stems recorded as Latin ones",
+        file: "hint/edges.rs",
+        from: "let edge2 = &mut axis.edges[edge2_ix];",
+        to: "if let Some(recorder) = recorder.as_mut() { recorder.record_edge(axis.dim, EdgeAction::Stem, edge_ix, Some(edge2_ix), None, None, None, None); } let edge2 = &mut axis.edges[edge2_ix];",
         times: 1,
     },
     Edit {

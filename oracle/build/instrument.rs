@@ -87,7 +87,7 @@ impl Work<'_> {
         let mut ix = open;
         while ix < close {
             match self.text(ix) {
-                // The recorder is left out.
+                // Recording is no branch of the rules.
                 "if" if self.text(ix + 4) == "recorder" => ix = self.closing(self.next_open(ix)),
                 "if" if self.text(ix + 1) == "let" => self.if_let(ix),
                 "if" | "while" => ranges.push((ix + 1, self.next_open(ix))),

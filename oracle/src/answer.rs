@@ -127,7 +127,7 @@ fn one_step(w: &mut Words, step: Option<Step>, cursor: u32) {
     w.put("next cursor", next as i32);
 }
 
-/// Calls 6 to 13 but the bounds: the answer ends with a table of edges.
+/// Calls 106 to 113 but the bounds: the answer ends with a table of edges.
 fn on_edges(w: &mut Words, job: Job) {
     let edges = match job {
         Job::Blues(mut edges, dim, group, rule) => {

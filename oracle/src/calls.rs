@@ -1,6 +1,6 @@
-//! Calls 1 to 17: document 01's refusals, then the given Rust; for the path, which it does not have, the plain walk of `path`.
+//! Document 01's calls, the path and the catalogue: document 01's refusals, then the given Rust; for the path, which it does not have, the plain walk of `path`.
 //!
-//! What is lent is changed in place, and not at all by a refusal.
+//! What is lent is changed in place, and not at all by a refusal. Marks are what the given Rust records; where it records nothing, the call says what it gave.
 
 use crate::{
     given::{
@@ -8,12 +8,13 @@ use crate::{
         hint_outline,
         metrics::{Scale, ScaleFlags, ScaledAxisMetrics, WidthMetrics},
         outline::{Contour, Outline, Point, PointMarker},
+        recorder::HintsRecorder,
         topo::Axis,
         topo_edges, topo_segments,
     },
     job::{
-        Building, Catalogue, CjkStem, Dimension, Direction, Edge, Points, ScriptGroup, Segment,
-        Stems, Table, Walk, WidthRule,
+        Building, Catalogue, CjkStem, Dimension, Direction, Edge, Mark, Points, ScriptGroup,
+        Segment, Stems, Table, TopoFlags, Walk, WidthRule,
     },
     limits::EDGES,
     path::{self, Step},
@@ -117,7 +118,7 @@ pub fn link_segments_cjk(
     Ok(())
 }
 
-/// Call 5: the segments and the edge table are lent.
+/// Call 105: the segments and the edge table are lent.
 pub fn compute_edges(
     segments: &mut Table<Segment>,
     edges: &mut Table<Edge>,
@@ -168,7 +169,7 @@ pub(crate) fn build(axis: &mut Axis, metrics: &ScaledAxisMetrics, given: &Buildi
     topo_edges::compute_edges(axis, metrics, given.top_to_bottom, 0, given.group);
 }
 
-/// Call 6: the edges are lent; hands back the anchor.
+/// Call 106: the edges are lent; hands back the anchor.
 pub fn align_edges_to_blues(
     edges: &mut Table<Edge>,
     dim: Dimension,
@@ -176,12 +177,13 @@ pub fn align_edges_to_blues(
     rule: &WidthRule,
 ) -> Answer<Option<usize>> {
     refusals::edges_and_rule(edges, rule, &[])?;
-    Ok(on_axis(edges, dim, |axis| {
-        hint_edges::align_edges_to_blues(axis, &metrics(rule), group, &scale(false), None)
+    Ok(on_axis(edges, dim, |axis, recorder| {
+        let (metrics, scale) = (metrics(rule), scale(false));
+        hint_edges::align_edges_to_blues(axis, &metrics, group, &scale, Some(recorder))
     }))
 }
 
-/// Call 7: the edges are lent.
+/// Call 107: the edges are lent.
 pub fn align_linked_edge(
     edges: &mut Table<Edge>,
     rule: &WidthRule,
@@ -189,24 +191,31 @@ pub fn align_linked_edge(
     stem: u16,
 ) -> Answer<()> {
     refusals::edges_and_rule(edges, rule, &[base, stem])?;
-    on_axis(edges, Dimension::Horizontal, |axis| {
-        let (base, stem) = (base.into(), stem.into());
-        let group = ScriptGroup::Default;
-        hint_edges::align_linked_edge(axis, &metrics(rule), group, &scale(false), base, stem, None);
+    on_axis(edges, Dimension::Horizontal, |axis, recorder| {
+        hint_edges::align_linked_edge(
+            axis,
+            &metrics(rule),
+            ScriptGroup::Default,
+            &scale(false),
+            base.into(),
+            stem.into(),
+            Some(recorder),
+        );
     });
     Ok(())
 }
 
-/// Call 8: the edges are lent.
+/// Call 108: the edges are lent.
 pub fn align_serif_edge(edges: &mut Table<Edge>, base: u16, serif: u16) -> Answer<()> {
     refusals::edges(edges, &[base, serif])?;
-    on_axis(edges, Dimension::Horizontal, |axis| {
+    on_axis(edges, Dimension::Horizontal, |axis, recorder| {
         hint_edges::align_serif_edge(axis, base.into(), serif.into());
+        recorder.give(Mark::Serif, [serif.into()]);
     });
     Ok(())
 }
 
-/// Call 9: the edges are lent.
+/// Call 109: the edges are lent.
 pub fn adjust_link(
     edges: &mut Table<Edge>,
     edge: u16,
@@ -215,18 +224,20 @@ pub fn adjust_link(
 ) -> Answer<()> {
     refusals::adjust_link(edges, edge, top_to_bottom)?;
     let dir = if next { LinkDir::Next } else { LinkDir::Prev };
-    hint_edges::adjust_link(
-        &mut edges.items,
-        Dimension::Horizontal,
-        edge.into(),
-        dir,
-        top_to_bottom,
-        None,
-    );
+    on_axis(edges, Dimension::Horizontal, |axis, recorder| {
+        hint_edges::adjust_link(
+            &mut axis.edges,
+            axis.dim,
+            edge.into(),
+            dir,
+            top_to_bottom,
+            Some(recorder),
+        );
+    });
     Ok(())
 }
 
-/// Call 10: hands back lower and upper.
+/// Call 110: hands back lower and upper.
 pub fn latin_remaining_bounds(edges: &Table<Edge>, edge: u16) -> Answer<[Option<usize>; 2]> {
     refusals::edges(edges, &[edge])?;
     Ok(hint_edges::latin_remaining_bounds(
@@ -235,26 +246,28 @@ pub fn latin_remaining_bounds(edges: &Table<Edge>, edge: u16) -> Answer<[Option<
     ))
 }
 
-/// Call 11: the edges are lent; hands back the delta.
+/// Call 111: the edges are lent; hands back the delta.
 pub fn hint_normal_stem_cjk(edges: &mut Table<Edge>, given: &CjkStem) -> Answer<i32> {
     refusals::cjk_stem(edges, given)?;
-    Ok(on_axis(edges, given.dim, |axis| {
+    let (edge, edge2) = (given.edge.into(), given.edge2.into());
+    Ok(on_axis(edges, given.dim, |axis, recorder| {
+        recorder.give(Mark::Stem, [edge, edge2]);
         hint_edges::hint_normal_stem_cjk(
             axis,
             &metrics(&given.rule),
             ScriptGroup::Cjk,
             &scale(given.stem_adjust),
-            given.edge.into(),
-            given.edge2.into(),
+            edge,
+            edge2,
             given.delta,
         )
     }))
 }
 
-/// Call 12: the edges are lent; hands back the count and the anchor.
+/// Call 112: the edges are lent; hands back the count and the anchor.
 pub fn align_stem_edges(edges: &mut Table<Edge>, given: &Stems) -> Answer<(usize, Option<usize>)> {
     refusals::stems(edges, given)?;
-    Ok(on_axis(edges, given.dim, |axis| {
+    Ok(on_axis(edges, given.dim, |axis, recorder| {
         hint_edges::align_stem_edges(
             axis,
             &metrics(&given.rule),
@@ -262,23 +275,43 @@ pub fn align_stem_edges(edges: &mut Table<Edge>, given: &Stems) -> Answer<(usize
             &scale(given.stem_adjust),
             given.top_to_bottom,
             given.anchor.map(usize::from),
-            None,
+            Some(recorder),
         )
     }))
 }
 
-/// Call 13: the edges are lent as a table.
+/// Call 113: the edges are lent as a table.
 pub fn hint_lowercase_m(edges: &mut Table<Edge>, group: ScriptGroup) -> Answer<()> {
     refusals::lowercase_m(edges)?;
-    hint_edges::hint_lowercase_m(&mut edges.items, group);
+    marked_m(&mut edges.items, group);
     Ok(())
 }
 
-/// Call 14: the edges are lent as a list.
+/// Call 114: the edges are lent as a list.
 pub fn hint_lowercase_m_lent(edges: &mut [Edge], group: ScriptGroup) -> Answer<()> {
     refusals::lowercase_m(&Table::of(edges.to_vec()))?;
-    hint_edges::hint_lowercase_m(edges, group);
+    marked_m(edges, group);
     Ok(())
+}
+
+/// The given Rust's lowercase m, and the marks of what it moved.
+fn marked_m(edges: &mut [Edge], group: ScriptGroup) {
+    let (third, serifs): (usize, &[usize]) = match edges.len() {
+        6 => (4, &[]),
+        _ => (9, &[8, 11]),
+    };
+    // It reads no flags, and where it acts, if by 0, it leaves the third stem done.
+    let flags = edges[third].flags;
+    edges[third].flags &= !TopoFlags::DONE;
+    hint_edges::hint_lowercase_m(edges, group);
+    if !edges[third].flags.contains(TopoFlags::DONE) {
+        edges[third].flags = flags;
+        return;
+    }
+    let link = edges[third].link_ix.map(usize::from);
+    for ix in link.iter().chain(&[third]).chain(serifs) {
+        edges[*ix].mark = Mark::LowercaseM;
+    }
 }
 
 /// Call 15: hands back every step.
@@ -315,14 +348,20 @@ pub fn align_catalogue(catalogue: &mut Catalogue) -> Answer<()> {
     Ok(())
 }
 
-/// Runs a part of the given Rust on an axis that holds these edges.
-fn on_axis<T>(edges: &mut Table<Edge>, dim: Dimension, run: impl FnOnce(&mut Axis) -> T) -> T {
+/// Runs a part of the given Rust on an axis that holds these edges, and marks them as it was recorded.
+fn on_axis<T>(
+    edges: &mut Table<Edge>,
+    dim: Dimension,
+    run: impl FnOnce(&mut Axis, &mut HintsRecorder) -> T,
+) -> T {
     let mut axis = Axis {
         dim,
         edges: take(&mut edges.items),
         ..Axis::default()
     };
-    let result = run(&mut axis);
+    let mut recorder = HintsRecorder::default();
+    let result = run(&mut axis, &mut recorder);
+    recorder.write(&mut axis.edges);
     edges.items = axis.edges;
     result
 }

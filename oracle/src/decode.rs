@@ -2,7 +2,7 @@
 
 use crate::{
     job::{
-        Building, Catalogue, CjkStem, Dimension, Direction, Edge, Job, Points, ScaledWidth,
+        Building, Catalogue, CjkStem, Dimension, Direction, Edge, Job, Mark, Points, ScaledWidth,
         ScriptGroup, Segment, Stems, Table, TopoFlags, Walk, WidthRule,
     },
     limits::{EDGES, LENT, NUMBERS, SEGMENTS},
@@ -135,8 +135,14 @@ impl Reader<'_> {
             serif_ix: self.index()?,
             first_ix: self.number()?,
             last_ix: self.number()?,
+            mark: self.mark()?,
             ..Edge::default()
         })
+    }
+
+    /// A mark.
+    fn mark(&mut self) -> Option<Mark> {
+        Mark::ALL.get(self.number::<usize>()?).copied()
     }
 
     /// A blue or its absence; an absent one has fitted 0.
@@ -186,32 +192,32 @@ impl Reader<'_> {
                 self.word()?,
                 self.word()?,
             ),
-            5 => Job::Build(self.segments()?, self.edges()?, self.building()?),
-            6 => Job::Blues(
+            15 => Job::Path(self.walk()?),
+            16 => Job::PathStep(self.walk()?, self.number()?),
+            17 => Job::Catalogue(self.catalogue()?),
+            25 => Job::WriteFrame(self.points()?, self.numbers()?),
+            26 => Job::ReadFrame(self.numbers()?),
+            105 => Job::Build(self.segments()?, self.edges()?, self.building()?),
+            106 => Job::Blues(
                 self.edges()?,
                 self.dimension()?,
                 self.group()?,
                 self.rule()?,
             ),
-            7 => Job::Linked(self.edges()?, self.rule()?, self.number()?, self.number()?),
-            8 => Job::Serif(self.edges()?, self.number()?, self.number()?),
-            9 => Job::Adjust(
+            107 => Job::Linked(self.edges()?, self.rule()?, self.number()?, self.number()?),
+            108 => Job::Serif(self.edges()?, self.number()?, self.number()?),
+            109 => Job::Adjust(
                 self.edges()?,
                 self.number()?,
                 self.choice()?,
                 self.choice()?,
             ),
-            10 => Job::Bounds(self.edges()?, self.number()?),
-            11 => Job::CjkStem(self.edges()?, self.cjk_stem()?),
-            12 => Job::Stems(self.edges()?, self.stems()?),
-            13 => Job::M(self.edges()?, self.group()?),
-            14 => Job::MLent(self.lent()?, self.group()?),
-            15 => Job::Path(self.walk()?),
-            16 => Job::PathStep(self.walk()?, self.number()?),
-            17 => Job::Catalogue(self.catalogue()?),
-            24 => Job::TurnOver(self.segments()?, self.edges()?),
-            25 => Job::WriteFrame(self.points()?, self.numbers()?),
-            26 => Job::ReadFrame(self.numbers()?),
+            110 => Job::Bounds(self.edges()?, self.number()?),
+            111 => Job::CjkStem(self.edges()?, self.cjk_stem()?),
+            112 => Job::Stems(self.edges()?, self.stems()?),
+            113 => Job::M(self.edges()?, self.group()?),
+            114 => Job::MLent(self.lent()?, self.group()?),
+            124 => Job::TurnOver(self.segments()?, self.edges()?),
             _ => return None,
         })
     }

@@ -114,6 +114,18 @@ fn shown_value(name: &str, value: i32) -> String {
         "dimension" => &["horizontal", "vertical"],
         "width rule" => &["keep", "snap"],
         "kind" => &["finished", "move", "line", "curve", "close"],
+        "mark" => &[
+            "nothing yet",
+            "blue anchor",
+            "blue",
+            "linked",
+            "anchor",
+            "stem",
+            "adjusted",
+            "bound",
+            "serif",
+            "lowercase m",
+        ],
         "next" | "edge" | "link" | "serif" | "anchor" | "lower" | "upper" if value == -1 => {
             return String::from("none");
         }

@@ -1,11 +1,11 @@
-//! Call 24: an axis that was fitted top to bottom, turned over, written from request #114 alone.
+//! Call 124: an axis that was fitted top to bottom, turned over, written from request #114 alone.
 
 use crate::{
     job::{Edge, Segment, Table},
     refusals::{self, Answer},
 };
 
-/// Call 24: both tables are lent.
+/// Call 124: both tables are lent.
 pub fn turn_over(segments: &mut Table<Segment>, edges: &mut Table<Edge>) -> Answer<()> {
     refusals::turn_over(segments, edges)?;
     let last = (edges.count as u16).saturating_sub(1);

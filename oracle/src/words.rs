@@ -121,6 +121,7 @@ impl Words {
         self.index("edge.serif", e.serif_ix);
         self.put("edge.first", e.first_ix.into());
         self.put("edge.last", e.last_ix.into());
+        self.put("edge.mark", e.mark as i32);
     }
 
     /// Appends a table of segments.
@@ -178,7 +179,7 @@ pub fn encode(job: &Job) -> Words {
         }
         Job::Build(segments, edges, given) => build(&mut w, segments, edges, given),
         Job::MLent(edges, group) => {
-            w.put("call", 14);
+            w.put("call", 114);
             w.edges(edges.len(), edges);
             w.rest();
             w.group(*group);
@@ -199,7 +200,7 @@ fn of_requests(w: &mut Words, job: &Job) {
         }
         Job::Catalogue(given) => catalogue(w, given),
         Job::TurnOver(segments, edges) => {
-            w.put("call", 24);
+            w.put("call", 124);
             w.segments(segments);
             w.edges(edges.count, &edges.items);
         }
@@ -249,9 +250,9 @@ fn catalogue(w: &mut Words, given: &Catalogue) {
     w.numbers("answers", "own answer", &given.answers);
 }
 
-/// Call 5.
+/// Call 105.
 fn build(w: &mut Words, segments: &Table<Segment>, edges: &Table<Edge>, given: &Building) {
-    w.put("call", 5);
+    w.put("call", 105);
     w.segments(segments);
     w.edges(edges.count, &edges.items);
     w.rest();
@@ -265,17 +266,17 @@ fn build(w: &mut Words, segments: &Table<Segment>, edges: &Table<Edge>, given: &
     w.put("width threshold", given.width);
 }
 
-/// Calls 6 to 13: a table of edges first.
+/// Calls 106 to 113: a table of edges first.
 fn on_edges(w: &mut Words, job: &Job) {
     let (call, edges) = match job {
-        Job::Blues(edges, ..) => (6, edges),
-        Job::Linked(edges, ..) => (7, edges),
-        Job::Serif(edges, ..) => (8, edges),
-        Job::Adjust(edges, ..) => (9, edges),
-        Job::Bounds(edges, ..) => (10, edges),
-        Job::CjkStem(edges, ..) => (11, edges),
-        Job::Stems(edges, ..) => (12, edges),
-        Job::M(edges, ..) => (13, edges),
+        Job::Blues(edges, ..) => (106, edges),
+        Job::Linked(edges, ..) => (107, edges),
+        Job::Serif(edges, ..) => (108, edges),
+        Job::Adjust(edges, ..) => (109, edges),
+        Job::Bounds(edges, ..) => (110, edges),
+        Job::CjkStem(edges, ..) => (111, edges),
+        Job::Stems(edges, ..) => (112, edges),
+        Job::M(edges, ..) => (113, edges),
         _ => unreachable!("the other calls are not on a table of edges"),
     };
     w.put("call", call);
@@ -284,7 +285,7 @@ fn on_edges(w: &mut Words, job: &Job) {
     behind_edges(w, job);
 }
 
-/// What stands behind the edges in calls 6 to 13.
+/// What stands behind the edges in calls 106 to 113.
 fn behind_edges(w: &mut Words, job: &Job) {
     match job {
         Job::Blues(_, dim, group, rule) => {
@@ -315,7 +316,7 @@ fn behind_edges(w: &mut Words, job: &Job) {
     }
 }
 
-/// Call 11 behind its edges.
+/// Call 111 behind its edges.
 fn cjk_stem(w: &mut Words, given: &CjkStem) {
     w.dimension(given.dim);
     w.choice("stem adjust", given.stem_adjust);
@@ -326,7 +327,7 @@ fn cjk_stem(w: &mut Words, given: &CjkStem) {
     w.put("delta", given.delta);
 }
 
-/// Call 12 behind its edges.
+/// Call 112 behind its edges.
 fn stems(w: &mut Words, given: &Stems) {
     w.dimension(given.dim);
     w.group(given.group);

@@ -18,32 +18,31 @@ enum {
 /* What each call's job holds behind the call's number, NULL where that is no call: w a word, i an index, l an index or none, c a choice, d a direction, k a cursor; lists
  * with their counts in front: N numbers, B bytes, I indices, S segments, E edges, L lent edges. */
 static const char *const formats[] = {
-    NULL,
-    "ww",         /* compute_mid_pos: min, max */
-    "ww",         /* compute_mid_delta: min, max */
-    "NNBI",       /* align_weak_points: originals, currents, touch marks, contour ends */
-    "Sdww",       /* link_segments_cjk: segments, major direction, units per em, scale */
-    "SEcdccwwww", /* compute_edges: segments, old edges, dimension, major direction, group, top to bottom, scale, thresholds */
-    "EcccN",      /* align_edges_to_blues: edges, dimension, group, width rule */
-    "EcNii",      /* align_linked_edge: edges, width rule, base, stem */
-    "Eii",        /* align_serif_edge: edges, base, serif */
-    "Eicc",       /* adjust_link: edges, edge, neighbour, top to bottom */
-    "Ei",         /* latin_remaining_bounds: edges, edge */
-    "EcccNiiw",   /* hint_normal_stem_cjk: edges, dimension, stem adjust, width rule, edge, second edge, delta */
-    "EcccclcN",   /* align_stem_edges: edges, dimension, group, stem adjust, top to bottom, anchor, width rule */
-    "Ec",         /* hint_lowercase_m, table form: edges, group */
-    "Lc",         /* hint_lowercase_m, lent list: edges, group */
-    "NNBI",       /* path: x coordinates, y coordinates, on-curve marks, contour ends */
-    "NNBIk",      /* path_step: the same, cursor */
-    "NNBIIIB",    /* align_catalogue: outlines as of align_weak_points, point counts, contour counts, answers */
-    [24] = "SE",    /* turn_over: segments, edges */
-    [25] = "NNBIB", /* write_frame: an outline as of align_weak_points, line */
-    [26] = "B"      /* read_frame: line */
+    [1] = "ww",           /* compute_mid_pos: min, max */
+    [2] = "ww",           /* compute_mid_delta: min, max */
+    [3] = "NNBI",         /* align_weak_points: originals, currents, touch marks, contour ends */
+    [4] = "Sdww",         /* link_segments_cjk: segments, major direction, units per em, scale */
+    [15] = "NNBI",        /* path: x coordinates, y coordinates, on-curve marks, contour ends */
+    [16] = "NNBIk",       /* path_step: the same, cursor */
+    [17] = "NNBIIIB",     /* align_catalogue: outlines as of align_weak_points, point counts, contour counts, answers */
+    [25] = "NNBIB",       /* write_frame: an outline as of align_weak_points, line */
+    [26] = "B",           /* read_frame: line */
+    [105] = "SEcdccwwww", /* compute_edges: segments, old edges, dimension, major direction, group, top to bottom, scale, thresholds */
+    [106] = "EcccN",      /* align_edges_to_blues: edges, dimension, group, width rule */
+    [107] = "EcNii",      /* align_linked_edge: edges, width rule, base, stem */
+    [108] = "Eii",        /* align_serif_edge: edges, base, serif */
+    [109] = "Eicc",       /* adjust_link: edges, edge, neighbour, top to bottom */
+    [110] = "Ei",         /* latin_remaining_bounds: edges, edge */
+    [111] = "EcccNiiw",   /* hint_normal_stem_cjk: edges, dimension, stem adjust, width rule, edge, second edge, delta */
+    [112] = "EcccclcN",   /* align_stem_edges: edges, dimension, group, stem adjust, top to bottom, anchor, width rule */
+    [113] = "Ec",         /* hint_lowercase_m, table form: edges, group */
+    [114] = "Lc",         /* hint_lowercase_m, lent list: edges, group */
+    [124] = "SE"          /* turn_over: segments, edges */
 };
 enum { CALLS = sizeof formats / sizeof formats[0], MOST_ITEMS = 10 };
 
-/* The words of an edge and of a segment: s is a 16-bit number, f flags, the others as in a format. */
-static const char edge_words[] = "swwfdcwllii", segment_words[] = "fdssssswwlliill";
+/* The words of an edge and of a segment: s is a 16-bit number, f flags, m a mark, the others as in a format. */
+static const char edge_words[KHS_EDGE_WORDS + 1] = "swwfdcwlliim", segment_words[KHS_SEGMENT_WORDS + 1] = "fdssssswwlliill";
 enum { EDGE_BLUE = 5, EDGE_FITTED = 6 };
 
 /* A list of a job: its count as the job has it, and the words that the job carries of it. */
@@ -85,6 +84,7 @@ static int is_field(char kind, int32_t word)
     case 'k': return 0 <= word;
     case 'd': return KHS_DIR_NONE <= word && word <= KHS_DIR_DOWN;
     case 'f': return 0 <= word && word <= 15;
+    case 'm': return KHS_MARK_NOTHING <= word && word <= KHS_MARK_LOWERCASE_M;
     case 'B': return 0 <= word && word <= 255;
     default: return 0;
     }
@@ -337,32 +337,32 @@ static void answer_edges(const struct job *job)
 {
     const int32_t *n = job->number;
     const struct list *edges = &job->list[0], *standards = &job->list[1];
-    khs_length len = lend(edges, KHS_EDGE_WORDS, job->call == 14 ? MOST_LENT : KHS_MOST_EDGES);
+    khs_length len = lend(edges, KHS_EDGE_WORDS, job->call == 114 ? MOST_LENT : KHS_MOST_EDGES);
     int32_t number = 0, index = KHS_NONE, second = KHS_NONE;
     switch (job->call) {
-    case 6:
+    case 106:
         say(khs_align_edges_to_blues(table, len, n[0], n[1], n[2], standards->words, standards->size, &index));
         say(index);
         break;
-    case 7:
+    case 107:
         say(khs_align_linked_edge(table, len, n[0], standards->words, standards->size, n[1], n[2]));
         break;
-    case 8:
+    case 108:
         say(khs_align_serif_edge(table, len, n[0], n[1]));
         break;
-    case 9:
+    case 109:
         say(khs_adjust_link(table, len, n[0], n[1], n[2]));
         break;
-    case 10:
+    case 110:
         say(khs_latin_remaining_bounds(table, len, n[0], &index, &second));
         say(index);
         say(second);
         return;
-    case 11:
+    case 111:
         say(khs_hint_normal_stem_cjk(table, len, n[0], n[1], n[2], standards->words, standards->size, n[3], n[4], n[5], &number));
         say(number);
         break;
-    case 12:
+    case 112:
         say(khs_align_stem_edges(table, len, n[0], n[1], n[2], n[3], n[4], n[5], standards->words, standards->size, &number, &index));
         say(number);
         say(index);
@@ -393,10 +393,10 @@ static void answer_line(size_t len)
     case 16:
     case 17:
     case 25: answer_outline(&job); break;
-    case 24: answer_turned(&job); break;
     case 26: answer_read(&job); break;
     case 4:
-    case 5: answer_segments(&job); break;
+    case 105: answer_segments(&job); break;
+    case 124: answer_turned(&job); break;
     default: answer_edges(&job);
     }
 }

@@ -188,3 +188,86 @@ impl Field for Direction {
         words[0] = self as i32;
     }
 }
+
+/// What last gave an edge its position, if only the one that it had. Calls write marks and read none.
+///
+/// ```
+/// use khsaemudol::Mark;
+///
+/// assert_eq!(Mark::default(), Mark::Nothing);
+/// assert_eq!(Mark::BlueAnchor.to_string(), "blue anchor");
+/// ```
+#[derive(Clone, Copy, Debug, Default, PartialEq, Eq, Hash)]
+pub enum Mark {
+    /// Nothing yet: it stands where building put it.
+    #[default]
+    Nothing = 0,
+    /// Its blue zone, the first zone that the call came to.
+    BlueAnchor = 1,
+    /// Its blue zone, another one.
+    Blue = 2,
+    /// An edge on the other side of the stem, at the fitted width from it.
+    Linked = 3,
+    /// Its own stem, the first one, where there was no anchor yet.
+    Anchor = 4,
+    /// Its stem, both of whose edges were placed.
+    Stem = 5,
+    /// Its link, which was done before, for a stem beside an anchor.
+    Adjusted = 6,
+    /// Its neighbour, which it had passed.
+    Bound = 7,
+    /// The edge that it was placed by as a serif.
+    Serif = 8,
+    /// The rule of the lowercase m, whose third stem it moves with.
+    LowercaseM = 9,
+}
+
+impl Mark {
+    /// All marks, by their words.
+    pub const ALL: [Self; 10] = [
+        Self::Nothing,
+        Self::BlueAnchor,
+        Self::Blue,
+        Self::Linked,
+        Self::Anchor,
+        Self::Stem,
+        Self::Adjusted,
+        Self::Bound,
+        Self::Serif,
+        Self::LowercaseM,
+    ];
+
+    /// Its name, for logs.
+    pub const fn name(self) -> &'static str {
+        match self {
+            Self::Nothing => "nothing yet",
+            Self::BlueAnchor => "blue anchor",
+            Self::Blue => "blue",
+            Self::Linked => "linked",
+            Self::Anchor => "anchor",
+            Self::Stem => "stem",
+            Self::Adjusted => "adjusted",
+            Self::Bound => "bound",
+            Self::Serif => "serif",
+            Self::LowercaseM => "lowercase m",
+        }
+    }
+}
+
+impl fmt::Display for Mark {
+    fn fmt(&self, f: &mut fmt::Formatter<'_>) -> fmt::Result {
+        f.pad(self.name())
+    }
+}
+
+impl Field for Mark {
+    fn read(words: &[i32]) -> Self {
+        let mark = usize::try_from(words[0]).ok();
+        mark.and_then(|ix| Self::ALL.get(ix).copied())
+            .unwrap_or_default()
+    }
+
+    fn write(self, words: &mut [i32]) {
+        words[0] = self as i32;
+    }
+}

@@ -29,7 +29,7 @@ mod records;
 mod refusal;
 
 pub use choices::{Dimension, Group, Neighbour, Order, WidthRule};
-pub use field::{Direction, Flags};
+pub use field::{Direction, Flags, Mark};
 pub use log::{Job, MOST_DIGITS};
 pub use path::{path, path_step, Outline, Path, PathStep, PixelPoint};
 pub use records::{Edge, Segment, EDGE_WORDS, SEGMENT_WORDS};
@@ -207,7 +207,7 @@ pub fn compute_edges<'a>(
 /// Puts edges on their blue zones, and hands back the anchor.
 ///
 /// ```
-/// use khsaemudol::{align_edges_to_blues, Dimension, Edge, Flags, Group, WidthRule};
+/// use khsaemudol::{align_edges_to_blues, Dimension, Edge, Flags, Group, Mark, WidthRule};
 ///
 /// let mut edges = [
 ///     Edge::default().with_opos(-9).with_pos(-9).with_blue(Some(0)).with_link(Some(1)),
@@ -216,6 +216,7 @@ pub fn compute_edges<'a>(
 /// let anchor = align_edges_to_blues(&mut edges, Dimension::Vertical, Group::Latin, WidthRule::Snap(&[64]))?;
 /// assert_eq!(anchor, Some(0));
 /// assert_eq!(edges.map(|edge| edge.pos()), [0, 64]);
+/// assert_eq!(edges.map(|edge| edge.mark()), [Mark::BlueAnchor, Mark::Linked]);
 /// assert!(edges[1].flags().contains(Flags::DONE));
 /// # Ok::<(), khsaemudol::Refusal>(())
 /// ```

@@ -2,7 +2,7 @@
 //! are typed fields, whose words are always those of their field.
 
 use crate::{
-    field::{Direction, Field, Flags},
+    field::{Direction, Field, Flags, Mark},
     refusal::Refusal,
 };
 use std::fmt;
@@ -70,7 +70,7 @@ macro_rules! record {
 }
 
 /// The words of an edge.
-pub const EDGE_WORDS: usize = 11;
+pub const EDGE_WORDS: usize = 12;
 
 /// The words of a segment.
 pub const SEGMENT_WORDS: usize = 15;
@@ -79,12 +79,13 @@ record! {
     /// An edge of an axis, made by [`compute_edges`](crate::compute_edges) or field by field:
     ///
     /// ```
-    /// use khsaemudol::{Edge, Flags};
+    /// use khsaemudol::{Edge, Flags, Mark};
     ///
     /// let mut edge = Edge::default().with_opos(100).with_pos(128).with_link(Some(1));
     /// edge.set_flags(edge.flags() | Flags::DONE);
     /// assert_eq!(edge.link(), Some(1));
     /// assert_eq!(edge.serif(), None);
+    /// assert_eq!(edge.mark(), Mark::Nothing);
     /// ```
     Edge, EDGE_WORDS,
     /// The position, in design units.
@@ -107,6 +108,8 @@ record! {
     9 first: u16, set_first, with_first;
     /// Its last segment.
     10 last: u16, set_last, with_last;
+    /// What last gave it its position.
+    11 mark: Mark, set_mark, with_mark;
 }
 
 record! {

@@ -12,6 +12,11 @@ fn stem(low: i32, high: i32) -> [Edge; 2] {
     [at(low).with_link(Some(1)), at(high).with_link(Some(0))]
 }
 
+/// What gave each edge its position.
+fn marks<const N: usize>(edges: [Edge; N]) -> [Mark; N] {
+    edges.map(|edge| edge.mark())
+}
+
 /// A segment at a position, 200 long.
 fn side(dir: Direction, pos: i16) -> Segment {
     Segment::default()
@@ -106,7 +111,7 @@ fn the_default_is_empty() {
     let edge = Edge::default();
     assert_eq!(
         <[i32; EDGE_WORDS]>::from(edge),
-        [0, 0, 0, 0, 0, 0, 0, -1, -1, 0, 0]
+        [0, 0, 0, 0, 0, 0, 0, -1, -1, 0, 0, 0]
     );
     assert_eq!((edge.link(), edge.serif(), edge.blue()), (None, None, None));
     let segment = Segment::default();
@@ -125,9 +130,13 @@ fn words_are_read_back() {
         .with_link(Some(u16::MAX))
         .with_serif(Some(0))
         .with_first(3)
-        .with_last(65_535);
+        .with_last(65_535)
+        .with_mark(Mark::LowercaseM);
     let words = <[i32; EDGE_WORDS]>::from(edge);
-    assert_eq!(words, [-32_768, -7, -7, 9, 4, 1, -64, 65_535, 0, 3, 65_535]);
+    assert_eq!(
+        words,
+        [-32_768, -7, -7, 9, 4, 1, -64, 65_535, 0, 3, 65_535, 9]
+    );
     assert_eq!(Edge::try_from(words), Ok(edge));
     for (ix, word) in [
         (0, 32_768),
@@ -138,6 +147,8 @@ fn words_are_read_back() {
         (7, -2),
         (8, 65_536),
         (9, -1),
+        (11, 10),
+        (11, -1),
     ] {
         let mut words = words;
         words[ix] = word;
@@ -150,6 +161,20 @@ fn words_are_read_back() {
     assert_eq!(
         Segment::try_from(<[i32; SEGMENT_WORDS]>::from(segment)),
         Ok(segment)
+    );
+}
+
+#[test]
+fn marks_have_words_and_names() {
+    for (word, mark) in (0..).zip(Mark::ALL) {
+        let edge = Edge::default().with_mark(mark);
+        assert_eq!(<[i32; EDGE_WORDS]>::from(edge)[EDGE_WORDS - 1], word);
+        assert_eq!((edge.mark(), mark.to_string()), (mark, mark.name().into()));
+    }
+    assert_eq!(
+        format!("{:>12}", Mark::LowercaseM),
+        " lowercase m",
+        "as wide as a log wants it"
     );
 }
 
@@ -290,7 +315,7 @@ fn building() {
     let mut segments = [side(Direction::Right, 80), side(Direction::Left, 0)];
     segments[0].set_link(Some(1));
     segments[1].set_link(Some(0));
-    let mut room = [Edge::default(); MOST_EDGES];
+    let mut room = [at(5).with_mark(Mark::Stem); MOST_EDGES];
     let edges =
         compute_edges(&mut segments, &mut room, &BUILDING).expect("the segments are accepted");
     assert_eq!(edges.iter().map(Edge::fpos).collect::<Vec<_>>(), [0, 80]);
@@ -298,6 +323,7 @@ fn building() {
         edges.iter().map(Edge::link).collect::<Vec<_>>(),
         [Some(1), Some(0)]
     );
+    assert_eq!(marks(room), [Mark::Nothing; MOST_EDGES]);
     assert_eq!(segments.map(|segment| segment.edge()), [Some(1), Some(0)]);
     assert_eq!(segments.map(|segment| segment.next()), [Some(0), Some(1)]);
 }
@@ -306,7 +332,7 @@ fn building() {
 fn building_refused() {
     let refused = |segments: &[Segment], given: &Building, refusal: Refusal| {
         let mut lent = segments.to_vec();
-        let full = at(5).with_flags(Flags::DONE);
+        let full = at(5).with_flags(Flags::DONE).with_mark(Mark::Stem);
         let mut room = [full; MOST_EDGES];
         assert_eq!(
             compute_edges(&mut lent, &mut room, given).err(),
@@ -359,6 +385,7 @@ fn blues() {
     assert_eq!(edges, before);
     assert_eq!(align(&mut edges, Dimension::Vertical), Ok(Some(0)));
     assert_eq!(edges.map(|edge| edge.pos()), [0, 64]);
+    assert_eq!(marks(edges), [Mark::BlueAnchor, Mark::Linked]);
     assert_eq!(align(&mut [], Dimension::Vertical), Ok(None));
     refuses_edges(&edges, |edges| align(edges, Dimension::Horizontal));
     refused(&edges, Refusal::BadParameter, |edges| {
@@ -376,6 +403,7 @@ fn linked_edge() {
         Ok(())
     );
     assert_eq!(edges[1].pos(), 74);
+    assert_eq!(marks(edges), [Mark::Nothing, Mark::Linked]);
     refuses_edges(&edges, |edges| {
         align_linked_edge(edges, WidthRule::Keep, 0, 1)
     });
@@ -396,6 +424,7 @@ fn serif_edge() {
     edges[0].set_pos(10);
     assert_eq!(align_serif_edge(&mut edges, 0, 1), Ok(()));
     assert_eq!(edges[1].pos(), 70);
+    assert_eq!(marks(edges), [Mark::Nothing, Mark::Serif]);
     refuses_edges(&edges, |edges| align_serif_edge(edges, 0, 1));
     refused(&edges, Refusal::BadIndex, |edges| {
         align_serif_edge(edges, 0, 2)
@@ -410,21 +439,24 @@ fn adjusted_link() {
     let done = |pos: i32| at(pos).with_flags(Flags::DONE);
     let edges = [done(100), at(90).with_link(Some(2)), at(50)];
     let adjusted = |mut edges: [Edge; 3], neighbour, order| {
-        adjust_link(&mut edges, 1, neighbour, order).map(|()| edges[1].pos())
+        adjust_link(&mut edges, 1, neighbour, order).map(|()| (edges[1].pos(), edges[1].mark()))
     };
     assert_eq!(
         adjusted(edges, Neighbour::Previous, Order::BottomToTop),
-        Ok(100)
+        Ok((100, Mark::Bound))
     );
     assert_eq!(
         adjusted(edges, Neighbour::Previous, Order::TopToBottom),
         Err(Refusal::Retired)
     );
-    assert_eq!(adjusted(edges, Neighbour::Next, Order::BottomToTop), Ok(90));
+    assert_eq!(
+        adjusted(edges, Neighbour::Next, Order::BottomToTop),
+        Ok((90, Mark::Nothing))
+    );
     let next_done = [edges[0], edges[1], done(50)];
     assert_eq!(
         adjusted(next_done, Neighbour::Next, Order::BottomToTop),
-        Ok(50)
+        Ok((50, Mark::Bound))
     );
     let call = |edges: &mut [Edge]| adjust_link(edges, 1, Neighbour::Next, Order::BottomToTop);
     refuses_edges(&edges, call);
@@ -464,7 +496,9 @@ fn bounds() {
 fn cjk_stem() {
     let hinted = |given: &CjkStem<'_>| {
         let mut edges = stem(40, 80);
-        hint_normal_stem_cjk(&mut edges, given).map(|delta| (delta, edges.map(|edge| edge.pos())))
+        let delta = hint_normal_stem_cjk(&mut edges, given)?;
+        assert_eq!(marks(edges), [Mark::Stem; 2]);
+        Ok::<_, Refusal>((delta, edges.map(|edge| edge.pos())))
     };
     assert_eq!(hinted(&STEM), Ok((-14, [26, 66])));
     assert_eq!(
@@ -510,6 +544,10 @@ fn stem_pass() {
     };
     assert_eq!(align_stem_edges(&mut edges, &pass), Ok(stems));
     assert_eq!(edges.map(|edge| edge.pos()), [0, 130, 190, 300]);
+    assert_eq!(
+        marks(edges),
+        [Mark::Nothing, Mark::Stem, Mark::Stem, Mark::Nothing]
+    );
     assert!(edges[1].flags().contains(Flags::DONE));
     let none = Stems {
         passed_over: 0,
@@ -565,6 +603,7 @@ fn lowercase_m() {
     assert_eq!(edges, before);
     assert_eq!(hint_lowercase_m(&mut edges, Group::Latin), Ok(()));
     assert_eq!((edges[4].pos(), edges[4].flags()), (256, Flags::DONE));
+    assert_eq!(edges[4].mark(), Mark::LowercaseM);
     refuses_edges(&edges, |edges| hint_lowercase_m(edges, Group::Latin));
     refused(&edges[..5], Refusal::BadParameter, |edges| {
         hint_lowercase_m(edges, Group::Latin)

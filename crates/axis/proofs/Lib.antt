@@ -1,8 +1,9 @@
 -- The laws by subject, each over plain variables: `Tests`, tests of numbers and of every place; `Acceptance`, from tests that hold to facts; `Accepting`, and back; `Rings`,
--- walks along rings; `Visits`, the visits of a pass; `Only`, changes of edges.
+-- walks along rings; `Visits`, the visits of a pass; `Only`, changes of edges; `Alike`, edges that are alike but for their marks.
 pub mod Tests
 pub mod Acceptance
 pub mod Accepting
 pub mod Rings
 pub mod Visits
 pub mod Only
+pub mod Alike

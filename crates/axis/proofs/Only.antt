@@ -2,6 +2,7 @@
 use mathlib.Core.Path.{_≡_, refl, sym, ap, subst, _∙_}
 use mathlib.Core.Bool.{Bool, true, false, cond, _&&_, _||_}
 use mathlib.Core.List.{List, [], _∷_}
+use mathlib.Core.Logic.{_⊎_, inl, inr}
 use Prim.Native.Nat.{ℕ, zero, suc}
 use native.Mathlib.Omega.{arith}
 use lib.IntN.{ℤ}
@@ -9,10 +10,12 @@ use lib.ListN.{getD, set, length-set}
 use Rattle.refusals.specs.Refusal.{answered}
 use Rattle.axis.specs.declared.kinds.Blue.{Blue}
 use Rattle.axis.specs.declared.kinds.Blue.the-variants as Blues
+use Rattle.axis.specs.declared.kinds.Mark.{Mark}
 use Rattle.axis.specs.declared.edge.Edge.{Edge}
 use Rattle.axis.specs.declared.edge.Axis.{Axis}
 use Rattle.axis.specs.Edge.{emptyEdge, edgeAt, putEdge, changed, placed, fixedAt}
-use Rattle.axis.specs.Changes.{Extent, nothing, position, place, zone, zoneLeft, Only, wherever, OnlyAxis, Changes}
+use Rattle.axis.specs.Mark.{among}
+use Rattle.axis.specs.Changes.{Extent, nothing, position, place, zone, zoneLeft, Stayed, Rezoned, Told, Only, wherever, OnlyAxis, Changes}
 
 -- ---- flags and zones
 or-self : (a : Bool) → a ≡ (a || a)
@@ -50,57 +53,106 @@ left-then a b Blues.None p q = refl
 left-then a b (Blues.Fitted z) p q = p ∙ ap (zoneLeft a) (sym q)
 
 -- ---- one edge
--- an edge at a position, with such a flag done and neutral, and a zone
-abbrev pub remade : Edge → ℤ → Bool → Bool → Blue → Edge
-remade e p done neutral b = changed e p (record { round = e .flags .round; serif = e .flags .serif; done = done; neutral = neutral }) b (e .link) (e .serif) (e .last)
+-- an edge at a position, with such a mark, flag done and neutral, and a zone
+abbrev pub remade : Edge → ℤ → Mark → Bool → Bool → Blue → Edge
+remade e p m done neutral b = changed e p m (record { round = e .flags .round; serif = e .flags .serif; done = done; neutral = neutral }) b (e .link) (e .serif) (e .last)
+
+stayed : (e : Edge) → Stayed e e
+stayed e = record { pos = refl; mark = refl; done = refl }
 
 pub same-edge : (x : Extent) (e : Edge) → Only x e e
-same-edge nothing e = record { rest = refl }
-same-edge position e = record { rest = refl }
-same-edge place e = record { rest = λ i. remade e (e .pos) (or-self (e .flags .done) i) (e .flags .neutral) (e .blue) }
-same-edge zone e = record { rest = λ i. remade e (e .pos) (or-self (e .flags .done) i) (and-self (e .flags .neutral) i) (left-self (e .blue) i) }
+same-edge nothing e = record { rest = refl; told = stayed e }
+same-edge (position ms) e = record { rest = refl; told = inl (stayed e) }
+same-edge (place ms) e = record { rest = λ i. remade e (e .pos) (e .mark) (or-self (e .flags .done) i) (e .flags .neutral) (e .blue); told = inl (stayed e) }
+same-edge (zone ms) e = record {
+  rest = λ i. remade e (e .pos) (e .mark) (or-self (e .flags .done) i) (and-self (e .flags .neutral) i) (left-self (e .blue) i);
+  told = inl (stayed e);
+}
+
+-- what is told by one change and then another
+stayed-then : (a b c : Edge) → Stayed a b → Stayed b c → Stayed a c
+stayed-then a b c p q = record { pos = q .pos ∙ p .pos; mark = q .mark ∙ p .mark; done = q .done ∙ p .done }
+
+marked-then : (ms : List Mark) (b c : Edge) → c .mark ≡ b .mark → among ms (b .mark) ≡ true → among ms (c .mark) ≡ true
+marked-then ms b c e h = ap (among ms) e ∙ h
+
+told-then : (ms : List Mark) (a b c : Edge) → Stayed a b ⊎ (among ms (b .mark) ≡ true) → Stayed b c ⊎ (among ms (c .mark) ≡ true) → Stayed a c ⊎ (among ms (c .mark) ≡ true)
+told-then ms a b c p (inr q) = inr q
+told-then ms a b c (inl p) (inl q) = inl (stayed-then a b c p q)
+told-then ms a b c (inr p) (inl q) = inr (marked-then ms b c (q .mark) p)
+
+-- a zone that is there still was there before
+zone-before : (a b : Edge) (z : ℤ) → b .blue ≡ zoneLeft (a .blue) (b .blue) → b .blue ≡ Blues.Fitted z → a .blue ≡ Blues.Fitted z
+zone-before a b z l e = sym (l ∙ ap (zoneLeft (a .blue)) e) ∙ e
+
+zoned-then : (ms : List Mark) (a b c : Edge) → b .blue ≡ zoneLeft (a .blue) (b .blue) → Told (zone ms) a b → Told (zone ms) b c → Told (zone ms) a c
+zoned-then ms a b c l p (inr (inl q)) = inr (inl q)
+zoned-then ms a b c l (inl p) (inl q) = inl (stayed-then a b c p q)
+zoned-then ms a b c l (inr (inl p)) (inl q) = inr (inl (marked-then ms b c (q .mark) p))
+zoned-then ms a b c l (inr (inr p)) (inl q) = inr (inr (record { done = p .done; mark = q .mark ∙ p .mark; zone = p .zone ∙ ap Blues.Fitted (sym (q .pos)) }))
+zoned-then ms a b c l (inl p) (inr (inr q)) = inr (inr (record { done = sym (p .done) ∙ q .done; mark = q .mark ∙ p .mark; zone = zone-before a b (c .pos) l (q .zone) }))
+zoned-then ms a b c l (inr (inl p)) (inr (inr q)) = inr (inl (marked-then ms b c (q .mark) p))
+zoned-then ms a b c l (inr (inr p)) (inr (inr q)) = inr (inr (record { done = p .done; mark = q .mark ∙ p .mark; zone = zone-before a b (c .pos) l (q .zone) }))
 
 pub then-edge : (x : Extent) (a b c : Edge) → Only x a b → Only x b c → Only x a c
-then-edge nothing a b c p q = record { rest = q .rest ∙ p .rest }
-then-edge position a b c p q = record { rest = q .rest ∙ ap (λ (e : Edge). placed e (c .pos)) (p .rest) }
-then-edge place a b c p q =
+then-edge nothing a b c p q = record { rest = q .rest ∙ p .rest; told = stayed-then a b c (p .told) (q .told) }
+then-edge (position ms) a b c p q = record { rest = q .rest ∙ ap (λ (e : Edge). placed e (c .pos) (c .mark)) (p .rest); told = told-then ms a b c (p .told) (q .told) }
+then-edge (place ms) a b c p q =
     let d = or-then (a .flags .done) (b .flags .done) (c .flags .done) (ap (λ (e : Edge). e .flags .done) (p .rest)) (ap (λ (e : Edge). e .flags .done) (q .rest)) in
-    record { rest = q .rest ∙ (λ i. remade (p .rest i) (c .pos) (d i) (p .rest i .flags .neutral) (p .rest i .blue)) }
-then-edge zone a b c p q =
+    record {
+      rest = q .rest ∙ (λ i. remade (p .rest i) (c .pos) (c .mark) (d i) (p .rest i .flags .neutral) (p .rest i .blue));
+      told = told-then ms a b c (p .told) (q .told);
+    }
+then-edge (zone ms) a b c p q =
     let d = or-then (a .flags .done) (b .flags .done) (c .flags .done) (ap (λ (e : Edge). e .flags .done) (p .rest)) (ap (λ (e : Edge). e .flags .done) (q .rest)) in
     let n = and-then (a .flags .neutral) (b .flags .neutral) (c .flags .neutral) (ap (λ (e : Edge). e .flags .neutral) (p .rest)) (ap (λ (e : Edge). e .flags .neutral) (q .rest)) in
-    let z = left-then (a .blue) (b .blue) (c .blue) (ap (λ (e : Edge). e .blue) (p .rest)) (ap (λ (e : Edge). e .blue) (q .rest)) in
-    record { rest = q .rest ∙ (λ i. remade (p .rest i) (c .pos) (d i) (n i) (z i)) }
+    let l = ap (λ (e : Edge). e .blue) (p .rest) in
+    let z = left-then (a .blue) (b .blue) (c .blue) l (ap (λ (e : Edge). e .blue) (q .rest)) in
+    record { rest = q .rest ∙ (λ i. remade (p .rest i) (c .pos) (c .mark) (d i) (n i) (z i)); told = zoned-then ms a b c l (p .told) (q .told) }
 
 -- what changes less changes no more
-pub position-place : (a b : Edge) → Only position a b → Only place a b
-position-place a b p =
+pub position-place : (ms : List Mark) (a b : Edge) → Only (position ms) a b → Only (place ms) a b
+position-place ms a b p =
     let d = or-self (a .flags .done) ∙ ap (λ (e : Edge). a .flags .done || e .flags .done) (sym (p .rest)) in
-    record { rest = p .rest ∙ (λ i. remade a (b .pos) (d i) (a .flags .neutral) (a .blue)) }
+    record { rest = p .rest ∙ (λ i. remade a (b .pos) (b .mark) (d i) (a .flags .neutral) (a .blue)); told = p .told }
 
-pub place-zone : (a b : Edge) → Only place a b → Only zone a b
-place-zone a b p =
+pub place-zone : (ms : List Mark) (a b : Edge) → Only (place ms) a b → Only (zone ms) a b
+place-zone ms a b p =
     let n = and-self (a .flags .neutral) ∙ ap (λ (e : Edge). a .flags .neutral && e .flags .neutral) (sym (p .rest)) in
     let z = left-self (a .blue) ∙ ap (λ (e : Edge). zoneLeft (a .blue) (e .blue)) (sym (p .rest)) in
-    record { rest = p .rest ∙ (λ i. remade a (b .pos) (a .flags .done || b .flags .done) (n i) (z i)) }
+    record { rest = p .rest ∙ (λ i. remade a (b .pos) (b .mark) (a .flags .done || b .flags .done) (n i) (z i)); told = or-rezoned (p .told) }
+  where
+    or-rezoned : Told (place ms) a b → Told (zone ms) a b
+    or-rezoned (inl s) = inl s
+    or-rezoned (inr t) = inr (inl t)
 
--- an edge at another position, and one there for good
-pub placed-only : (e : Edge) (p : ℤ) → Only position e (placed e p)
-placed-only e p = record { rest = refl }
+-- an edge at a position that one of the marks gave, and one there for good
+pub placed-only : (ms : List Mark) (e : Edge) (p : ℤ) (m : Mark) → among ms m ≡ true → Only (position ms) e (placed e p m)
+placed-only ms e p m h = record { rest = refl; told = inr h }
 
-pub fixed-only : (e : Edge) (p : ℤ) → Only place e (fixedAt e p)
-fixed-only e p = record { rest = λ i. remade e p (or-true (e .flags .done) i) (e .flags .neutral) (e .blue) }
+pub fixed-only : (ms : List Mark) (e : Edge) (p : ℤ) (m : Mark) → among ms m ≡ true → Only (place ms) e (fixedAt e p m)
+fixed-only ms e p m h = record { rest = λ i. remade e p m (or-true (e .flags .done) i) (e .flags .neutral) (e .blue); told = inr h }
+
+-- one that is done already, on its zone
+pub rezoned-only : (ms : List Mark) (e : Edge) (z : ℤ) → e .flags .done ≡ true → e .blue ≡ Blues.Fitted z → Only (zone ms) e (fixedAt e z (e .mark))
+rezoned-only ms e z d b = record {
+  rest = λ i. remade e z (e .mark) (or-true (e .flags .done) i) (and-self (e .flags .neutral) i) (left-self (e .blue) i);
+  told = inr (inr (record { done = d; mark = refl; zone = b }));
+}
 
 -- and one that is neutral no longer, and has no zone
-pub without-zone : (e : Edge) → Only zone e (remade e (e .pos) (e .flags .done) false Blues.None)
-without-zone e = record { rest = λ i. remade e (e .pos) (or-self (e .flags .done) i) (and-false (e .flags .neutral) i) Blues.None }
+pub without-zone : (ms : List Mark) (e : Edge) → Only (zone ms) e (remade e (e .pos) (e .mark) (e .flags .done) false Blues.None)
+without-zone ms e = record {
+  rest = λ i. remade e (e .pos) (e .mark) (or-self (e .flags .done) i) (and-false (e .flags .neutral) i) Blues.None;
+  told = inl (record { pos = refl; mark = refl; done = refl });
+}
 
 -- the link stays, whatever else may be changed
 pub same-link : (x : Extent) (a b : Edge) → Only x a b → b .link ≡ a .link
 same-link nothing a b p = ap (λ (e : Edge). e .link) (p .rest)
-same-link position a b p = ap (λ (e : Edge). e .link) (p .rest)
-same-link place a b p = ap (λ (e : Edge). e .link) (p .rest)
-same-link zone a b p = ap (λ (e : Edge). e .link) (p .rest)
+same-link (position ms) a b p = ap (λ (e : Edge). e .link) (p .rest)
+same-link (place ms) a b p = ap (λ (e : Edge). e .link) (p .rest)
+same-link (zone ms) a b p = ap (λ (e : Edge). e .link) (p .rest)
 
 -- ---- edges in their places
 -- one is stored

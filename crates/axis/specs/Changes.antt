@@ -1,26 +1,29 @@
--- What a call may change of the edges that it is given: of the edge in each place so much, and nothing else; a refusal changes nothing at all.
+-- What a call may change of the edges that it is given: of the edge in each place so much, by these marks, and nothing else; a refusal changes nothing at all.
 use mathlib.Core.Path.{_≡_}
-use mathlib.Core.Bool.{Bool, cond, _&&_, _||_}
+use mathlib.Core.Bool.{Bool, true, cond, _&&_, _||_}
 use mathlib.Core.List.{List}
+use mathlib.Core.Logic.{_⊎_}
 use Prim.Native.Nat.{ℕ, _<_}
 use lib.ListN.{length, getD}
 use Rattle.axis.specs.declared.flags.Flags.{Flags}
 use Rattle.axis.specs.declared.kinds.Blue.{Blue}
 use Rattle.axis.specs.declared.kinds.Blue.the-variants as Blues
+use Rattle.axis.specs.declared.kinds.Mark.{Mark}
 use Rattle.axis.specs.declared.edge.Edge.{Edge}
 use Rattle.axis.specs.declared.edge.Axis.{Axis}
 use Rattle.axis.specs.Edge.{emptyEdge, changed, placed}
+use Rattle.axis.specs.Mark.{among}
 
 -- ---- one edge
--- how much of an edge may be changed
+-- how much of an edge may be changed, and by which marks that is told
 pub data Extent : Type 0 where
   nothing : Extent
   -- its position
-  position : Extent
+  position : List Mark → Extent
   -- its position; and it may become done
-  place : Extent
+  place : List Mark → Extent
   -- its position; and it may become done, lose its zone, and be neutral no longer
-  zone : Extent
+  zone : List Mark → Extent
 
 -- flags that are done where they were or have become so, and neutral where this holds
 abbrev pub flagsLeft : Flags → Bool → Bool → Flags
@@ -34,14 +37,36 @@ zoneLeft old (Blues.Fitted z) = old
 -- the old edge, with so much taken from the new one
 abbrev pub taking : Extent → Edge → Edge → Edge
 taking nothing old new = old
-taking position old new = placed old (new .pos)
-taking place old new = changed old (new .pos) (flagsLeft (old .flags) (new .flags .done) (old .flags .neutral)) (old .blue) (old .link) (old .serif) (old .last)
-taking zone old new =
-    changed old (new .pos) (flagsLeft (old .flags) (new .flags .done) (old .flags .neutral && new .flags .neutral)) (zoneLeft (old .blue) (new .blue)) (old .link) (old .serif) (old .last)
+taking (position marks) old new = placed old (new .pos) (new .mark)
+taking (place marks) old new =
+    changed old (new .pos) (new .mark) (flagsLeft (old .flags) (new .flags .done) (old .flags .neutral)) (old .blue) (old .link) (old .serif) (old .last)
+taking (zone marks) old new =
+    changed old (new .pos) (new .mark) (flagsLeft (old .flags) (new .flags .done) (old .flags .neutral && new .flags .neutral)) (zoneLeft (old .blue) (new .blue)) (old .link) (old .serif)
+    (old .last)
+
+-- an edge whose mark was not given has the position that it had
+pub record Stayed (old new : Edge) : Type 0 where
+  pub pos : new .pos ≡ old .pos
+  pub mark : new .mark ≡ old .mark
+  pub done : new .flags .done ≡ old .flags .done
+
+-- but for one that was done already and is put on its zone: it keeps its mark
+pub record Rezoned (old new : Edge) : Type 0 where
+  pub done : old .flags .done ≡ true
+  pub mark : new .mark ≡ old .mark
+  pub zone : old .blue ≡ Blues.Fitted (new .pos)
+
+-- what the mark of the new edge tells: it is one of these, or the edge stayed
+abbrev pub Told : Extent → Edge → Edge → Type 0
+Told nothing old new = Stayed old new
+Told (position marks) old new = Stayed old new ⊎ (among marks (new .mark) ≡ true)
+Told (place marks) old new = Stayed old new ⊎ (among marks (new .mark) ≡ true)
+Told (zone marks) old new = Stayed old new ⊎ ((among marks (new .mark) ≡ true) ⊎ Rezoned old new)
 
 -- the new edge is the old one but for so much
 pub record Only (x : Extent) (old new : Edge) : Type 0 where
   pub rest : new ≡ taking x old new
+  pub told : Told x old new
 
 -- ---- edges in their places
 -- so much in the places that a test names, nothing in the others

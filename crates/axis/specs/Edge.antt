@@ -12,11 +12,14 @@ use Rattle.axis.specs.declared.kinds.Blue.{Blue}
 use Rattle.axis.specs.declared.kinds.Blue.the-variants as Blues
 use Rattle.axis.specs.declared.kinds.Link.{Link}
 use Rattle.axis.specs.declared.kinds.Link.the-variants as Links
+use Rattle.axis.specs.declared.kinds.Mark.{Mark}
+use Rattle.axis.specs.declared.kinds.Mark.the-variants as Marks
 use Rattle.axis.specs.Flags.{normal, asDone}
 
--- a new edge at a font position and a position in units, with a direction and its only segment: nothing special, without zone, link and serif
+-- a new edge at a font position and a position in units, with a direction and its only segment: nothing special, without zone, link and serif, placed by nothing yet
 abbrev pub freshEdge : ℤ → ℤ → Direction → ℕ → Edge
-freshEdge f o d i = record { fpos = f; opos = o; pos = o; flags = normal; dir = d; blue = Blues.None; link = Links.None; serif = Links.None; first = i; last = i }
+freshEdge f o d i =
+    record { fpos = f; opos = o; pos = o; flags = normal; dir = d; blue = Blues.None; link = Links.None; serif = Links.None; first = i; last = i; mark = Marks.Nothing }
 
 -- the edge of an unused place
 abbrev pub emptyEdge : Edge
@@ -35,30 +38,30 @@ abbrev pub putEdge : Axis → ℕ → Edge → Axis
 putEdge axis i e = record { dim = axis .dim; «major_dir» = axis .«major_dir»; edges = set (axis .edges) i e; len = axis .len }
 
 -- ---- an edge of which something is changed
--- the edge with this position, these flags, zone, link and serif, and this last segment; nothing else of an edge is ever changed
-abbrev pub changed : Edge → ℤ → Flags → Blue → Link → Link → ℕ → Edge
-changed e p f b k s l = record { fpos = e .fpos; opos = e .opos; pos = p; flags = f; dir = e .dir; blue = b; link = k; serif = s; first = e .first; last = l }
+-- the edge with this position and what gave it, these flags, zone, link and serif, and this last segment; nothing else of an edge is ever changed
+abbrev pub changed : Edge → ℤ → Mark → Flags → Blue → Link → Link → ℕ → Edge
+changed e p m f b k s l = record { fpos = e .fpos; opos = e .opos; pos = p; flags = f; dir = e .dir; blue = b; link = k; serif = s; first = e .first; last = l; mark = m }
 
--- at another position
-abbrev pub placed : Edge → ℤ → Edge
-placed e p = changed e p (e .flags) (e .blue) (e .link) (e .serif) (e .last)
+-- at a position, and marked with what gave it
+abbrev pub placed : Edge → ℤ → Mark → Edge
+placed e p m = changed e p m (e .flags) (e .blue) (e .link) (e .serif) (e .last)
 
 -- with these flags
 abbrev pub flagged : Edge → Flags → Edge
-flagged e f = changed e (e .pos) f (e .blue) (e .link) (e .serif) (e .last)
+flagged e f = changed e (e .pos) (e .mark) f (e .blue) (e .link) (e .serif) (e .last)
 
 -- placed for good
 abbrev pub finished : Edge → Edge
 finished e = flagged e (asDone (e .flags))
 
--- at a position, for good
-abbrev pub fixedAt : Edge → ℤ → Edge
-fixedAt e p = finished (placed e p)
+-- at a position, for good, and marked with what gave it
+abbrev pub fixedAt : Edge → ℤ → Mark → Edge
+fixedAt e p m = finished (placed e p m)
 
 -- with this link and this serif
 abbrev pub joinedTo : Edge → Link → Link → Edge
-joinedTo e k s = changed e (e .pos) (e .flags) (e .blue) k s (e .last)
+joinedTo e k s = changed e (e .pos) (e .mark) (e .flags) (e .blue) k s (e .last)
 
 -- with another last segment
 abbrev pub withLast : Edge → ℕ → Edge
-withLast e l = changed e (e .pos) (e .flags) (e .blue) (e .link) (e .serif) l
+withLast e l = changed e (e .pos) (e .mark) (e .flags) (e .blue) (e .link) (e .serif) l

@@ -4,6 +4,7 @@ pub mod Direction
 pub mod Link
 pub mod Flags
 pub mod Edge
+pub mod Mark
 pub mod Segment
 pub mod Refusals
 pub mod Accepted

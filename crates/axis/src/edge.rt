@@ -5,11 +5,12 @@ use super::kinds::Blue;
 use super::kinds::Dimension;
 use super::kinds::Direction;
 use super::kinds::Link;
+use super::kinds::Mark;
 use super::limits::MOST_EDGES;
 ghost use mathlib.Core.Path.{_≡_};
 ghost use Rattle.axis.specs.Edge.{emptyAxis, placed, finished, fixedAt};
 
-// Segments that share a position: the font position, the original and the fitted position in units, and the edges that it is linked to.
+// Segments that share a position: the font position, the original and the fitted position in units, the edges that it is linked to, and what last gave it its position.
 pub struct Edge {
     pub fpos: i16,
     pub opos: i32,
@@ -21,6 +22,7 @@ pub struct Edge {
     pub serif: Link,
     pub first: u16,
     pub last: u16,
+    pub mark: Mark,
 }
 
 // One dimension of an outline: its edges are the first `len` of the working table.
@@ -43,6 +45,7 @@ pub const EMPTY_EDGE: Edge = Edge {
     serif: Link::None,
     first: 0,
     last: 0,
+    mark: Mark::Nothing,
 };
 
 // An axis without edges.
@@ -57,13 +60,11 @@ pub fn empty_axis(dim: Dimension, major_dir: Direction) -> Axis
     }
 }
 
-// The edge at another position.
-pub fn with_pos(edge: Edge, pos: i32) -> Edge
-    ensures { λ r. ⌜ r ≡ placed edge pos ⌝ }
+// The edge at a position, and what gave it.
+pub fn with_pos(edge: Edge, pos: i32, mark: Mark) -> Edge
+    ensures { λ r. ⌜ r ≡ placed edge pos mark ⌝ }
 {
-    let mut moved = edge;
-    moved.pos = pos;
-    moved
+    Edge { pos, mark, ..edge }
 }
 
 // The edge, placed for good.
@@ -75,12 +76,16 @@ pub fn with_done_flag(edge: Edge) -> Edge
     fixed
 }
 
-// The edge at a position, for good.
-pub fn fix_at(edge: Edge, pos: i32) -> Edge
-    ensures { λ r. ⌜ r ≡ fixedAt edge pos ⌝ }
+// The edge at a position, for good, and what gave it.
+pub fn fix_at(edge: Edge, pos: i32, mark: Mark) -> Edge
+    ensures { λ r. ⌜ r ≡ fixedAt edge pos mark ⌝ }
 {
-    let mut placed = edge;
-    placed.pos = pos;
-    placed.flags.done = true;
-    placed
+    let mut flags = edge.flags;
+    flags.done = true;
+    Edge {
+        pos,
+        mark,
+        flags,
+        ..edge
+    }
 }

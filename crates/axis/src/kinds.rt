@@ -32,3 +32,17 @@ pub enum Blue {
     None,
     Fitted(i32),
 }
+
+// What last gave an edge its position (request #105).
+pub enum Mark {
+    Nothing,
+    BlueAnchor,
+    Blue,
+    Linked,
+    Anchor,
+    Stem,
+    Adjusted,
+    Bound,
+    Serif,
+    LowercaseM,
+}

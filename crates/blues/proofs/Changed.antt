@@ -1,4 +1,5 @@
--- What the call changes: position, done, neutral and zone of edges below the count, and nothing else; a refusal nothing.
+-- What the call changes: position, done, neutral and zone of edges below the count, and nothing else; a refusal nothing. What it places it marks as a blue anchor, blue or
+-- linked, and an edge without such a mark from it has the position that it had, but for one that was done already and is put on its zone.
 use mathlib.Core.Path.{_≡_, refl, sym, subst}
 use mathlib.Core.Bool.{Bool, true, false, cond}
 use mathlib.Core.List.{List}
@@ -16,13 +17,13 @@ use Rattle.axis.specs.Changes.{zone, wherever, OnlyAxis, Changes}
 use Rattle.axis.proofs.Acceptance.{axis-within}
 use Rattle.axis.proofs.Only.{same-axis, call-changes}
 use Rattle.blues_pass.specs.declared.pass.Anchored.{Anchored}
-use Rattle.blues_pass.specs.Pass.{anchored, bluesOf}
+use Rattle.blues_pass.specs.Pass.{bluesMarks, anchored, bluesOf}
 use Rattle.blues_pass.proofs.Changed.{blues-only, blues-done}
 use Rattle.blues.specs.Zones.{hasBlues, bluesTests, alignEdgesToBlues, AlignsEdgesToBlues}
 
 module _ (axis : Axis) (rule : WidthRule) (xs : List ℤ) where
   abbrev Small : Axis → Axis → Type 0
-  Small = OnlyAxis (wherever (λ (i : ℕ). ltb i (axis .len)) zone)
+  Small = OnlyAxis (wherever (λ (i : ℕ). ltb i (axis .len)) (zone bluesMarks))
 
   -- the work, with blues or without
   abbrev work : Bool → Anchored
@@ -36,7 +37,7 @@ module _ (axis : Axis) (rule : WidthRule) (xs : List ℤ) where
   accepted true = blues-done rule xs axis
   accepted false = refl
 
-  pub changed : (group : Group) {r : Anchored} → AlignsEdgesToBlues axis group rule xs r → Changes (OnlyAxis (wherever (λ (i : ℕ). ltb i (axis .len)) zone)) (r .answer) axis (r .axis)
+  pub changed : (group : Group) {r : Anchored} → AlignsEdgesToBlues axis group rule xs r → Changes (OnlyAxis (wherever (λ (i : ℕ). ltb i (axis .len)) (zone bluesMarks))) (r .answer) axis (r .axis)
   unfolding alignEdgesToBlues
   changed group p =
       let t = hasBlues group (axis .dim) in

@@ -1,6 +1,5 @@
 // The pass over the edges.
 use axis::edge::Axis;
-use axis::edge::fix_at;
 use axis::kinds::Blue;
 use axis::kinds::Link;
 use axis::link::index_or;
@@ -11,6 +10,7 @@ use zone::zone::choose;
 use zone::zone::has_blue;
 use zone::zone::loses_link;
 use zone::zone::loses_own;
+use zone::zone::put_on_zone;
 use zone::zone::thin;
 use zone::zone::zone_of;
 ghost use mathlib.Core.Path.{_≡_};
@@ -56,7 +56,7 @@ pub fn align_to_zones(axis: Axis, rule: WidthRule, standards: &[i32]) -> Anchore
         let on = has_blue(visited);
         let one = choose(on, i, k);
         let two = choose(on, k, i);
-        aligned.edges[one] = fix_at(aligned.edges[one], fitted);
+        aligned.edges[one] = put_on_zone(anchor, aligned.edges[one], fitted);
         aligned.edges[two] = align_stem(rule, standards, aligned.edges[one], aligned.edges[two]);
         anchor = anchor_first(anchor, i);
     }

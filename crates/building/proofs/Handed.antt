@@ -1,4 +1,4 @@
--- What building hands on is accepted by every later call and by linking, and every edge of it is a sound ring.
+-- What building hands on is accepted by every later call and by linking, and every edge of it is a sound ring that nothing has placed yet.
 use mathlib.Core.Path.{_≡_, refl, sym, ap, _∙_}
 use mathlib.Core.Bool.{Bool, true, false, cond, not}
 use mathlib.Core.List.{List, [], _∷_}
@@ -11,11 +11,14 @@ use Rattle.signed.proofs.Choices.{cond-false, at-set}
 use Rattle.refusals.specs.Refusal.{refusal, noRoom}
 use Rattle.refusals.proofs.Answers.{none-refused}
 use Rattle.refusals.proofs.Tests.{no-refusal}
+use Rattle.axis.specs.declared.edge.Edge.{Edge}
 use Rattle.axis.specs.declared.edge.Axis.{Axis}
 use Rattle.axis.specs.declared.kinds.Group.{Group}
+use Rattle.axis.specs.declared.kinds.Mark.the-variants.{Nothing}
 use Rattle.axis.specs.declared.segment.Segment.{Segment}
 use Rattle.axis.specs.declared.segment.Segments.{Segments}
 use Rattle.axis.specs.Accepted.{Below, SegmentsWithin}
+use Rattle.axis.specs.Edge.{edgeAt}
 use Rattle.axis.specs.Handed.{Typed, EdgesAccepted, SegmentsAccepted}
 use Rattle.axis.specs.Limits.{mostEdges}
 use Rattle.axis.specs.Refusals.{segmentsNexts}
@@ -24,12 +27,12 @@ use Rattle.axis.specs.Segment.{emptySegment, segmentAt}
 use Rattle.axis.proofs.Acceptance.{below-none, below-to}
 use Rattle.axis.proofs.Accepting.{edges-accepted, segments-accepted, nexts-hold}
 use Rattle.joining.specs.declared.rules.Rules.{Rules}
-use Rattle.joining.specs.Joining.{headOr, State, group, shown}
+use Rattle.joining.specs.Joining.{headOr, edgeOf, State, group, shown}
 use Rattle.joining.specs.Walks.{Joinable}
 use Rattle.joining.proofs.Good.{Good, members-below}
 use Rattle.joining.proofs.Members.{times-head, times-more, first-in}
 use Rattle.joining.proofs.Rings.{Chain}
-use Rattle.joining.proofs.Steps.{of-len}
+use Rattle.joining.proofs.Steps.{of-len, of-edge}
 use Rattle.properties.specs.Properties.{edgeProperties}
 use Rattle.properties.proofs.Kept.{properties-kept}
 use Rattle.marking.specs.Marks.{cleared, marks, groupMarks}
@@ -94,6 +97,17 @@ module _ (t : Segments) (r : Rules) (W : SegmentsWithin t) where
 
   abbrev segments : Segments
   segments = builtSegments t s
+
+  -- and place no edge: it has the mark of a new one
+  of-group : (scale : ℤ) (ms : List ℕ) → edgeOf t scale ms .mark ≡ Nothing
+  of-group scale [] = refl
+  of-group scale (m ∷ ms) = refl
+
+  unplaced : (k : ℕ) → k < edgeProperties edges segments .len → edgeAt (edgeProperties edges segments) k .mark ≡ Nothing
+  unplaced k h =
+      let j = shown t r s in
+      let K = properties-kept edges segments (ready t r j refl W) in
+      K .edge k (rw (K .len) at h) .mark ∙ ap (λ (e : Edge). e .mark) (of-edge t r s (j .full) (j .axis) (j .next) refl k) ∙ of-group (r .scale) (group s k)
 
   sound-kept : Typed t → (k : ℕ) → k < edgeProperties edges segments .len → Sound (edgeProperties edges segments) segments k
   sound-kept T k h =
@@ -174,3 +188,7 @@ module _ (t : Segments) (old : Axis) (group : Group) (ttb : Bool) (scale : ℤ) 
     pub rings-sound : Typed t → (k : ℕ) → k < computeEdges t old group ttb scale by .axis .len
         → Sound (computeEdges t old group ttb scale by .axis) (computeEdges t old group ttb scale by .segments) k
     rings-sound T k h = rw outcome (sound-kept t rules (taken .within) T k (rw outcome at h))
+
+    -- and was placed by nothing yet
+    pub edges-unplaced : (k : ℕ) → k < computeEdges t old group ttb scale by .axis .len → edgeAt (computeEdges t old group ttb scale by .axis) k .mark ≡ Nothing
+    edges-unplaced k h = rw outcome (unplaced t rules (taken .within) k (rw outcome at h))

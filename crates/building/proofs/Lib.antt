@@ -7,4 +7,5 @@ pub mod Calls
 pub mod Outcomes
 pub mod Rings
 pub mod Handed
+pub mod Blind
 pub mod Worked

@@ -16,6 +16,7 @@ use Rattle.axis.specs.declared.kinds.Group.the-variants as Groups
 use Rattle.axis.specs.declared.segment.Segment.{Segment}
 use Rattle.axis.specs.declared.segment.Segments.{Segments}
 use Rattle.axis.specs.Limits.{mostEdges, mostUnits, mostScore, leastScale, mostScale}
+use Rattle.axis.specs.Mark.{unmarkedAxis}
 use Rattle.axis.specs.Refusals.{inside, within, everySegment, bottomToTop, segmentsShort, segmentsIndexed, segmentsInRange}
 use Rattle.joining.specs.declared.rules.Rules.{Rules}
 use Rattle.joining.specs.Joining.{State, shown, stateAt}
@@ -93,6 +94,10 @@ builtEdges t r s = shown t r s .axis
 -- segments and edges beside an answer
 abbrev pub beside : Segments → Axis → ℕ → Built
 beside t axis k = record { answer = k; segments = t; axis = axis }
+
+-- the same without marks
+abbrev pub withoutMarks : Built → Built
+withoutMarks r = beside (r .segments) (unmarkedAxis (r .axis)) (r .answer)
 
 -- refusal 5 where the rules called for a 129th edge, and else the segments and the edges with their properties
 unfoldable pub built : Segments → Axis → Rules → State → Built

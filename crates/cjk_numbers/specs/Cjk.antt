@@ -11,6 +11,7 @@ use Rattle.fixed.specs.declared.width.WidthRule.{WidthRule}
 use Rattle.fixed.specs.Width.{fittedWidth}
 use Rattle.axis.specs.declared.kinds.Dimension.{Dimension}
 use Rattle.axis.specs.declared.kinds.Dimension.the-variants.{Horizontal, Vertical}
+use Rattle.axis.specs.declared.kinds.Mark.the-variants as Marks
 use Rattle.axis.specs.declared.edge.Edge.{Edge}
 use Rattle.axis.specs.declared.edge.Axis.{Axis}
 use Rattle.axis.specs.Edge.{edgeAt, putEdge, placed}
@@ -106,9 +107,9 @@ stemOf dim adjust rule xs e e2 d =
     stemAt adjust (pos 64 -ℤ gapOf adjust dim (bothRound e e2)) (e .opos) (e2 .opos) (fittedWidth rule xs (e2 .opos -ℤ e .opos)) d
 
 -- ---- its two edges
--- an edge at another position
+-- an edge at the position that the stem gives it
 abbrev pub placedAt : Axis → ℕ → ℤ → Axis
-placedAt axis i p = putEdge axis i (placed (edgeAt axis i) p)
+placedAt axis i p = putEdge axis i (placed (edgeAt axis i) p Marks.Stem)
 
 -- the lower edge of a stem, then the upper one
 unfoldable pub placedStem : Axis → ℕ → ℕ → ℤ → ℤ → Axis

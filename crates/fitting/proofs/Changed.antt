@@ -1,7 +1,7 @@
--- What the calls change: of the edge that they place nothing but its position, and nothing else; a refusal nothing.
+-- What the calls change: of the edge that they place nothing but its position and its mark, linked, serif or bound, and nothing else; a refusal nothing.
 use mathlib.Core.Path.{_≡_, refl, sym, subst}
 use mathlib.Core.Bool.{Bool}
-use mathlib.Core.List.{List}
+use mathlib.Core.List.{List, [], _∷_}
 use Prim.Native.Nat.{ℕ, zero, suc, _<_}
 use native.Mathlib.Omega.{arith}
 use lib.Dec.{eqb}
@@ -9,8 +9,11 @@ use lib.IntN.{ℤ}
 use Rattle.refusals.specs.Refusal.{refusal, answered}
 use Rattle.fixed.specs.declared.width.WidthRule.{WidthRule}
 use Rattle.axis.specs.declared.kinds.Link.the-variants as Links
+use Rattle.axis.specs.declared.kinds.Mark.{Mark}
+use Rattle.axis.specs.declared.kinds.Mark.the-variants as Marks
 use Rattle.axis.specs.declared.edge.Axis.{Axis}
 use Rattle.axis.specs.Edge.{edgeAt}
+use Rattle.axis.specs.Mark.{among}
 use Rattle.axis.specs.Changes.{position, wherever, OnlyAxis, Changes}
 use Rattle.axis.proofs.Only.{placed-only, same-axis, call-changes}
 use Rattle.placing.specs.declared.adjust.LinkDir.{LinkDir}
@@ -21,33 +24,36 @@ use Rattle.fitting.specs.declared.bounds.Bounds.{Bounds}
 use Rattle.fitting.specs.Fitting.{linkedTests, serifTests, edgeTests, adjustTests, fitted, bounds, alignLinkedEdge, alignSerifEdge, latinRemainingBounds, adjustLink}
 use Rattle.fitting.specs.Fitting.{AlignsLinkedEdge, AlignsSerifEdge, FindsLatinRemainingBounds, AdjustsLink}
 
--- nothing but the position of edge i
-abbrev OnlyPosition : ℕ → Axis → Axis → Type 0
-OnlyPosition i = OnlyAxis (wherever (eqb i) position)
+-- nothing but the position of edge i, which has this mark then
+abbrev OnlyPosition : ℕ → Mark → Axis → Axis → Type 0
+OnlyPosition i m = OnlyAxis (wherever (eqb i) (position (m ∷ [])))
 
 -- the outcome of a call whose work changes no more
-call : (axis after : Axis) (k i : ℕ) {r : Fitted} → r ≡ answered k (fitted axis) (fitted after 0) → OnlyPosition i axis after → Changes (OnlyPosition i) (r .answer) axis (r .axis)
-call axis after k i p h =
-    subst (λ (r : Fitted). Changes (OnlyPosition i) (r .answer) axis (r .axis)) (sym p)
-    (call-changes (OnlyPosition i) k axis (fitted axis) (fitted after 0) (λ (r : Fitted). r .answer) (λ (r : Fitted). r .axis) (λ (j : ℕ). refl) (same-axis _ axis) refl (λ _. h))
+call : (axis after : Axis) (k i : ℕ) (m : Mark) {r : Fitted} → r ≡ answered k (fitted axis) (fitted after 0) → OnlyPosition i m axis after → Changes (OnlyPosition i m) (r .answer) axis (r .axis)
+call axis after k i m p h =
+    subst (λ (r : Fitted). Changes (OnlyPosition i m) (r .answer) axis (r .axis)) (sym p)
+    (call-changes (OnlyPosition i m) k axis (fitted axis) (fitted after 0) (λ (r : Fitted). r .answer) (λ (r : Fitted). r .axis) (λ (j : ℕ). refl) (same-axis _ axis) refl (λ _. h))
 
 pub align-linked-edge : (axis : Axis) (rule : WidthRule) (xs : List ℤ) (base stem : ℕ) {r : Fitted} → AlignsLinkedEdge axis rule xs base stem r
-    → Changes (OnlyAxis (wherever (eqb stem) position)) (r .answer) axis (r .axis)
-unfolding alignLinkedEdge
+    → Changes (OnlyAxis (wherever (eqb stem) (position (Marks.Linked ∷ [])))) (r .answer) axis (r .axis)
+unfolding alignLinkedEdge among
 align-linked-edge axis rule xs base stem p =
-    call axis _ (refusal (linkedTests axis rule xs base stem)) stem p
-    (position-put axis stem _ (placed-only (edgeAt axis stem) (linkedPos rule xs (edgeAt axis base .pos) (edgeAt axis base .opos) (edgeAt axis stem .opos))))
+    let pos = linkedPos rule xs (edgeAt axis base .pos) (edgeAt axis base .opos) (edgeAt axis stem .opos) in
+    call axis _ (refusal (linkedTests axis rule xs base stem)) stem Marks.Linked p
+    (position-put (Marks.Linked ∷ []) axis stem _ (placed-only (Marks.Linked ∷ []) (edgeAt axis stem) pos Marks.Linked refl))
 
-pub align-serif-edge : (axis : Axis) (base serif : ℕ) {r : Fitted} → AlignsSerifEdge axis base serif r → Changes (OnlyAxis (wherever (eqb serif) position)) (r .answer) axis (r .axis)
-unfolding alignSerifEdge
+pub align-serif-edge : (axis : Axis) (base serif : ℕ) {r : Fitted} → AlignsSerifEdge axis base serif r
+    → Changes (OnlyAxis (wherever (eqb serif) (position (Marks.Serif ∷ [])))) (r .answer) axis (r .axis)
+unfolding alignSerifEdge among
 align-serif-edge axis base serif p =
-    call axis _ (refusal (serifTests axis base serif)) serif p
-    (position-put axis serif _ (placed-only (edgeAt axis serif) (serifPos (edgeAt axis base .pos) (edgeAt axis base .opos) (edgeAt axis serif .opos))))
+    let pos = serifPos (edgeAt axis base .pos) (edgeAt axis base .opos) (edgeAt axis serif .opos) in
+    call axis _ (refusal (serifTests axis base serif)) serif Marks.Serif p
+    (position-put (Marks.Serif ∷ []) axis serif _ (placed-only (Marks.Serif ∷ []) (edgeAt axis serif) pos Marks.Serif refl))
 
 pub adjust-link : (axis : Axis) (edge : ℕ) (dir : LinkDir) (ttb : Bool) {r : Fitted} → AdjustsLink axis edge dir ttb r
-    → Changes (OnlyAxis (wherever (eqb edge) position)) (r .answer) axis (r .axis)
+    → Changes (OnlyAxis (wherever (eqb edge) (position (Marks.Bound ∷ [])))) (r .answer) axis (r .axis)
 unfolding adjustLink
-adjust-link axis edge dir ttb p = call axis _ (refusal (adjustTests axis edge ttb)) edge p (adjusted-only axis edge dir)
+adjust-link axis edge dir ttb p = call axis _ (refusal (adjustTests axis edge ttb)) edge Marks.Bound p (adjusted-only axis edge dir)
 
 -- `latin_remaining_bounds` hands back no axis; a refusal hands back no bounds either
 pub latin-remaining-bounds : (axis : Axis) (edge : ℕ) {r : Bounds} → FindsLatinRemainingBounds axis edge r → 0 < r .answer → r ≡ bounds Links.None Links.None (r .answer)

@@ -12,6 +12,7 @@ use Rattle.axis.specs.declared.kinds.Link.{Link}
 use Rattle.axis.specs.declared.kinds.Link.the-variants as Links
 use Rattle.axis.specs.declared.edge.Axis.{Axis}
 use Rattle.axis.specs.Edge.{edgeAt, putEdge}
+use Rattle.axis.specs.Mark.{unmarkedAxis}
 use Rattle.axis.specs.Refusals.{edgesShort, bottomToTop, edgesIndexed, edgesInRange}
 use Rattle.placing.specs.declared.adjust.LinkDir.{LinkDir}
 use Rattle.placing.specs.Placing.{bothBelow, linkedEdge, serifEdge, lowerBound, upperBound, adjusted}
@@ -40,6 +41,10 @@ adjustTests axis i ttb = edgesShort axis ∷ bottomToTop ttb ∷ edgesIndexed ax
 -- an answer and an axis
 abbrev pub fitted : Axis → ℕ → Fitted
 fitted axis k = record { answer = k; axis = axis }
+
+-- an outcome without the marks of its edges
+abbrev pub unmarkedFitted : Fitted → Fitted
+unmarkedFitted r = fitted (unmarkedAxis (r .axis)) (r .answer)
 
 -- `align_linked_edge`: the refusal and the axis as it came, or 0 and the axis with the stem edge placed by the base edge
 unfoldable pub alignLinkedEdge : Axis → WidthRule → List ℤ → ℕ → ℕ → Fitted

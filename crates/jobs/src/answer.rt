@@ -48,12 +48,12 @@ pub fn answer(words: &[i32], out: &mut [i32]) -> usize
         0 => put(out, 0, &[-1]),
         1 | 2 => answer_middle(call, words, out),
         3 => answer_weak(words, out),
-        14 => answer_lent(words, out),
         15 => answer_path(words, out),
         16 => answer_step(words, out),
         17 => answer_catalogue(words, out),
         25 => answer_write(words, out),
         26 => answer_read(words, out),
+        114 => answer_lent(words, out),
         _ => answer_table(call, words, out),
     }
 }

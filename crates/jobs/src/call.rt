@@ -24,16 +24,50 @@ const CURSOR: Range = Range {
     high: 2147483647,
 };
 
-// The calls are numbered below this.
+// The items of a job behind the call's word, by the digits of `skip_item`, the first item in the last digit. No item has digit 15: of this format nothing is a job.
+const NONE: u64 = 0xf;
+
+// The words of the calls without edges are below this.
 const CALLS: usize = 27;
 
-// The items of each call's job behind the call's word, by the digits of `skip_item`, the first item in the last digit. No item has digit 15, so nothing is a job of call 0, nor of a number that is no call.
+// The formats of these calls, by their words.
 const FORMATS: [u64; CALLS] = [
-    0xf, // none
+    NONE,
     0x11, // compute_mid_pos
     0x11, // compute_mid_delta
     0x8766, // align_weak_points
     0x1149, // link_segments_cjk
+    NONE, // 5 to 14: none
+    NONE,
+    NONE,
+    NONE,
+    NONE,
+    NONE,
+    NONE,
+    NONE,
+    NONE,
+    NONE,
+    0x8766, // path
+    0xc8766, // path_step
+    0x7888766, // align_catalogue
+    NONE, // 18 to 24: none
+    NONE,
+    NONE,
+    NONE,
+    NONE,
+    NONE,
+    NONE,
+    0x78766, // write_frame
+    0x7, // read_frame
+];
+
+// The first word of the calls that carry edges, and how many words from it on are theirs.
+const FIRST_OF_EDGES: usize = 105;
+
+const CALLS_OF_EDGES: usize = 20;
+
+// The formats of these calls, by their words from the first on.
+const FORMATS_OF_EDGES: [u64; CALLS_OF_EDGES] = [
     0x11113343a9, // compute_edges
     0x6333a, // align_edges_to_blues
     0x2263a, // align_linked_edge
@@ -44,19 +78,32 @@ const FORMATS: [u64; CALLS] = [
     0x6353333a, // align_stem_edges
     0x3a, // hint_lowercase_m, table form
     0x3b, // hint_lowercase_m, lent list
-    0x8766, // path
-    0xc8766, // path_step
-    0x7888766, // align_catalogue
-    0xf, // 18 to 23: none
-    0xf,
-    0xf,
-    0xf,
-    0xf,
-    0xf,
+    NONE, // 115 to 123: none
+    NONE,
+    NONE,
+    NONE,
+    NONE,
+    NONE,
+    NONE,
+    NONE,
+    NONE,
     0xa9, // turn_over
-    0x78766, // write_frame
-    0x7, // read_frame
 ];
+
+// The format of the jobs of a call, by its word.
+fn format_of(call: usize) -> u64 {
+    if call < CALLS {
+        return FORMATS[call];
+    }
+    if call < FIRST_OF_EDGES {
+        return NONE;
+    }
+    let place = call - FIRST_OF_EDGES;
+    if place < CALLS_OF_EDGES {
+        return FORMATS_OF_EDGES[place];
+    }
+    NONE
+}
 
 // The place behind a list: its count, at most so much, and its elements, of which a job carries at most so many.
 fn skip_list(words: &[i32], at: usize, kind: Element, most: usize, carried: usize) -> Place {
@@ -93,13 +140,10 @@ fn skip_item(words: &[i32], at: usize, item: u64) -> Place {
     }
 }
 
-// The call that a word list is a job of, by its number, and 0 where it is none.
+// The call that a word list is a job of, by its word, and 0 where it is none.
 pub fn job_of(words: &[i32]) -> usize {
     let call = count_at(words, 0);
-    if CALLS <= call {
-        return 0;
-    }
-    let mut items = FORMATS[call];
+    let mut items = format_of(call);
     let mut here = 1;
     while 0 < items {
         let Place::At(next) = skip_item(words, here, items % 16) else {

@@ -1,4 +1,4 @@
-// The lowercase m rule on a lent list, call 14: from the words of its job to those of its answer.
+// The lowercase m rule on a lent list, call 114: from the words of its job to those of its answer.
 use super::first::MOST_LENT;
 use super::first::hint_first;
 use axis::accept::least;

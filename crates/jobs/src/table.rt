@@ -1,4 +1,4 @@
-// The calls on a table, of segments (4, 5 and 24) or of edges (6 to 13): from the words of their jobs to those of their answers.
+// The calls on a table, of segments (4, 105 and 124) or of edges (106 to 113): from the words of their jobs to those of their answers.
 use axis::accept::least;
 use axis::limits::MOST_EDGES;
 use axis::limits::MOST_SEGMENTS;
@@ -32,15 +32,15 @@ ghost use Rattle.words.specs.Segment.{segmentSize};
 
 // Whether a call hands back edges behind its table of segments.
 fn has_edges(call: usize) -> bool {
-    if call == 5 {
+    if call == 105 {
         return true;
     }
-    call == 24
+    call == 124
 }
 
 // Whether a call's table is one of segments.
 fn has_segments(call: usize) -> bool {
-    if call < 6 {
+    if call < 106 {
         return true;
     }
     has_edges(call)
@@ -62,8 +62,8 @@ fn words_before(call: usize) -> usize
     ensures { λ r. ⌜ r ≤ 3 ⌝ }
 {
     match call {
-        6 | 11 => 2,
-        10 | 12 => 3,
+        106 | 111 => 2,
+        110 | 112 => 3,
         _ => 1,
     }
 }
@@ -169,21 +169,21 @@ fn ask(
     let c = word_at(rest, 2);
     match call {
         4 => khs_link_segments_cjk(table, a, b, c),
-        5 => ask_building(table, rest, edges, first),
-        6 => {
+        105 => ask_building(table, rest, edges, first),
+        106 => {
             *first = -1;
             khs_align_edges_to_blues(table, a, b, c, list_at(rest, 3), first)
         }
-        7 => ask_linked_edge(table, rest),
-        8 => khs_align_serif_edge(table, a, b),
-        9 => khs_adjust_link(table, a, b, c),
-        10 => {
+        107 => ask_linked_edge(table, rest),
+        108 => khs_align_serif_edge(table, a, b),
+        109 => khs_adjust_link(table, a, b, c),
+        110 => {
             *first = -1;
             khs_latin_remaining_bounds(table, a, first, second)
         }
-        11 => ask_stem(table, rest, first),
-        12 => ask_stems(table, rest, first, second),
-        24 => ask_turning(table, rest, edges, first),
+        111 => ask_stem(table, rest, first),
+        112 => ask_stems(table, rest, first, second),
+        124 => ask_turning(table, rest, edges, first),
         _ => khs_hint_lowercase_m(table, a),
     }
 }
@@ -201,7 +201,7 @@ fn put_result(
     ensures { λ r. ⌜ r ≤ length (now (out .entry)) ⌝ }
 {
     let at = put(out, 0, part(head, 0, before));
-    if call == 10 {
+    if call == 110 {
         return at;
     }
     if !has_edges(call) {

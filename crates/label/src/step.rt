@@ -17,10 +17,10 @@ ghost use Rattle.lines.specs.Limits.{mostWords};
 fn fit(words: &[i32], glyph: Glyph) -> Glyph {
     match word_at(words, 0) {
         3 => weak(words, glyph),
-        6 => zones(words, glyph),
-        12 => stems(words, glyph),
-        13 => m(words, glyph),
         15 => path(words, glyph),
+        106 => zones(words, glyph),
+        112 => stems(words, glyph),
+        113 => m(words, glyph),
         _ => {
             text(b"  a line that is no step of the chain is left out\n");
             glyph
@@ -41,7 +41,7 @@ pub fn step(words: [i32; MOST_WORDS], n: usize, glyph: Glyph) -> Glyph
     }
     match words[0] {
         4 => link(words, glyph),
-        5 => build(words, glyph),
+        105 => build(words, glyph),
         _ => fit(&words[0..n], glyph),
     }
 }

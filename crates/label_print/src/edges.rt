@@ -2,16 +2,19 @@
 use super::print::show;
 use super::print::text;
 use axis::accept::least;
+use axis::kinds::Mark;
 use axis::limits::MOST_EDGES;
 use middle::bits::bits_of;
 use middle::bits::signed_of;
 use words::edge::EDGE_WORDS;
 use words::field::index_of;
+use words::field::mark_at;
 use words::word::count_word;
 use words::word::size_of;
 use words::word::word_at;
 ghost use Prim.Native.Nat.{_≤_, _<_};
 ghost use Rattle.axis.specs.Limits.{mostEdges};
+ghost use Rattle.words.specs.Edge.{edgeSize};
 
 // Where the fields of an edge stand among its words.
 const FPOS: usize = 0;
@@ -28,12 +31,14 @@ pub const FITTED: usize = 6;
 
 pub const LINK: usize = 7;
 
+const MARK: usize = 11;
+
 // The place of none, which is past the end of every list.
 pub const NONE: usize = 65535;
 
 // The word of an edge's field, and 0 where there is no such edge.
 pub fn field(edges: &[i32], i: usize, k: usize) -> i32
-    requires { ⌜ (i ≤ 65535) × (k ≤ 10) ⌝ }
+    requires { ⌜ (i ≤ 65535) × (k < edgeSize) ⌝ }
 {
     word_at(edges, EDGE_WORDS * i + k)
 }
@@ -62,12 +67,15 @@ fn stayed(before: &[i32], edges: &[i32], i: usize) -> bool
     if field(before, i, POS) != field(edges, i, POS) {
         return false;
     }
+    if field(before, i, MARK) != field(edges, i, MARK) {
+        return false;
+    }
     done(before, i) == done(edges, i)
 }
 
 // How far one edge is behind another, by one of their fields.
 fn distance(edges: &[i32], i: usize, other: usize, k: usize) -> i32
-    requires { ⌜ (i ≤ 65535) × (other ≤ 65535) × (k ≤ 10) ⌝ }
+    requires { ⌜ (i ≤ 65535) × (other ≤ 65535) × (k < edgeSize) ⌝ }
 {
     let from = bits_of(field(edges, i, k));
     let to = bits_of(field(edges, other, k));
@@ -93,19 +101,25 @@ fn stem(edges: &[i32], i: usize)
     }
 }
 
-// Writes that an edge is on its zone, where it is.
-fn zone(edges: &[i32], i: usize)
+// Writes what gave an edge its position.
+fn giver(edges: &[i32], i: usize)
     requires { ⌜ i < mostEdges ⌝ }
 {
-    if field(edges, i, BLUE) == 0 {
-        return;
-    }
-    if field(edges, i, FITTED) == field(edges, i, POS) {
-        text(b"  on its zone");
+    match mark_at(edges, EDGE_WORDS * i + MARK) {
+        Mark::Nothing => text(b"  nothing yet"),
+        Mark::BlueAnchor => text(b"  blue anchor"),
+        Mark::Blue => text(b"  blue"),
+        Mark::Linked => text(b"  linked"),
+        Mark::Anchor => text(b"  anchor"),
+        Mark::Stem => text(b"  stem"),
+        Mark::Adjusted => text(b"  adjusted"),
+        Mark::Bound => text(b"  bound"),
+        Mark::Serif => text(b"  serif"),
+        Mark::LowercaseM => text(b"  lowercase m"),
     }
 }
 
-// Writes an edge that a step changed: its font position, where it was and where it is, its stem and its zone. Where there were no edges before, its font position alone.
+// Writes an edge that a step changed: its font position, where it was and where it is, its stem and what gave it its position. Where there were no edges before, its font position alone.
 fn row(before: &[i32], edges: &[i32], i: usize)
     requires { ⌜ i < mostEdges ⌝ }
 {
@@ -124,7 +138,7 @@ fn row(before: &[i32], edges: &[i32], i: usize)
     ];
     show(b"    edge^  at ^@ ->@", &numbers);
     stem(edges, i);
-    zone(edges, i);
+    giver(edges, i);
     text(b"\n");
 }
 

@@ -1,6 +1,6 @@
 -- Words of a lent list that a call leaves as they were.
 use mathlib.Core.Path.{_≡_}
-use mathlib.Core.Bool.{Bool, false, _&&_, _||_}
+use mathlib.Core.Bool.{Bool, false, _||_}
 use mathlib.Core.List.{List, [], _∷_}
 use Prim.Native.Nat.{ℕ, _/_, _%_}
 use lib.Dec.{eqb}
@@ -8,7 +8,7 @@ use lib.ListN.{length}
 use lib.IntN.{ℤ}
 use Rattle.axis.specs.Changes.{Extent, nothing, position, place, zone}
 use Rattle.words.specs.Word.{wordAt}
-use Rattle.words.specs.Edge.{edgeSize, posPlace, flagsPlace, bluePlace, fittedPlace}
+use Rattle.words.specs.Edge.{edgeSize, posPlace, flagsPlace, bluePlace, fittedPlace, markPlace, wordOfEdge}
 use Rattle.words.specs.Segment.{segmentSize}
 
 -- as many words, and each as it was, but those that a test of their places names
@@ -24,26 +24,32 @@ ofEdges named k = named (k / edgeSize) (k % edgeSize)
 abbrev pub ofSegments : (ℕ → ℕ → Bool) → ℕ → Bool
 ofSegments named k = named (k / segmentSize) (k % segmentSize)
 
--- the positions of named edges
-abbrev pub posOf : (ℕ → Bool) → ℕ → ℕ → Bool
-posOf moved i j = moved i && eqb j posPlace
-
--- one of two edges
-abbrev pub eitherEdge : ℕ → ℕ → ℕ → Bool
-eitherEdge s t i = eqb i s || eqb i t
-
 -- one of these places
 abbrev pub isOneOf : List ℕ → ℕ → Bool
 isOneOf [] j = false
 isOneOf (p ∷ ps) j = eqb j p || isOneOf ps j
 
--- the words of an edge that so much of it is written as
+-- the words of an edge that its position is written as, with what gave it; those with its flags; and those with its zone
+abbrev pub positionWords : List ℕ
+positionWords = posPlace ∷ markPlace ∷ []
+
+abbrev pub placeWords : List ℕ
+placeWords = posPlace ∷ flagsPlace ∷ markPlace ∷ []
+
+abbrev pub zoneWords : List ℕ
+zoneWords = posPlace ∷ flagsPlace ∷ bluePlace ∷ fittedPlace ∷ markPlace ∷ []
+
+-- those that so much of it is written as
 abbrev pub wordsOf : Extent → List ℕ
 wordsOf nothing = []
-wordsOf position = posPlace ∷ []
-wordsOf place = posPlace ∷ flagsPlace ∷ []
-wordsOf zone = posPlace ∷ flagsPlace ∷ bluePlace ∷ fittedPlace ∷ []
+wordsOf (position marks) = positionWords
+wordsOf (place marks) = placeWords
+wordsOf (zone marks) = zoneWords
 
 -- of the edge in each place so much
 abbrev pub inExtent : (ℕ → Extent) → ℕ → ℕ → Bool
 inExtent extent i = isOneOf (wordsOf (extent i))
+
+-- a word that is neither the position of an edge nor its mark
+abbrev pub Beside : ℕ → ℕ → Type 0
+Beside i k = (k ≡ wordOfEdge i posPlace → ⊥) × (k ≡ wordOfEdge i markPlace → ⊥)

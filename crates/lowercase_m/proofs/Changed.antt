@@ -1,7 +1,8 @@
--- What the call changes: position and done of the third stem and of the edge that it is linked to, the positions of the serifs of twelve edges, and nothing else; a refusal nothing.
+-- What the call changes: position and done of the third stem and of the edge that it is linked to, the positions of the serifs of twelve edges, each then marked as moved by the
+-- rule, and nothing else; a refusal nothing.
 use mathlib.Core.Path.{_≡_, refl, sym, ap, subst, _∙_}
 use mathlib.Core.Bool.{Bool, true, cond, _&&_, _||_}
-use mathlib.Core.List.{List}
+use mathlib.Core.List.{List, [], _∷_}
 use Prim.Native.Nat.{ℕ}
 use borrow.Author.Tests.{eq-eqb}
 use lib.Dec.{eqb}
@@ -11,10 +12,13 @@ use Rattle.refusals.specs.Refusal.{refusal}
 use Rattle.axis.specs.declared.kinds.Link.{Link}
 use Rattle.axis.specs.declared.kinds.Link.the-variants as Links
 use Rattle.axis.specs.declared.kinds.Group.{Group}
+use Rattle.axis.specs.declared.kinds.Mark.{Mark}
+use Rattle.axis.specs.declared.kinds.Mark.the-variants.{LowercaseM}
 use Rattle.axis.specs.declared.edge.Edge.{Edge}
 use Rattle.axis.specs.declared.edge.Axis.{Axis}
 use Rattle.axis.specs.Edge.{edgeAt}
 use Rattle.axis.specs.Link.{linksTo}
+use Rattle.axis.specs.Mark.{among}
 use Rattle.axis.specs.Changes.{Extent, nothing, position, place, Only, OnlyAxis, Changes}
 use Rattle.axis.proofs.Only.{or-true, position-place, placed-only, fixed-only, same-axis, also-put, call-changes}
 use Rattle.lowercase_m.specs.declared.hint.Hinted.{Hinted}
@@ -22,14 +26,18 @@ use Rattle.lowercase_m.specs.M.{stemsOf, applies, moveDone, moveOnly, mo
 use Rattle.lowercase_m.specs.M.{isStem, isSerif, mExtent}
 
 -- ---- the extent
-stem-extent : (es : List Edge) (n i : ℕ) (a b : Edge) → isStem es n i ≡ true → Only place a b → Only (mExtent es n i) a b
-stem-extent es n i a b e h = subst (λ (t : Bool). Only (cond t place (cond (isSerif n i) position nothing)) a b) (sym e) h
+-- the one mark that the rule gives
+abbrev marks : List Mark
+marks = LowercaseM ∷ []
 
-serif-extent : (es : List Edge) (n i : ℕ) (a b : Edge) → isSerif n i ≡ true → Only position a b → Only (mExtent es n i) a b
+stem-extent : (es : List Edge) (n i : ℕ) (a b : Edge) → isStem es n i ≡ true → Only (place marks) a b → Only (mExtent es n i) a b
+stem-extent es n i a b e h = subst (λ (t : Bool). Only (cond t (place marks) (cond (isSerif n i) (position marks) nothing)) a b) (sym e) h
+
+serif-extent : (es : List Edge) (n i : ℕ) (a b : Edge) → isSerif n i ≡ true → Only (position marks) a b → Only (mExtent es n i) a b
 serif-extent es n i a b e h =
-    cond-cases (λ (x : Extent). Only x a b) (isStem es n i) place (cond (isSerif n i) position nothing)
-    (λ _. position-place a b h)
-    (λ _. subst (λ (t : Bool). Only (cond t position nothing) a b) (sym e) h)
+    cond-cases (λ (x : Extent). Only x a b) (isStem es n i) (place marks) (cond (isSerif n i) (position marks) nothing)
+    (λ _. position-place marks a b h)
+    (λ _. subst (λ (t : Bool). Only (cond t (position marks) nothing) a b) (sym e) h)
 
 -- an edge that a link leads to
 leads : (l : Link) (k : ℕ) → l ≡ Links.To k → linksTo l k ≡ true
@@ -45,12 +53,12 @@ module _ (axis : Axis) where
 
   -- ---- the moves
   done : (now : Axis) (i : ℕ) (d : ℤ) → isStem (axis .edges) (axis .len) i ≡ true → Kept now → Kept (moveDone now i d)
-  unfolding moveDone
-  done now i d e h = also-put _ axis now i _ h (stem-extent (axis .edges) (axis .len) i _ _ e (fixed-only (edgeAt now i) (edgeAt now i .pos -ℤ d)))
+  unfolding moveDone among
+  done now i d e h = also-put _ axis now i _ h (stem-extent (axis .edges) (axis .len) i _ _ e (fixed-only marks (edgeAt now i) (edgeAt now i .pos -ℤ d) LowercaseM refl))
 
   only : (now : Axis) (i : ℕ) (d : ℤ) → isSerif (axis .len) i ≡ true → Kept now → Kept (moveOnly now i d)
-  unfolding moveOnly
-  only now i d e h = also-put _ axis now i _ h (serif-extent (axis .edges) (axis .len) i _ _ e (placed-only (edgeAt now i) (edgeAt now i .pos -ℤ d)))
+  unfolding moveOnly among
+  only now i d e h = also-put _ axis now i _ h (serif-extent (axis .edges) (axis .len) i _ _ e (placed-only marks (edgeAt now i) (edgeAt now i .pos -ℤ d) LowercaseM refl))
 
   link : (now : Axis) (l : Link) (d : ℤ) → edgeAt axis third .link ≡ l → Kept now → Kept (moveLink now l d)
   unfolding moveLink

@@ -11,10 +11,12 @@ use Rattle.axis.specs.declared.kinds.Link.{Link}
 use Rattle.axis.specs.declared.kinds.Link.the-variants as Links
 use Rattle.axis.specs.declared.kinds.Group.{Group}
 use Rattle.axis.specs.declared.kinds.Group.the-variants.{Default, Cjk}
+use Rattle.axis.specs.declared.kinds.Mark.the-variants.{LowercaseM}
 use Rattle.axis.specs.declared.edge.Edge.{Edge}
 use Rattle.axis.specs.declared.edge.Axis.{Axis}
 use Rattle.axis.specs.Edge.{emptyEdge, edgeAt, putEdge, placed, finished}
 use Rattle.axis.specs.Link.{linksTo}
+use Rattle.axis.specs.Mark.{unmarkedAxis}
 use Rattle.axis.specs.Refusals.{edgesShort, edgesIndexed, edgesInRange}
 use Rattle.axis.specs.Changes.{Extent, nothing, position, place}
 use Rattle.lowercase_m.specs.declared.stems.Stems.{Stems}
@@ -53,9 +55,9 @@ unfoldable pub applies : Group → Axis → Stems → Bool
 applies group axis s = groupHolds group axis s && even (edgeAt axis (s .first) .opos) (edgeAt axis (s .second) .opos) (edgeAt axis (s .third) .opos)
 
 -- ---- the moves
--- the edge, moved back by d
+-- the edge, moved back by d, which marks it
 abbrev pub movedBack : Edge → ℤ → Edge
-movedBack e d = placed e (e .pos -ℤ d)
+movedBack e d = placed e (e .pos -ℤ d) LowercaseM
 
 -- edge i is moved, and is done
 unfoldable pub moveDone : Axis → ℕ → ℤ → Axis
@@ -98,6 +100,10 @@ mTests axis = edgesShort axis ∷ badParameter unless countHolds (axis .len) ∷
 abbrev pub hinted : Axis → ℕ → Hinted
 hinted axis k = record { answer = k; axis = axis }
 
+-- the same without marks
+abbrev pub withoutMarks : Hinted → Hinted
+withoutMarks r = hinted (unmarkedAxis (r .axis)) (r .answer)
+
 -- the refusal and the axis as it came, or 0 and the axis after the rule
 unfoldable pub hintLowercaseM : Axis → Group → Hinted
 hintLowercaseM axis group = answered (refusal (mTests axis)) (hinted axis) (hinted (aligned group axis (stemsOf (axis .len))) 0)
@@ -115,6 +121,6 @@ isStem edges n i = eqb i (stemsOf n .third) || linksTo (getD edges (stemsOf n .t
 abbrev pub isSerif : ℕ → ℕ → Bool
 isSerif n i = eqb n 12 && (eqb i 8 || eqb i 11)
 
--- the place of the former, the position of the latter, and nothing of the other edges
+-- the place of the former, the position of the latter, both marked, and nothing of the other edges
 abbrev pub mExtent : List Edge → ℕ → ℕ → Extent
-mExtent edges n i = cond (isStem edges n i) place (cond (isSerif n i) position nothing)
+mExtent edges n i = cond (isStem edges n i) (place (LowercaseM ∷ [])) (cond (isSerif n i) (position (LowercaseM ∷ [])) nothing)

@@ -43,7 +43,7 @@ vals = LL.vals T.the-type T′.the-laws
 
 -- the bytes that one takes, as the MIR has them
 abbrev pub edgeBytes : ℕ
-edgeBytes = 40
+edgeBytes = 44
 
 -- ---- n edges: the array's type, its MIR type and its machine value
 abbrev pub Edges : ℕ → RattleType

@@ -1,4 +1,5 @@
--- What the call changes: position and done of the third stem and of the edge that it is linked to, the positions of the serifs of twelve edges, and nothing else; a refusal nothing.
+-- What the call changes: position and done of the third stem and of the edge that it is linked to, the positions of the serifs of twelve edges, each then marked as moved by the
+-- rule, and nothing else; a refusal nothing.
 use mathlib.Core.Path.{refl, sym, ap, subst}
 use mathlib.Core.List.{List}
 use Prim.Native.Nat.{ℕ}

@@ -1,5 +1,5 @@
 -- The laws by subject, each over plain variables; then `Worked`, the definition on values, `Determined`, that the promise determines the outcome, `Handed`, where
--- positions come to, and `Changed`, what the call changes.
+-- positions come to, `Changed`, what the call changes, and `Blind`, that it reads no mark.
 pub mod Copies
 pub mod Arrays
 pub mod Shared
@@ -9,3 +9,4 @@ pub mod Worked
 pub mod Determined
 pub mod Handed
 pub mod Changed
+pub mod Blind

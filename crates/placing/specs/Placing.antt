@@ -9,6 +9,7 @@ use Rattle.fixed.specs.declared.width.WidthRule.{WidthRule}
 use Rattle.fixed.specs.Width.{fittedWidth}
 use Rattle.axis.specs.declared.kinds.Link.{Link}
 use Rattle.axis.specs.declared.kinds.Link.the-variants as Links
+use Rattle.axis.specs.declared.kinds.Mark.the-variants.{Linked, Bound, Serif}
 use Rattle.axis.specs.declared.edge.Edge.{Edge}
 use Rattle.axis.specs.declared.edge.Axis.{Axis}
 use Rattle.axis.specs.Edge.{edgeAt, putEdge, placed}
@@ -26,7 +27,7 @@ linkedPos rule xs basePos baseOpos stemOpos = basePos +ℤ fittedWidth rule xs (
 
 -- the stem edge there, its flags as they were
 abbrev pub linkedEdge : WidthRule → List ℤ → Edge → Edge → Edge
-linkedEdge rule xs base stem = placed stem (linkedPos rule xs (base .pos) (base .opos) (stem .opos))
+linkedEdge rule xs base stem = placed stem (linkedPos rule xs (base .pos) (base .opos) (stem .opos)) Linked
 
 -- ---- the serif edge
 -- as far from the base edge as it was
@@ -35,7 +36,7 @@ serifPos basePos baseOpos serifOpos = basePos +ℤ (serifOpos -ℤ baseOpos)
 
 -- the serif edge there, its flags as they were
 abbrev pub serifEdge : Edge → Edge → Edge
-serifEdge base serif = placed serif (serifPos (base .pos) (base .opos) (serif .opos))
+serifEdge base serif = placed serif (serifPos (base .pos) (base .opos) (serif .opos)) Serif
 
 -- ---- the bounds
 -- the edge before, where there is one
@@ -65,7 +66,7 @@ neighbour Next axis i = upperBound axis i
 -- the edge takes the position of its neighbour k, where its link is far from the previous edge h, in both directions
 unfoldable pub heldTo : Axis → ℕ → ℕ → ℕ → Link → Axis
 heldTo axis h i k Links.None = axis
-heldTo axis h i k (Links.To l) = cond (isFar (edgeAt axis l .pos) (edgeAt axis h .pos)) (putEdge axis i (placed (edgeAt axis i) (edgeAt axis k .pos))) axis
+heldTo axis h i k (Links.To l) = cond (isFar (edgeAt axis l .pos) (edgeAt axis h .pos)) (putEdge axis i (placed (edgeAt axis i) (edgeAt axis k .pos) Bound)) axis
 
 -- where it has passed the neighbour
 unfoldable pub boundBy : Axis → ℕ → ℕ → LinkDir → Link → Axis

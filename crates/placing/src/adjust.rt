@@ -4,6 +4,7 @@ use super::bounds::upper_bound;
 use axis::edge::Axis;
 use axis::edge::with_pos;
 use axis::kinds::Link;
+use axis::kinds::Mark;
 use fixed::point::magnitude;
 ghost use mathlib.Core.Path.{_≡_};
 ghost use Prim.Native.Nat.{_<_, _≤_};
@@ -76,6 +77,6 @@ pub fn adjust(axis: Axis, edge: usize, dir: LinkDir) -> Axis
         return axis;
     }
     let mut held = axis;
-    held.edges[edge] = with_pos(edge1, edge2.pos);
+    held.edges[edge] = with_pos(edge1, edge2.pos, Mark::Bound);
     held
 }

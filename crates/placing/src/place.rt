@@ -1,6 +1,7 @@
 // An edge placed by another one: the linked edge by its width, the serif edge by its distance.
 use axis::edge::Edge;
 use axis::edge::with_pos;
+use axis::kinds::Mark;
 use fixed::width::WidthRule;
 use fixed::width::stem_width;
 ghost use mathlib.Core.Path.{_≡_};
@@ -34,7 +35,7 @@ pub fn linked_edge(rule: WidthRule, standards: &[i32], base: Edge, stem: Edge) -
     ensures { λ r. ⌜ r ≡ linkedEdge rule (now (standards .entry)) base stem ⌝ }
 {
     let pos = linked_pos(rule, standards, base.pos, base.opos, stem.opos);
-    with_pos(stem, pos)
+    with_pos(stem, pos, Mark::Linked)
 }
 
 // Where a serif edge comes to: as far from the base edge as it was.
@@ -51,5 +52,5 @@ pub fn serif_edge(base: Edge, serif: Edge) -> Edge
     ensures { λ r. ⌜ r ≡ serifEdge base serif ⌝ }
 {
     let pos = serif_pos(base.pos, base.opos, serif.opos);
-    with_pos(serif, pos)
+    with_pos(serif, pos, Mark::Serif)
 }

@@ -1,4 +1,4 @@
--- What every edge keeps while the properties are computed: its positions, direction, blue and ring; its link and its serif stay edges.
+-- What every edge keeps while the properties are computed: its positions, direction, blue, ring and mark; its link and its serif stay edges.
 use mathlib.Core.Path.{_≡_, refl, sym, subst}
 use mathlib.Core.Bool.{Bool, true, false, cond, _&&_}
 use mathlib.Core.Logic.{_⊎_, inl, inr, ⊎-elim}
@@ -67,15 +67,16 @@ pub record KeptEdge (n : ℕ) (e₀ e : Edge) : Type 0 where
   pub blue : e .blue ≡ e₀ .blue
   pub first : e .first ≡ e₀ .first
   pub last : e .last ≡ e₀ .last
+  pub mark : e .mark ≡ e₀ .mark
   pub link : Below n (e .link)
   pub serif : Below n (e .serif)
 
 module _ (n : ℕ) (e₀ e : Edge) (h : KeptEdge n e₀ e) where
   with-kept : (link serif : Link) → Below n link → Below n serif → KeptEdge n e₀ (joinedTo e link serif)
-  with-kept link serif p q = record { fpos = h .fpos; opos = h .opos; pos = h .pos; dir = h .dir; blue = h .blue; first = h .first; last = h .last; link = p; serif = q }
+  with-kept link serif p q = record { fpos = h .fpos; opos = h .opos; pos = h .pos; dir = h .dir; blue = h .blue; first = h .first; last = h .last; mark = h .mark; link = p; serif = q }
 
   flagged-kept : (f : Flags) → KeptEdge n e₀ (flagged e f)
-  flagged-kept f = record { fpos = h .fpos; opos = h .opos; pos = h .pos; dir = h .dir; blue = h .blue; first = h .first; last = h .last; link = h .link; serif = h .serif }
+  flagged-kept f = record { fpos = h .fpos; opos = h .opos; pos = h .pos; dir = h .dir; blue = h .blue; first = h .first; last = h .last; mark = h .mark; link = h .link; serif = h .serif }
 
   held-below : (b : Bool) → Below n (heldBy b e)
   held-below true = h .serif
@@ -102,7 +103,7 @@ module _ (n : ℕ) (e₀ e : Edge) (h : KeptEdge n e₀ e) where
   with-properties-kept : (round straight : ℕ) → KeptEdge n e₀ (withProperties round straight e)
   unfolding withProperties
   with-properties-kept round straight = let p = with-kept (e .link) (serifBeside (e .link) (e .serif)) (h .link) (beside (e .link) (e .serif) (h .serif)) in
-      record { fpos = p .fpos; opos = p .opos; pos = p .pos; dir = p .dir; blue = p .blue; first = p .first; last = p .last; link = p .link; serif = p .serif }
+      record { fpos = p .fpos; opos = p .opos; pos = p .pos; dir = p .dir; blue = p .blue; first = p .first; last = p .last; mark = p .mark; link = p .link; serif = p .serif }
     where
       beside : (l s : Link) → Below n s → Below n (serifBeside l s)
       beside Links.None s b = b
@@ -228,7 +229,7 @@ module _ (axis₀ : Axis) (t : Segments) (r : Ready axis₀ t) where
     dim = refl;
     major = refl;
     len = refl;
-    edge = λ k l. record { fpos = refl; opos = refl; pos = refl; dir = refl; blue = refl; first = refl; last = refl; link = r .edge k l .link; serif = r .edge k l .serif };
+    edge = λ k l. record { fpos = refl; opos = refl; pos = refl; dir = refl; blue = refl; first = refl; last = refl; mark = refl; link = r .edge k l .link; serif = r .edge k l .serif };
   }
 
   pub edges-kept : (k : ℕ) → k ≤ axis₀ .len → Kept axis₀ (edges t k axis₀)

@@ -10,6 +10,7 @@ use Rattle.axis.specs.declared.kinds.Dimension.the-variants.{Vertical}
 use Rattle.axis.specs.declared.kinds.Direction.the-variants.{Right}
 use Rattle.axis.specs.declared.kinds.Link.{Link}
 use Rattle.axis.specs.declared.kinds.Link.the-variants.{None, To}
+use Rattle.axis.specs.declared.kinds.Mark.the-variants.{Nothing}
 use Rattle.axis.specs.declared.edge.Axis.{Axis}
 use Rattle.axis.specs.declared.edge.Edge.{Edge}
 use Rattle.axis.specs.declared.flags.Flags.{Flags}
@@ -37,7 +38,7 @@ flags round serif = record { round = round; serif = serif; done = false; neutral
 
 -- an edge at a position, of the segments from the first to the last, with these flags, link and serif
 abbrev edge : ℕ → ℕ → ℕ → Flags → Link → Link → Edge
-edge p first last f link serif = changed (freshEdge (pos p) (pos p) Right first) (pos p) f Blues.None link serif last
+edge p first last f link serif = changed (freshEdge (pos p) (pos p) Right first) (pos p) Nothing f Blues.None link serif last
 
 -- such an edge as building makes it
 abbrev bare : ℕ → ℕ → ℕ → Edge

@@ -17,6 +17,8 @@ use Rattle.axis.specs.declared.kinds.Direction.the-variants as Directions
 use Rattle.axis.specs.declared.kinds.Direction.the-variants.{Up, Down}
 use Rattle.axis.specs.declared.kinds.Link.{Link}
 use Rattle.axis.specs.declared.kinds.Link.the-variants as Links
+use Rattle.axis.specs.declared.kinds.Mark.{Mark}
+use Rattle.axis.specs.declared.kinds.Mark.the-variants as Marks
 use Rattle.axis.specs.declared.kinds.Group.the-variants.{Default, Cjk}
 use Rattle.axis.specs.declared.edge.Edge.{Edge}
 use Rattle.axis.specs.declared.segment.Segment.{Segment}
@@ -45,13 +47,17 @@ use Rattle.rows.specs.Row.{Row, weak, stems, stemCjk, build, m, link, Al
 abbrev minus : ℕ → ℤ
 minus n = negℤ (pos n)
 
--- an unlinked edge, by opos and pos
+-- an unlinked edge, by opos and pos, placed by nothing yet
 abbrev edge : ℕ → ℕ → Edge
-edge o p = placed (freshEdge (pos 0) (pos o) Directions.None 0) (pos p)
+edge o p = placed (freshEdge (pos 0) (pos o) Directions.None 0) (pos p) Marks.Nothing
 
 -- the same, linked to an edge
 abbrev linked : ℕ → ℕ → ℕ → Edge
 linked o p k = joinedTo (edge o p) (Links.To k) Links.None
+
+-- an edge with the mark of what placed it
+abbrev by : Mark → Edge → Edge
+by mark e = placed e (e .pos) mark
 
 -- a segment from 0 to 200, by direction, position, score, len and link
 abbrev segment : Direction → ℕ → ℕ → ℕ → Link → Segment
@@ -92,20 +98,20 @@ table =
     ∷ weak (pos 0 ∷ pos 10 ∷ pos 20 ∷ []) (pos 5 ∷ pos 99 ∷ pos 20 ∷ []) (1 ∷ 0 ∷ 0 ∷ []) (2 ∷ []) 0 (pos 5 ∷ pos 15 ∷ pos 25 ∷ [])
     -- Latin, Keep, bottom to top; edge 0 is the anchor, done, unlinked, at 0 and unmoved; edges 1 and 2 have opos 100 and 160, linked to each other: 130 and 190
     ∷ stems Vertical Default false (Links.To 0) Keep (finished (edge 0 0) ∷ linked 100 100 2 ∷ linked 160 160 1 ∷ [])
-    0 0 (Links.To 0) (finished (edge 0 0) ∷ finished (linked 100 130 2) ∷ finished (linked 160 190 1) ∷ [])
+    0 0 (Links.To 0) (finished (edge 0 0) ∷ finished (by Marks.Stem (linked 100 130 2)) ∷ finished (by Marks.Stem (linked 160 190 1)) ∷ [])
     -- the same, 87 and 157 (tie between offsets 38 and 26): 119 and 189
     ∷ stems Vertical Default false (Links.To 0) Keep (finished (edge 0 0) ∷ linked 87 87 2 ∷ linked 157 157 1 ∷ [])
-    0 0 (Links.To 0) (finished (edge 0 0) ∷ finished (linked 87 119 2) ∷ finished (linked 157 189 1) ∷ [])
+    0 0 (Links.To 0) (finished (edge 0 0) ∷ finished (by Marks.Stem (linked 87 119 2)) ∷ finished (by Marks.Stem (linked 157 189 1)) ∷ [])
     -- CJK, Keep, vertical, not round, no STEM_ADJUST, passed delta 0, 40 and 80: 26 and 66
-    ∷ stemCjk Vertical false Keep (edge 40 40 ∷ edge 80 80 ∷ []) (pos 0) 0 (minus 14) (edge 40 26 ∷ edge 80 66 ∷ [])
+    ∷ stemCjk Vertical false Keep (edge 40 40 ∷ edge 80 80 ∷ []) (pos 0) 0 (minus 14) (by Marks.Stem (edge 40 26) ∷ by Marks.Stem (edge 80 66) ∷ [])
     -- the same with STEM_ADJUST: 24 and 64
-    ∷ stemCjk Vertical true Keep (edge 40 40 ∷ edge 80 80 ∷ []) (pos 0) 0 (minus 16) (edge 40 24 ∷ edge 80 64 ∷ [])
+    ∷ stemCjk Vertical true Keep (edge 40 40 ∷ edge 80 80 ∷ []) (pos 0) 0 (minus 16) (by Marks.Stem (edge 40 24) ∷ by Marks.Stem (edge 80 64) ∷ [])
     -- scale 32,768, first threshold 21: distance threshold Latin 22, CJK 21
     ∷ build Default (pos 21) (pos 32768) (pos 22)
     ∷ build Cjk (pos 21) (pos 32768) (pos 21)
     -- 6 Latin edges; 0, 2, 4 have opos 0, 100, 207, pos 0, 128, 270; 4 has no link: edge 4 at 256
     ∷ m Default (edge 0 0 ∷ emptyEdge ∷ edge 100 128 ∷ emptyEdge ∷ edge 207 270 ∷ emptyEdge ∷ [])
-    0 (edge 0 0 ∷ emptyEdge ∷ edge 100 128 ∷ emptyEdge ∷ finished (edge 207 256) ∷ emptyEdge ∷ [])
+    0 (edge 0 0 ∷ emptyEdge ∷ edge 100 128 ∷ emptyEdge ∷ finished (by Marks.LowercaseM (edge 207 256)) ∷ emptyEdge ∷ [])
     -- positions 0 (major) and 100 (opposite), both 0 to 200 wide, score 32,000, len 0, 1000 per em, scale 65,536: linked to each other, score 100, len 200
     ∷ link (segment Up 0 32000 0 Links.None ∷ segment Down 100 32000 0 Links.None ∷ []) Up (pos 1000) (pos 65536)
     0 (segment Up 0 100 200 (Links.To 1) ∷ segment Down 100 100 200 (Links.To 0) ∷ [])

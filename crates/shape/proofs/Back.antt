@@ -12,7 +12,7 @@ use lib.Signed.{leZ}
 use Rattle.signed.specs.Equality.{eqZ}
 use Rattle.signed.proofs.Signed.{signed, eqZ-true}
 use Rattle.refusals.proofs.Tests.{and-first, and-second}
-use Rattle.words.specs.Field.{shortOf, indexOf, linkOf, choiceOf, directionOf, blueOf, flagsOf, linkWord, directionWord, presentWord, fittedWord, flagsWord}
+use Rattle.words.specs.Field.{shortOf, indexOf, linkOf, choiceOf, directionOf, blueOf, flagsOf, markOf, linkWord, directionWord, presentWord, fittedWord, flagsWord, markWord}
 use Rattle.words.specs.Word.{wordAt, firsts}
 use Rattle.words.specs.Edge.{edgeSize, wordOfEdge, edgesIn, edgeFrom, edgeWords}
 use Rattle.words.specs.Segment.{segmentSize, wordOfSegment, segmentsIn, segmentFrom, segmentWords}
@@ -22,7 +22,7 @@ use Rattle.shape.specs.declared.field.Place.the-variants.{Nowhere, At}
 use Rattle.shape.specs.declared.field.Range.{Range}
 use Rattle.shape.specs.declared.element.Record.the-variants as Records
 use Rattle.shape.specs.declared.element.Element.the-variants as Elements
-use Rattle.shape.specs.Shape.{isIn, short, index, link, choice, direction, flags, noRange, andThen, field, fields, rangesOf, blueShown, element, edgesShown, segmentsShown}
+use Rattle.shape.specs.Shape.{isIn, short, index, link, choice, direction, flags, mark, noRange, andThen, field, fields, rangesOf, blueShown, element, edgesShown, segmentsShown}
 use Rattle.shape.proofs.Shapes.{fields-place}
 use Rattle.shape.proofs.Runs.{EdgeThere, edge-there, run-at}
 
@@ -56,6 +56,24 @@ direction-word (pos n) h = let l = and-second (leZ (pos 0) (pos n)) _ h in by n 
     by (suc (suc (suc (suc zero)))) h = refl
     by (suc (suc (suc (suc (suc n))))) h = absurd (omega arith)
 direction-word (negsuc n) h = absurd (clash h)
+
+mark-word : (w : ℤ) → isIn mark w ≡ true → markWord (markOf w) ≡ w
+unfolding markOf
+mark-word (pos n) h = let l = and-second (leZ (pos 0) (pos n)) _ h in by n (omega (arith, signed, l))
+  where
+    by : (n : ℕ) → n < 10 → markWord (markOf (pos n)) ≡ pos n
+    by zero h = refl
+    by (suc zero) h = refl
+    by (suc (suc zero)) h = refl
+    by (suc (suc (suc zero))) h = refl
+    by (suc (suc (suc (suc zero)))) h = refl
+    by (suc (suc (suc (suc (suc zero))))) h = refl
+    by (suc (suc (suc (suc (suc (suc zero)))))) h = refl
+    by (suc (suc (suc (suc (suc (suc (suc zero))))))) h = refl
+    by (suc (suc (suc (suc (suc (suc (suc (suc zero)))))))) h = refl
+    by (suc (suc (suc (suc (suc (suc (suc (suc (suc zero))))))))) h = refl
+    by (suc (suc (suc (suc (suc (suc (suc (suc (suc (suc n)))))))))) h = absurd (omega arith)
+mark-word (negsuc n) h = absurd (clash h)
 
 flags-word : (w : ℤ) → isIn flags w ≡ true → flagsWord (flagsOf w) ≡ w
 unfolding flagsWord flagsOf
@@ -148,6 +166,7 @@ edge-same ws at n t =
       link-word (wordAt ws (at + 8)) (f 8 (omega arith)),
       index-word (wordAt ws (at + 9)) (f 9 (omega arith)),
       index-word (wordAt ws (at + 10)) (f 10 (omega arith)),
+      mark-word (wordAt ws (at + 11)) (f 11 (omega arith)),
     )
 
 -- and those of a segment

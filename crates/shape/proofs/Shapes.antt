@@ -1,5 +1,5 @@
 -- Readings step by step: what the code's tests show of a definition.
-use mathlib.Core.Path.{_≡_, refl, sym, ap, subst, _∙_}
+use mathlib.Core.Path.{_≡_, refl, sym, ap, _∙_}
 use mathlib.Core.Bool.{Bool, true, false, cond, _&&_, and-false, or-true}
 use mathlib.Core.List.{List, [], _∷_}
 use Prim.Native.Nat.{ℕ, suc, _+_, _-_, _≤_, _<_}
@@ -100,28 +100,17 @@ unfolding edge andThen
 edge-nowhere ws at e = rw e
 
 module _ (ws : List ℤ) (at n : ℕ) (there : fields (rangesOf Records.Edge) ws at ≡ At n) where
-  blue-at : n - 6 ≡ at + 5
-  blue-at = omega (arith, fields-place (rangesOf Records.Edge) ws at n there)
-
-  fitted-at : n - 5 ≡ at + 6
-  fitted-at = omega (arith, fields-place (rangesOf Records.Edge) ws at n there)
-
-  pub edge-blue : getD ws (n - 6) (pos 0) ≡ pos 1 → At n ≡ edge ws at
+  pub edge-blue : getD ws (at + 5) (pos 0) ≡ pos 1 → At n ≡ edge ws at
   unfolding edge andThen blueShown
-  edge-blue e = rw (there, eqZ-yes (getD ws (at + 5) (pos 0)) (pos 1) (subst (λ (k : ℕ). getD ws k (pos 0) ≡ pos 1) blue-at e))
+  edge-blue e = rw (there, eqZ-yes (getD ws (at + 5) (pos 0)) (pos 1) e)
 
-  pub edge-plain : getD ws (n - 5) (pos 0) ≡ pos 0 → At n ≡ edge ws at
+  pub edge-plain : getD ws (at + 6) (pos 0) ≡ pos 0 → At n ≡ edge ws at
   unfolding edge andThen blueShown
-  edge-plain e = rw (there, eqZ-yes (getD ws (at + 6) (pos 0)) (pos 0) (subst (λ (k : ℕ). getD ws k (pos 0) ≡ pos 0) fitted-at e), or-true)
+  edge-plain e = rw (there, eqZ-yes (getD ws (at + 6) (pos 0)) (pos 0) e, or-true)
 
-  pub edge-breaks : (getD ws (n - 6) (pos 0) ≡ pos 1 → ⊥) → (getD ws (n - 5) (pos 0) ≡ pos 0 → ⊥) → Nowhere ≡ edge ws at
+  pub edge-breaks : (getD ws (at + 5) (pos 0) ≡ pos 1 → ⊥) → (getD ws (at + 6) (pos 0) ≡ pos 0 → ⊥) → Nowhere ≡ edge ws at
   unfolding edge andThen blueShown
-  edge-breaks p q =
-      rw (
-        there,
-        eqZ-no (getD ws (at + 5) (pos 0)) (pos 1) (subst (λ (k : ℕ). getD ws k (pos 0) ≡ pos 1 → ⊥) blue-at p),
-        eqZ-no (getD ws (at + 6) (pos 0)) (pos 0) (subst (λ (k : ℕ). getD ws k (pos 0) ≡ pos 0 → ⊥) fitted-at q),
-      )
+  edge-breaks p q = rw (there, eqZ-no (getD ws (at + 5) (pos 0)) (pos 1) p, eqZ-no (getD ws (at + 6) (pos 0)) (pos 0) q)
 
 -- ---- lists without a count
 module _ (n : ℕ) (e : Element) (ws : List ℤ) where

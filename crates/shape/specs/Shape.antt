@@ -76,16 +76,20 @@ direction = range (pos 0) (pos 4)
 abbrev pub flags : Range
 flags = range (pos 0) (pos 15)
 
+-- what gave an edge its position
+abbrev pub mark : Range
+mark = range (pos 0) (pos 9)
+
 -- what stands past a record's end
 abbrev pub noRange : Range
 noRange = range (pos 0) (pos 0)
 
 -- ---- records
 -- flags, direction, pos, delta, min_coord, max_coord, height, score, len, link, serif, first, last, edge, next
--- fpos, opos, pos, flags, direction, blue present, blue fitted, link, serif, first, last
+-- fpos, opos, pos, flags, direction, blue present, blue fitted, link, serif, first, last, mark
 abbrev pub rangesOf : Record → List Range
 rangesOf Records.Segment = flags ∷ direction ∷ short ∷ short ∷ short ∷ short ∷ short ∷ word ∷ word ∷ link ∷ link ∷ index ∷ index ∷ link ∷ link ∷ []
-rangesOf Records.Edge = short ∷ word ∷ word ∷ flags ∷ direction ∷ choice ∷ word ∷ link ∷ link ∷ index ∷ index ∷ []
+rangesOf Records.Edge = short ∷ word ∷ word ∷ flags ∷ direction ∷ choice ∷ word ∷ link ∷ link ∷ index ∷ index ∷ mark ∷ []
 
 -- an edge whose blue is absent has fitted 0
 unfoldable pub blueShown : List ℤ → ℕ → Bool

@@ -4,6 +4,7 @@ use super::field::DIRECTION;
 use super::field::FLAGS;
 use super::field::INDEX;
 use super::field::LINK;
+use super::field::MARK;
 use super::field::Place;
 use super::field::Range;
 use super::field::SHORT;
@@ -50,7 +51,7 @@ const SEGMENT: [Range; SEGMENT_WORDS] = [
     LINK,
 ];
 
-// The words of an edge: fpos, opos, pos, flags, direction, blue present, blue fitted, link, serif, first, last.
+// The words of an edge: fpos, opos, pos, flags, direction, blue present, blue fitted, link, serif, first, last, mark.
 const EDGE: [Range; EDGE_WORDS] = [
     SHORT,
     WORD,
@@ -63,6 +64,7 @@ const EDGE: [Range; EDGE_WORDS] = [
     LINK,
     INDEX,
     INDEX,
+    MARK,
 ];
 
 // How many words a record has.
@@ -110,10 +112,10 @@ fn skip_edge(words: &[i32], at: usize) -> Place
     let Place::At(next) = skip_record(words, at, Record::Edge) else {
         return Place::Nowhere;
     };
-    if word_at(words, next - 6) == 1 {
+    if word_at(words, at + 5) == 1 {
         return Place::At(next);
     }
-    if word_at(words, next - 5) == 0 {
+    if word_at(words, at + 6) == 0 {
         return Place::At(next);
     }
     Place::Nowhere

@@ -42,6 +42,8 @@ pub const DIRECTION: Range = Range { low: 0, high: 4 };
 
 pub const FLAGS: Range = Range { low: 0, high: 15 };
 
+pub const MARK: Range = Range { low: 0, high: 9 };
+
 // Whether a word is within a field's values.
 pub fn is_in(word: i32, range: Range) -> bool
     ensures { λ r. ⌜ r ≡ isIn range word ⌝ }

@@ -7,9 +7,12 @@ use lib.IntN.{ℤ, pos}
 use Rattle.refusals.specs.Refusal.{Test, _unless_, badParameter, badIndex, outOfRange, refusal, answered}
 use Rattle.fixed.specs.declared.width.WidthRule.{WidthRule}
 use Rattle.fixed.specs.Width.{ruleHolds}
+use Rattle.axis.specs.declared.kinds.Mark.{Mark}
+use Rattle.axis.specs.declared.kinds.Mark.the-variants.{Stem}
 use Rattle.axis.specs.declared.edge.Axis.{Axis}
 use Rattle.axis.specs.Limits.{mostUnits}
 use Rattle.axis.specs.Edge.{edgeAt}
+use Rattle.axis.specs.Mark.{unmarkedAxis}
 use Rattle.axis.specs.Refusals.{within, edgesShort, edgesIndexed, edgesInRange}
 use Rattle.placing.specs.Placing.{bothBelow}
 use Rattle.cjk_numbers.specs.Cjk.{stemOf, hintedStem}
@@ -35,3 +38,12 @@ hintNormalStemCjk axis adjust rule xs i j d =
 -- what the call owes its caller: the answer, the delta and the axis
 abbrev pub HintsNormalStemCjk : Axis → Bool → WidthRule → List ℤ → ℕ → ℕ → ℤ → StemCjk → Type 0
 HintsNormalStemCjk axis adjust rule xs i j d r = r ≡ hintNormalStemCjk axis adjust rule xs i j d
+
+-- ---- marks
+-- those that the call gives
+abbrev pub stemMarks : List Mark
+stemMarks = Stem ∷ []
+
+-- an outcome without the marks of its edges
+abbrev pub withoutMarks : StemCjk → StemCjk
+withoutMarks r = record { answer = r .answer; delta = r .delta; axis = unmarkedAxis (r .axis) }

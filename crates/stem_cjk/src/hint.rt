@@ -5,6 +5,7 @@ use axis::accept::few_edges;
 use axis::accept::is_inside;
 use axis::edge::Axis;
 use axis::edge::with_pos;
+use axis::kinds::Mark;
 use axis::limits::LEAST_UNITS;
 use axis::limits::MOST_UNITS;
 use cjk_numbers::stem::Stem;
@@ -40,8 +41,8 @@ fn place_stem(axis: Axis, lower: usize, upper: usize, pos: i32, width: i32) -> A
     ensures { λ r. ⌜ r ≡ placedStem axis lower upper pos width ⌝ }
 {
     let mut placed = axis;
-    placed.edges[lower] = with_pos(placed.edges[lower], pos);
-    placed.edges[upper] = with_pos(placed.edges[upper], pos + width);
+    placed.edges[lower] = with_pos(placed.edges[lower], pos, Mark::Stem);
+    placed.edges[upper] = with_pos(placed.edges[upper], pos + width, Mark::Stem);
     placed
 }
 

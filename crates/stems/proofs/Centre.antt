@@ -14,6 +14,7 @@ use Rattle.signed.proofs.By.{by₂}
 use Rattle.axis.specs.declared.kinds.Link.the-variants as Links
 use Rattle.axis.specs.declared.kinds.Blue.{Blue}
 use Rattle.axis.specs.declared.kinds.Group.{Group}
+use Rattle.axis.specs.declared.kinds.Mark.the-variants.{Stem}
 use Rattle.axis.specs.declared.edge.Edge.{Edge}
 use Rattle.axis.specs.declared.edge.Axis.{Axis}
 use Rattle.axis.specs.Edge.{emptyEdge, edgeAt, fixedAt}
@@ -35,12 +36,12 @@ linked-place [] i k h = absurd (no-link k h)
 linked-place (e ∷ es) zero k h = omega arith
 linked-place (e ∷ es) (suc i) k h = let r = linked-place es i k h in omega arith
 
--- the edge of a place fixed at a position, as `fixAt` does
+-- the edge of a place fixed at a position by a stem, as `fixAt` does
 abbrev fixIn : List Edge → ℕ → ℤ → List Edge
-fixIn es i p = set es i (fixedAt (getD es i emptyEdge) p)
+fixIn es i p = set es i (fixedAt (getD es i emptyEdge) p Stem)
 
 fixed-in : (es : List Edge) (i : ℕ) (p : ℤ) → i < length es → getD (fixIn es i p) i emptyEdge .pos ≡ p
-fixed-in es i p h = ap (λ (e : Edge). e .pos) (getD-set-same es i (fixedAt (getD es i emptyEdge) p) emptyEdge h)
+fixed-in es i p h = ap (λ (e : Edge). e .pos) (getD-set-same es i (fixedAt (getD es i emptyEdge) p Stem) emptyEdge h)
 
 -- edge i is at p and edge k at q
 record BothAt (es : List Edge) (i k : ℕ) (p q : ℤ) : Type 0 where

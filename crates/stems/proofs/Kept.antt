@@ -13,6 +13,7 @@ use Rattle.fixed.specs.declared.width.WidthRule.{WidthRule}
 use Rattle.axis.specs.declared.kinds.Link.{Link}
 use Rattle.axis.specs.declared.kinds.Link.the-variants as Links
 use Rattle.axis.specs.declared.kinds.Group.{Group}
+use Rattle.axis.specs.declared.kinds.Mark.{Mark}
 use Rattle.axis.specs.declared.edge.Edge.{Edge}
 use Rattle.axis.specs.declared.edge.Axis.{Axis}
 use Rattle.axis.specs.Link.{indexOr}
@@ -36,24 +37,24 @@ use Rattle.stems.proofs.Straight.{steps-are}
 use Rattle.stems.proofs.Growth.{mostGrowth, SecondWithin, TrailWithin, PlanWithin, EdgeIn, Reached, plan-within, last-none}
 
 -- ---- the stores
-moved-within : (c n : ℕ) (e : Edge) (p : ℤ) → EdgeWithin c n e → Between c c p → EdgeWithin c n (placed e p)
-moved-within c n e p h g = record { opos = h .opos; pos = g; blue = h .blue; link = h .link; serif = h .serif }
+moved-within : (c n : ℕ) (e : Edge) (p : ℤ) (m : Mark) → EdgeWithin c n e → Between c c p → EdgeWithin c n (placed e p m)
+moved-within c n e p m h g = record { opos = h .opos; pos = g; blue = h .blue; link = h .link; serif = h .serif }
 
-fixed-within : (c n : ℕ) (e : Edge) (p : ℤ) → EdgeWithin c n e → Between c c p → EdgeWithin c n (fixedAt e p)
-fixed-within c n e p h g = record { opos = h .opos; pos = g; blue = h .blue; link = h .link; serif = h .serif }
+fixed-within : (c n : ℕ) (e : Edge) (p : ℤ) (m : Mark) → EdgeWithin c n e → Between c c p → EdgeWithin c n (fixedAt e p m)
+fixed-within c n e p m h g = record { opos = h .opos; pos = g; blue = h .blue; link = h .link; serif = h .serif }
 
 second-within : (c n : ℕ) (e : Edge) (x : Second) → EdgeWithin c n e → SecondWithin c x → EdgeWithin c n (secondEdge e x)
 unfolding secondEdge
 second-within c n e Stays h g = h
-second-within c n e (Placed z) h g = moved-within c n e z h (g .placed z refl)
-second-within c n e (Fixed z) h g = fixed-within c n e z h (g .fixed z refl)
+second-within c n e (Placed z) h g = moved-within c n e z _ h (g .placed z refl)
+second-within c n e (Fixed z) h g = fixed-within c n e z _ h (g .fixed z refl)
 
 held-within : (c n : ℕ) (plan : Plan) (i : ℕ) (e prev link : Edge) → EdgeWithin c n e → EdgeWithin c n prev → EdgeWithin c n (heldEdge plan i e prev link)
 unfolding heldEdge
-held-within c n plan i e prev link h g = either-way (EdgeWithin c n) (isBounded plan i && isOver e prev link) _ e (moved-within c n e (prev .pos) h (g .pos)) h
+held-within c n plan i e prev link h g = either-way (EdgeWithin c n) (isBounded plan i && isOver e prev link) _ e (moved-within c n e (prev .pos) _ h (g .pos)) h
 
 pub first-put : (c i : ℕ) (plan : Plan) (axis : Axis) → AxisWithin c axis → i < axis .len → PlanWithin c plan → AxisWithin c (firstPut plan i axis)
-first-put c i plan axis h q g = put-within c i axis _ h (fixed-within c (axis .len) (edgeAt axis i) (plan .first) (h .edge i q) (g .first))
+first-put c i plan axis h q g = put-within c i axis _ h (fixed-within c (axis .len) (edgeAt axis i) (plan .first) (plan .mark) (h .edge i q) (g .first))
 
 pub second-put : (c k : ℕ) (plan : Plan) (axis : Axis) → AxisWithin c axis → k < axis .len → PlanWithin c plan → AxisWithin c (secondPut plan k axis)
 second-put c k plan axis h q g = put-within c k axis _ h (second-within c (axis .len) (edgeAt axis k) (plan .second) (h .edge k q) (g .second))

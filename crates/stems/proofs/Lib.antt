@@ -1,5 +1,5 @@
 -- The laws by subject, each over plain variables; passes worked out by hand; then `Determined`, that the promise determines the outcome, `Changed`, what the call changes,
--- `Handed`, where positions come to and what the call accepts, and requests #112, `Centre`, and #102, `Thin`.
+-- `Handed`, where positions come to and what the call accepts, and requests #112, `Centre`, #102, `Thin`, and #105, `Alike` and `Blind`.
 pub mod Straight
 pub mod Growth
 pub mod Kept
@@ -10,3 +10,5 @@ pub mod Changed
 pub mod Handed
 pub mod Centre
 pub mod Thin
+pub mod Alike
+pub mod Blind

@@ -20,6 +20,8 @@ use Rattle.axis.specs.declared.kinds.Blue.{Blue}
 use Rattle.axis.specs.declared.kinds.Blue.the-variants as Blues
 use Rattle.axis.specs.declared.kinds.Group.{Group}
 use Rattle.axis.specs.declared.kinds.Group.the-variants.{Default, Cjk}
+use Rattle.axis.specs.declared.kinds.Mark.{Mark}
+use Rattle.axis.specs.declared.kinds.Mark.the-variants as Marks
 use Rattle.axis.specs.declared.edge.Edge.{Edge}
 use Rattle.axis.specs.declared.edge.Axis.{Axis}
 use Rattle.axis.specs.Link.{indexOr}
@@ -50,7 +52,7 @@ one-store axis i e true false = put-same axis i
 one-store axis i e false y = put-same axis i
 
 far-held : (axis : Axis) (h i k : ℕ) (l : Link) → l ≡ Links.To k
-    → heldTo axis h i h l ≡ cond (isFar (edgeAt axis k .pos) (edgeAt axis h .pos)) (putEdge axis i (placed (edgeAt axis i) (edgeAt axis h .pos))) axis
+    → heldTo axis h i h l ≡ cond (isFar (edgeAt axis k .pos) (edgeAt axis h .pos)) (putEdge axis i (placed (edgeAt axis i) (edgeAt axis h .pos) Marks.Bound)) axis
 unfolding heldTo
 far-held axis h i k l e = rw e
 
@@ -71,13 +73,13 @@ linkOf e = e .link
 oposOf : Edge → ℤ
 oposOf e = e .opos
 
-fix-keeps-link : (axis : Axis) (j i : ℕ) (p : ℤ) → edgeAt (fixAt axis j p) i .link ≡ edgeAt axis i .link
+fix-keeps-link : (axis : Axis) (j i : ℕ) (p : ℤ) (m : Mark) → edgeAt (fixAt axis j p m) i .link ≡ edgeAt axis i .link
 unfolding linkOf
-fix-keeps-link axis j i p = keeps linkOf (axis .edges) j i (fixedAt (edgeAt axis j) p) emptyEdge refl
+fix-keeps-link axis j i p m = keeps linkOf (axis .edges) j i (fixedAt (edgeAt axis j) p m) emptyEdge refl
 
-fix-keeps-opos : (axis : Axis) (j i : ℕ) (p : ℤ) → edgeAt (fixAt axis j p) i .opos ≡ edgeAt axis i .opos
+fix-keeps-opos : (axis : Axis) (j i : ℕ) (p : ℤ) (m : Mark) → edgeAt (fixAt axis j p m) i .opos ≡ edgeAt axis i .opos
 unfolding oposOf
-fix-keeps-opos axis j i p = keeps oposOf (axis .edges) j i (fixedAt (edgeAt axis j) p) emptyEdge refl
+fix-keeps-opos axis j i p m = keeps oposOf (axis .edges) j i (fixedAt (edgeAt axis j) p m) emptyEdge refl
 
 -- ---- the normal CJK stem
 -- an edge of a list changed, in its place
@@ -85,10 +87,10 @@ abbrev changedAt : (Edge → Edge) → ℕ → List Edge → List Edge
 changedAt f i es = set es i (f (getD es i emptyEdge))
 
 abbrev moved : ℤ → Edge → Edge
-moved p e = placed e p
+moved p e = placed e p Marks.Stem
 
 abbrev fixed : ℤ → Edge → Edge
-fixed p e = fixedAt e p
+fixed p e = fixedAt e p Marks.Stem
 
 moved-then-done : (es : List Edge) (i : ℕ) (p : ℤ) → changedAt finished i (changedAt (moved p) i es) ≡ changedAt (fixed p) i es
 moved-then-done [] i p = refl
@@ -177,21 +179,22 @@ module _ (m : Mode) (xs : List ℤ) (s : State) (i k : ℕ) where
 
   module _ (h : e .link ≡ Links.To k) where
     behind-is : carriedOut s i k (behindPlan e2 (widthOf (m .rule) xs e e2) (s .trail))
-        ≡ axisState s (s .trail) (adjusted (fixAt (s .axis) i (e2 .pos -ℤ widthOf (m .rule) xs e e2)) i Prev)
+        ≡ axisState s (s .trail) (adjusted (fixAt (s .axis) i (e2 .pos -ℤ widthOf (m .rule) xs e e2) Marks.Adjusted) i Prev)
     unfolding carriedOut secondEdge anchorAfter
     behind-is =
         let p = e2 .pos -ℤ widthOf (m .rule) xs e e2 in
         let plan = behindPlan e2 (widthOf (m .rule) xs e e2) (s .trail) in
+        let u = fixAt (s .axis) i p Marks.Adjusted in
         ap (axisState s (s .trail))
-        (ap (heldPut plan i k) (put-same (fixAt (s .axis) i p) k)
-        ∙ bound-is-adjusted (fixAt (s .axis) i p) i k plan refl (fix-keeps-link (s .axis) i i p ∙ h))
+        (ap (heldPut plan i k) (put-same u k)
+        ∙ bound-is-adjusted u i k plan refl (fix-keeps-link (s .axis) i i p Marks.Adjusted ∙ h))
 
     centred-is : (p n w : ℤ) → carriedOut s i k (centredPlan p n w (s .trail)) ≡ axisState s (s .trail) (adjusted (centredStem (s .axis) i k p n w) i Prev)
     unfolding carriedOut secondEdge anchorAfter
     centred-is p n w =
         ap (axisState s (s .trail))
         (bound-is-adjusted _ i k (centredPlan p n w (s .trail)) refl
-        (fix-keeps-link (fixAt (s .axis) i (anchoredFirst p n w)) k i (anchoredSecond p n w) ∙ fix-keeps-link (s .axis) i i (anchoredFirst p n w) ∙ h))
+        (fix-keeps-link (fixAt (s .axis) i (anchoredFirst p n w) Marks.Stem) k i (anchoredSecond p n w) Marks.Stem ∙ fix-keeps-link (s .axis) i i (anchoredFirst p n w) Marks.Stem ∙ h))
 
     anchored-is : (a : ℕ) → carriedOut s i k (anchoredPlan (m .rule) xs e e2 (edgeAt (s .axis) a) (s .trail))
         ≡ axisState s (s .trail) (adjusted (besideAnchor (m .rule) xs (s .axis) i k a) i Prev)
@@ -209,9 +212,9 @@ module _ (m : Mode) (xs : List ℤ) (s : State) (i k : ℕ) where
     unfolding carriedOut freePlan secondEdge heldEdge anchorAfter
     free-is =
         let p = freePos (m .rule) xs e e2 in
-        let u = fixAt (s .axis) i p in
+        let u = fixAt (s .axis) i p Marks.Anchor in
         ap (anchorState s i (s .trail))
-        (put-same _ i ∙ ap (λ (o : ℤ). putEdge u k (placed (edgeAt u k) (linkedPos (m .rule) xs p (e .opos) o))) (sym (fix-keeps-opos (s .axis) i k p)))
+        (put-same _ i ∙ ap (λ (o : ℤ). putEdge u k (placed (edgeAt u k) (linkedPos (m .rule) xs p (e .opos) o) Marks.Linked)) (sym (fix-keeps-opos (s .axis) i k p Marks.Anchor)))
 
     latin-is : (l : Link) → s .anchor ≡ l → carriedOut s i k (latinPlan (m .rule) xs e e2 (edgeAt (s .axis) (indexOr i l)) l (s .trail)) ≡ latinStem m xs s i k l
     unfolding latinPlan latinStem

@@ -17,6 +17,7 @@ use Rattle.axis.specs.declared.kinds.Blue.{Blue}
 use Rattle.axis.specs.declared.kinds.Blue.the-variants as Blues
 use Rattle.axis.specs.declared.kinds.Group.{Group}
 use Rattle.axis.specs.declared.kinds.Group.the-variants.{Default, Cjk}
+use Rattle.axis.specs.declared.kinds.Mark.the-variants.{Anchor}
 use Rattle.axis.specs.declared.edge.Edge.{Edge}
 use Rattle.axis.specs.declared.edge.Axis.{Axis}
 use Rattle.axis.specs.Edge.{emptyEdge, edgeAt, finished, fixedAt}
@@ -70,9 +71,9 @@ module _ (xs : List ℤ) (axis : Axis) (i k : ℕ) (hi : i < length (axis .edges
   -- the first stem
   pub first-seen : (p : ℤ) → SeenIn (firstStem Snap xs axis i k p)
   first-seen p =
-      let same-edge = getD-set-other (axis .edges) i k (fixedAt e p) emptyEdge (λ q. two (sym q)) in
+      let same-edge = getD-set-other (axis .edges) i k (fixedAt e p Anchor) emptyEdge (λ q. two (sym q)) in
       put-both (axis .edges) i k _ _ hi hk two
-      (subst (λ (f : Edge). PixelApart p (linkedEdge Snap xs (fixedAt e p) f .pos)) (sym same-edge) (linked-apart xs p (e .opos) (e2 .opos) w))
+      (subst (λ (f : Edge). PixelApart p (linkedEdge Snap xs (fixedAt e p Anchor) f .pos)) (sym same-edge) (linked-apart xs p (e .opos) (e2 .opos) w))
 
   -- by its link alone: a CJK stem whose second edge is in front, and an edge whose link is on a zone
   pub linked-seen : SeenIn (fixByLink Snap xs axis i k)

@@ -53,14 +53,14 @@ module _ (m : Mode) (xs : List ℤ) (s : State) (i : ℕ) where
     pub not-close : closeAt k ≡ false
     pub base-is : base ≡ indexOr i (s .anchor)
     pub plan-is : plan ≡ planOf m xs (edgeAt (s .axis) i) (edgeAt (s .axis) k) (edgeAt (s .axis) base) (s .anchor) (ltb k i) (s .trail)
-    pub first : e ≡ fixedAt (edgeAt (s .axis) i) (plan .first)
+    pub first : e ≡ fixedAt (edgeAt (s .axis) i) (plan .first) (plan .mark)
     pub second : g ≡ secondEdge (edgeAt (putEdge (s .axis) i e) k) (plan .second)
     pub prev-is : prev ≡ i - 1
     pub third : h ≡ heldEdge plan i (edgeAt (twoPut k e g) i) (edgeAt (twoPut k e g) prev) (edgeAt (twoPut k e g) k)
     pub anchor : a ≡ anchorAfter plan (s .anchor) i
 
   -- the axis after two stores, and after all three
-  pub two-puts : (k : ℕ) (plan : Plan) (e g : Edge) → e ≡ fixedAt (edgeAt (s .axis) i) (plan .first) → g ≡ secondEdge (edgeAt (putEdge (s .axis) i e) k) (plan .second)
+  pub two-puts : (k : ℕ) (plan : Plan) (e g : Edge) → e ≡ fixedAt (edgeAt (s .axis) i) (plan .first) (plan .mark) → g ≡ secondEdge (edgeAt (putEdge (s .axis) i e) k) (plan .second)
       → putEdge (putEdge (s .axis) i e) k g ≡ secondPut plan k (firstPut plan i (s .axis))
   two-puts k plan e g h1 h2 = cc
 

@@ -15,9 +15,12 @@ use Rattle.axis.specs.declared.kinds.Blue.{Blue}
 use Rattle.axis.specs.declared.kinds.Blue.the-variants as Blues
 use Rattle.axis.specs.declared.kinds.Group.{Group}
 use Rattle.axis.specs.declared.kinds.Group.the-variants.{Default, Cjk}
+use Rattle.axis.specs.declared.kinds.Mark.{Mark}
+use Rattle.axis.specs.declared.kinds.Mark.the-variants as Marks
 use Rattle.axis.specs.declared.edge.Edge.{Edge}
 use Rattle.axis.specs.declared.edge.Axis.{Axis}
 use Rattle.axis.specs.Edge.{edgeAt, putEdge, finished, fixedAt}
+use Rattle.axis.specs.Mark.{unmarkedAxis}
 use Rattle.axis.specs.Refusals.{linkHolds, edgesShort, bottomToTop, edgesIndexed, edgesInRange}
 use Rattle.axis.specs.Visits.{visits}
 use Rattle.placing.specs.declared.adjust.LinkDir.the-variants.{Prev}
@@ -43,9 +46,9 @@ pub record State : Type 0 where
 abbrev pub counted : State → State
 counted s = record { axis = s .axis; count = s .count + 1; anchor = s .anchor; trail = s .trail }
 
--- edge i at a position, done
-abbrev pub fixAt : Axis → ℕ → ℤ → Axis
-fixAt axis i p = putEdge axis i (fixedAt (edgeAt axis i) p)
+-- edge i at a position, done, and marked with what gave it
+abbrev pub fixAt : Axis → ℕ → ℤ → Mark → Axis
+fixAt axis i p m = putEdge axis i (fixedAt (edgeAt axis i) p m)
 
 -- edge i at its fitted width from edge k, as `align_linked_edge` puts it, and done
 abbrev pub fixByLink : WidthRule → List ℤ → Axis → ℕ → ℕ → Axis
@@ -56,24 +59,25 @@ abbrev pub bothDone : ℕ → ℕ → Axis → Axis
 bothDone i k axis = putEdge (putEdge axis i (finished (edgeAt axis i))) k (finished (edgeAt (putEdge axis i (finished (edgeAt axis i))) k))
 
 -- ---- a Latin stem, of edge i and its link k
--- both edges where a stem of start p, original length n and width w comes to lie beside an anchor, done
+-- both edges where a stem of start p, original length n and width w comes to lie beside an anchor, done and marked stem
 abbrev pub centredStem : Axis → ℕ → ℕ → ℤ → ℤ → ℤ → Axis
-centredStem axis i k p n w = fixAt (fixAt axis i (anchoredFirst p n w)) k (anchoredSecond p n w)
+centredStem axis i k p n w = fixAt (fixAt axis i (anchoredFirst p n w) Marks.Stem) k (anchoredSecond p n w) Marks.Stem
 
--- beside the anchor a: where edge k is done, edge i goes to the width before it, else the stem's start is as far from the anchor as it was
+-- beside the anchor a: where edge k is done, edge i is adjusted to the width before it, else the stem's start is as far from the anchor as it was
 unfoldable pub besideAnchor : WidthRule → List ℤ → Axis → ℕ → ℕ → ℕ → Axis
 besideAnchor rule xs axis i k a =
     cond (edgeAt axis k .flags .done)
-    (fixAt axis i (edgeAt axis k .pos -ℤ widthOf rule xs (edgeAt axis i) (edgeAt axis k)))
+    (fixAt axis i (edgeAt axis k .pos -ℤ widthOf rule xs (edgeAt axis i) (edgeAt axis k)) Marks.Adjusted)
     (centredStem axis i k (startBeside (edgeAt axis a) (edgeAt axis i)) (originalLen (edgeAt axis i) (edgeAt axis k)) (widthOf rule xs (edgeAt axis i) (edgeAt axis k)))
 
 -- where the first edge of the first, anchorless stem goes
 abbrev pub freePos : WidthRule → List ℤ → Edge → Edge → ℤ
 freePos rule xs e e2 = freeFirst (e .opos) (originalLen e e2) (widthOf rule xs e e2)
 
--- edge i at a position p, done, and edge k at its fitted width from it, as `align_linked_edge` puts it, not marked done
+-- edge i at a position p, done and marked as the anchor, and edge k at its fitted width from it, as `align_linked_edge` puts it, not done
 abbrev pub firstStem : WidthRule → List ℤ → Axis → ℕ → ℕ → ℤ → Axis
-firstStem rule xs axis i k p = putEdge (fixAt axis i p) k (linkedEdge rule xs (fixedAt (edgeAt axis i) p) (edgeAt (fixAt axis i p) k))
+firstStem rule xs axis i k p =
+    putEdge (fixAt axis i p Marks.Anchor) k (linkedEdge rule xs (fixedAt (edgeAt axis i) p Marks.Anchor) (edgeAt (fixAt axis i p Marks.Anchor) k))
 
 -- by the anchor: beside one, edge i is then held to the previous edge, as `adjust_link` does; with none, edge i becomes the anchor
 unfoldable pub latinStem : Mode → List ℤ → State → ℕ → ℕ → Link → State
@@ -177,3 +181,12 @@ alignStemEdges axis group adjust ttb anchor rule xs =
 -- what the call owes its caller: the answer, the count, the anchor and the axis
 abbrev pub AlignsStemEdges : Axis → Group → Bool → Bool → Link → WidthRule → List ℤ → Stems → Type 0
 AlignsStemEdges axis group adjust ttb anchor rule xs r = r ≡ alignStemEdges axis group adjust ttb anchor rule xs
+
+-- ---- marks
+-- those that the call gives
+abbrev pub stemsMarks : List Mark
+stemsMarks = Marks.Linked ∷ Marks.Anchor ∷ Marks.Stem ∷ Marks.Adjusted ∷ Marks.Bound ∷ []
+
+-- an outcome without the marks of its edges
+abbrev pub withoutMarks : Stems → Stems
+withoutMarks r = stems (r .count) (r .anchor) (unmarkedAxis (r .axis)) (r .answer)

@@ -21,7 +21,7 @@ planAt m xs s i k = planOf m xs (edgeAt (s .axis) i) (edgeAt (s .axis) k) (edgeA
 
 -- edge i is placed for good, then edge k as it is then, and edge i as it is then is held to the previous edge
 abbrev pub firstPut : Plan → ℕ → Axis → Axis
-firstPut plan i axis = putEdge axis i (fixedAt (edgeAt axis i) (plan .first))
+firstPut plan i axis = putEdge axis i (fixedAt (edgeAt axis i) (plan .first) (plan .mark))
 
 abbrev pub secondPut : Plan → ℕ → Axis → Axis
 secondPut plan k axis = putEdge axis k (secondEdge (edgeAt axis k) (plan .second))

@@ -1,3 +1,4 @@
--- The laws by subject, each over plain variables.
+-- The laws by subject, each over plain variables; `Alike` is request #105.
 pub mod Ranges
 pub mod Tests
+pub mod Alike

@@ -13,6 +13,7 @@ use Rattle.axis.specs.declared.kinds.Blue.{Blue}
 use Rattle.axis.specs.declared.kinds.Blue.the-variants as Blues
 use Rattle.axis.specs.declared.kinds.Group.{Group}
 use Rattle.axis.specs.declared.kinds.Group.the-variants.{Default, Cjk}
+use Rattle.axis.specs.declared.kinds.Mark.the-variants as Marks
 use Rattle.axis.specs.declared.edge.Edge.{Edge}
 use Rattle.axis.specs.Edge.{placed, fixedAt}
 use Rattle.placing.specs.declared.adjust.LinkDir.the-variants.{Prev}
@@ -31,16 +32,16 @@ use Rattle.stems_plan.specs.declared.kinds.Plan.{Plan}
 -- ---- a stem placed by its link
 -- the edge goes to its fitted width from its link, as `align_linked_edge` puts it
 abbrev pub linkedPlan : WidthRule → List ℤ → Edge → Edge → Trail → Plan
-linkedPlan rule xs e e2 trail = record { first = linkedEdge rule xs e2 e .pos; second = Stays; bounded = false; anchors = false; trail = trail }
+linkedPlan rule xs e e2 trail = record { first = linkedEdge rule xs e2 e .pos; mark = linkedEdge rule xs e2 e .mark; second = Stays; bounded = false; anchors = false; trail = trail }
 
 -- ---- Latin stems
 -- the second edge is done: the first goes to the width w before it
 abbrev pub behindPlan : Edge → ℤ → Trail → Plan
-behindPlan e2 w trail = record { first = e2 .pos -ℤ w; second = Stays; bounded = true; anchors = false; trail = trail }
+behindPlan e2 w trail = record { first = e2 .pos -ℤ w; mark = Marks.Adjusted; second = Stays; bounded = true; anchors = false; trail = trail }
 
 -- it is not: both edges are placed by the stem's start p, length n and width w
 abbrev pub centredPlan : ℤ → ℤ → ℤ → Trail → Plan
-centredPlan p n w trail = record { first = anchoredFirst p n w; second = Fixed (anchoredSecond p n w); bounded = true; anchors = false; trail = trail }
+centredPlan p n w trail = record { first = anchoredFirst p n w; mark = Marks.Stem; second = Fixed (anchoredSecond p n w); bounded = true; anchors = false; trail = trail }
 
 -- a stem beside the anchor a
 unfoldable pub anchoredPlan : WidthRule → List ℤ → Edge → Edge → Edge → Trail → Plan
@@ -53,6 +54,7 @@ anchoredPlan rule xs e e2 a trail =
 unfoldable pub freePlan : WidthRule → List ℤ → Edge → Edge → Trail → Plan
 freePlan rule xs e e2 trail = record {
   first = freeFirst (e .opos) (originalLen e e2) (widthOf rule xs e e2);
+  mark = Marks.Anchor;
   second = Placed (linkedPos rule xs (freeFirst (e .opos) (originalLen e e2) (widthOf rule xs e e2)) (e .opos) (e2 .opos));
   bounded = false;
   anchors = true;
@@ -67,7 +69,7 @@ latinPlan rule xs e e2 a (Links.To k) trail = anchoredPlan rule xs e e2 a trail
 -- ---- CJK stems
 -- both edges are placed for good, the first is the anchor, and the second is where the last stem is
 abbrev pub fixedPlan : ℤ → ℤ → ℤ → Plan
-fixedPlan p q d = record { first = p; second = Fixed q; bounded = false; anchors = true; trail = record { last = LastStems.At q; delta = d } }
+fixedPlan p q d = record { first = p; mark = Marks.Stem; second = Fixed q; bounded = false; anchors = true; trail = record { last = LastStems.At q; delta = d } }
 
 -- the edge of the smaller original position is the stem's lower one
 unfoldable pub stemPlan : Edge → Edge → Stem → ℤ → Plan
@@ -105,8 +107,8 @@ planOf m xs e e2 a anchor before trail = zonePlan (e2 .blue) m xs e e2 a anchor 
 -- the second edge
 unfoldable pub secondEdge : Edge → Second → Edge
 secondEdge e Stays = e
-secondEdge e (Placed p) = placed e p
-secondEdge e (Fixed p) = fixedAt e p
+secondEdge e (Placed p) = placed e p Marks.Linked
+secondEdge e (Fixed p) = fixedAt e p Marks.Stem
 
 -- the neighbour bound, as `adjust_link` has it: the edge has passed the previous one, and its link is far from that
 abbrev pub isOver : Edge → Edge → Edge → Bool
@@ -116,9 +118,9 @@ isOver e prev link = hasPassed Prev (e .pos) (prev .pos) && isFar (link .pos) (p
 abbrev pub isBounded : Plan → ℕ → Bool
 isBounded plan i = plan .bounded && ltb 0 i
 
--- edge i then takes the previous edge's position
+-- edge i then takes the previous edge's position, and is bound
 unfoldable pub heldEdge : Plan → ℕ → Edge → Edge → Edge → Edge
-heldEdge plan i e prev link = cond (isBounded plan i && isOver e prev link) (placed e (prev .pos)) e
+heldEdge plan i e prev link = cond (isBounded plan i && isOver e prev link) (placed e (prev .pos) Marks.Bound) e
 
 -- edge i becomes the anchor where the plan says so
 unfoldable pub anchorAfter : Plan → Link → ℕ → Link

@@ -8,6 +8,7 @@ use super::linked::linked_plan;
 use axis::edge::Edge;
 use axis::kinds::Dimension;
 use axis::kinds::Link;
+use axis::kinds::Mark;
 use cjk_numbers::stem::Stem;
 use cjk_numbers::stem::stem_of;
 ghost use mathlib.Core.Path.{_≡_};
@@ -30,6 +31,7 @@ fn fixed_plan(first: i32, second: i32, delta: i32) -> Plan
     };
     Plan {
         first,
+        mark: Mark::Stem,
         second: Second::Fixed(second),
         bounded: false,
         anchors: true,

@@ -5,6 +5,7 @@ use super::kinds::Second;
 use super::kinds::Trail;
 use axis::edge::Edge;
 use axis::kinds::Link;
+use axis::kinds::Mark;
 use fixed::width::WidthRule;
 use fixed::width::stem_width;
 use stem_latin::anchored::anchored_first;
@@ -51,6 +52,7 @@ fn behind_plan(edge2: Edge, width: i32, trail: Trail) -> Plan
 {
     Plan {
         first: edge2.pos - width,
+        mark: Mark::Adjusted,
         second: Second::Stays,
         bounded: true,
         anchors: false,
@@ -67,6 +69,7 @@ fn centred_plan(start: i32, org_len: i32, width: i32, trail: Trail) -> Plan
     let second = anchored_second(start, org_len, width, first);
     Plan {
         first,
+        mark: Mark::Stem,
         second: Second::Fixed(second),
         bounded: true,
         anchors: false,
@@ -109,6 +112,7 @@ fn free_plan(mode: Mode, standards: &[i32], edge: Edge, edge2: Edge, trail: Trai
     let first = free_first(edge.opos, org_len, width);
     Plan {
         first,
+        mark: Mark::Anchor,
         second: Second::Placed(first + width),
         bounded: false,
         anchors: true,

@@ -19,8 +19,10 @@ pub fn linked_plan(mode: Mode, standards: &[i32], edge: Edge, edge2: Edge, trail
 {
     let rule = mode.rule;
     let placed = linked_edge(rule, standards, edge2, edge);
+    let mark = placed.mark;
     Plan {
         first: placed.pos,
+        mark,
         second: Second::Stays,
         bounded: false,
         anchors: false,

@@ -5,6 +5,7 @@ use axis::edge::Edge;
 use axis::edge::fix_at;
 use axis::edge::with_pos;
 use axis::kinds::Link;
+use axis::kinds::Mark;
 use placing::adjust::LinkDir;
 use placing::adjust::has_passed;
 use placing::adjust::is_far;
@@ -20,9 +21,10 @@ ghost use Rattle.stems_plan.specs.Steps.{mostPlace};
 // The first edge of a stem.
 pub fn first_edge(edge: Edge, plan: Plan) -> Edge
     requires { ⌜ Between mostPlace mostPlace (plan .first) ⌝ }
-    ensures { λ r. ⌜ r ≡ fixedAt edge (plan .first) ⌝ }
+    ensures { λ r. ⌜ r ≡ fixedAt edge (plan .first) (plan .mark) ⌝ }
 {
-    fix_at(edge, plan.first)
+    let mark = plan.mark;
+    fix_at(edge, plan.first, mark)
 }
 
 // The second edge of a stem.
@@ -32,8 +34,8 @@ pub fn second_edge(edge: Edge, plan: Plan) -> Edge
     let second = plan.second;
     match second {
         Second::Stays => edge,
-        Second::Placed(pos) => with_pos(edge, pos),
-        Second::Fixed(pos) => fix_at(edge, pos),
+        Second::Placed(pos) => with_pos(edge, pos, Mark::Linked),
+        Second::Fixed(pos) => fix_at(edge, pos, Mark::Stem),
     }
 }
 
@@ -75,7 +77,7 @@ pub fn hold(plan: Plan, i: usize, edge: Edge, prev: Edge, link: Edge) -> Edge
 {
     if is_bounded(plan, i) {
         if is_over(edge, prev, link) {
-            return with_pos(edge, prev.pos);
+            return with_pos(edge, prev.pos, Mark::Bound);
         }
     }
     edge

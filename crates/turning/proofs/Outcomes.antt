@@ -3,14 +3,17 @@ use mathlib.Core.Path.{_≡_, refl, sym, ap, subst, _∙_}
 use Prim.Native.Nat.{ℕ, suc, _<_}
 use Rattle.refusals.specs.Refusal.{refusal}
 use Rattle.refusals.proofs.Answers.{none-refused}
+use Rattle.axis.specs.declared.edge.Edge.{Edge}
 use Rattle.axis.specs.declared.edge.Axis.{Axis}
 use Rattle.axis.specs.declared.segment.Segments.{Segments}
+use Rattle.axis.specs.Edge.{edgeAt}
 use Rattle.axis.specs.Ring.{members, Sound}
 use Rattle.turning.specs.declared.turn.Turned.{Turned}
 use Rattle.turning.specs.Turning.{turnedIndex, turnedAxis, turnedSegments, turningTests, beside, turnOver, TurnsOver, Whole}
 use Rattle.turning.proofs.Calls.{Taken, taken, not-refused}
 use Rattle.turning.proofs.Rings as Rings
-use Rattle.turning.proofs.Twice.{taken-again, axis-twice, segments-twice}
+use Rattle.turning.proofs.Places.{turned-edge-at}
+use Rattle.turning.proofs.Twice.{edges-whole, taken-again, axis-twice, segments-twice}
 
 module _ (axis : Axis) (t : Segments) where
   -- a refusal hands back its number, and the axis and the segments as they were
@@ -59,6 +62,11 @@ module _ (axis : Axis) (t : Segments) (w : Whole axis t) (e : turnOver axis t .a
 
   pub twice : turnOver turned table ≡ beside axis t 0
   twice = done turned table handed-on ∙ ap (λ (x : Turned). beside (turnedAxis (x .axis)) (turnedSegments (x .axis .len) (x .segments)) 0) outcome ∙ back
+
+  -- every edge takes its mark along
+  pub same-mark : (i : ℕ) → i < axis .len → edgeAt turned i .mark ≡ edgeAt axis (turnedIndex (axis .len) i) .mark
+  same-mark i h =
+      ap (λ (x : Turned). edgeAt (x .axis) i .mark) outcome ∙ ap (λ (x : Edge). x .mark) (turned-edge-at axis (edges-whole axis t w is-taken) i h)
 
   -- the ring of an edge has the same segments in the same order, sound or not
   pub same-ring : (k : ℕ) → k < axis .len → members turned table (turnedIndex (axis .len) k) ≡ members axis t k

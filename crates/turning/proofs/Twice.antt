@@ -128,6 +128,7 @@ module _ (axis : Axis) (t : Segments) (w : Whole axis t) (a : Taken axis t) wher
         serif = link-twice m (e .serif) (w .serif) j;
         first = e .first;
         last = e .last;
+        mark = e .mark;
       }
 
   segment-twice : (i : ℕ) → i < t .len → turnedSegment m (turnedSegment m (segmentAt t i)) ≡ segmentAt t i

@@ -10,8 +10,10 @@ use Rattle.axis.specs.declared.kinds.Dimension.the-variants as Dimensions
 use Rattle.axis.specs.declared.kinds.Direction.the-variants as Directions
 use Rattle.axis.specs.declared.kinds.Link.{Link}
 use Rattle.axis.specs.declared.kinds.Link.the-variants.{None, To}
+use Rattle.axis.specs.declared.kinds.Mark.{Mark}
+use Rattle.axis.specs.declared.kinds.Mark.the-variants.{Blue, Stem}
 use Rattle.axis.specs.declared.segment.Segment.{Segment}
-use Rattle.axis.specs.Edge.{freshEdge, joinedTo}
+use Rattle.axis.specs.Edge.{freshEdge, placed, joinedTo}
 use Rattle.axis.specs.Refusals.{linkHolds, blueHolds, every, edgeIndices, edgeNumbers, edgesIndices, edgesNumbers}
 use Rattle.axis.specs.Refusals.{segmentIndices, segmentNext, segmentNumbers, segmentsIndices, segmentsNexts, segmentsNumbers}
 use Rattle.axis.specs.Segment.{emptySegment}
@@ -21,6 +23,10 @@ use Rattle.turning.specs.Turning.{turnedEdges, turnedSegment, turningTes
 -- an edge at a font position with its only segment, a link and a serif
 abbrev edge : ℕ → ℕ → Link → Link → Edge
 edge p i link serif = joinedTo (freshEdge (pos p) (pos p) Directions.Up i) link serif
+
+-- an edge with a mark
+abbrev by : Mark → Edge → Edge
+by m e = placed e (e .pos) m
 
 -- a segment of an edge, alone in its ring
 abbrev segment : Link → ℕ → Segment
@@ -47,6 +53,10 @@ three :
     turnedEdges 3 (edge 1 0 (To 1) None ∷ edge 2 1 (To 0) None ∷ edge 3 2 None (To 0) ∷ edge 9 0 (To 0) None ∷ [])
     ≡ edge 3 2 None (To 2) ∷ edge 2 1 (To 2) None ∷ edge 1 0 (To 1) None ∷ edge 9 0 (To 0) None ∷ []
 three = refl
+
+-- marks go with their edges
+marked : turnedEdges 2 (by Stem (edge 1 0 (To 1) None) ∷ by Blue (edge 2 1 (To 0) None) ∷ []) ≡ by Blue (edge 2 1 (To 1) None) ∷ by Stem (edge 1 0 (To 0) None) ∷ []
+marked = refl
 
 -- no edge, nothing to change; one edge stays where it is
 none : turnedEdges 0 (edge 9 0 (To 0) None ∷ []) ≡ edge 9 0 (To 0) None ∷ []

@@ -12,6 +12,7 @@ use Rattle.axis.specs.declared.segment.Segment.{Segment}
 use Rattle.axis.specs.declared.segment.Segments.{Segments}
 use Rattle.axis.specs.Edge.{joinedTo}
 use Rattle.axis.specs.Limits.{mostEdges, mostSegments}
+use Rattle.axis.specs.Mark.{unmarkedAxis}
 use Rattle.axis.specs.Refusals.{segmentsNexts, edgesShort, edgesIndexed, edgesInRange, segmentsShort, segmentsIndexed, segmentsInRange}
 use Rattle.turning.specs.declared.turn.Turned.{Turned}
 use Rattle.turning.specs.Indices.{segmentsEdges, edgesSegments}
@@ -81,6 +82,10 @@ turningTests axis t =
 -- an answer beside an axis and its segments
 abbrev pub beside : Axis → Segments → ℕ → Turned
 beside axis t k = record { answer = k; axis = axis; segments = t }
+
+-- the same without marks
+abbrev pub withoutMarks : Turned → Turned
+withoutMarks r = beside (unmarkedAxis (r .axis)) (r .segments) (r .answer)
 
 -- what the call hands back: the axis and its segments turned over beside 0, or both as they were beside the refusal
 unfoldable pub turnOver : Axis → Segments → Turned

@@ -15,10 +15,12 @@ use Rattle.axis.specs.declared.kinds.Direction.{Direction}
 use Rattle.axis.specs.declared.kinds.Direction.the-variants as Directions
 use Rattle.axis.specs.declared.kinds.Link.{Link}
 use Rattle.axis.specs.declared.kinds.Link.the-variants as Links
+use Rattle.axis.specs.declared.kinds.Mark.{Mark}
+use Rattle.axis.specs.declared.kinds.Mark.the-variants as Marks
 use Rattle.axis.specs.declared.edge.Edge.{Edge}
 use Rattle.axis.specs.declared.segment.Segment.{Segment}
 use Rattle.axis.specs.Accepted.{Below}
-use Rattle.words.specs.Field.{shortOf, indexOf, linkOf, choiceOf, directionOf, blueOf, flagsOf, linkWord, directionWord, presentWord, fittedWord, flagsWord}
+use Rattle.words.specs.Field.{shortOf, indexOf, linkOf, choiceOf, directionOf, blueOf, flagsOf, markOf, linkWord, directionWord, presentWord, fittedWord, flagsWord, markWord}
 use Rattle.words.specs.Edge.{edgeFrom, edgeWords}
 use Rattle.words.specs.Segment.{segmentFrom, segmentWords}
 use Rattle.words.proofs.Fields.{short-is}
@@ -42,6 +44,19 @@ direction-back Directions.Right = refl
 direction-back Directions.Left = refl
 direction-back Directions.Up = refl
 direction-back Directions.Down = refl
+
+mark-back : (m : Mark) → markOf (markWord m) ≡ m
+unfolding markOf
+mark-back Marks.Nothing = refl
+mark-back Marks.BlueAnchor = refl
+mark-back Marks.Blue = refl
+mark-back Marks.Linked = refl
+mark-back Marks.Anchor = refl
+mark-back Marks.Stem = refl
+mark-back Marks.Adjusted = refl
+mark-back Marks.Bound = refl
+mark-back Marks.Serif = refl
+mark-back Marks.LowercaseM = refl
 
 blue-back : (b : Blue) → blueOf (presentWord b) (fittedWord b) ≡ b
 unfolding blueOf choiceOf
@@ -90,6 +105,7 @@ edge-back e h =
       link-back (e .serif) (h .serif),
       index-back (e .first) (h .first),
       index-back (e .last) (h .last),
+      mark-back (e .mark),
     )
 
 pub record SegmentFits (s : Segment) : Type 0 where

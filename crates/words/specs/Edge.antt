@@ -10,11 +10,11 @@ use Rattle.axis.specs.declared.kinds.Direction.{Direction}
 use Rattle.axis.specs.Edge.{emptyEdge, edgeAt}
 use Rattle.axis.specs.Limits.{mostEdges}
 use Rattle.words.specs.Word.{wordAt, written, joined, table}
-use Rattle.words.specs.Field.{shortOf, indexOf, linkOf, directionOf, blueOf, flagsOf, linkWord, directionWord, presentWord, fittedWord, flagsWord}
+use Rattle.words.specs.Field.{shortOf, indexOf, linkOf, directionOf, blueOf, flagsOf, markOf, linkWord, directionWord, presentWord, fittedWord, flagsWord, markWord}
 
 -- how many words an edge is
 abbrev pub edgeSize : ℕ
-edgeSize = 11
+edgeSize = 12
 
 -- how many words the places of the working table are
 abbrev pub tableSize : ℕ
@@ -55,6 +55,9 @@ firstPlace = 9
 abbrev pub lastPlace : ℕ
 lastPlace = 10
 
+abbrev pub markPlace : ℕ
+markPlace = 11
+
 -- the word of edge i in a list of edges, by its field's place
 abbrev pub wordOfEdge : ℕ → ℕ → ℕ
 wordOfEdge i place = edgeSize * i + place
@@ -73,6 +76,7 @@ edgeFrom ws at = record {
   serif = linkOf (wordAt ws (at + serifPlace));
   first = indexOf (wordAt ws (at + firstPlace));
   last = indexOf (wordAt ws (at + lastPlace));
+  mark = markOf (wordAt ws (at + markPlace));
 }
 
 -- an edge of those whose words stand from a place on
@@ -99,7 +103,7 @@ flatAxis ws dim major = axisRun ws 0 dim major (edgesIn ws)
 unfoldable pub edgeWords : Edge → List ℤ
 edgeWords e =
     e .fpos ∷ e .opos ∷ e .pos ∷ flagsWord (e .flags) ∷ directionWord (e .dir) ∷ presentWord (e .blue) ∷ fittedWord (e .blue)
-    ∷ linkWord (e .link) ∷ linkWord (e .serif) ∷ pos (e .first) ∷ pos (e .last) ∷ []
+    ∷ linkWord (e .link) ∷ linkWord (e .serif) ∷ pos (e .first) ∷ pos (e .last) ∷ markWord (e .mark) ∷ []
 
 -- an edge of an axis
 abbrev pub edgeWordsAt : Axis → ℕ → List ℤ

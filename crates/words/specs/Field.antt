@@ -8,6 +8,7 @@ use lib.IntN.{ℤ, pos, negsuc}
 use Rattle.signed.specs.Parts.{up}
 use Rattle.signed.specs.Equality.{eqZ}
 use Rattle.axis.specs.Refusals.{inside}
+use Rattle.axis.specs.Mark.{markNumber}
 use Rattle.axis.specs.declared.flags.Flags.{Flags}
 use Rattle.axis.specs.declared.kinds.Blue.{Blue}
 use Rattle.axis.specs.declared.kinds.Blue.the-variants as Blues
@@ -19,6 +20,8 @@ use Rattle.axis.specs.declared.kinds.Group.{Group}
 use Rattle.axis.specs.declared.kinds.Group.the-variants as Groups
 use Rattle.axis.specs.declared.kinds.Link.{Link}
 use Rattle.axis.specs.declared.kinds.Link.the-variants as Links
+use Rattle.axis.specs.declared.kinds.Mark.{Mark}
+use Rattle.axis.specs.declared.kinds.Mark.the-variants as Marks
 use Rattle.fixed.specs.declared.width.WidthRule.{WidthRule}
 use Rattle.fixed.specs.declared.width.WidthRule.the-variants.{Keep, Snap}
 use Rattle.placing.specs.declared.adjust.LinkDir.{LinkDir}
@@ -48,6 +51,14 @@ directions = Directions.None ∷ Directions.Right ∷ Directions.Left ∷ Direct
 
 unfoldable pub directionOf : ℤ → Direction
 directionOf w = getD directions (up w) Directions.None
+
+-- a mark
+abbrev pub marks : List Mark
+marks =
+    Marks.Nothing ∷ Marks.BlueAnchor ∷ Marks.Blue ∷ Marks.Linked ∷ Marks.Anchor ∷ Marks.Stem ∷ Marks.Adjusted ∷ Marks.Bound ∷ Marks.Serif ∷ Marks.LowercaseM ∷ []
+
+unfoldable pub markOf : ℤ → Mark
+markOf w = getD marks (up w) Marks.Nothing
 
 -- a group
 unfoldable pub groupOf : ℤ → Group
@@ -87,6 +98,9 @@ directionWord Directions.Right = pos 1
 directionWord Directions.Left = pos 2
 directionWord Directions.Up = pos 3
 directionWord Directions.Down = pos 4
+
+abbrev pub markWord : Mark → ℤ
+markWord m = pos (markNumber m)
 
 -- whether there is a blue, and its fitted position, 0 where there is none
 abbrev pub presentWord : Blue → ℤ

@@ -9,6 +9,8 @@ use super::field::index_at;
 use super::field::index_word;
 use super::field::link_at;
 use super::field::link_word;
+use super::field::mark_at;
+use super::field::mark_word;
 use super::field::present_word;
 use super::field::short_at;
 use super::field::short_word;
@@ -29,7 +31,7 @@ ghost use Rattle.axis.specs.Limits.{mostEdges};
 ghost use Rattle.words.specs.Edge.{edgeSize, edgeFrom, axisRun, flatAxis, edgeWords, edgeWordsAt, edgesOver};
 
 // How many words an edge is.
-pub const EDGE_WORDS: usize = 11;
+pub const EDGE_WORDS: usize = 12;
 
 // How many words the places of the working table are.
 pub const TABLE_WORDS: usize = EDGE_WORDS * MOST_EDGES;
@@ -50,6 +52,7 @@ pub fn edge_from(words: &[i32], at: usize) -> Edge
         serif: link_at(words, at + 8),
         first: index_at(words, at + 9),
         last: index_at(words, at + 10),
+        mark: mark_at(words, at + 11),
     }
 }
 
@@ -86,6 +89,7 @@ pub fn edge_words(edge: Edge) -> [i32; EDGE_WORDS]
     let blue = edge.blue;
     let link = edge.link;
     let serif = edge.serif;
+    let mark = edge.mark;
     [
         short_word(edge.fpos),
         edge.opos,
@@ -98,6 +102,7 @@ pub fn edge_words(edge: Edge) -> [i32; EDGE_WORDS]
         link_word(serif),
         index_word(edge.first),
         index_word(edge.last),
+        mark_word(mark),
     ]
 }
 

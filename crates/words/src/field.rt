@@ -7,14 +7,15 @@ use axis::kinds::Dimension;
 use axis::kinds::Direction;
 use axis::kinds::Group;
 use axis::kinds::Link;
+use axis::kinds::Mark;
 use fixed::width::WidthRule;
 use placing::adjust::LinkDir;
 ghost use mathlib.Core.Path.{_≡_};
 ghost use Prim.Native.Nat.{_+_, _≤_};
 ghost use lib.IntN.{pos};
 ghost use Rattle.words.specs.Word.{wordAt};
-ghost use Rattle.words.specs.Field.{shortOf, indexOf, linkOf, choiceOf, directionOf, groupOf, dimensionOf, ruleOf, linkDirOf, blueOf, flagsOf, oddOf, weightOf};
-ghost use Rattle.words.specs.Field.{linkWord, directionWord, presentWord, fittedWord, flagsWord};
+ghost use Rattle.words.specs.Field.{shortOf, indexOf, linkOf, choiceOf, directionOf, markOf, groupOf, dimensionOf, ruleOf, linkDirOf, blueOf, flagsOf, oddOf, weightOf};
+ghost use Rattle.words.specs.Field.{linkWord, directionWord, markWord, presentWord, fittedWord, flagsWord};
 
 // The directions, by their words.
 const DIRECTIONS: [Direction; 5] = [
@@ -23,6 +24,20 @@ const DIRECTIONS: [Direction; 5] = [
     Direction::Left,
     Direction::Up,
     Direction::Down,
+];
+
+// The marks, by their words.
+const MARKS: [Mark; 10] = [
+    Mark::Nothing,
+    Mark::BlueAnchor,
+    Mark::Blue,
+    Mark::Linked,
+    Mark::Anchor,
+    Mark::Stem,
+    Mark::Adjusted,
+    Mark::Bound,
+    Mark::Serif,
+    Mark::LowercaseM,
 ];
 
 // A 16-bit number.
@@ -100,6 +115,24 @@ pub fn direction_at(words: &[i32], i: usize) -> Direction
     ensures { λ r. ⌜ r ≡ directionOf (wordAt (now (words .entry)) i) ⌝ }
 {
     direction_of(word_at(words, i))
+}
+
+// A mark.
+fn mark_of(word: i32) -> Mark
+    ensures { λ r. ⌜ r ≡ markOf word ⌝ }
+{
+    let number = size_of(word);
+    if number < 10 {
+        return MARKS[number];
+    }
+    Mark::Nothing
+}
+
+// The mark at a place.
+pub fn mark_at(words: &[i32], i: usize) -> Mark
+    ensures { λ r. ⌜ r ≡ markOf (wordAt (now (words .entry)) i) ⌝ }
+{
+    mark_of(word_at(words, i))
 }
 
 // A group.
@@ -207,6 +240,24 @@ pub fn direction_word(direction: Direction) -> i32
         Direction::Left => 2,
         Direction::Up => 3,
         Direction::Down => 4,
+    }
+}
+
+// A mark as a word.
+pub fn mark_word(mark: Mark) -> i32
+    ensures { λ r. ⌜ r ≡ markWord mark ⌝ }
+{
+    match mark {
+        Mark::Nothing => 0,
+        Mark::BlueAnchor => 1,
+        Mark::Blue => 2,
+        Mark::Linked => 3,
+        Mark::Anchor => 4,
+        Mark::Stem => 5,
+        Mark::Adjusted => 6,
+        Mark::Bound => 7,
+        Mark::Serif => 8,
+        Mark::LowercaseM => 9,
     }
 }
 

@@ -17,13 +17,13 @@ use Rattle.axis.specs.declared.kinds.Blue.the-variants as Blues
 use Rattle.axis.specs.declared.edge.Edge.{Edge}
 use Rattle.axis.specs.declared.edge.Axis.{Axis}
 use Rattle.axis.specs.Link.{indexOr}
-use Rattle.axis.specs.Edge.{emptyEdge, edgeAt, putEdge, fixedAt}
+use Rattle.axis.specs.Edge.{emptyEdge, edgeAt, putEdge}
 use Rattle.axis.specs.Limits.{mostUnits}
 use Rattle.axis.specs.Accepted.{Below, InZone, EdgeWithin, AxisWithin}
 use Rattle.placing.specs.Placing.{linkedPos}
 use Rattle.placing.specs.Steps.{mostWidth, mostReach, InReach}
 use Rattle.placing.proofs.Reach.{width-range}
-use Rattle.zone.specs.Zones.{hasBlue}
+use Rattle.zone.specs.Zones.{hasBlue, zonedEdge}
 use Rattle.zone.specs.Steps.{thinned, zoneOf, linkedOrZoned}
 
 -- ---- edges
@@ -97,9 +97,9 @@ pub zone-at : (m n i k : ℕ) (axis : Axis) (x : Blue) (z : ℤ) → AxisWithin 
 zone-at m n i k axis x z h e hi hk q g =
     zone-in (edgeAt axis i .blue) (edgeAt axis k .blue) (edge-at m n i axis h e hi .blue) (edge-at m n k axis h e hk .blue) .at z (sym q ∙ g)
 
-pub zone-put : (m n i : ℕ) (axis : Axis) (z : ℤ) (e : Edge) → AxisWithin m axis → axis .len ≡ n → i < n → mostUnits ≤ m → Between mostUnits mostUnits z
-    → e ≡ fixedAt (edgeAt axis i) z → AxisWithin m (putEdge axis i e)
-zone-put m n i axis z e h q k r w g =
+pub zone-put : (m n i : ℕ) (axis : Axis) (a : Link) (z : ℤ) (e : Edge) → AxisWithin m axis → axis .len ≡ n → i < n → mostUnits ≤ m → Between mostUnits mostUnits z
+    → e ≡ zonedEdge a (edgeAt axis i) z → AxisWithin m (putEdge axis i e)
+zone-put m n i axis a z e h q k r w g =
     let f = h .edge i (omega arith) in
     put-within m i axis e h (subst (EdgeWithin m (axis .len)) (sym g) (record { opos = f .opos; pos = omega arith; blue = f .blue; link = f .link; serif = f .serif }))
 

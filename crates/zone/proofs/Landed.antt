@@ -19,13 +19,13 @@ use Rattle.axis.specs.declared.kinds.Link.the-variants as Links
 use Rattle.axis.specs.declared.edge.Axis.{Axis}
 use Rattle.axis.specs.declared.edge.Edge.{Edge}
 use Rattle.axis.specs.Accepted.{Below, InZone, AxisWithin}
-use Rattle.axis.specs.Edge.{emptyEdge, edgeAt, putEdge, fixedAt}
+use Rattle.axis.specs.Edge.{emptyEdge, edgeAt, putEdge}
 use Rattle.axis.specs.Limits.{mostUnits, mostPos}
 use Rattle.axis.specs.Visits.{visits}
 use Rattle.placing.specs.Placing.{linkedPos}
 use Rattle.placing.proofs.Reach.{width-range}
 use Rattle.zone.specs.Landed.{mostZoned, Landed, AllLanded}
-use Rattle.zone.specs.Zones.{hasBlue, unzoned, skipped, onZone, linkAligned, State, visitAlone, visitPair, visitLink, visit}
+use Rattle.zone.specs.Zones.{hasBlue, unzoned, skipped, zonedEdge, onZone, linkAligned, State, visitAlone, visitPair, visitLink, visit}
 use Rattle.zone.proofs.Kept.{no-zone}
 
 -- ---- a store
@@ -86,13 +86,13 @@ module _ (old : Axis) where
       h
 
   -- on its zone it is within the zones
-  zone : (i : ℕ) (axis : Axis) (z : ℤ) → i < old .len → Between mostUnits mostUnits z → AxisLanded old axis → AxisLanded old (onZone axis i z)
-  zone i axis z q w h =
+  zone : (i : ℕ) (axis : Axis) (a : Link) (z : ℤ) → i < old .len → Between mostUnits mostUnits z → AxisLanded old axis → AxisLanded old (onZone axis a i z)
+  zone i axis a z q w h =
       let e = h .edge i q in
       put i axis _ h (record { landed = record { opos = e .landed .opos; pos = inr (omega arith) }; units = e .units; blue = e .blue; link = e .link; serif = e .serif })
 
-  on-zone : (i : ℕ) (axis : Axis) (z : ℤ) → Between mostUnits mostUnits z → Between mostUnits mostUnits (edgeAt (onZone axis i z) i .pos)
-  on-zone i axis z w = set-own (λ (e : Edge). Between mostUnits mostUnits (e .pos)) emptyEdge (fixedAt (edgeAt axis i) z) (axis .edges) i w (omega arith)
+  on-zone : (i : ℕ) (axis : Axis) (a : Link) (z : ℤ) → Between mostUnits mostUnits z → Between mostUnits mostUnits (edgeAt (onZone axis a i z) i .pos)
+  on-zone i axis a z w = set-own (λ (e : Edge). Between mostUnits mostUnits (e .pos)) emptyEdge (zonedEdge a (edgeAt axis i) z) (axis .edges) i w (omega arith)
 
   -- and an edge without one is a width away from that
   aligned : (rule : WidthRule) (xs : List ℤ) (i j : ℕ) (axis : Axis) → i < old .len → j < old .len → Between mostUnits mostUnits (edgeAt axis i .pos) → AxisLanded old axis
@@ -116,13 +116,13 @@ module _ (old : Axis) where
   alone : (s : State) (i : ℕ) (x : Blue) → i < old .len → InZone x → AxisLanded old (s .axis) → AxisLanded old (visitAlone s i x .axis)
   unfolding visitAlone
   alone s i Blues.None q b h = h
-  alone s i (Blues.Fitted z) q b h = zone i (s .axis) z q (b .at z refl) h
+  alone s i (Blues.Fitted z) q b h = zone i (s .axis) (s .anchor) z q (b .at z refl) h
 
   module _ (rule : WidthRule) (xs : List ℤ) where
     pair : (s : State) (i k : ℕ) (x y : Blue) → i < old .len → k < old .len → InZone x → InZone y → AxisLanded old (s .axis) → AxisLanded old (visitPair rule xs s i k x y .axis)
     unfolding visitPair
-    pair s i k (Blues.Fitted z) y q p b c h = let w = b .at z refl in aligned rule xs i k (onZone (s .axis) i z) q p (on-zone i (s .axis) z w) (zone i (s .axis) z q w h)
-    pair s i k Blues.None (Blues.Fitted z) q p b c h = let w = c .at z refl in aligned rule xs k i (onZone (s .axis) k z) p q (on-zone k (s .axis) z w) (zone k (s .axis) z p w h)
+    pair s i k (Blues.Fitted z) y q p b c h = let w = b .at z refl in aligned rule xs i k (onZone (s .axis) (s .anchor) i z) q p (on-zone i (s .axis) (s .anchor) z w) (zone i (s .axis) (s .anchor) z q w h)
+    pair s i k Blues.None (Blues.Fitted z) q p b c h = let w = c .at z refl in aligned rule xs k i (onZone (s .axis) (s .anchor) k z) p q (on-zone k (s .axis) (s .anchor) z w) (zone k (s .axis) (s .anchor) z p w h)
     pair s i k Blues.None Blues.None q p b c h = h
 
     by-link : (s : State) (i : ℕ) (l : Link) → i < old .len → Below (old .len) l → AxisLanded old (s .axis) → AxisLanded old (visitLink rule xs s i l .axis)

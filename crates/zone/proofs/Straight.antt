@@ -14,10 +14,10 @@ use Rattle.axis.specs.declared.kinds.Blue.the-variants as Blues
 use Rattle.axis.specs.declared.edge.Edge.{Edge}
 use Rattle.axis.specs.declared.edge.Axis.{Axis}
 use Rattle.axis.specs.Link.{isLinked, indexOr}
-use Rattle.axis.specs.Edge.{emptyEdge, edgeAt, putEdge, fixedAt}
+use Rattle.axis.specs.Edge.{emptyEdge, edgeAt, putEdge}
 use Rattle.axis.specs.Visits.{visits}
 use Rattle.axis.proofs.Visits.{visits-same}
-use Rattle.zone.specs.Zones.{hasBlue, unzoned, skipped, onZone, linkAligned, State, anchorFirst, visitAlone, visitPair, visitLink, visit}
+use Rattle.zone.specs.Zones.{hasBlue, unzoned, skipped, zonedEdge, onZone, linkAligned, State, anchorFirst, visitAlone, visitPair, visitLink, visit}
 use Rattle.zone.specs.Steps.{thinned, bothZoned, losesLink, losesOwn, zoneOf, linkedOrZoned, thinBoth, linkAt, byZone, stepBy, step}
 
 -- ---- stores that change nothing
@@ -34,9 +34,9 @@ keeps f (x ∷ l) (suc i) (suc k) e d h = keeps f l i k e d h
 blueOf : Edge → Blue
 blueOf e = e .blue
 
-zone-keeps : (axis : Axis) (i k : ℕ) (z : ℤ) → edgeAt (onZone axis i z) k .blue ≡ edgeAt axis k .blue
+zone-keeps : (axis : Axis) (a : Link) (i k : ℕ) (z : ℤ) → edgeAt (onZone axis a i z) k .blue ≡ edgeAt axis k .blue
 unfolding blueOf
-zone-keeps axis i k z = keeps blueOf (axis .edges) i k (fixedAt (edgeAt axis i) z) emptyEdge refl
+zone-keeps axis a i k z = keeps blueOf (axis .edges) i k (zonedEdge a (edgeAt axis i) z) emptyEdge refl
 
 -- ---- one store of two is made
 -- the edge without its zone where that is skipped, as `thinned` has it
@@ -87,16 +87,16 @@ module _ (rule : WidthRule) (xs : List ℤ) where
     zone-pair : (k : ℕ) (x y : Blue) → edgeAt axis i .blue ≡ x → byZone rule xs axis a i k (zoneOf x y) ≡ visitPair rule xs s i k x y
     unfolding byZone zoneOf visitPair hasBlue
     zone-pair k (Blues.Fitted z) y h =
-        ap (λ (p : Bool). record { axis = linkAt rule xs (onZone axis (cond p i k) z) (cond p i k) (cond p k i); anchor = anchorFirst a i }) (ap hasBlue h)
-        ∙ ap (λ (u : Axis). record { axis = u; anchor = anchorFirst a i }) (link-same (onZone axis i z) i k)
+        ap (λ (p : Bool). record { axis = linkAt rule xs (onZone axis a (cond p i k) z) (cond p i k) (cond p k i); anchor = anchorFirst a i }) (ap hasBlue h)
+        ∙ ap (λ (u : Axis). record { axis = u; anchor = anchorFirst a i }) (link-same (onZone axis a i z) i k)
     zone-pair k Blues.None (Blues.Fitted z) h =
-        ap (λ (p : Bool). record { axis = linkAt rule xs (onZone axis (cond p i k) z) (cond p i k) (cond p k i); anchor = anchorFirst a i }) (ap hasBlue h)
-        ∙ ap (λ (u : Axis). record { axis = u; anchor = anchorFirst a i }) (link-same (onZone axis k z) k i)
+        ap (λ (p : Bool). record { axis = linkAt rule xs (onZone axis a (cond p i k) z) (cond p i k) (cond p k i); anchor = anchorFirst a i }) (ap hasBlue h)
+        ∙ ap (λ (u : Axis). record { axis = u; anchor = anchorFirst a i }) (link-same (onZone axis a k z) k i)
     zone-pair k Blues.None Blues.None h = refl
 
-    aligned-own : (z : ℤ) → edgeAt axis i .blue ≡ Blues.Fitted z → linkAligned rule xs (onZone axis i z) i i ≡ onZone axis i z
+    aligned-own : (z : ℤ) → edgeAt axis i .blue ≡ Blues.Fitted z → linkAligned rule xs (onZone axis a i z) i i ≡ onZone axis a i z
     unfolding linkAligned hasBlue
-    aligned-own z h = let g : edgeAt (onZone axis i z) i .blue ≡ Blues.Fitted z = zone-keeps axis i i z ∙ h in rw g
+    aligned-own z h = let g : edgeAt (onZone axis a i z) i .blue ≡ Blues.Fitted z = zone-keeps axis a i i z ∙ h in rw g
 
     pair-alone : (x : Blue) → edgeAt axis i .blue ≡ x → visitPair rule xs s i i x x ≡ visitAlone s i x
     unfolding visitPair visitAlone

@@ -12,8 +12,8 @@ use Rattle.axis.specs.declared.kinds.Blue.the-variants as Blues
 use Rattle.axis.specs.declared.edge.Edge.{Edge}
 use Rattle.axis.specs.declared.edge.Axis.{Axis}
 use Rattle.axis.specs.Link.{indexOr}
-use Rattle.axis.specs.Edge.{edgeAt, putEdge, fixedAt}
-use Rattle.zone.specs.Zones.{hasBlue, onZone, State, anchorFirst}
+use Rattle.axis.specs.Edge.{edgeAt, putEdge}
+use Rattle.zone.specs.Zones.{hasBlue, zonedEdge, onZone, State, anchorFirst}
 use Rattle.zone.specs.Steps.{thinned, losesLink, losesOwn, zoneOf, linkedOrZoned, thinBoth, linkAt, byZone, stepBy, step}
 
 module _ (rule : WidthRule) (xs : List ℤ) (axis : Axis) (a : Link) (i : ℕ) where
@@ -68,17 +68,17 @@ module _ (rule : WidthRule) (xs : List ℤ) (axis : Axis) (a : Link) (i : ℕ) w
     pub on-is : on ≡ hasBlue (edgeAt u i .blue)
     pub one-is : one ≡ cond on i k
     pub two-is : two ≡ cond on k i
-    pub first : e ≡ fixedAt (edgeAt u one) z
+    pub first : e ≡ zonedEdge a (edgeAt u one) z
     pub second : g ≡ linkedOrZoned rule xs (edgeAt (putEdge u one e) one) (edgeAt (putEdge u one e) two)
     pub anchor : a′ ≡ anchorFirst a i
 
-  put-is : (u : Axis) (one two : ℕ) (z : ℤ) (e g : Edge) → e ≡ fixedAt (edgeAt u one) z → g ≡ linkedOrZoned rule xs (edgeAt (putEdge u one e) one) (edgeAt (putEdge u one e) two)
-      → putEdge (putEdge u one e) two g ≡ linkAt rule xs (onZone u one z) one two
+  put-is : (u : Axis) (one two : ℕ) (z : ℤ) (e g : Edge) → e ≡ zonedEdge a (edgeAt u one) z → g ≡ linkedOrZoned rule xs (edgeAt (putEdge u one e) one) (edgeAt (putEdge u one e) two)
+      → putEdge (putEdge u one e) two g ≡ linkAt rule xs (onZone u a one z) one two
   put-is u one two z e g h1 h2 = cc
 
   -- the state once edge `one` is on the zone and edge `two` behind it
   abbrev putState : Axis → ℕ → ℕ → ℤ → State
-  putState u one two z = record { axis = linkAt rule xs (onZone u one z) one two; anchor = anchorFirst a i }
+  putState u one two z = record { axis = linkAt rule xs (onZone u a one z) one two; anchor = anchorFirst a i }
 
   zone-some : (u : Axis) (k : ℕ) (x : Blue) (z : ℤ) (on : Bool) (one two : ℕ) → x ≡ Blues.Fitted z → on ≡ hasBlue (edgeAt u i .blue)
       → one ≡ cond on i k → two ≡ cond on k i → byZone rule xs u a i k x ≡ putState u one two z

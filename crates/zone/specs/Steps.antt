@@ -54,7 +54,7 @@ linkAt rule xs axis one two = putEdge axis two (linkedOrZoned rule xs (edgeAt ax
 unfoldable pub byZone : WidthRule → List ℤ → Axis → Link → ℕ → ℕ → Blue → State
 byZone rule xs axis a i k Blues.None = record { axis = axis; anchor = a }
 byZone rule xs axis a i k (Blues.Fitted z) = record {
-  axis = linkAt rule xs (onZone axis (cond (hasBlue (edgeAt axis i .blue)) i k) z) (cond (hasBlue (edgeAt axis i .blue)) i k) (cond (hasBlue (edgeAt axis i .blue)) k i);
+  axis = linkAt rule xs (onZone axis a (cond (hasBlue (edgeAt axis i .blue)) i k) z) (cond (hasBlue (edgeAt axis i .blue)) i k) (cond (hasBlue (edgeAt axis i .blue)) k i);
   anchor = anchorFirst a i;
 }
 

@@ -9,6 +9,8 @@ use Rattle.axis.specs.declared.kinds.Link.{Link}
 use Rattle.axis.specs.declared.kinds.Link.the-variants as Links
 use Rattle.axis.specs.declared.kinds.Blue.{Blue}
 use Rattle.axis.specs.declared.kinds.Blue.the-variants as Blues
+use Rattle.axis.specs.declared.kinds.Mark.{Mark}
+use Rattle.axis.specs.declared.kinds.Mark.the-variants as Marks
 use Rattle.axis.specs.declared.edge.Edge.{Edge}
 use Rattle.axis.specs.declared.edge.Axis.{Axis}
 use Rattle.axis.specs.Edge.{edgeAt, putEdge, changed, finished, fixedAt}
@@ -26,7 +28,7 @@ notNeutral f = record { round = f .round; serif = f .serif; done = f .done; neut
 
 -- the edge without its zone, and no longer neutral
 abbrev pub unzoned : Edge → Edge
-unzoned e = changed e (e .pos) (notNeutral (e .flags)) Blues.None (e .link) (e .serif) (e .last)
+unzoned e = changed e (e .pos) (e .mark) (notNeutral (e .flags)) Blues.None (e .link) (e .serif) (e .last)
 
 -- where edge i and its link k both have a zone, one that is neutral is skipped: the link's, or else the edge's own
 unfoldable pub skipped : Axis → ℕ → ℕ → Axis
@@ -37,9 +39,18 @@ skipped axis i k =
     (cond (edgeAt axis i .flags .neutral) (putEdge axis i (unzoned (edgeAt axis i))) axis))
     axis
 
--- edge i at the zone's fitted position, done
-abbrev pub onZone : Axis → ℕ → ℤ → Axis
-onZone axis i z = putEdge axis i (fixedAt (edgeAt axis i) z)
+-- what a zone gives an edge its position as: the first one that a pass finds, while it has no anchor, is the blue anchor
+unfoldable pub zoneMark : Link → Mark
+zoneMark Links.None = Marks.BlueAnchor
+zoneMark (Links.To k) = Marks.Blue
+
+-- the edge at the zone's fitted position, done; one that was done already keeps its mark
+abbrev pub zonedEdge : Link → Edge → ℤ → Edge
+zonedEdge anchor e z = fixedAt e z (cond (e .flags .done) (e .mark) (zoneMark anchor))
+
+-- edge i so
+abbrev pub onZone : Axis → Link → ℕ → ℤ → Axis
+onZone axis anchor i z = putEdge axis i (zonedEdge anchor (edgeAt axis i) z)
 
 -- edge j, linked to edge i on its zone, aligned and done, where it has no zone of its own
 unfoldable pub linkAligned : WidthRule → List ℤ → Axis → ℕ → ℕ → Axis
@@ -60,12 +71,12 @@ anchorFirst (Links.To k) i = Links.To k
 -- an edge without link goes to its zone, where it has one
 unfoldable pub visitAlone : State → ℕ → Blue → State
 visitAlone s i Blues.None = s
-visitAlone s i (Blues.Fitted z) = record { axis = onZone (s .axis) i z; anchor = anchorFirst (s .anchor) i }
+visitAlone s i (Blues.Fitted z) = record { axis = onZone (s .axis) (s .anchor) i z; anchor = anchorFirst (s .anchor) i }
 
 -- edge i, linked to edge k, by the zones of the two: it goes to its own, or else the link goes to the link's, and the other is aligned behind it
 unfoldable pub visitPair : WidthRule → List ℤ → State → ℕ → ℕ → Blue → Blue → State
-visitPair rule xs s i k (Blues.Fitted z) y = record { axis = linkAligned rule xs (onZone (s .axis) i z) i k; anchor = anchorFirst (s .anchor) i }
-visitPair rule xs s i k Blues.None (Blues.Fitted z) = record { axis = linkAligned rule xs (onZone (s .axis) k z) k i; anchor = anchorFirst (s .anchor) i }
+visitPair rule xs s i k (Blues.Fitted z) y = record { axis = linkAligned rule xs (onZone (s .axis) (s .anchor) i z) i k; anchor = anchorFirst (s .anchor) i }
+visitPair rule xs s i k Blues.None (Blues.Fitted z) = record { axis = linkAligned rule xs (onZone (s .axis) (s .anchor) k z) k i; anchor = anchorFirst (s .anchor) i }
 visitPair rule xs s i k Blues.None Blues.None = s
 
 -- the same, by the zones that the two have in the state

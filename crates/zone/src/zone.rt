@@ -1,8 +1,10 @@
 // What the pass asks of two edges and does to one.
 use axis::edge::Edge;
+use axis::edge::fix_at;
 use axis::edge::with_done_flag;
 use axis::kinds::Blue;
 use axis::kinds::Link;
+use axis::kinds::Mark;
 use axis::link::is_linked;
 use fixed::width::WidthRule;
 use placing::place::linked_edge;
@@ -12,7 +14,7 @@ ghost use Prim.Native.Nat.{_<_};
 ghost use Rattle.axis.specs.Limits.{mostEdges};
 ghost use Rattle.fixed.specs.Width.{ruleHolds};
 ghost use Rattle.placing.specs.Steps.{InReach};
-ghost use Rattle.zone.specs.Zones.{hasBlue, unzoned, anchorFirst};
+ghost use Rattle.zone.specs.Zones.{hasBlue, unzoned, zoneMark, zonedEdge, anchorFirst};
 ghost use Rattle.zone.specs.Steps.{bothZoned, losesOwn, losesLink, thinned, zoneOf, linkedOrZoned};
 
 // Whether an edge has a blue zone.
@@ -32,20 +34,10 @@ fn unzone(edge: Edge) -> Edge
 {
     let mut flags = edge.flags;
     flags.neutral = false;
-    let dir = edge.dir;
-    let link = edge.link;
-    let serif = edge.serif;
     Edge {
-        fpos: edge.fpos,
-        opos: edge.opos,
-        pos: edge.pos,
         flags,
-        dir,
         blue: Blue::None,
-        link,
-        serif,
-        first: edge.first,
-        last: edge.last,
+        ..edge
     }
 }
 
@@ -114,6 +106,27 @@ pub fn choose(first: bool, a: usize, b: usize) -> usize
         return a;
     }
     b
+}
+
+// What a zone gives an edge its position as: the first one that the pass finds is the blue anchor.
+fn zone_mark(anchor: Link) -> Mark
+    ensures { λ r. ⌜ r ≡ zoneMark anchor ⌝ }
+{
+    match anchor {
+        Link::None => Mark::BlueAnchor,
+        Link::To(k) => Mark::Blue,
+    }
+}
+
+// The edge on its zone, done; one that was done already keeps its mark.
+pub fn put_on_zone(anchor: Link, edge: Edge, fitted: i32) -> Edge
+    ensures { λ r. ⌜ r ≡ zonedEdge anchor edge fitted ⌝ }
+{
+    if edge.flags.done {
+        let mark = edge.mark;
+        return fix_at(edge, fitted, mark);
+    }
+    fix_at(edge, fitted, zone_mark(anchor))
 }
 
 // The stem edge aligned to the base edge and done, where it has no zone of its own.

@@ -124,7 +124,7 @@ fn position(units: i32) -> String {
     }
 }
 
-/// Prints the edges that a step placed: where each was and is, its stem, and whether it is on its zone.
+/// Prints the edges that a step placed: where each was and is, its stem, and what placed it.
 fn print_placed(before: &[Edge], edges: &[Edge]) {
     for (ix, (was, edge)) in before.iter().zip(edges).enumerate() {
         if was.flags() == edge.flags() {
@@ -140,8 +140,7 @@ fn print_placed(before: &[Edge], edges: &[Edge]) {
                 print!(", width {width} -> {fitted}");
             }
         }
-        let on_zone = edge.blue() == Some(edge.pos());
-        println!("{}", if on_zone { "  on its zone" } else { "" });
+        println!("  {}", edge.mark());
     }
 }
 

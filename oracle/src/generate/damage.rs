@@ -1,7 +1,10 @@
 //! Good jobs, damaged.
 
 use super::{job, Random};
-use crate::{text, words::encode};
+use crate::{
+    text,
+    words::{encode, Words},
+};
 
 /// Words that stand at or beyond some field's values.
 const WORDS: [i32; 20] = [
@@ -30,14 +33,25 @@ const WORDS: [i32; 20] = [
 /// A damaged line.
 pub fn line(call: usize, random: &mut Random) -> Vec<u8> {
     let small = random.below(4) > 0;
-    let mut words = encode(&job(call, small, random)).values;
-    if random.below(3) > 0 {
-        damage_words(&mut words, random);
-        return text::write(&words).into_bytes();
+    let mut words = encode(&job(call, small, random));
+    let marks = marks(&words);
+    if !marks.is_empty() && random.once_in(8) {
+        words.values[random.pick(&marks)] = random.pick(&[-1, 0, 9, 10]);
+    } else if random.below(3) > 0 {
+        damage_words(&mut words.values, random);
+    } else {
+        let mut line = text::write(&words.values).into_bytes();
+        damage_text(&mut line, random);
+        return line;
     }
-    let mut line = text::write(&words).into_bytes();
-    damage_text(&mut line, random);
-    line
+    text::write(&words.values).into_bytes()
+}
+
+/// Where the marks of edges stand.
+fn marks(words: &Words) -> Vec<usize> {
+    let names = words.names.iter().enumerate();
+    let marks = names.filter(|(_, name)| **name == "edge.mark");
+    marks.map(|(ix, _)| ix).collect()
 }
 
 /// Changes, cuts, appends or moves words.
@@ -48,7 +62,7 @@ fn damage_words(words: &mut Vec<i32>, random: &mut Random) {
         1 => words.push(random.pick(&WORDS)),
         2 => words.insert(at, random.pick(&WORDS)),
         3 => drop(words.remove(at)),
-        4 => words[0] = random.between(-1, 28),
+        4 => words[0] = random.between(-1, 28) + random.pick(&[0, 100]),
         5 => words.truncate(words.len() - 1),
         6 => words[at] = words[at].wrapping_add(random.pick(&[-1, 1])),
         7 => words[at] = random.bits() as i32,

@@ -3,7 +3,7 @@
 use super::{group, segments, Random};
 use crate::{
     calls,
-    job::{Direction, Edge, ScaledWidth, ScriptGroup, Table, TopoFlags, WidthRule},
+    job::{Direction, Edge, Mark, ScaledWidth, ScriptGroup, Table, TopoFlags, WidthRule},
 };
 
 /// The rounds in which edges get flags, blues and links, and how often each.
@@ -66,7 +66,7 @@ fn placed(count: usize, random: &mut Random) -> Vec<Edge> {
     edges
 }
 
-/// Moves edges and gives flags, blues, links and serifs.
+/// Moves edges and gives flags, blues, links, serifs and marks.
 pub fn dress(edges: &mut [Edge], random: &mut Random) {
     let chances = Chances {
         done: random.pick(&[2, 4, 100]),
@@ -86,6 +86,7 @@ pub fn dress(edges: &mut [Edge], random: &mut Random) {
         }
         edge.link_ix = link(ix, count, chances.links, random);
         edge.serif_ix = random.once_in(4).then(|| random.below(count) as u16);
+        edge.mark = random.pick(&Mark::ALL);
     }
 }
 
@@ -125,6 +126,24 @@ pub fn stem(random: &mut Random) -> Vec<Edge> {
     dress(&mut edges, random);
     edges[0].opos = random.between(-128, 128);
     edges[1].opos = edges[0].opos + random.between(-20, 150);
+    edges
+}
+
+/// Four edges: the second about where its neighbours are, the last, mostly its link, about as far from the first as a bound asks.
+pub fn neighbours(random: &mut Random) -> Vec<Edge> {
+    const NEAR: [i32; 5] = [-20, -1, 0, 1, 20];
+    let mut edges = placed(4, random);
+    dress(&mut edges, random);
+    edges[0].pos = random.between(-300, 300);
+    edges[1].pos = edges[0].pos + random.pick(&NEAR);
+    edges[2].pos = edges[1].pos + random.pick(&NEAR);
+    edges[3].pos = edges[0].pos + random.pick(&[-17, -16, -15, 15, 16, 17]);
+    if random.coin() {
+        edges[2].flags |= TopoFlags::DONE;
+    }
+    if random.below(4) > 0 {
+        edges[1].link_ix = Some(3);
+    }
     edges
 }
 

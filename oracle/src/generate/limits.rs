@@ -121,7 +121,8 @@ fn resize(job: &mut Job, random: &mut Random) {
         }
         Job::Build(segments, old, given) => {
             resize_building(segments, old, given, random);
-            if random.once_in(6) {
+            let long = segments.count > SEGMENTS || old.count > EDGES;
+            if random.once_in(if long { 2 } else { 6 }) {
                 given.top_to_bottom = true;
                 given.scale *= random.below(2) as i32;
             }

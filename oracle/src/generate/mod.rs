@@ -80,22 +80,22 @@ fn job(call: usize, small: bool, random: &mut Random) -> Job {
         2 => Job::MidDelta(any_word(random), any_word(random)),
         3 => Job::Weak(points::points(small, random)),
         4 => segments::link(small, random),
-        5 => segments::build(small, random),
         15 | 16 => path::job(call, small, random),
         17 => catalogue::job(small, random),
-        24 => axes::turn_over(small, random),
         25 => frames::write(small, random),
         26 => frames::read(small, random),
+        105 => segments::build(small, random),
+        124 => axes::turn_over(small, random),
         _ => on_edges(call, small, random),
     }
 }
 
-/// A job of calls 6 to 14.
+/// A job of calls 106 to 114.
 fn on_edges(call: usize, small: bool, random: &mut Random) -> Job {
-    if call >= 13 {
+    if call >= 113 {
         let (edges, group) = edges::lowercase_m(random);
         return match call {
-            13 => Job::M(Table::of(edges), group),
+            113 => Job::M(Table::of(edges), group),
             _ => Job::MLent(edges, group),
         };
     }
@@ -104,19 +104,25 @@ fn on_edges(call: usize, small: bool, random: &mut Random) -> Job {
     let table = Table::of(edges);
     let rule = edges::rule(random);
     match call {
-        6 => Job::Blues(table, dimension(random), group(random), rule),
-        7 => Job::Linked(table, rule, named(count, random), named(count, random)),
-        8 => Job::Serif(table, named(count, random), named(count, random)),
-        9 => Job::Adjust(
-            table,
-            named(count, random),
-            random.coin(),
-            old_order(random),
-        ),
-        10 => Job::Bounds(table, named(count, random)),
-        11 => cjk_stem(table, rule, random),
+        106 => Job::Blues(table, dimension(random), group(random), rule),
+        107 => Job::Linked(table, rule, named(count, random), named(count, random)),
+        108 => Job::Serif(table, named(count, random), named(count, random)),
+        109 => adjust_link(table, random),
+        110 => Job::Bounds(table, named(count, random)),
+        111 => cjk_stem(table, rule, random),
         _ => stem_pass(table, rule, random),
     }
+}
+
+/// A job of `adjust_link`: mostly on an edge that its neighbours are near.
+fn adjust_link(table: Table<Edge>, random: &mut Random) -> Job {
+    let (table, edge) = if random.once_in(3) {
+        let edge = named(table.count, random);
+        (table, edge)
+    } else {
+        (Table::of(edges::neighbours(random)), 1)
+    };
+    Job::Adjust(table, edge, random.coin(), old_order(random))
 }
 
 /// A job of the stem pass: mostly on stems one behind the other.

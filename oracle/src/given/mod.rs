@@ -12,6 +12,7 @@ pub mod topo {
     use super::{
         metrics::ScaledWidth,
         outline::{Direction, Orientation, Point},
+        recorder::Mark,
         smallvec::SmallVec,
     };
     include!(concat!(env!("OUT_DIR"), "/topo.rs"));

@@ -1,29 +1,83 @@
-//! The recorder is left out: there is none, so nothing is ever recorded.
+//! The given Rust's recorder, as far as marks need it: it keeps what gave each edge its position.
 
-use super::topo::{BlueProvenance, Dimension};
+use super::topo::{BlueProvenance, Dimension, Edge};
 
-/// No value has this type.
-pub enum HintsRecorder {}
+/// What last gave an edge its position; its number is its word in a job.
+#[derive(Copy, Clone, PartialEq, Eq, Debug, Default)]
+pub enum Mark {
+    #[default]
+    Nothing,
+    BlueAnchor,
+    Blue,
+    Linked,
+    Anchor,
+    Stem,
+    Adjusted,
+    Bound,
+    Serif,
+    LowercaseM,
+}
+
+impl Mark {
+    /// Every mark, in the order of the numbers.
+    pub const ALL: [Self; 10] = [
+        Self::Nothing,
+        Self::BlueAnchor,
+        Self::Blue,
+        Self::Linked,
+        Self::Anchor,
+        Self::Stem,
+        Self::Adjusted,
+        Self::Bound,
+        Self::Serif,
+        Self::LowercaseM,
+    ];
+}
+
+/// The marks that a call gave so far, each with its edge, the latest last.
+#[derive(Default)]
+pub struct HintsRecorder(Vec<(usize, Mark)>);
 
 impl HintsRecorder {
-    /// Never called.
+    /// Called by the given Rust where an edge got its position.
     #[allow(clippy::too_many_arguments)]
     pub fn record_edge(
         &mut self,
         _dim: Dimension,
-        _action: EdgeAction,
-        _edge_ix: usize,
-        _edge2_ix: Option<usize>,
+        action: EdgeAction,
+        edge_ix: usize,
+        edge2_ix: Option<usize>,
         _edge3_ix: Option<usize>,
         _lower_ix: Option<usize>,
         _upper_ix: Option<usize>,
         _blue: Option<BlueProvenance>,
     ) {
-        match *self {}
+        match action {
+            EdgeAction::BlueAnchor => self.give(Mark::BlueAnchor, [edge_ix]),
+            EdgeAction::Blue => self.give(Mark::Blue, [edge_ix]),
+            EdgeAction::Adjust => self.give(Mark::Adjusted, [edge_ix]),
+            EdgeAction::Stem => self.give(Mark::Stem, edge2_ix.into_iter().chain([edge_ix])),
+            EdgeAction::Anchor => self.give(Mark::Anchor, [edge_ix]),
+            // The base is named first.
+            EdgeAction::Link => self.give(Mark::Linked, edge2_ix),
+            EdgeAction::Bound => self.give(Mark::Bound, [edge_ix]),
+        }
+    }
+
+    /// Gives a mark to edges.
+    pub fn give(&mut self, mark: Mark, edges: impl IntoIterator<Item = usize>) {
+        self.0.extend(edges.into_iter().map(|ix| (ix, mark)));
+    }
+
+    /// Writes the marks to their edges.
+    pub fn write(self, edges: &mut [Edge]) {
+        for (ix, mark) in self.0 {
+            edges[ix].mark = mark;
+        }
     }
 }
 
-/// What would be recorded of an edge.
+/// What the given Rust says of an edge that it records.
 pub enum EdgeAction {
     BlueAnchor,
     Blue,

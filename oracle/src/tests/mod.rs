@@ -1,9 +1,11 @@
-//! Document 01's rows, its slips, its refusals, the calls of document 02, the log, and the word form.
+//! Document 01's rows, its slips, its refusals, the calls of document 02, marks, the log, and the word form.
 
 mod catalogue;
 mod catalogue_slips;
 mod frames;
 mod log;
+mod marks;
+mod marks_slips;
 mod order;
 mod path;
 mod path_slips;

@@ -6,6 +6,7 @@ use crate::{
     port,
     segments::{self, Kind},
 };
+use khsaemudol::{EDGE_WORDS, SEGMENT_WORDS};
 use oracle::generate::Random;
 
 /// The calls, by short names.
@@ -38,17 +39,17 @@ pub fn cases(name: &str) -> Vec<Case> {
         "weak" => weak(),
         "link" => link(),
         "build" => build(),
-        "blues" => by_group("blues", 6, edges::on_zones, |group| vec![1, group, 0, 0]),
-        "linked" => single("linked", 7, &[0, 0, 0, 1]),
-        "serif" => single("serif", 8, &[0, 3]),
-        "adjust" => single("adjust", 9, &[2, 0, 0]),
-        "bounds" => single("bounds", 10, &[2]),
-        "stem" => single("stem", 11, &[1, 0, 0, 0, 0, 1, 0]),
-        "stems" => by_group("stems", 12, edges::stems, |group| {
+        "blues" => by_group("blues", 106, edges::on_zones, |group| vec![1, group, 0, 0]),
+        "linked" => single("linked", 107, &[0, 0, 0, 1]),
+        "serif" => single("serif", 108, &[0, 3]),
+        "adjust" => single("adjust", 109, &[2, 0, 0]),
+        "bounds" => single("bounds", 110, &[2]),
+        "stem" => single("stem", 111, &[1, 0, 0, 0, 0, 1, 0]),
+        "stems" => by_group("stems", 112, edges::stems, |group| {
             vec![1, group, 0, 0, -1, 0, 0]
         }),
-        "m" => m("m", 13),
-        "lent" => m("lent", 14),
+        "m" => m("m", 113),
+        "lent" => m("lent", 114),
         "path" => path(),
         "step" => step(),
         _ => unreachable!("the names are those of NAMES"),
@@ -149,7 +150,7 @@ const SEGMENTS: [usize; 4] = [10, 50, 150, 512];
 
 /// Where the words of the last segment's score stand in a job.
 fn last_score(size: usize) -> usize {
-    2 + 15 * (size - 1) + 7
+    2 + SEGMENT_WORDS * (size - 1) + 7
 }
 
 /// The same jobs with a score below 0 in the last segment.
@@ -190,11 +191,16 @@ fn build() -> Vec<Case> {
             let mut random = Random::new(size as u64);
             let job = |_| {
                 let mut linking = segments::linking(Kind::Scattered, size, &mut random);
-                for pos in linking[2..].iter_mut().skip(2).step_by(15).take(size) {
+                for pos in linking[2..]
+                    .iter_mut()
+                    .skip(2)
+                    .step_by(SEGMENT_WORDS)
+                    .take(size)
+                {
                     *pos -= *pos % 20;
                 }
                 let linked = port::answer(&linking);
-                let mut words = vec![5];
+                let mut words = vec![105];
                 words.extend(&linked[1..]);
                 words.extend([0, 1, 3, group, 0, 65_536, 10, 0, 65_535]);
                 words
@@ -225,7 +231,7 @@ fn over_edges(
     let jobs: Vec<Vec<i32>> = (0..ROUND).map(job).collect();
     let far = |job: &Vec<i32>| {
         let mut job = job.clone();
-        job[2 + 11 * (size - 1) + 1] = 16_384;
+        job[2 + EDGE_WORDS * (size - 1) + 1] = 16_384;
         job
     };
     Case {

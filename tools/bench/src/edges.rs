@@ -1,13 +1,16 @@
-//! The edges that are timed, as words of a job, 11 for each.
+//! The edges that are timed, as words of a job.
 
+use khsaemudol::EDGE_WORDS;
 use oracle::generate::Random;
 
-/// The words of an edge at its original position, with flags, a blue zone or none, and its link.
-fn edge(opos: i32, pos: i32, round: bool, zone: Option<i32>, link: usize) -> [i32; 11] {
+/// The words of an edge at its original position, with flags, a blue zone or none, and its link; nothing gave it its position yet.
+fn edge(opos: i32, pos: i32, round: bool, zone: Option<i32>, link: usize) -> [i32; EDGE_WORDS] {
     let (present, fitted) = zone.map_or((0, 0), |fitted| (1, fitted));
     let round = i32::from(round);
     let link = link as i32;
-    [opos, opos, pos, round, 0, present, fitted, link, -1, 0, 0]
+    [
+        opos, opos, pos, round, 0, present, fitted, link, -1, 0, 0, 0,
+    ]
 }
 
 /// Rising stems, each two edges linked to each other.

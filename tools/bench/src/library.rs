@@ -4,13 +4,16 @@ use crate::{
     port::{self, Call, Prepared},
     records,
 };
-use khsaemudol::{PathStep, Refusal};
+use khsaemudol::{PathStep, Refusal, EDGE_WORDS, SEGMENT_WORDS};
 use oracle::{
     answer::NOT_A_JOB,
     decode,
     job::Job,
     limits::{EDGES, SEGMENTS},
 };
+
+/// The word of the m rule's call on a lent list, which is handed back whole.
+const LENT_M: i32 = 114;
 
 /// The answer to a word list.
 pub fn answer(words: &[i32]) -> Vec<i32> {
@@ -87,7 +90,11 @@ pub fn answer(words: &[i32]) -> Vec<i32> {
         Prepared::Edges(given, edges, call) => {
             answer.extend(beside(call, done));
             if !matches!(call, Call::Bounds(_)) {
-                let carried = if words[0] == 14 { edges.len() } else { EDGES };
+                let carried = if words[0] == LENT_M {
+                    edges.len()
+                } else {
+                    EDGES
+                };
                 let carried = &edges[..edges.len().min(carried)];
                 answer.extend(records::words(given.len(), carried));
             }
@@ -143,6 +150,6 @@ fn old_table(job: &Job, words: &[i32]) -> Vec<i32> {
     let Job::Build(segments, old, _) = job else {
         return Vec::new();
     };
-    let start = 2 + 15 * segments.items.len();
-    words[start..=start + 11 * old.items.len()].to_vec()
+    let start = 2 + SEGMENT_WORDS * segments.items.len();
+    words[start..=start + EDGE_WORDS * old.items.len()].to_vec()
 }

@@ -1,5 +1,6 @@
 //! The segments that are timed, as words of a job.
 
+use khsaemudol::SEGMENT_WORDS;
 use oracle::generate::Random;
 
 /// How the segments of an axis lie.
@@ -30,7 +31,7 @@ fn segments(kind: Kind, count: usize, random: &mut Random) -> Vec<i32> {
     for i in 0..count {
         let [pos, start, length] = match (kind, i % 2) {
             (Kind::Strokes, 1) => {
-                let side = &words[words.len() - 15..];
+                let side = &words[words.len() - SEGMENT_WORDS..];
                 [side[2] + random.between(30, 60), side[4], side[5] - side[4]]
             }
             _ => [

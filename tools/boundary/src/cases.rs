@@ -2,7 +2,8 @@
 
 use crate::{
     function::{
-        Function, Given, Kind, Lent, Record, BUILDING, EDGE, LOWERCASE_M, SEGMENT, TURNING,
+        Function, Given, Kind, Lent, Record, BUILDING, EDGE, EMPTY_EDGE, LOWERCASE_M, SEGMENT,
+        TURNING,
     },
     memory::SHUT_WORDS,
 };
@@ -94,12 +95,12 @@ fn plain_record(record: &Record) -> &'static [i32] {
     if record.words == SEGMENT.words {
         &[0, 1, 0, 0, 0, 0, 0, 0, 0, -1, -1, 0, 0, -1, -1]
     } else {
-        &[0, 0, 0, 0, 0, 0, 0, -1, -1, 0, 0]
+        &EMPTY_EDGE
     }
 }
 
 /// Words at the ends of fields and of limits, and beside them.
-const WORDS: [i32; 44] = [
+const WORDS: [i32; 47] = [
     i32::MIN,
     -16_777_217,
     -16_777_216,
@@ -121,6 +122,9 @@ const WORDS: [i32; 44] = [
     6,
     7,
     8,
+    9,
+    10,
+    11,
     12,
     13,
     15,
@@ -174,7 +178,9 @@ fn damage(function: &Function, given: &mut Given, random: &mut Random) {
             }
         }
         10 if function.call == BUILDING => {
-            let len = random.pick(&[0, 1, 11, 1_397, 1_407, 1_409, 1_419, 2_816]);
+            let full = EDGE.most * EDGE.words;
+            let near = [full - EDGE.words, full - 1, full + 1, full + EDGE.words];
+            let len = random.pick(&[&[0, 1, EDGE.words, 2 * full], &near[..]].concat());
             given.lent.room.resize(len, 7);
         }
         10 if function.call == TURNING => {

@@ -28,14 +28,15 @@ const DIRECTION: (i32, i32) = (0, 4);
 const CHOICE: (i32, i32) = (0, 1);
 const INDEX: (i32, i32) = (0, 65_535);
 const LINK: (i32, i32) = (-1, 65_535);
+const MARK: (i32, i32) = (0, 9);
 
-/// An edge: fpos, opos, pos, flags, dir, blue, blue_fitted, link, serif, first, last.
+/// An edge: fpos, opos, pos, flags, dir, blue, blue_fitted, link, serif, first, last, mark.
 pub static EDGE: Record = Record {
     name: "edges",
-    words: 11,
+    words: EMPTY_EDGE.len(),
     most: 128,
     fields: &[
-        SHORT, ANY, ANY, FLAGS, DIRECTION, CHOICE, ANY, LINK, LINK, INDEX, INDEX,
+        SHORT, ANY, ANY, FLAGS, DIRECTION, CHOICE, ANY, LINK, LINK, INDEX, INDEX, MARK,
     ],
     flags: 3,
     measure: 1,
@@ -61,7 +62,7 @@ pub const BLUE: usize = 5;
 pub const FITTED: usize = 6;
 
 /// The words of an edge behind those that were built.
-pub const EMPTY_EDGE: [i32; 11] = [0, 0, 0, 0, 0, 0, 0, -1, -1, 0, 0];
+pub const EMPTY_EDGE: [i32; 12] = [0, 0, 0, 0, 0, 0, 0, -1, -1, 0, 0, 0];
 
 /// What a number of a call is.
 #[derive(Copy, Clone, PartialEq, Debug)]
@@ -112,7 +113,7 @@ pub static FUNCTIONS: [Function; 11] = [
     },
     Function {
         name: "khs_compute_edges",
-        call: 5,
+        call: 105,
         record: &SEGMENT,
         numbers: &[Choice, Direction, Choice, Choice, Free, Free, Free, Free],
         rule: None,
@@ -122,7 +123,7 @@ pub static FUNCTIONS: [Function; 11] = [
     },
     Function {
         name: "khs_align_edges_to_blues",
-        call: 6,
+        call: 106,
         record: &EDGE,
         numbers: &[Choice, Choice, Choice],
         rule: Some(2),
@@ -132,7 +133,7 @@ pub static FUNCTIONS: [Function; 11] = [
     },
     Function {
         name: "khs_align_linked_edge",
-        call: 7,
+        call: 107,
         record: &EDGE,
         numbers: &[Choice, Named, Named],
         rule: Some(0),
@@ -142,7 +143,7 @@ pub static FUNCTIONS: [Function; 11] = [
     },
     Function {
         name: "khs_align_serif_edge",
-        call: 8,
+        call: 108,
         record: &EDGE,
         numbers: &[Named, Named],
         rule: None,
@@ -152,7 +153,7 @@ pub static FUNCTIONS: [Function; 11] = [
     },
     Function {
         name: "khs_adjust_link",
-        call: 9,
+        call: 109,
         record: &EDGE,
         numbers: &[Named, Choice, Choice],
         rule: None,
@@ -162,7 +163,7 @@ pub static FUNCTIONS: [Function; 11] = [
     },
     Function {
         name: "khs_latin_remaining_bounds",
-        call: 10,
+        call: 110,
         record: &EDGE,
         numbers: &[Named],
         rule: None,
@@ -172,7 +173,7 @@ pub static FUNCTIONS: [Function; 11] = [
     },
     Function {
         name: "khs_hint_normal_stem_cjk",
-        call: 11,
+        call: 111,
         record: &EDGE,
         numbers: &[Choice, Choice, Choice, Named, Named, Free],
         rule: Some(2),
@@ -182,7 +183,7 @@ pub static FUNCTIONS: [Function; 11] = [
     },
     Function {
         name: "khs_align_stem_edges",
-        call: 12,
+        call: 112,
         record: &EDGE,
         numbers: &[Choice, Choice, Choice, Choice, Anchor, Choice],
         rule: Some(5),
@@ -192,7 +193,7 @@ pub static FUNCTIONS: [Function; 11] = [
     },
     Function {
         name: "khs_hint_lowercase_m",
-        call: 13,
+        call: 113,
         record: &EDGE,
         numbers: &[Choice],
         rule: None,
@@ -202,7 +203,7 @@ pub static FUNCTIONS: [Function; 11] = [
     },
     Function {
         name: "khs_turn_over",
-        call: 24,
+        call: 124,
         record: &SEGMENT,
         numbers: &[],
         rule: None,
@@ -213,10 +214,10 @@ pub static FUNCTIONS: [Function; 11] = [
 ];
 
 /// The call that builds edges, the call that finds bounds, which does not write its edges, the m rule, and the call that turns edges over.
-pub const BUILDING: i32 = 5;
-pub const BOUNDS: i32 = 10;
-pub const LOWERCASE_M: i32 = 13;
-pub const TURNING: i32 = 24;
+pub const BUILDING: i32 = 105;
+pub const BOUNDS: i32 = 110;
+pub const LOWERCASE_M: i32 = 113;
+pub const TURNING: i32 = 124;
 
 /// What everything lent holds, before a call or after it.
 #[derive(Clone, PartialEq, Debug)]
@@ -355,10 +356,10 @@ fn call(call: i32, lists: &Pointers, n: &[i32]) -> u8 {
     unsafe {
         match call {
             4 => ffi::khs_link_segments_cjk(table, len, n[0], n[1], n[2]),
-            5 => ffi::khs_compute_edges(
+            105 => ffi::khs_compute_edges(
                 table, len, room, room_len, n[0], n[1], n[2], n[3], n[4], n[5], n[6], n[7], first,
             ),
-            6 => ffi::khs_align_edges_to_blues(
+            106 => ffi::khs_align_edges_to_blues(
                 table,
                 len,
                 n[0],
@@ -368,11 +369,13 @@ fn call(call: i32, lists: &Pointers, n: &[i32]) -> u8 {
                 standards_len,
                 first,
             ),
-            7 => ffi::khs_align_linked_edge(table, len, n[0], standards, standards_len, n[1], n[2]),
-            8 => ffi::khs_align_serif_edge(table, len, n[0], n[1]),
-            9 => ffi::khs_adjust_link(table, len, n[0], n[1], n[2]),
-            10 => ffi::khs_latin_remaining_bounds(table, len, n[0], first, second),
-            11 => ffi::khs_hint_normal_stem_cjk(
+            107 => {
+                ffi::khs_align_linked_edge(table, len, n[0], standards, standards_len, n[1], n[2])
+            }
+            108 => ffi::khs_align_serif_edge(table, len, n[0], n[1]),
+            109 => ffi::khs_adjust_link(table, len, n[0], n[1], n[2]),
+            110 => ffi::khs_latin_remaining_bounds(table, len, n[0], first, second),
+            111 => ffi::khs_hint_normal_stem_cjk(
                 table,
                 len,
                 n[0],
@@ -385,7 +388,7 @@ fn call(call: i32, lists: &Pointers, n: &[i32]) -> u8 {
                 n[5],
                 first,
             ),
-            12 => ffi::khs_align_stem_edges(
+            112 => ffi::khs_align_stem_edges(
                 table,
                 len,
                 n[0],
@@ -399,8 +402,8 @@ fn call(call: i32, lists: &Pointers, n: &[i32]) -> u8 {
                 first,
                 second,
             ),
-            13 => ffi::khs_hint_lowercase_m(table, len, n[0]),
-            24 => ffi::khs_turn_over(table, len, room, room_len),
+            113 => ffi::khs_hint_lowercase_m(table, len, n[0]),
+            124 => ffi::khs_turn_over(table, len, room, room_len),
             _ => unreachable!("no function has this call"),
         }
     }

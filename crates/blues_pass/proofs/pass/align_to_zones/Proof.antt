@@ -8,10 +8,11 @@ use Rattle.signed.specs.Range.{Between}
 use Rattle.signed.proofs.Signed.{is, fits-in}
 use Rattle.axis.specs.declared.edge.Axis.{Axis}
 use Rattle.axis.specs.Limits.{mostEdges, mostUnits}
-use Rattle.axis.specs.Edge.{edgeAt, putEdge, fixedAt}
+use Rattle.axis.specs.Edge.{edgeAt, putEdge}
 use Rattle.axis.specs.Accepted.{AxisWithin}
 use Rattle.axis.proofs.Visits.{visits-end}
 use Rattle.placing.specs.Steps.{mostWidth, mostReach}
+use Rattle.zone.specs.Zones.{zonedEdge}
 use Rattle.zone.specs.Steps.{step}
 use Rattle.zone.proofs.Kept.{reach-at, link-in, choice-in, thin-put, zone-at, zone-put, link-put}
 use Rattle.zone.proofs.Straight.{steps-are}
@@ -74,19 +75,19 @@ two-one c = c .before
 abbrev two-visit : tie.After-choose2 Inv-loop μ-loop → tie.In-loop Inv-loop μ-loop
 two-visit c = one-visit (two-one c)
 
-abbrev fix-two : tie.After-fix-at Inv-loop μ-loop → tie.After-choose2 Inv-loop μ-loop
+abbrev fix-two : tie.After-put-on-zone Inv-loop μ-loop → tie.After-choose2 Inv-loop μ-loop
 fix-two c = c .before .before
 
-abbrev fix-one : tie.After-fix-at Inv-loop μ-loop → tie.After-choose Inv-loop μ-loop
+abbrev fix-one : tie.After-put-on-zone Inv-loop μ-loop → tie.After-choose Inv-loop μ-loop
 fix-one c = two-one (fix-two c)
 
-abbrev fix-zone : tie.After-fix-at Inv-loop μ-loop → tie.After-zone Inv-loop μ-loop
+abbrev fix-zone : tie.After-put-on-zone Inv-loop μ-loop → tie.After-zone Inv-loop μ-loop
 fix-zone c = one-zone (fix-one c)
 
-abbrev fix-visit : tie.After-fix-at Inv-loop μ-loop → tie.In-loop Inv-loop μ-loop
+abbrev fix-visit : tie.After-put-on-zone Inv-loop μ-loop → tie.In-loop Inv-loop μ-loop
 fix-visit c = zone-visit (fix-zone c)
 
-abbrev stem-fix : tie.After-align-stem Inv-loop μ-loop → tie.After-fix-at Inv-loop μ-loop
+abbrev stem-fix : tie.After-align-stem Inv-loop μ-loop → tie.After-put-on-zone Inv-loop μ-loop
 stem-fix c = c .before .before .before
 
 abbrev stem-visit : tie.After-align-stem Inv-loop μ-loop → tie.In-loop Inv-loop μ-loop
@@ -130,8 +131,8 @@ axis1 c = let l = thin-visit c .before .loop in putEdge (l .aligned) (l .i) (c .
 abbrev axis2 : tie.After-thin2 Inv-loop μ-loop → Axis
 axis2 c = putEdge (axis1 (thin2-thin c)) (thin2-link c .index-or .result) (c .thin2 .result)
 
-abbrev axis3 : tie.After-fix-at Inv-loop μ-loop → Axis
-axis3 c = putEdge (axis2 (zone-thin2 (fix-zone c))) (fix-one c .choose .result) (c .fix-at .result)
+abbrev axis3 : tie.After-put-on-zone Inv-loop μ-loop → Axis
+axis3 c = putEdge (axis2 (zone-thin2 (fix-zone c))) (fix-one c .choose .result) (c .put-on-zone .result)
 
 abbrev axis4 : tie.After-align-stem Inv-loop μ-loop → Axis
 axis4 c = putEdge (axis3 (stem-fix c)) (fix-two (stem-fix c) .choose2 .result) (c .align-stem .result)
@@ -154,17 +155,18 @@ zone-within c =
     let k = thin2-link t in
     zone-at _ _ (l .i) (k .index-or .result) (axis2 t) _ _ (within2 t) (l .inv .count) (visited-in (zone-visit c)) (linked-in k) (zone-zone-of c .zone-of .ensures) (c .zone .given .1)
 
-fixed-is : (c : tie.After-fix-at Inv-loop μ-loop) → c .fix-at .result ≡ fixedAt (edgeAt (axis2 (zone-thin2 (fix-zone c))) (fix-one c .choose .result)) (fix-zone c .zone .given .0 .0)
+fixed-is : (c : tie.After-put-on-zone Inv-loop μ-loop) → c .put-on-zone .result
+    ≡ zonedEdge (fix-visit c .before .loop .anchor) (edgeAt (axis2 (zone-thin2 (fix-zone c))) (fix-one c .choose .result)) (fix-zone c .zone .given .0 .0)
 fixed-is c =
-    c .fix-at .ensures
-    ∙ ap (fixedAt (edgeAt (axis2 (zone-thin2 (fix-zone c))) (fix-one c .choose .result))) (is (fits-in w32 (zone-within (fix-zone c)) tt tt))
+    c .put-on-zone .ensures
+    ∙ ap (zonedEdge (fix-visit c .before .loop .anchor) (edgeAt (axis2 (zone-thin2 (fix-zone c))) (fix-one c .choose .result))) (is (fits-in w32 (zone-within (fix-zone c)) tt tt))
 
-within3 : (c : tie.After-fix-at Inv-loop μ-loop) → AxisWithin (grown (fix-visit c .before .loop .i)) (axis3 c)
+within3 : (c : tie.After-put-on-zone Inv-loop μ-loop) → AxisWithin (grown (fix-visit c .before .loop .i)) (axis3 c)
 within3 c =
     let z = fix-zone c in
     let t = zone-thin2 z in
     let one = fix-one c in
-    zone-put _ _ (one .choose .result) (axis2 t) (z .zone .given .0 .0) _ (within2 t) (fix-visit c .before .loop .inv .count) (one-in one) (omega arith) (zone-within z) (fixed-is c)
+    zone-put _ _ (one .choose .result) (axis2 t) (fix-visit c .before .loop .anchor) (z .zone .given .0 .0) _ (within2 t) (fix-visit c .before .loop .inv .count) (one-in one) (omega arith) (zone-within z) (fixed-is c)
 
 within4 : (c : tie.After-align-stem Inv-loop μ-loop) → AxisWithin (grown (stem-visit c .before .loop .i) + mostWidth) (axis4 c)
 within4 c =
@@ -308,14 +310,14 @@ choose-requires c κs = search needs
 choose-requires-2 : tie.Need-choose-requires-2 Inv-loop μ-loop
 choose-requires-2 c κs = search needs
 
-mul-fix-at : tie.Need-mul-fix-at Inv-loop μ-loop
-mul-fix-at c = omega (arith, one-inside (two-one c))
+mul-put-on-zone : tie.Need-mul-put-on-zone Inv-loop μ-loop
+mul-put-on-zone c = omega (arith, one-inside (two-one c))
 
-element-copy-out-fix-at : tie.Need-element-copy-out-fix-at Inv-loop μ-loop
-element-copy-out-fix-at c = one-inside (two-one c)
+element-copy-out-put-on-zone : tie.Need-element-copy-out-put-on-zone Inv-loop μ-loop
+element-copy-out-put-on-zone c = one-inside (two-one c)
 
-fix-at-requires : tie.Need-fix-at-requires Inv-loop μ-loop
-fix-at-requires c κs = search needs
+put-on-zone-requires : tie.Need-put-on-zone-requires Inv-loop μ-loop
+put-on-zone-requires c κs = search needs
 
 mul-aligned-2 : tie.Need-mul-aligned-2 Inv-loop μ-loop
 mul-aligned-2 c = omega (arith, one-inside (fix-one c))
@@ -427,9 +429,9 @@ align-to-zones-spec =
     has-blue-requires
     choose-requires
     choose-requires-2
-    mul-fix-at
-    element-copy-out-fix-at
-    fix-at-requires
+    mul-put-on-zone
+    element-copy-out-put-on-zone
+    put-on-zone-requires
     mul-aligned-2
     element-set-from-aligned-2
     mul-align-stem

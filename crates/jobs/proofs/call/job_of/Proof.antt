@@ -13,14 +13,8 @@ abbrev μ-loop : tie.MeasureT-loop
 count-at-requires : tie.Need-count-at-requires Inv-loop μ-loop
 count-at-requires c κs = search needs
 
-returns : tie.Need-returns Inv-loop μ-loop
-returns c = search needs
-
-mul-items : tie.Need-mul-items Inv-loop μ-loop
-mul-items c = search needs
-
-array-read-items : tie.Need-array-read-items Inv-loop μ-loop
-array-read-items c = search needs
+format-of-requires : tie.Need-format-of-requires Inv-loop μ-loop
+format-of-requires c κs = search needs
 
 loop-holds : tie.Need-loop-holds Inv-loop μ-loop
 loop-holds c = search needs
@@ -34,8 +28,8 @@ enum-known-next c = search needs
 enum-told : tie.Need-enum-told Inv-loop μ-loop
 enum-told c = search needs
 
-returns-2 : tie.Need-returns-2 Inv-loop μ-loop
-returns-2 c = search needs
+returns : tie.Need-returns Inv-loop μ-loop
+returns c = search needs
 
 loop-less : tie.Need-loop-less Inv-loop μ-loop
 loop-less c = search needs
@@ -43,11 +37,11 @@ loop-less c = search needs
 loop-again : tie.Need-loop-again Inv-loop μ-loop
 loop-again c = search needs
 
+returns-2 : tie.Need-returns-2 Inv-loop μ-loop
+returns-2 c = search needs
+
 returns-3 : tie.Need-returns-3 Inv-loop μ-loop
 returns-3 c = search needs
-
-returns-4 : tie.Need-returns-4 Inv-loop μ-loop
-returns-4 c = search needs
 
 pub job-of-spec : {M : Type 1} → statement M
 job-of-spec =
@@ -56,15 +50,13 @@ job-of-spec =
     Inv-loop
     μ-loop
     count-at-requires
-    returns
-    mul-items
-    array-read-items
+    format-of-requires
     loop-holds
     skip-item-requires
     enum-known-next
     enum-told
-    returns-2
+    returns
     loop-less
     loop-again
-    returns-3
-    returns-4)
+    returns-2
+    returns-3)

@@ -1,5 +1,5 @@
 -- `lowercase_m::moves::move_serifs` meets its contract. Assumes nothing.
-use mathlib.Core.Path.{_≡_, sym, ap, subst, _∙_}
+use mathlib.Core.Path.{_≡_, sym, subst, _∙_}
 use native.Mathlib.Omega.{arith}
 use borrow.Author.Tests.{eq-eqb, ne-eqb}
 use mir.Syntax.{w32}
@@ -30,7 +30,7 @@ start c = c .before .before .before .before
 
 -- edge 8, moved
 first-moved : (c : tie.After-moved-back) → c .moved-back .result ≡ movedBack (edgeAt (start c .args .axis) 8) (start c .args .delta)
-first-moved c = let s = start c in c .moved-back .ensures ∙ ap (movedBack (edgeAt (s .args .axis) 8)) (is (s .fits .delta))
+first-moved c = let s = start c in c .moved-back .ensures ∙ λ i. movedBack (edgeAt (s .args .axis) 8) (is (s .fits .delta) i)
 
 -- the positions behind that move
 first-places : (c : tie.After-moved-back) → Places thriceMoved (putEdge (start c .args .axis) 8 (c .moved-back .result))

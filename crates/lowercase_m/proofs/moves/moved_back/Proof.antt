@@ -1,7 +1,7 @@
 -- `lowercase_m::moves::moved_back` meets its contract. Assumes nothing.
 use mathlib.Core.Path.{ap, _∙_}
 use native.Mathlib.Omega.{arith}
-use lib.IntN.{_-ℤ_}
+use lib.IntN.{ℤ, _-ℤ_}
 use mir.Syntax.{w32}
 use Rattle.axis.specs.Edge.{placed}
 use Rattle.signed.proofs.Signed.{fits, fits-in, is, signed}
@@ -20,7 +20,7 @@ returns : tie.Need-returns
 returns c =
     let p = c .before in
     let s = p .before in
-    c .with-pos .ensures ∙ ap (placed (s .args .edge)) (by₂ _-ℤ_ (is (sub-with-pos p)) (is (fits-in w32 (s .pre .0) tt tt)) (is (s .fits .delta)))
+    c .with-pos .ensures ∙ ap (λ (p : ℤ). placed (s .args .edge) p (s .args .mark)) (by₂ _-ℤ_ (is (sub-with-pos p)) (is (fits-in w32 (s .pre .0) tt tt)) (is (s .fits .delta)))
 
 pub moved-back-spec : {M : Type 1} → statement M
 moved-back-spec = tie.close (tie.spec sub-with-pos with-pos-requires returns)

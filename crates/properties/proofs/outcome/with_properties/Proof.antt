@@ -32,6 +32,7 @@ returns c =
       serif = serif-beside .serif-beside .ensures i;
       first = e .first;
       last = e .last;
+      mark = e .mark;
     }
 
 pub with-properties-spec : {M : Type 1} → statement M

@@ -39,8 +39,8 @@ enum-told c = search needs
 returns : tie.Need-returns
 returns c = let s = c .before .before in edge-nowhere (s .before .args .words .now) (s .before .args .at) (sym (s .skip-record .ensures) ∙ c .enum-told .given .1)
 
-sub-word-at : tie.Need-sub-word-at
-sub-word-at c = omega (arith, place c)
+add-word-at : tie.Need-add-word-at
+add-word-at c = omega (arith, place c)
 
 word-at-requires : tie.Need-word-at-requires
 word-at-requires c κs = search needs
@@ -51,8 +51,8 @@ returns-2 c =
     let w = c .before .word-at in
     edge-blue (start k .args .words .now) (start k .args .at) (next k) (there k) (sym (w .ensures) ∙ sym (kept w32 (w .result) (w .ok)) ∙ ap (toZ w32) (c .if1 .taken))
 
-sub-word-at-2 : tie.Need-sub-word-at-2
-sub-word-at-2 c = omega (arith, place (c .before .before))
+add-word-at-2 : tie.Need-add-word-at-2
+add-word-at-2 c = omega (arith, place (c .before .before))
 
 word-at-requires-2 : tie.Need-word-at-requires-2
 word-at-requires-2 c κs = search needs
@@ -79,10 +79,10 @@ skip-edge-spec =
     enum-known-next
     enum-told
     returns
-    sub-word-at
+    add-word-at
     word-at-requires
     returns-2
-    sub-word-at-2
+    add-word-at-2
     word-at-requires-2
     returns-3
     returns-4)

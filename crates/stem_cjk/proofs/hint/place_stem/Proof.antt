@@ -3,6 +3,7 @@ use mathlib.Core.Path.{_≡_, ap, _∙_}
 use native.Mathlib.Omega.{arith}
 use lib.IntN.{_+ℤ_}
 use Rattle.signed.proofs.Signed.{fits, is, signed}
+use Rattle.axis.specs.declared.kinds.Mark.the-variants.{Stem}
 use Rattle.axis.specs.declared.edge.Edge.{Edge}
 use Rattle.axis.specs.declared.edge.Axis.{Axis}
 use Rattle.axis.specs.Edge.{edgeAt, putEdge, placed}
@@ -33,7 +34,7 @@ element-copy-out-with-pos-2 : tie.Need-element-copy-out-with-pos-2
 element-copy-out-with-pos-2 c = search needs
 
 -- the lower edge, placed
-lower-is : (c : tie.After-with-pos) → c .with-pos .result ≡ placed (edgeAt (c .before .before .args .axis) (c .before .before .args .lower)) (c .before .before .args .pos)
+lower-is : (c : tie.After-with-pos) → c .with-pos .result ≡ placed (edgeAt (c .before .before .args .axis) (c .before .before .args .lower)) (c .before .before .args .pos) Stem
 lower-is c = rw (is (c .before .before .fits .pos)) at (c .with-pos .ensures)
 
 add-with-pos : tie.Need-add-with-pos
@@ -56,7 +57,7 @@ abbrev lowerPut : tie.After-with-pos2 → Axis
 lowerPut c = putEdge (upper-start c .args .axis) (upper-start c .args .lower) (c .before .before .with-pos .result)
 
 upper-is : (c : tie.After-with-pos2) → c .with-pos2 .result
-    ≡ placed (edgeAt (lowerPut c) (upper-start c .args .upper)) (upper-start c .args .pos +ℤ upper-start c .args .width)
+    ≡ placed (edgeAt (lowerPut c) (upper-start c .args .upper)) (upper-start c .args .pos +ℤ upper-start c .args .width) Stem
 upper-is c = let s = upper-start c in rw (is (add-with-pos (c .before)), is (s .fits .pos), is (s .fits .width)) at (c .with-pos2 .ensures)
 
 returns : tie.Need-returns

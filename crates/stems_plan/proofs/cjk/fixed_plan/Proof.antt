@@ -1,6 +1,7 @@
 -- `stems_plan::cjk::fixed_plan` meets its contract. Assumes nothing.
 use mathlib.Core.Bool.{true, false}
 use Rattle.signed.proofs.Signed.{is}
+use Rattle.axis.specs.declared.kinds.Mark.the-variants.{Stem}
 use Rattle.stems_plan.specs.declared.kinds.LastStem.the-variants.{At}
 use Rattle.stems_plan.specs.declared.kinds.Second.the-variants.{Fixed}
 use Rattle.stems_plan.proofs.cjk.fixed_plan.Statement.{statement}
@@ -9,6 +10,7 @@ use Rattle.stems_plan.proofs.cjk.fixed_plan.Tie as tie
 returns : tie.Need-returns
 returns c = let f = c .fits in λ i. record {
   first = is (f .first) i;
+  mark = Stem;
   second = Fixed (is (f .second) i);
   bounded = false;
   anchors = true;

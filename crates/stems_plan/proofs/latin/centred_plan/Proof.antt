@@ -4,6 +4,7 @@ use mathlib.Core.Bool.{true, false}
 use mir.Syntax.{w32}
 use mir.Val.{toZ, ofZ}
 use Rattle.signed.proofs.Signed.{is, got}
+use Rattle.axis.specs.declared.kinds.Mark.the-variants.{Stem}
 use Rattle.stem_latin.specs.Latin.{anchoredFirst, anchoredSecond}
 use Rattle.stems_plan.specs.declared.kinds.Second.the-variants.{Fixed}
 use Rattle.signed.proofs.By.{by₃}
@@ -31,7 +32,7 @@ second-is c =
     is (got w32 (c .anchored-second .result) (c .anchored-second .ok)) ∙ by₃ anchoredSecond (c .anchored-second .ensures) (is (f .start)) (is (f .org-len)) (is (f .width))
 
 returns : tie.Need-returns
-returns c = λ i. record { first = first-is (c .before) i; second = Fixed (second-is c i); bounded = true; anchors = false; trail = c .before .before .args .trail }
+returns c = λ i. record { first = first-is (c .before) i; mark = Stem; second = Fixed (second-is c i); bounded = true; anchors = false; trail = c .before .before .args .trail }
 
 pub centred-plan-spec : {M : Type 1} → statement M
 centred-plan-spec =

@@ -62,8 +62,8 @@ second-within c =
     let f = c .pre .1 .1 .opos in
     free-second-range _ _ _ _ (free-ends _ _ _ e f (width-range _ _ _ _ e f))
 
-add-t10 : tie.Need-add-t10
-add-t10 c = rw (free-is c, width-is (c .before .before .before)) (fits-in w32 (second-within (c .before .before .before .before)) tt tt)
+add-t11 : tie.Need-add-t11
+add-t11 c = rw (free-is c, width-is (c .before .before .before)) (fits-in w32 (second-within (c .before .before .before .before)) tt tt)
 
 returns : tie.Need-returns
 unfolding freePlan linkedPos
@@ -74,4 +74,4 @@ returns c =
 pub free-plan-spec : {M : Type 1} → statement M
 free-plan-spec =
     tie.close
-    (tie.spec width-of-requires original-len-requires free-first-requires add-t10 returns)
+    (tie.spec width-of-requires original-len-requires free-first-requires add-t11 returns)

@@ -34,6 +34,7 @@ returns c =
       serif = serif .turned-link2 .ensures i;
       first = e .first;
       last = e .last;
+      mark = e .mark;
     }
 
 pub turned-edge-spec : {M : Type 1} → statement M

@@ -68,10 +68,17 @@ add-index-at-2 c = search needs
 index-at-requires-2 : tie.Need-index-at-requires-2
 index-at-requires-2 c κs = search needs
 
+add-mark-at : tie.Need-add-mark-at
+add-mark-at c = search needs
+
+mark-at-requires : tie.Need-mark-at-requires
+mark-at-requires c κs = search needs
+
 returns : tie.Need-returns
 unfolding edgeFrom
 returns c =
-    let first = c .before in
+    let last = c .before in
+    let first = last .before in
     let serif = first .before in
     let link = serif .before in
     let blue = link .before in
@@ -92,7 +99,8 @@ returns c =
       link = link .link-at .ensures i;
       serif = serif .link-at2 .ensures i;
       first = first .index-at .ensures i;
-      last = c .index-at2 .ensures i;
+      last = last .index-at2 .ensures i;
+      mark = c .mark-at .ensures i;
     }
 
 pub edge-from-spec : {M : Type 1} → statement M
@@ -118,4 +126,6 @@ edge-from-spec =
     index-at-requires
     add-index-at-2
     index-at-requires-2
+    add-mark-at
+    mark-at-requires
     returns)

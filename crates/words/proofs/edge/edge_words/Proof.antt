@@ -35,10 +35,14 @@ index-word-requires c κs = search needs
 index-word-requires-2 : tie.Need-index-word-requires-2
 index-word-requires-2 c κs = search needs
 
+mark-word-requires : tie.Need-mark-word-requires
+mark-word-requires c κs = search needs
+
 returns : tie.Need-returns
 unfolding edgeWords
 returns c =
-    let last = c .before in
+    let mark = c .before in
+    let last = mark .before in
     let first = last .before in
     let serif = first .before in
     let link = serif .before in
@@ -59,6 +63,7 @@ returns c =
     ∷ (kept w32 (serif .link-word2 .result) (serif .link-word2 .ok) ∙ serif .link-word2 .ensures) i
     ∷ (kept w32 (first .index-word .result) (first .index-word .ok) ∙ first .index-word .ensures) i
     ∷ (kept w32 (last .index-word2 .result) (last .index-word2 .ok) ∙ last .index-word2 .ensures) i
+    ∷ (kept w32 (mark .mark-word .result) (mark .mark-word .ok) ∙ mark .mark-word .ensures) i
     ∷ []
 
 pub edge-words-spec : {M : Type 1} → statement M
@@ -74,4 +79,5 @@ edge-words-spec =
     link-word-requires-2
     index-word-requires
     index-word-requires-2
+    mark-word-requires
     returns)
