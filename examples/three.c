@@ -144,9 +144,8 @@ static uint8_t build(const struct axis *axis, struct khs_segment *segments, stru
     return answer;
 }
 
-/* Puts the edges at the heights of zones on them, and tells the anchor by *anchor. */
-static uint8_t put_on_zones(struct khs_edge *edges, int32_t count, int32_t *anchor) {
-    struct khs_edge before[KHS_MOST_EDGES];
+/* Gives the edges at the heights of zones their zones. */
+static void give_zones(struct khs_edge *edges, int32_t count) {
     for (int32_t i = 0; i < count; i++) {
         for (int32_t k = 0; k < 2; k++) {
             if (edges[i].fpos == zones[k][0]) {
@@ -155,24 +154,17 @@ static uint8_t put_on_zones(struct khs_edge *edges, int32_t count, int32_t *anch
             }
         }
     }
-    memcpy(before, edges, sizeof before);
-    uint8_t answer = khs_align_edges_to_blues((int32_t *)edges, (khs_length)count * KHS_EDGE_WORDS, KHS_VERTICAL, KHS_LATIN, KHS_SNAP, standards, 2, anchor);
-    if (answer == KHS_DONE) {
-        printf("  zones     the anchor is edge %d\n", (int)*anchor);
-        print_placed(before, edges, count);
-    }
-    return answer;
 }
 
-/* Places the stems by the anchor, or by the first of them where there is none. */
-static uint8_t place_stems(const struct axis *axis, struct khs_edge *edges, int32_t count, int32_t anchor) {
+/* Puts the edges on their zones, and places the stems by the anchor that these give, or by the first stem where there is none. */
+static uint8_t place_edges(const struct axis *axis, struct khs_edge *edges, int32_t count) {
     struct khs_edge before[KHS_MOST_EDGES];
-    int32_t passed_over;
+    int32_t passed_over, anchor;
     memcpy(before, edges, sizeof before);
-    uint8_t answer = khs_align_stem_edges((int32_t *)edges, (khs_length)count * KHS_EDGE_WORDS, axis->dim, KHS_LATIN, 0, 0, anchor, KHS_SNAP, standards, 2,
-                                          &passed_over, &anchor);
+    uint8_t answer = khs_align_blues_and_stems((int32_t *)edges, (khs_length)count * KHS_EDGE_WORDS, axis->dim, KHS_LATIN, 0, 0, KHS_SNAP, standards, 2,
+                                               &passed_over, &anchor);
     if (answer == KHS_DONE) {
-        printf("  stems     %d passed over, the anchor is edge %d\n", (int)passed_over, (int)anchor);
+        printf("  fitting   %d passed over, the anchor is edge %d\n", (int)passed_over, (int)anchor);
         print_placed(before, edges, count);
     }
     return answer;
@@ -207,14 +199,14 @@ static uint8_t align_points(const struct axis *axis, const struct khs_segment *s
 static uint8_t fit(const struct axis *axis, int32_t points[POINTS]) {
     struct khs_segment segments[MOST_SIDES];
     struct khs_edge edges[KHS_MOST_EDGES];
-    int32_t count, anchor = KHS_NONE;
+    int32_t count;
     memcpy(segments, axis->sides, sizeof segments);
     uint8_t answer = build(axis, segments, edges, &count);
-    if (answer == KHS_DONE && axis->dim == KHS_VERTICAL) {
-        answer = put_on_zones(edges, count, &anchor);
-    }
     if (answer == KHS_DONE) {
-        answer = place_stems(axis, edges, count, anchor);
+        if (axis->dim == KHS_VERTICAL) {
+            give_zones(edges, count);
+        }
+        answer = place_edges(axis, edges, count);
     }
     return answer == KHS_DONE ? align_points(axis, segments, edges, points) : answer;
 }

@@ -17,9 +17,10 @@
  *      by link, with serif KHS_NONE; a serif has link KHS_NONE and names by serif the segment that it is a serif of.
  *   2. khs_compute_edges makes edges of them, without blue zones; a segment's edge tells which is its own.
  *   3. The caller gives edges their zones: blue, blue_fitted, and KHS_FLAG_NEUTRAL where a zone is neutral. A blue zone is a height that glyphs of a font share,
- *      as their foot or their head, and comes to blue_fitted, which the caller chooses; a neutral one gives way to a zone on the other side of the stem.
- *      khs_align_edges_to_blues puts them there and hands back the anchor.
- *   4. khs_align_stem_edges places the stems, beginning with that anchor. khs_hint_lowercase_m evens out an m, on its horizontal axis.
+ *      as their foot or their head, and comes to blue_fitted, which the caller chooses; a neutral one gives way to a zone on the other side of the stem. Edges of
+ *      KHS_LATIN have none on the horizontal axis.
+ *   4. khs_align_blues_and_stems puts edges on their zones, and places the stems, beginning with the anchor that the zones give. It is khs_align_edges_to_blues and
+ *      khs_align_stem_edges in a row, for who wants to look in between. khs_hint_lowercase_m evens out an m, on its horizontal axis.
  *   5. An edge without KHS_FLAG_DONE has not been placed. The caller leaves it, and its points to step 6, or places it as it likes: one with a serif by
  *      khs_align_serif_edge with that as base, another one between the edges that khs_latin_remaining_bounds finds; khs_adjust_link keeps one with a link in order.
  *      None of these calls sets the flag: the caller does, by flags |= KHS_FLAG_DONE.
@@ -30,7 +31,7 @@
  *
  * An example: a bar from 0 to 80 of 1,000 design units to the em, at 12 pixels to the em, whose foot has a zone at 0; it goes clockwise, and its point 2 lies at 40
  * between the sides. It leaves 64 64 33 0 0 in currents. In the repository examples/three.c fits a figure 3 so.
- *     int32_t scale = (int32_t)((int64_t)12 * 64 * 65536 / 1000), standards[1] = {64}, count, anchor, passed_over, found;
+ *     int32_t scale = (int32_t)((int64_t)12 * 64 * 65536 / 1000), standards[1] = {64}, count, passed_over, anchor;
  *     struct khs_segment segments[2] = {
  *         {0, KHS_DIR_RIGHT, 80, 0, 10, 200, 190, 32000, 0, 1, KHS_NONE, 0, 1, KHS_NONE, KHS_NONE},
  *         {0, KHS_DIR_LEFT, 0, 0, 10, 200, 190, 32000, 0, 0, KHS_NONE, 3, 4, KHS_NONE, KHS_NONE}};
@@ -42,8 +43,7 @@
  *                           0, scale, 16, 0, (32 * 65536 + scale / 2) / scale, &count) != KHS_DONE) return 1;
  *     edges[segments[1].edge].blue = 1;
  *     edges[segments[1].edge].blue_fitted = 0;
- *     if (khs_align_edges_to_blues((int32_t *)edges, count * KHS_EDGE_WORDS, KHS_VERTICAL, KHS_LATIN, KHS_SNAP, standards, 1, &anchor) != KHS_DONE) return 1;
- *     if (khs_align_stem_edges((int32_t *)edges, count * KHS_EDGE_WORDS, KHS_VERTICAL, KHS_LATIN, 0, 0, anchor, KHS_SNAP, standards, 1, &passed_over, &found)
+ *     if (khs_align_blues_and_stems((int32_t *)edges, count * KHS_EDGE_WORDS, KHS_VERTICAL, KHS_LATIN, 0, 0, KHS_SNAP, standards, 1, &passed_over, &anchor)
  *         != KHS_DONE) return 1;
  *     for (int i = 0; i < 2; i++) {
  *         int32_t edge = segments[i].edge;
@@ -98,7 +98,8 @@ enum khs_answer {
     KHS_DONE = 0,          /* done */
     KHS_TOO_LONG = 1,      /* a list is longer than its limit (4,096 points, 512 segments, 128 edges), lists of one outline differ in length, a path or a
                             * line has too little room, a frame more than 255 points or contours, or a catalogue's counts do not fit its lists */
-    KHS_BAD_PARAMETER = 2, /* a scale, units per em, threshold or the m call's count is outside its limits, or the standards break their rule */
+    KHS_BAD_PARAMETER = 2, /* a scale, units per em, threshold or the m call's count is outside its limits, the standards break their rule, or an edge has a
+                            * zone on an axis that khs_align_blues_and_stems takes none on */
     KHS_BAD_INDEX = 3,     /* a contour end breaks its rule, or a link, serif, ring index, anchor or named edge is not below its list's length */
     KHS_OUT_OF_RANGE = 4,  /* a coordinate, position, score, len or passed delta is outside its limits; in building also a scaled position */
     KHS_NO_ROOM = 5,       /* building calls for one edge more than 128 */
@@ -119,7 +120,7 @@ enum { KHS_FLAG_ROUND = 1, KHS_FLAG_SERIF = 2, KHS_FLAG_DONE = 4, KHS_FLAG_NEUTR
 enum { KHS_FINISHED = 0, KHS_MOVE = 1, KHS_LINE = 2, KHS_CURVE = 3, KHS_CLOSE = 4 };              /* the kind of a path's step */
 
 /* The mark of an edge: what last gave it its position, if only the one that it had. A call writes mark where it writes pos, but for an edge that is done already when
- * khs_align_edges_to_blues puts it on its zone: that one keeps its mark. No call reads marks: positions, answers and refusals are as without them. */
+ * it is put on its zone: that one keeps its mark. No call reads marks: positions, answers and refusals are as without them. */
 enum khs_mark {
     KHS_MARK_NOTHING = 0,     /* nothing yet: it stands where building put it */
     KHS_MARK_BLUE_ANCHOR = 1, /* its blue zone, the first zone that the call came to */
@@ -297,6 +298,17 @@ uint8_t khs_hint_normal_stem_cjk(int32_t *edges, khs_length edges_len, int32_t d
  * Answers: KHS_DONE, KHS_TOO_LONG, KHS_RETIRED, KHS_BAD_PARAMETER, KHS_BAD_INDEX, KHS_OUT_OF_RANGE, KHS_NOT_WORDS. */
 uint8_t khs_align_stem_edges(int32_t *edges, khs_length edges_len, int32_t dim, int32_t group, int32_t stem_adjust, int32_t top_to_bottom, int32_t anchor,
                              int32_t rule, const int32_t *standards, khs_length standards_len, int32_t *count, int32_t *found);
+
+/* Puts edges on their blue zones, and then aligns all stems that are not done: khs_align_edges_to_blues, and behind it khs_align_stem_edges with the anchor that it
+ * hands back, in one call. What it writes and hands back is what the two in a row do, and what they accept it accepts, but for this: KHS_LATIN has zones on the
+ * vertical axis alone, and on the horizontal one an edge with a zone, done or not, is KHS_BAD_PARAMETER. So no edge that the zones leave undone has a link on a
+ * zone, and the stems place none by such a link.
+ * dim: a dimension. group: a group. stem_adjust: 0 or 1, read for KHS_CJK. top_to_bottom: 0; 1 is KHS_RETIRED. rule, standards: the width rule.
+ * Writes pos, mark, flags, blue and blue_fitted of edges, as the two calls do; count, how many edges the stems passed over; anchor, the edge that is the anchor
+ * behind the stems, or KHS_NONE.
+ * Answers: KHS_DONE, KHS_TOO_LONG, KHS_RETIRED, KHS_BAD_PARAMETER, KHS_BAD_INDEX, KHS_OUT_OF_RANGE, KHS_NOT_WORDS. */
+uint8_t khs_align_blues_and_stems(int32_t *edges, khs_length edges_len, int32_t dim, int32_t group, int32_t stem_adjust, int32_t top_to_bottom, int32_t rule,
+                                  const int32_t *standards, khs_length standards_len, int32_t *count, int32_t *anchor);
 
 /* Evens out the three stems of a lowercase m by moving the third to the distance that the first two have.
  * edges: 6, whose stems begin at edges 0, 2 and 4, or 12, at edges 1, 5 and 9; else KHS_BAD_PARAMETER. group: a group.

@@ -124,6 +124,13 @@ pub const EDITS: &[Edit] = &[
         times: 1,
     },
     Edit {
+        name: "the fallback of the stem pass counted",
+        file: "hint/edges.rs",
+        from: "// This should not happen, but match the C fallback.",
+        to: "if let Some(recorder) = recorder.as_mut().filter(|_| edge2_has_blue) { recorder.fallbacks += 1; }",
+        times: 1,
+    },
+    Edit {
         name: "length threshold from the caller",
         file: "topo/edges.rs",
         from: "if axis.dim == Dimension::Horizontal {\n        fixed_div(64, y_scale)\n    } else {\n        0\n    };",

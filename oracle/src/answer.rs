@@ -5,6 +5,7 @@ use crate::{
     decode::decode,
     frames,
     job::{Job, Points},
+    joined,
     path::Step,
     refusals::{Answer, Refusal},
     text, turn,
@@ -127,7 +128,7 @@ fn one_step(w: &mut Words, step: Option<Step>, cursor: u32) {
     w.put("next cursor", next as i32);
 }
 
-/// Calls 106 to 113 but the bounds: the answer ends with a table of edges.
+/// Calls 106 to 113 but the bounds, and 122: the answer ends with a table of edges.
 fn on_edges(w: &mut Words, job: Job) {
     let edges = match job {
         Job::Blues(mut edges, dim, group, rule) => {
@@ -162,6 +163,12 @@ fn on_edges(w: &mut Words, job: Job) {
         }
         Job::M(mut edges, group) => {
             done(w, calls::hint_lowercase_m(&mut edges, group));
+            edges
+        }
+        Job::Joined(mut edges, given) => {
+            let fitted = number(w, joined::align_blues_and_stems(&mut edges, &given));
+            w.count("count", fitted.map_or(0, |fitted| fitted.count));
+            index(w, "anchor", fitted.and_then(|fitted| fitted.anchor));
             edges
         }
         _ => unreachable!("the other calls hand back no table of edges"),

@@ -16,6 +16,7 @@ use crate::{
         Building, Catalogue, CjkStem, Dimension, Direction, Edge, Mark, Points, ScriptGroup,
         Segment, Stems, Table, TopoFlags, Walk, WidthRule,
     },
+    joined::Fitted,
     limits::EDGES,
     path::{self, Step},
     refusals::{self, Answer, Refusal},
@@ -266,9 +267,15 @@ pub fn hint_normal_stem_cjk(edges: &mut Table<Edge>, given: &CjkStem) -> Answer<
 
 /// Call 112: the edges are lent; hands back the count and the anchor.
 pub fn align_stem_edges(edges: &mut Table<Edge>, given: &Stems) -> Answer<(usize, Option<usize>)> {
+    let fitted = fitted_stems(edges, given)?;
+    Ok((fitted.count, fitted.anchor))
+}
+
+/// The same, and how often its fallback was taken.
+pub fn fitted_stems(edges: &mut Table<Edge>, given: &Stems) -> Answer<Fitted> {
     refusals::stems(edges, given)?;
     Ok(on_axis(edges, given.dim, |axis, recorder| {
-        hint_edges::align_stem_edges(
+        let (count, anchor) = hint_edges::align_stem_edges(
             axis,
             &metrics(&given.rule),
             given.group,
@@ -276,7 +283,12 @@ pub fn align_stem_edges(edges: &mut Table<Edge>, given: &Stems) -> Answer<(usize
             given.top_to_bottom,
             given.anchor.map(usize::from),
             Some(recorder),
-        )
+        );
+        Fitted {
+            count,
+            anchor,
+            fallbacks: recorder.fallbacks,
+        }
     }))
 }
 

@@ -2,8 +2,8 @@
 
 use crate::{
     job::{
-        Building, Catalogue, CjkStem, Dimension, Direction, Edge, Job, Mark, Points, ScaledWidth,
-        ScriptGroup, Segment, Stems, Table, TopoFlags, Walk, WidthRule,
+        Building, Catalogue, CjkStem, Dimension, Direction, Edge, Job, Joined, Mark, Points,
+        ScaledWidth, ScriptGroup, Segment, Stems, Table, TopoFlags, Walk, WidthRule,
     },
     limits::{EDGES, LENT, NUMBERS, SEGMENTS},
 };
@@ -217,6 +217,7 @@ impl Reader<'_> {
             112 => Job::Stems(self.edges()?, self.stems()?),
             113 => Job::M(self.edges()?, self.group()?),
             114 => Job::MLent(self.lent()?, self.group()?),
+            122 => Job::Joined(self.edges()?, self.joined()?),
             124 => Job::TurnOver(self.segments()?, self.edges()?),
             _ => return None,
         })
@@ -286,6 +287,17 @@ impl Reader<'_> {
             stem_adjust: self.choice()?,
             top_to_bottom: self.choice()?,
             anchor: self.index()?,
+            rule: self.rule()?,
+        })
+    }
+
+    /// What blues and stems in one call are told.
+    fn joined(&mut self) -> Option<Joined> {
+        Some(Joined {
+            dim: self.dimension()?,
+            group: self.group()?,
+            stem_adjust: self.choice()?,
+            top_to_bottom: self.choice()?,
             rule: self.rule()?,
         })
     }

@@ -99,6 +99,16 @@ pub struct Stems {
     pub rule: WidthRule,
 }
 
+/// What blues and stems in one call are told beside their edges.
+#[derive(Clone, PartialEq, Debug)]
+pub struct Joined {
+    pub dim: Dimension,
+    pub group: ScriptGroup,
+    pub stem_adjust: bool,
+    pub top_to_bottom: bool,
+    pub rule: WidthRule,
+}
+
 /// A public call and what it is given; the fields stand in the order of the words.
 #[derive(Clone, PartialEq, Debug)]
 pub enum Job {
@@ -119,6 +129,7 @@ pub enum Job {
     Path(Walk),
     PathStep(Walk, u32),
     Catalogue(Catalogue),
+    Joined(Table<Edge>, Joined),
     TurnOver(Table<Segment>, Table<Edge>),
     WriteFrame(Points, Vec<u8>),
     ReadFrame(Vec<u8>),
@@ -145,6 +156,7 @@ pub const CALLS: &[(usize, &str)] = &[
     (112, "align_stem_edges"),
     (113, "hint_lowercase_m (table)"),
     (114, "hint_lowercase_m (lent list)"),
+    (122, "align_blues_and_stems"),
     (124, "turn_over"),
 ];
 

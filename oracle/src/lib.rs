@@ -10,6 +10,7 @@ pub mod frames;
 pub mod generate;
 pub mod given;
 pub mod job;
+pub mod joined;
 pub mod limits;
 pub mod log;
 pub mod path;

@@ -4,10 +4,12 @@
 use oracle::count;
 use oracle::{
     answer::{answer_line, NOT_A_JOB},
+    calls,
+    decode::decode,
     explain,
     generate::{self, Profile, Random, PROFILES},
     job::{name_of, Job},
-    log, streams, text,
+    joined, log, streams, text,
     words::encode,
 };
 use std::{
@@ -25,6 +27,7 @@ const USAGE: &str = "usage:
   oracle explain                job lines on stdin, decoded with their answers
   oracle diff JOBS FIRST SECOND compares two files of answers to the jobs
   oracle tally                  job lines on stdin: answers per call and number
+  oracle fallback               jobs of stems and of blues and stems on stdin: how many had zones, and took the fallback
   oracle refit                  a log of frames on stdin to its replies on stdout
   oracle stream --count C --seed S   prints a made-up log of good frames
   oracle log --count C --seed S PROGRAM [WORD..]   compares what a program replies to made-up logs
@@ -41,6 +44,7 @@ fn main() -> ExitCode {
         ["explain"] => explain_lines(),
         ["diff", jobs, first, second] => return diff(jobs, first, second),
         ["tally"] => tally(),
+        ["fallback"] => return fallback(),
         ["refit"] => Some(refit()),
         ["stream", "--count", count, "--seed", seed] => stream(count, seed),
         ["log", "--count", count, "--seed", seed, program @ ..] => {
@@ -180,6 +184,42 @@ fn tally() -> Done {
         println!();
     }
     Some(counted)
+}
+
+/// Counts of the stem pass alone, and behind blues, what was done: all, with a zone, and by the fallback, which status 1 tells of behind blues.
+fn fallback() -> ExitCode {
+    let mut counts = [
+        ("align_stem_edges", [0; 3]),
+        ("align_blues_and_stems", [0; 3]),
+    ];
+    let counted = each_line(|line, _| {
+        let job = text::parse(line).and_then(|words| decode(&words));
+        let (call, edges, fitted) = match job {
+            Some(Job::Stems(edges, given)) => {
+                let fitted = calls::fitted_stems(&mut edges.clone(), &given);
+                (0, edges, fitted)
+            }
+            Some(Job::Joined(edges, given)) => {
+                let fitted = joined::align_blues_and_stems(&mut edges.clone(), &given);
+                (1, edges, fitted)
+            }
+            _ => return Ok(()),
+        };
+        if let Ok(fitted) = fitted {
+            let [all, with_zone, by_fallback] = &mut counts[call].1;
+            *all += 1;
+            *with_zone += u64::from(joined::has_zone(&edges));
+            *by_fallback += u64::from(fitted.fallbacks > 0);
+        }
+        Ok(())
+    });
+    if let Err(error) = counted {
+        return failed(&error);
+    }
+    for (name, [all, with_zone, by_fallback]) in counts {
+        println!("{name:30} {all:>9} done, {with_zone} with a zone, {by_fallback} by the fallback");
+    }
+    ExitCode::from(u8::from(counts[1].1[2] > 0))
 }
 
 /// The title of an answer's column.

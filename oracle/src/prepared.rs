@@ -43,6 +43,7 @@ enum Call {
     Bounds(usize),
     CjkStem(usize, usize, i32),
     Stems(bool, Option<usize>),
+    Joined(bool),
     M,
 }
 
@@ -115,6 +116,11 @@ impl Prepared {
             }
             Job::Stems(edges, given) => {
                 let call = Call::Stems(given.top_to_bottom, given.anchor.map(usize::from));
+                let group = given.group;
+                (edges, given.dim, group, given.rule, given.stem_adjust, call)
+            }
+            Job::Joined(edges, given) => {
+                let call = Call::Joined(given.top_to_bottom);
                 let group = given.group;
                 (edges, given.dim, group, given.rule, given.stem_adjust, call)
             }
@@ -210,6 +216,18 @@ impl Fitting {
                 ));
             }
             Call::Stems(top_to_bottom, anchor) => {
+                black_box(hint_edges::align_stem_edges(
+                    axis,
+                    metrics,
+                    group,
+                    scale,
+                    top_to_bottom,
+                    anchor,
+                    None,
+                ));
+            }
+            Call::Joined(top_to_bottom) => {
+                let anchor = hint_edges::align_edges_to_blues(axis, metrics, group, scale, None);
                 black_box(hint_edges::align_stem_edges(
                     axis,
                     metrics,

@@ -4,7 +4,10 @@
 
 use crate::{
     given::metrics::fixed_mul,
-    job::{Building, Catalogue, CjkStem, Edge, Points, Segment, Stems, Table, Walk, WidthRule},
+    job::{
+        Building, Catalogue, CjkStem, Dimension, Edge, Joined, Points, ScriptGroup, Segment, Stems,
+        Table, Walk, WidthRule,
+    },
     limits::*,
 };
 
@@ -146,6 +149,21 @@ pub fn stems(edges: &Table<Edge>, given: &Stems) -> Answer<()> {
     refuse(1, edges.count > EDGES)?;
     bottom_to_top(given.top_to_bottom)?;
     edges_and_rule(edges, &given.rule, given.anchor.as_slice())
+}
+
+/// Blues and stems in one call.
+pub fn joined(table: &Table<Edge>, given: &Joined) -> Answer<()> {
+    refuse(1, table.count > EDGES)?;
+    bottom_to_top(given.top_to_bottom)?;
+    refuse(2, !is_rule(&given.rule) || has_skipped_blue(table, given))?;
+    edges(table, &[])
+}
+
+/// Whether some edge has a blue on the axis whose blues are skipped: the default group's horizontal one.
+fn has_skipped_blue(table: &Table<Edge>, given: &Joined) -> bool {
+    given.group == ScriptGroup::Default
+        && given.dim == Dimension::Horizontal
+        && table.items.iter().any(|edge| edge.blue_edge.is_some())
 }
 
 /// The lowercase m.

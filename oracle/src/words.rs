@@ -2,7 +2,7 @@
 
 use crate::{
     job::{
-        Building, Catalogue, CjkStem, Dimension, Direction, Edge, Job, Points, ScriptGroup,
+        Building, Catalogue, CjkStem, Dimension, Direction, Edge, Job, Joined, Points, ScriptGroup,
         Segment, Stems, Table, Walk, WidthRule,
     },
     path::Place,
@@ -266,7 +266,7 @@ fn build(w: &mut Words, segments: &Table<Segment>, edges: &Table<Edge>, given: &
     w.put("width threshold", given.width);
 }
 
-/// Calls 106 to 113: a table of edges first.
+/// Calls 106 to 113 and 122: a table of edges first.
 fn on_edges(w: &mut Words, job: &Job) {
     let (call, edges) = match job {
         Job::Blues(edges, ..) => (106, edges),
@@ -277,6 +277,7 @@ fn on_edges(w: &mut Words, job: &Job) {
         Job::CjkStem(edges, ..) => (111, edges),
         Job::Stems(edges, ..) => (112, edges),
         Job::M(edges, ..) => (113, edges),
+        Job::Joined(edges, ..) => (122, edges),
         _ => unreachable!("the other calls are not on a table of edges"),
     };
     w.put("call", call);
@@ -285,7 +286,7 @@ fn on_edges(w: &mut Words, job: &Job) {
     behind_edges(w, job);
 }
 
-/// What stands behind the edges in calls 106 to 113.
+/// What stands behind the edges in these calls.
 fn behind_edges(w: &mut Words, job: &Job) {
     match job {
         Job::Blues(_, dim, group, rule) => {
@@ -312,6 +313,7 @@ fn behind_edges(w: &mut Words, job: &Job) {
         Job::CjkStem(_, given) => cjk_stem(w, given),
         Job::Stems(_, given) => stems(w, given),
         Job::M(_, group) => w.group(*group),
+        Job::Joined(_, given) => joined(w, given),
         _ => unreachable!("the other calls are not on a table of edges"),
     }
 }
@@ -334,5 +336,14 @@ fn stems(w: &mut Words, given: &Stems) {
     w.choice("stem adjust", given.stem_adjust);
     w.choice("top to bottom", given.top_to_bottom);
     w.index("anchor", given.anchor);
+    w.rule(&given.rule);
+}
+
+/// Call 122 behind its edges.
+fn joined(w: &mut Words, given: &Joined) {
+    w.dimension(given.dim);
+    w.group(given.group);
+    w.choice("stem adjust", given.stem_adjust);
+    w.choice("top to bottom", given.top_to_bottom);
     w.rule(&given.rule);
 }

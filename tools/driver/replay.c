@@ -37,6 +37,7 @@ static const char *const formats[] = {
     [112] = "EcccclcN",   /* align_stem_edges: edges, dimension, group, stem adjust, top to bottom, anchor, width rule */
     [113] = "Ec",         /* hint_lowercase_m, table form: edges, group */
     [114] = "Lc",         /* hint_lowercase_m, lent list: edges, group */
+    [122] = "EcccccN",    /* align_blues_and_stems: edges, dimension, group, stem adjust, top to bottom, width rule */
     [124] = "SE"          /* turn_over: segments, edges */
 };
 enum { CALLS = sizeof formats / sizeof formats[0], MOST_ITEMS = 10 };
@@ -364,6 +365,11 @@ static void answer_edges(const struct job *job)
         break;
     case 112:
         say(khs_align_stem_edges(table, len, n[0], n[1], n[2], n[3], n[4], n[5], standards->words, standards->size, &number, &index));
+        say(number);
+        say(index);
+        break;
+    case 122:
+        say(khs_align_blues_and_stems(table, len, n[0], n[1], n[2], n[3], n[4], standards->words, standards->size, &number, &index));
         say(number);
         say(index);
         break;

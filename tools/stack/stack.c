@@ -44,6 +44,13 @@ static uint8_t stem(void) { return khs_hint_normal_stem_cjk(edge_words(), EDGE_L
 static uint8_t stems(void) {
     return khs_align_stem_edges(edge_words(), EDGE_LIST, dim, group, adjusted, 0, KHS_NONE, rule, standards, STANDARDS, &first, &second);
 }
+/* KHS_LATIN's horizontal axis has no zones: there the edges lose theirs. */
+static uint8_t joined(void) {
+    for (int32_t i = 0; i < KHS_MOST_EDGES && dim == KHS_HORIZONTAL && group == KHS_LATIN; i++) {
+        edges[i].blue = edges[i].blue_fitted = 0;
+    }
+    return khs_align_blues_and_stems(edge_words(), EDGE_LIST, dim, group, adjusted, 0, rule, standards, STANDARDS, &first, &second);
+}
 static uint8_t step(void) { return khs_path_step(originals, POINTS, currents, POINTS, touched, POINTS, ends, POINTS / 4, 4000, kinds, places, &number); }
 static uint8_t path(void) {
     return khs_path(originals, POINTS, currents, POINTS, touched, POINTS, ends, POINTS / 4, kinds, sizeof kinds, places, sizeof places / sizeof *places, &number);
@@ -60,7 +67,7 @@ static const struct {
     uint8_t (*call)(void);
 } calls[] = {{"khs_align_weak_points", weak}, {"khs_align_catalogue", catalogue}, {"khs_link_segments_cjk", linking}, {"khs_compute_edges", building}, {"khs_align_edges_to_blues", blues},
              {"khs_align_linked_edge", linked}, {"khs_align_serif_edge", serif}, {"khs_adjust_link", adjust}, {"khs_latin_remaining_bounds", bounds},
-             {"khs_hint_normal_stem_cjk", stem}, {"khs_align_stem_edges", stems}, {"khs_hint_lowercase_m", lowercase_m},
+             {"khs_hint_normal_stem_cjk", stem}, {"khs_align_stem_edges", stems}, {"khs_align_blues_and_stems", joined}, {"khs_hint_lowercase_m", lowercase_m},
              {"khs_path_step", step}, {"khs_path", path}, {"khs_turn_over", turn}, {"khs_write_frame", write_frame}, {"khs_read_frame", read_frame}};
 
 /* Segments in pairs, the pairs on 128 heights; edges in stems, each with a zone or done here and there; points touched here and there; the longest frame, all zeros. */

@@ -137,6 +137,20 @@ extern "C" {
         found: *mut i32,
     ) -> u8;
 
+    fn khs_align_blues_and_stems(
+        edges: *mut i32,
+        edges_len: Length,
+        dim: i32,
+        group: i32,
+        stem_adjust: i32,
+        top_to_bottom: i32,
+        rule: i32,
+        standards: *const i32,
+        standards_len: Length,
+        count: *mut i32,
+        anchor: *mut i32,
+    ) -> u8;
+
     fn khs_hint_lowercase_m(edges: *mut i32, edges_len: Length, group: i32) -> u8;
 
     fn khs_path_step(
@@ -436,6 +450,33 @@ pub fn align_stem_edges(
             length(standards),
             count,
             found,
+        )
+    }
+}
+
+/// `[dim, group, stem_adjust, top_to_bottom]` are the numbers in front of the width rule.
+pub fn align_blues_and_stems(
+    edges: &mut [Edge],
+    [dim, group, stem_adjust, top_to_bottom]: [i32; 4],
+    (rule, standards): (i32, &[i32]),
+    count: &mut i32,
+    anchor: &mut i32,
+) -> u8 {
+    let (words, len) = edge_words(edges);
+    // SAFETY: two slices and two places, of which all but `standards` are lent to this call alone.
+    unsafe {
+        khs_align_blues_and_stems(
+            words,
+            len,
+            dim,
+            group,
+            stem_adjust,
+            top_to_bottom,
+            rule,
+            standards.as_ptr(),
+            length(standards),
+            count,
+            anchor,
         )
     }
 }

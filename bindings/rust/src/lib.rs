@@ -23,6 +23,7 @@ mod choices;
 #[allow(unsafe_code)]
 mod ffi;
 mod field;
+mod joined;
 mod log;
 mod path;
 mod records;
@@ -30,6 +31,7 @@ mod refusal;
 
 pub use choices::{Dimension, Group, Neighbour, Order, WidthRule};
 pub use field::{Direction, Flags, Mark};
+pub use joined::{align_blues_and_stems, BluesAndStems};
 pub use log::{Job, MOST_DIGITS};
 pub use path::{path, path_step, Outline, Path, PathStep, PixelPoint};
 pub use records::{Edge, Segment, EDGE_WORDS, SEGMENT_WORDS};

@@ -20,7 +20,8 @@ use std::{error, fmt};
 pub enum Refusal {
     /// 1: a list is longer than its limit (4,096 points, 512 segments, 128 edges), the point lists of an outline differ in length, or a path has too little room.
     TooLong,
-    /// 2: a scale, units per em, a threshold or the edge count of the m rule is outside its limits, or the standards of a width rule break its rule.
+    /// 2: a scale, units per em, a threshold or the edge count of the m rule is outside its limits, the standards of a width rule break its rule, or an edge has a zone
+    /// on an axis that blues and stems in one call take none on.
     BadParameter,
     /// 3: a contour end breaks its rule, or a link, a serif, an anchor or an edge named in the call is not below its list's length; in turning over also any other
     /// index.
@@ -75,7 +76,7 @@ impl Refusal {
     const fn reason(self) -> &'static str {
         match self {
             Self::TooLong => "a list is longer than its limit or a room too small, or the point lists differ in length",
-            Self::BadParameter => "a parameter or the width rule's list is outside its limits",
+            Self::BadParameter => "a parameter or the width rule's list is outside its limits, or a zone is on an axis that has none",
             Self::BadIndex => {
                 "a contour end breaks its rule, or an index is not below its list's length"
             }

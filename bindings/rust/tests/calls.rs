@@ -49,6 +49,15 @@ const PASS: StemPass<'_> = StemPass {
     rule: WidthRule::Keep,
 };
 
+/// Blues and stems on the vertical axis.
+const JOINED: BluesAndStems<'_> = BluesAndStems {
+    dimension: Dimension::Vertical,
+    group: Group::Latin,
+    stem_adjust: false,
+    order: Order::BottomToTop,
+    rule: WidthRule::Keep,
+};
+
 /// A CJK stem of edges 0 and 1.
 const STEM: CjkStem<'_> = CjkStem {
     dimension: Dimension::Vertical,
@@ -590,6 +599,88 @@ fn stem_pass() {
         },
         Refusal::BadIndex,
     );
+}
+
+#[test]
+fn blues_and_stems() {
+    let [foot, top] = stem(-9, 52);
+    let bar = [at(200).with_link(Some(3)), at(261).with_link(Some(2))];
+    let before = [foot.with_blue(Some(0)), top, bar[0], bar[1], at(400)];
+    let stems = Stems {
+        passed_over: 1,
+        anchor: Some(0),
+    };
+    let mut edges = before;
+    assert_eq!(align_blues_and_stems(&mut edges, &JOINED), Ok(stems));
+    assert_eq!(edges.map(|edge| edge.pos()), [0, 61, 194, 254, 400]);
+    use Mark::{BlueAnchor, Linked, Nothing, Stem};
+    assert_eq!(marks(edges), [BlueAnchor, Linked, Stem, Stem, Nothing]);
+    // the same as the two calls in a row
+    let mut apart = before;
+    let anchor = align_edges_to_blues(&mut apart, JOINED.dimension, JOINED.group, WidthRule::Keep);
+    let pass = StemPass {
+        anchor: anchor.unwrap(),
+        ..PASS
+    };
+    assert_eq!(align_stem_edges(&mut apart, &pass), Ok(stems));
+    assert_eq!(edges, apart);
+    // CJK's anchor is the last stem, and not the blues'
+    let cjk = BluesAndStems {
+        group: Group::Cjk,
+        ..JOINED
+    };
+    let last = Stems {
+        passed_over: 1,
+        anchor: Some(2),
+    };
+    assert_eq!(align_blues_and_stems(&mut before.clone(), &cjk), Ok(last));
+    let none = Stems {
+        passed_over: 0,
+        anchor: None,
+    };
+    assert_eq!(align_blues_and_stems(&mut [], &JOINED), Ok(none));
+    refuses_edges(&before, |edges| align_blues_and_stems(edges, &JOINED));
+}
+
+#[test]
+fn blues_and_stems_refused() {
+    let edges = stem(0, 60);
+    let wrong = |edges: &[Edge], given: BluesAndStems<'static>, refusal| {
+        refused(edges, refusal, |edges| align_blues_and_stems(edges, &given));
+    };
+    let retired = BluesAndStems {
+        order: Order::TopToBottom,
+        rule: WidthRule::Snap(&[16_384]),
+        ..JOINED
+    };
+    wrong(&edges, retired, Refusal::Retired);
+    let many = [Edge::default(); MOST_EDGES + 1];
+    wrong(&many, retired, Refusal::TooLong);
+    let standards = BluesAndStems {
+        rule: WidthRule::Snap(&[64, 64]),
+        ..JOINED
+    };
+    wrong(&edges, standards, Refusal::BadParameter);
+    // a zone on Latin's horizontal axis, also of an edge that is done, and in front of 3 and 4
+    let across = BluesAndStems {
+        dimension: Dimension::Horizontal,
+        ..JOINED
+    };
+    assert!(align_blues_and_stems(&mut edges.clone(), &across).is_ok());
+    for zone in [
+        at(9),
+        at(9).with_flags(Flags::DONE),
+        at(20_000).with_link(Some(9)),
+    ] {
+        let edges = [edges[0], edges[1], zone.with_blue(Some(0))];
+        wrong(&edges, across, Refusal::BadParameter);
+    }
+    let cjk = BluesAndStems {
+        group: Group::Cjk,
+        ..across
+    };
+    let mut zoned = [edges[0].with_blue(Some(0)), edges[1]];
+    assert!(align_blues_and_stems(&mut zoned, &cjk).is_ok());
 }
 
 #[test]

@@ -1,10 +1,11 @@
 -- Changes of edges: none, one after the other, in one place, by a call.
 use mathlib.Core.Path.{_≡_, refl, sym, ap, subst, _∙_}
 use mathlib.Core.Bool.{Bool, true, false, cond, _&&_, _||_}
-use mathlib.Core.List.{List, [], _∷_}
+use mathlib.Core.List.{List, [], _∷_, _++_}
 use mathlib.Core.Logic.{_⊎_, inl, inr}
 use Prim.Native.Nat.{ℕ, zero, suc}
 use native.Mathlib.Omega.{arith}
+use lib.Dec.{eqb}
 use lib.IntN.{ℤ}
 use lib.ListN.{getD, set, length-set}
 use Rattle.refusals.specs.Refusal.{answered}
@@ -14,8 +15,8 @@ use Rattle.axis.specs.declared.kinds.Mark.{Mark}
 use Rattle.axis.specs.declared.edge.Edge.{Edge}
 use Rattle.axis.specs.declared.edge.Axis.{Axis}
 use Rattle.axis.specs.Edge.{emptyEdge, edgeAt, putEdge, changed, placed, fixedAt}
-use Rattle.axis.specs.Mark.{among}
-use Rattle.axis.specs.Changes.{Extent, nothing, position, place, zone, zoneLeft, Stayed, Rezoned, Told, Only, wherever, OnlyAxis, Changes}
+use Rattle.axis.specs.Mark.{markNumber, among}
+use Rattle.axis.specs.Changes.{Extent, nothing, position, place, zone, zoneLeft, Stayed, Told, Only, wherever, OnlyAxis, Changes}
 
 -- ---- flags and zones
 or-self : (a : Bool) → a ≡ (a || a)
@@ -126,6 +127,33 @@ place-zone ms a b p =
     or-rezoned (inl s) = inl s
     or-rezoned (inr t) = inr (inl t)
 
+-- and what is told by some marks is told by more
+or-wider : (t a b : Bool) → (a ≡ true → b ≡ true) → (t || a) ≡ true → (t || b) ≡ true
+or-wider true a b f h = refl
+or-wider false a b f h = f h
+
+or-last : (t a : Bool) → a ≡ true → (t || a) ≡ true
+or-last true a h = refl
+or-last false a h = h
+
+pub first-marks : (ms ns : List Mark) (m : Mark) → among ms m ≡ true → among (ms ++ ns) m ≡ true
+unfolding among
+first-marks [] ns m h = absurd (let z : _≡_ {A = ℕ} 0 1 = cc in omega arith)
+first-marks (x ∷ ms) ns m h = or-wider (eqb (markNumber x) (markNumber m)) (among ms m) (among (ms ++ ns) m) (first-marks ms ns m) h
+
+pub last-marks : (ms ns : List Mark) (m : Mark) → among ns m ≡ true → among (ms ++ ns) m ≡ true
+unfolding among
+last-marks [] ns m h = h
+last-marks (x ∷ ms) ns m h = or-last (eqb (markNumber x) (markNumber m)) (among (ms ++ ns) m) (last-marks ms ns m h)
+
+pub more-marks : (ms ns : List Mark) → ((m : Mark) → among ms m ≡ true → among ns m ≡ true) → (a b : Edge) → Only (zone ms) a b → Only (zone ns) a b
+more-marks ms ns more a b h = record { rest = h .rest; told = by-more (h .told) }
+  where
+    by-more : Told (zone ms) a b → Told (zone ns) a b
+    by-more (inl s) = inl s
+    by-more (inr (inl t)) = inr (inl (more (b .mark) t))
+    by-more (inr (inr z)) = inr (inr z)
+
 -- an edge at a position that one of the marks gave, and one there for good
 pub placed-only : (ms : List Mark) (e : Edge) (p : ℤ) (m : Mark) → among ms m ≡ true → Only (position ms) e (placed e p m)
 placed-only ms e p m h = record { rest = refl; told = inr h }
@@ -196,6 +224,20 @@ module _ (extent : ℕ → Extent) where
 -- a place that is named
 pub named : (names : ℕ → Bool) (x : Extent) (i : ℕ) (a b : Edge) → names i ≡ true → Only x a b → Only (wherever names x i) a b
 named names x i a b e h = subst (λ (t : Bool). Only (cond t x nothing) a b) (sym e) h
+
+-- places where more may be changed
+pub wider-axis : (names : ℕ → Bool) (x y : Extent) → ((a b : Edge) → Only x a b → Only y a b) → (old new : Axis)
+    → OnlyAxis (wherever names x) old new → OnlyAxis (wherever names y) old new
+wider-axis names x y wider old new h = record {
+  dim = h .dim;
+  major = h .major;
+  len = h .len;
+  edges = record { size = h .edges .size; edge = λ (i : ℕ). in-place (names i) (edgeAt old i) (edgeAt new i) (h .edges .edge i) };
+}
+  where
+    in-place : (t : Bool) (a b : Edge) → Only (cond t x nothing) a b → Only (cond t y nothing) a b
+    in-place true a b o = wider a b o
+    in-place false a b o = o
 
 -- ---- a call
 -- one that hands back what was given beside a refusal, or its work beside 0

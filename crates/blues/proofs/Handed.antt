@@ -22,7 +22,7 @@ use Rattle.zone.specs.Landed.{AllLanded}
 use Rattle.zone.proofs.Landed.{pass-landed, pass-within}
 use Rattle.blues_pass.specs.declared.pass.Anchored.{Anchored}
 use Rattle.blues_pass.specs.Pass.{anchored, bluesOf}
-use Rattle.blues.specs.Zones.{hasBlues, bluesTests, alignEdgesToBlues}
+use Rattle.blues.specs.Zones.{hasBlues, bluesWhere, bluesTests, alignEdgesToBlues}
 use Rattle.blues.proofs.Anchors.{anchors}
 
 -- the axis that came is where it was
@@ -31,7 +31,7 @@ none-landed axis = record { len = refl; edge = λ k q. record { opos = refl; pos
 
 module _ (axis : Axis) (group : Group) (rule : WidthRule) (xs : List ℤ) where
   abbrev work : Anchored
-  work = cond (hasBlues group (axis .dim)) (bluesOf rule xs axis) (anchored axis Links.None 0)
+  work = bluesWhere axis group rule xs
 
   -- with or without blue zones
   by-zones : (P : Anchored → Type 0) → P (bluesOf rule xs axis) → P (anchored axis Links.None 0) → P work
@@ -60,7 +60,7 @@ module _ (axis : Axis) (group : Group) (rule : WidthRule) (xs : List ℤ) where
       (anchors (axis .len) rule xs (axis .len) 0 (record { axis = axis; anchor = Links.None }) (omega arith) (below-none (axis .len)))
       (below-none (axis .len))
 
-  outcome : refusal (bluesTests axis rule xs) ≡ 0 → alignEdgesToBlues axis group rule xs ≡ work
+  pub outcome : refusal (bluesTests axis rule xs) ≡ 0 → alignEdgesToBlues axis group rule xs ≡ work
   unfolding alignEdgesToBlues
   outcome e = worked (anchored axis Links.None) work (refusal (bluesTests axis rule xs)) e
 

@@ -26,6 +26,10 @@ unfoldable pub hasBlues : Group → Dimension → Bool
 hasBlues Default dim = isVertical dim
 hasBlues Cjk dim = true
 
+-- where it has blues, every edge visited, else the axis as it came, without an anchor
+abbrev pub bluesWhere : Axis → Group → WidthRule → List ℤ → Anchored
+bluesWhere axis group rule xs = cond (hasBlues group (axis .dim)) (bluesOf rule xs axis) (anchored axis Links.None 0)
+
 -- the tests of the call, in document 01's order
 abbrev pub bluesTests : Axis → WidthRule → List ℤ → List Test
 bluesTests axis rule xs = edgesShort axis ∷ badParameter unless ruleHolds rule xs ∷ edgesIndexed axis ∷ edgesInRange axis ∷ []
@@ -33,8 +37,7 @@ bluesTests axis rule xs = edgesShort axis ∷ badParameter unless ruleHolds rule
 -- `align_edges_to_blues`: the refusal, no anchor and the axis as it came, or 0, the anchor or its absence, and the axis
 unfoldable pub alignEdgesToBlues : Axis → Group → WidthRule → List ℤ → Anchored
 alignEdgesToBlues axis group rule xs =
-    answered (refusal (bluesTests axis rule xs)) (anchored axis Links.None)
-    (cond (hasBlues group (axis .dim)) (bluesOf rule xs axis) (anchored axis Links.None 0))
+    answered (refusal (bluesTests axis rule xs)) (anchored axis Links.None) (bluesWhere axis group rule xs)
 
 -- what the call owes its caller: the answer, the anchor and the axis
 abbrev pub AlignsEdgesToBlues : Axis → Group → WidthRule → List ℤ → Anchored → Type 0

@@ -16,8 +16,12 @@ use refusals::order::OUT_OF_RANGE;
 use refusals::order::TOO_LONG;
 use refusals::order::or_refused;
 ghost use mathlib.Core.Path.{_≡_};
+ghost use mathlib.Core.Bool.{true};
 ghost use Rattle.refusals.specs.Refusal.{refusal};
-ghost use Rattle.blues.specs.Zones.{isVertical, hasBlues, bluesTests, AlignsEdgesToBlues};
+ghost use Rattle.axis.specs.Limits.{mostPos};
+ghost use Rattle.axis.specs.Accepted.{AxisWithin};
+ghost use Rattle.fixed.specs.Width.{ruleHolds};
+ghost use Rattle.blues.specs.Zones.{isVertical, hasBlues, bluesWhere, bluesTests, AlignsEdgesToBlues};
 
 // Whether an axis is vertical.
 fn is_vertical(dim: Dimension) -> bool
@@ -30,7 +34,7 @@ fn is_vertical(dim: Dimension) -> bool
 }
 
 // Whether a group has blue zones on an axis: the default group has them on vertical ones only.
-fn has_blues(group: Group, dim: Dimension) -> bool
+pub fn has_blues(group: Group, dim: Dimension) -> bool
     ensures { λ r. ⌜ r ≡ hasBlues group dim ⌝ }
 {
     match group {
@@ -47,6 +51,23 @@ fn blues_refusal(axis: Axis, rule: WidthRule, standards: &[i32]) -> u8
     let answer = or_refused(answer, rule_holds(rule, standards), BAD_PARAMETER);
     let answer = or_refused(answer, edges_indices(axis), BAD_INDEX);
     or_refused(answer, edges_numbers(axis), OUT_OF_RANGE)
+}
+
+// Aligns edges to their blue zones where the group has some on the axis, and hands back the anchor.
+pub fn align_where_zoned(axis: Axis, group: Group, rule: WidthRule, standards: &[i32]) -> Anchored
+    requires { ⌜ ruleHolds rule (now standards) ≡ true ⌝ }
+    requires { ⌜ AxisWithin mostPos axis ⌝ }
+    ensures { λ r. ⌜ r ≡ bluesWhere axis group rule (now (standards .entry)) ⌝ }
+{
+    let dim = axis.dim;
+    if has_blues(group, dim) {
+        return align_to_zones(axis, rule, standards);
+    }
+    Anchored {
+        answer: 0,
+        anchor: Link::None,
+        axis,
+    }
 }
 
 // Aligns edges to their blue zones, and hands back the anchor.
@@ -66,13 +87,5 @@ pub fn align_edges_to_blues(
             axis,
         };
     }
-    let dim = axis.dim;
-    if has_blues(group, dim) {
-        return align_to_zones(axis, rule, standards);
-    }
-    Anchored {
-        answer: 0,
-        anchor: Link::None,
-        axis,
-    }
+    align_where_zoned(axis, group, rule, standards)
 }

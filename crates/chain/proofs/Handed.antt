@@ -1,4 +1,4 @@
--- What a call hands back with answer 0 is accepted by the calls behind it, whose own parameters are right: linking, building, blue zones, stems, and the others beside.
+-- What a call hands back with answer 0 is accepted by the calls behind it, whose own parameters are right: linking, building, blue zones, stems, the two in one call, and the others beside.
 use mathlib.Core.Path.{_≡_, refl}
 use mathlib.Core.Bool.{Bool, true, false, cond}
 use mathlib.Core.List.{List}
@@ -27,6 +27,7 @@ use Rattle.blues.proofs.Handed as Blues
 use Rattle.stem_cjk.proofs.Handed as Cjk
 use Rattle.stems.specs.Stems.{alignStemEdges}
 use Rattle.stems.proofs.Handed as Stems
+use Rattle.joined.proofs.Handed as Joined
 use Rattle.lowercase_m.proofs.Handed as M
 use Rattle.chain.specs.Accepts.{Accepts}
 
@@ -40,6 +41,7 @@ accepts axis a = record {
   adjust = Fitting.adjust-accepts axis a;
   cjk = λ adjust rule xs i j d r b w. Cjk.accepts axis adjust rule xs i j d a r b w;
   stems = λ group adjust anchor rule xs b r. Stems.accepts axis group adjust false anchor rule xs a refl b r;
+  joined = λ group adjust rule xs r z. Joined.accepts axis group adjust false rule xs a refl r z;
   m = λ group c. M.accepts axis group a c;
 }
 

@@ -19,6 +19,7 @@ use Rattle.fitting.specs.Fitting.{alignLinkedEdge, alignSerifEdge, adjustLink, 
 use Rattle.blues.specs.Zones.{alignEdgesToBlues}
 use Rattle.stem_cjk.specs.Cjk.{hintNormalStemCjk}
 use Rattle.stems.specs.Stems.{alignStemEdges}
+use Rattle.joined.specs.Joined.{zonesHold, alignBluesAndStems}
 use Rattle.lowercase_m.specs.M.{countHolds, hintLowercaseM}
 
 -- every call over edges accepts those of the axis
@@ -32,4 +33,6 @@ pub record Accepts (axis : Axis) : Type 0 where
       → hintNormalStemCjk axis adjust rule xs i j d .answer ≡ 0
   pub stems : (group : Group) (adjust : Bool) (anchor : Link) (rule : WidthRule) (xs : List ℤ) → Below (axis .len) anchor → ruleHolds rule xs ≡ true
       → alignStemEdges axis group adjust false anchor rule xs .answer ≡ 0
+  pub joined : (group : Group) (adjust : Bool) (rule : WidthRule) (xs : List ℤ) → ruleHolds rule xs ≡ true → zonesHold group axis ≡ true
+      → alignBluesAndStems axis group adjust false rule xs .answer ≡ 0
   pub m : (group : Group) → countHolds (axis .len) ≡ true → hintLowercaseM axis group .answer ≡ 0

@@ -78,15 +78,15 @@ const FORMATS_OF_EDGES: [u64; CALLS_OF_EDGES] = [
     0x6353333a, // align_stem_edges
     0x3a, // hint_lowercase_m, table form
     0x3b, // hint_lowercase_m, lent list
-    NONE, // 115 to 123: none
+    NONE, // 115 to 121: none
     NONE,
     NONE,
     NONE,
     NONE,
     NONE,
     NONE,
-    NONE,
-    NONE,
+    0x633333a, // align_blues_and_stems
+    NONE, // 123: none
     0xa9, // turn_over
 ];
 

@@ -1,4 +1,4 @@
-// The calls on a table, of segments (4, 105 and 124) or of edges (106 to 113): from the words of their jobs to those of their answers.
+// The calls on a table, of segments (4, 105 and 124) or of edges (106 to 113 and 122): from the words of their jobs to those of their answers.
 use axis::accept::least;
 use axis::limits::MOST_EDGES;
 use axis::limits::MOST_SEGMENTS;
@@ -8,6 +8,7 @@ use jobs_points::list::put;
 use jobs_points::list::put_list;
 use jobs_points::list::tail;
 use khsaemudol::khs_adjust_link;
+use khsaemudol::khs_align_blues_and_stems;
 use khsaemudol::khs_align_edges_to_blues;
 use khsaemudol::khs_align_linked_edge;
 use khsaemudol::khs_align_serif_edge;
@@ -63,7 +64,7 @@ fn words_before(call: usize) -> usize
 {
     match call {
         106 | 111 => 2,
-        110 | 112 => 3,
+        110 | 112 | 122 => 3,
         _ => 1,
     }
 }
@@ -155,6 +156,21 @@ fn ask_stems(edges: &mut [i32], rest: &[i32], count: &mut i32, found: &mut i32) 
     )
 }
 
+// Puts edges on their zones and aligns stems: dimension, group, stem adjust, top to bottom and the width rule.
+fn ask_joined(edges: &mut [i32], rest: &[i32], count: &mut i32, found: &mut i32) -> u8 {
+    khs_align_blues_and_stems(
+        edges,
+        word_at(rest, 0),
+        word_at(rest, 1),
+        word_at(rest, 2),
+        word_at(rest, 3),
+        word_at(rest, 4),
+        list_at(rest, 5),
+        count,
+        found,
+    )
+}
+
 // The answer of a call on a table, whose other words are the rest, and what it hands back beside: a delta or a count first, else an index; edges that are built or turned over.
 fn ask(
     call: usize,
@@ -183,6 +199,7 @@ fn ask(
         }
         111 => ask_stem(table, rest, first),
         112 => ask_stems(table, rest, first, second),
+        122 => ask_joined(table, rest, first, second),
         124 => ask_turning(table, rest, edges, first),
         _ => khs_hint_lowercase_m(table, a),
     }

@@ -18,6 +18,7 @@ use Rattle.flat_segments.specs.Build.{BuiltLent}
 use Rattle.flat_stems.specs.Zones.{ZonesLent}
 use Rattle.flat_stems.specs.Stem.{StemLent}
 use Rattle.flat_stems.specs.Stems.{StemsLent}
+use Rattle.flat_joined.specs.Joined.{JoinedLent}
 use Rattle.flat.specs.Fit.{LinkedLent, SerifLent, AdjustLent, BoundsLent}
 use Rattle.flat.specs.M.{MLent}
 use Rattle.path.specs.Lending.{StepLent}
@@ -92,6 +93,12 @@ pub stems-determined :
     (ws : List ℤ) (dim group adjust ttb anchor rule : ℤ) (standards : List ℤ) (count found : ℤ) {r r′ : ℕ} {now now′ : List ℤ × (ℤ × ℤ)}
     → StemsLent ws dim group adjust ttb anchor rule standards count found r now → StemsLent ws dim group adjust ttb anchor rule standards count found r′ now′ → (r ≡ r′) × (now ≡ now′)
 stems-determined ws dim group adjust ttb anchor rule standards count found a b = lent-determined a b
+
+-- `khs_align_blues_and_stems`
+pub joined-determined :
+    (ws : List ℤ) (dim group adjust ttb rule : ℤ) (standards : List ℤ) (count found : ℤ) {r r′ : ℕ} {now now′ : List ℤ × (ℤ × ℤ)}
+    → JoinedLent ws dim group adjust ttb rule standards count found r now → JoinedLent ws dim group adjust ttb rule standards count found r′ now′ → (r ≡ r′) × (now ≡ now′)
+joined-determined ws dim group adjust ttb rule standards count found a b = lent-determined a b
 
 -- `khs_hint_lowercase_m`
 pub m-determined : (ws : List ℤ) (group : ℤ) {r r′ : ℕ} {now now′ : List ℤ} → MLent ws group r now → MLent ws group r′ now′ → (r ≡ r′) × (now ≡ now′)

@@ -7,6 +7,7 @@ use flat::fit::lend_bounds;
 use flat::fit::lend_linked_edge;
 use flat::fit::lend_serif_edge;
 use flat::m::lend_m;
+use flat_joined::pass::lend_joined;
 use flat_segments::build::lend_building;
 use flat_segments::link::lend_linking;
 use flat_stems::pass::lend_stems;
@@ -31,6 +32,7 @@ ghost use Rattle.flat_segments.specs.Link.{LinkingLent};
 ghost use Rattle.flat.specs.M.{MLent};
 ghost use Rattle.flat_stems.specs.Stem.{StemLent};
 ghost use Rattle.flat_stems.specs.Stems.{StemsLent};
+ghost use Rattle.flat_joined.specs.Joined.{JoinedLent};
 ghost use Rattle.flat_stems.specs.Zones.{ZonesLent};
 ghost use Rattle.path.specs.Lending.{StepLent};
 ghost use Rattle.path_lay.specs.Laying.{lent};
@@ -250,6 +252,35 @@ pub extern "C" fn khs_align_stem_edges(
         stem_adjust,
         top_to_bottom,
         anchor,
+        rule,
+        standards,
+        count,
+        found,
+    )
+}
+
+// Puts edges on their blue zones, then aligns all stems.
+#[no_mangle]
+pub extern "C" fn khs_align_blues_and_stems(
+    edges: &mut [i32],
+    dim: i32,
+    group: i32,
+    stem_adjust: i32,
+    top_to_bottom: i32,
+    rule: i32,
+    standards: &[i32],
+    count: &mut i32,
+    found: &mut i32,
+) -> u8
+    ensures { λ r. ⌜ JoinedLent (now (edges .entry)) dim group «stem_adjust» «top_to_bottom» rule (now (standards .entry)) (now (count .entry)) (now (found .entry))
+        r (now (edges .exit), (now (count .exit), now (found .exit))) ⌝ }
+{
+    lend_joined(
+        edges,
+        dim,
+        group,
+        stem_adjust,
+        top_to_bottom,
         rule,
         standards,
         count,

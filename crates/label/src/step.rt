@@ -1,7 +1,6 @@
 // A step of the chain, by the call that its job names.
+use label_fit::fit::fitting;
 use label_fit::fit::m;
-use label_fit::fit::stems;
-use label_fit::fit::zones;
 use label_fit::glyph::Glyph;
 use label_fit::topo::build;
 use label_fit::topo::link;
@@ -18,9 +17,8 @@ fn fit(words: &[i32], glyph: Glyph) -> Glyph {
     match word_at(words, 0) {
         3 => weak(words, glyph),
         15 => path(words, glyph),
-        106 => zones(words, glyph),
-        112 => stems(words, glyph),
         113 => m(words, glyph),
+        122 => fitting(words, glyph),
         _ => {
             text(b"  a line that is no step of the chain is left out\n");
             glyph

@@ -1,4 +1,4 @@
-// Edges fitted: put on their zones, then the stems, then the m rule. The jobs of stems and of the m rule have no edges of their own.
+// Edges fitted: put on their zones, with the stems behind them, then the m rule, whose jobs have no edges of their own.
 use super::glyph::Glyph;
 use super::glyph::edge_words;
 use super::glyph::edges_of;
@@ -6,8 +6,7 @@ use super::glyph::stopped;
 use super::topo::tail;
 use axis::accept::least;
 use axis::limits::MOST_EDGES;
-use khsaemudol::khs_align_edges_to_blues;
-use khsaemudol::khs_align_stem_edges;
+use khsaemudol::khs_align_blues_and_stems;
 use khsaemudol::khs_hint_lowercase_m;
 use label_print::edges::BLUE;
 use label_print::edges::FITTED;
@@ -53,49 +52,28 @@ fn fitted(mut glyph: Glyph, edges: [i32; TABLE_WORDS], anchor: i32) -> Glyph {
     glyph
 }
 
-// Puts the edges on the zones that a job gives them.
-pub fn zones(words: &[i32], glyph: Glyph) -> Glyph {
+// Puts the edges on the zones that a job gives them, and aligns the stems to the anchor and to each other.
+pub fn fitting(words: &[i32], glyph: Glyph) -> Glyph {
     let numbers = tail(
         words,
         2 + EDGE_WORDS * least(size_of(word_at(words, 1)), MOST_EDGES),
     );
     let mut edges = with_zones(words, glyph);
     let n = edge_words(glyph);
+    let mut passed = 0;
     let mut anchor = -1;
-    let answer = khs_align_edges_to_blues(
+    let answer = khs_align_blues_and_stems(
         &mut edges[0..n],
         word_at(numbers, 0),
         word_at(numbers, 1),
         word_at(numbers, 2),
-        tail(numbers, 4),
-        &mut anchor,
-    );
-    if refused(b"  zones     ", answer) {
-        return stopped(glyph);
-    }
-    anchored(anchor);
-    fitted(glyph, edges, anchor)
-}
-
-// Aligns the stems to the anchor and to each other.
-pub fn stems(words: &[i32], glyph: Glyph) -> Glyph {
-    let mut edges = edges_of(glyph);
-    let n = edge_words(glyph);
-    let mut passed = 0;
-    let mut anchor = -1;
-    let answer = khs_align_stem_edges(
-        &mut edges[0..n],
-        word_at(words, 2),
-        word_at(words, 3),
-        word_at(words, 4),
-        word_at(words, 5),
-        glyph.anchor,
-        word_at(words, 7),
-        tail(words, 9),
+        word_at(numbers, 3),
+        word_at(numbers, 4),
+        tail(numbers, 6),
         &mut passed,
         &mut anchor,
     );
-    if refused(b"  stems     ", answer) {
+    if refused(b"  fitting   ", answer) {
         return stopped(glyph);
     }
     show(b"# passed over, ", &[passed]);

@@ -25,7 +25,7 @@ module _ (axis : Axis) (group : Group) (adjust ttb : Bool) (anchor : Link) (rule
   abbrev work : Stems
   work = stemsOf (modeOf axis group adjust rule) xs anchor axis
 
-  outcome : refusal (stemsTests axis ttb anchor rule xs) ≡ 0 → alignStemEdges axis group adjust ttb anchor rule xs ≡ work
+  pub outcome : refusal (stemsTests axis ttb anchor rule xs) ≡ 0 → alignStemEdges axis group adjust ttb anchor rule xs ≡ work
   unfolding alignStemEdges
   outcome e = worked (stems 0 Links.None axis) work (refusal (stemsTests axis ttb anchor rule xs)) e
 

@@ -18,7 +18,7 @@ ghost use Rattle.placing.specs.Steps.{InReach};
 ghost use Rattle.stems_plan.specs.Plan.{groupPlan, planOf};
 
 // A stem by its group.
-fn group_plan(
+pub fn group_plan(
     mode: Mode,
     standards: &[i32],
     edge: Edge,

@@ -38,7 +38,7 @@ set-two P d y (x ∷ xs) (suc m) zero f p = p
 set-two P d y (x ∷ xs) (suc m) (suc i) f p = set-two P d y xs m i (λ e. f (ap suc e)) p
 
 -- what holds of the stored, and of what stands behind the table, holds in that place
-set-own : {A : Type 0} (P : A → Type 0) (d y : A) (xs : List A) (i : ℕ) → P y → P d → P (getD (set xs i y) i d)
+pub set-own : {A : Type 0} (P : A → Type 0) (d y : A) (xs : List A) (i : ℕ) → P y → P d → P (getD (set xs i y) i d)
 set-own P d y [] i p q = q
 set-own P d y (x ∷ xs) zero p q = p
 set-own P d y (x ∷ xs) (suc i) p q = set-own P d y xs i p q
@@ -121,8 +121,12 @@ module _ (old : Axis) where
   module _ (rule : WidthRule) (xs : List ℤ) where
     pair : (s : State) (i k : ℕ) (x y : Blue) → i < old .len → k < old .len → InZone x → InZone y → AxisLanded old (s .axis) → AxisLanded old (visitPair rule xs s i k x y .axis)
     unfolding visitPair
-    pair s i k (Blues.Fitted z) y q p b c h = let w = b .at z refl in aligned rule xs i k (onZone (s .axis) (s .anchor) i z) q p (on-zone i (s .axis) (s .anchor) z w) (zone i (s .axis) (s .anchor) z q w h)
-    pair s i k Blues.None (Blues.Fitted z) q p b c h = let w = c .at z refl in aligned rule xs k i (onZone (s .axis) (s .anchor) k z) p q (on-zone k (s .axis) (s .anchor) z w) (zone k (s .axis) (s .anchor) z p w h)
+    pair s i k (Blues.Fitted z) y q p b c h =
+        let w = b .at z refl in
+        aligned rule xs i k (onZone (s .axis) (s .anchor) i z) q p (on-zone i (s .axis) (s .anchor) z w) (zone i (s .axis) (s .anchor) z q w h)
+    pair s i k Blues.None (Blues.Fitted z) q p b c h =
+        let w = c .at z refl in
+        aligned rule xs k i (onZone (s .axis) (s .anchor) k z) p q (on-zone k (s .axis) (s .anchor) z w) (zone k (s .axis) (s .anchor) z p w h)
     pair s i k Blues.None Blues.None q p b c h = h
 
     by-link : (s : State) (i : ℕ) (l : Link) → i < old .len → Below (old .len) l → AxisLanded old (s .axis) → AxisLanded old (visitLink rule xs s i l .axis)

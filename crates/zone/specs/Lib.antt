@@ -2,3 +2,4 @@
 pub mod Zones
 pub mod Steps
 pub mod Landed
+pub mod Settled

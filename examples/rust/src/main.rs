@@ -2,9 +2,9 @@
 //! label, drawn in 1,000 design units to the em; examples/three.c does the same in C.
 
 use khsaemudol::{
-    align_edges_to_blues, align_stem_edges, align_weak_points, compute_edges, path, Building,
-    Dimension, Direction, Edge, Flags, Group, Order, Outline, PathStep, Refusal, Segment, StemPass,
-    Stems, WidthRule, MOST_EDGES,
+    align_blues_and_stems, align_weak_points, compute_edges, path, BluesAndStems, Building,
+    Dimension, Direction, Edge, Flags, Group, Order, Outline, PathStep, Refusal, Segment, Stems,
+    WidthRule, MOST_EDGES,
 };
 
 /// Units of a pixel.
@@ -170,18 +170,13 @@ fn build<'a>(
     Ok(edges)
 }
 
-/// Puts the edges at the heights of zones on them, and hands back the anchor.
-fn put_on_zones(edges: &mut [Edge]) -> Result<Option<u16>, Refusal> {
+/// Gives the edges at the heights of zones their zones.
+fn give_zones(edges: &mut [Edge]) {
     for (height, fitted) in ZONES {
         for edge in edges.iter_mut().filter(|edge| edge.fpos() == height) {
             edge.set_blue(Some(fitted));
         }
     }
-    let before = edges.to_vec();
-    let anchor = align_edges_to_blues(edges, Dimension::Vertical, Group::Latin, RULE)?;
-    println!("  zones     the anchor is {}", named(anchor));
-    print_placed(&before, edges);
-    Ok(anchor)
 }
 
 /// An edge by its number, or none.
@@ -189,27 +184,22 @@ fn named(edge: Option<u16>) -> String {
     edge.map_or("no edge".into(), |ix| format!("edge {ix}"))
 }
 
-/// Places the stems by the anchor, or by the first of them where there is none.
-fn place_stems(
-    dimension: Dimension,
-    edges: &mut [Edge],
-    anchor: Option<u16>,
-) -> Result<(), Refusal> {
+/// Puts the edges on their zones, and places the stems by the anchor that these give, or by the first stem where there is none.
+fn place_edges(dimension: Dimension, edges: &mut [Edge]) -> Result<(), Refusal> {
     let before = edges.to_vec();
-    let pass = StemPass {
+    let given = BluesAndStems {
         dimension,
         group: Group::Latin,
         stem_adjust: false,
         order: Order::BottomToTop,
-        anchor,
         rule: RULE,
     };
     let Stems {
         passed_over,
         anchor,
-    } = align_stem_edges(edges, &pass)?;
+    } = align_blues_and_stems(edges, &given)?;
     println!(
-        "  stems     {passed_over} passed over, the anchor is {}",
+        "  fitting   {passed_over} passed over, the anchor is {}",
         named(anchor)
     );
     print_placed(&before, edges);
@@ -245,11 +235,10 @@ fn fit(axis: &Axis<'_>) -> Result<[i32; POINTS], Refusal> {
     let mut segments = segments(axis);
     let mut room = [Edge::default(); MOST_EDGES];
     let edges = build(axis, &mut segments, &mut room)?;
-    let anchor = match axis.dimension {
-        Dimension::Vertical => put_on_zones(edges)?,
-        Dimension::Horizontal => None,
-    };
-    place_stems(axis.dimension, edges, anchor)?;
+    if axis.dimension == Dimension::Vertical {
+        give_zones(edges);
+    }
+    place_edges(axis.dimension, edges)?;
     align_points(axis.points, &segments, edges)
 }
 

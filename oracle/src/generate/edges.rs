@@ -81,8 +81,7 @@ pub fn dress(edges: &mut [Edge], random: &mut Random) {
         }
         edge.flags = flags(chances.done, random);
         if random.once_in(chances.blue) {
-            let fitted = (edge.opos / 64 * 64 + random.between(-1, 1)).clamp(-16_383, 16_383);
-            edge.blue_edge = Some(ScaledWidth { fitted });
+            edge.blue_edge = Some(zone(edge.opos, random));
         }
         edge.link_ix = link(ix, count, chances.links, random);
         edge.serif_ix = random.once_in(4).then(|| random.below(count) as u16);
@@ -165,6 +164,28 @@ pub fn stems(random: &mut Random) -> Vec<Edge> {
         }
     }
     edges
+}
+
+/// Edges for blues and stems in a row: stems one behind the other or any edges, one in a few on a zone near it.
+pub fn zoned(small: bool, random: &mut Random) -> Vec<Edge> {
+    let mut edges = if random.once_in(3) {
+        edges(small, random)
+    } else {
+        stems(random)
+    };
+    let chance = random.pick(&[2, 3, 5]);
+    for edge in &mut edges {
+        if random.once_in(chance) {
+            edge.blue_edge = Some(zone(edge.opos, random));
+        }
+    }
+    edges
+}
+
+/// A zone near a position: at a pixel, or a unit beside it.
+fn zone(opos: i32, random: &mut Random) -> ScaledWidth {
+    let fitted = (opos / 64 * 64 + random.between(-1, 1)).clamp(-16_383, 16_383);
+    ScaledWidth { fitted }
 }
 
 /// What an edge table may hold before building: anything.

@@ -150,6 +150,10 @@ fn resize_on_edges(job: &mut Job, random: &mut Random) {
             resize_either(edges, &mut given.rule, random);
             given.top_to_bottom |= random.once_in(4);
         }
+        Job::Joined(edges, given) => {
+            resize_either(edges, &mut given.rule, random);
+            given.top_to_bottom |= random.once_in(4);
+        }
         Job::Adjust(edges, _, _, top_to_bottom) => {
             resize_edges(edges, random);
             *top_to_bottom |= random.once_in(4);

@@ -17,7 +17,7 @@ pub use logs::{good_log, log};
 pub use random::Random;
 
 use crate::{
-    job::{CjkStem, Dimension, Edge, Job, ScriptGroup, Stems, Table, WidthRule},
+    job::{CjkStem, Dimension, Edge, Job, Joined, ScriptGroup, Stems, Table, WidthRule},
     text,
     words::encode,
 };
@@ -85,6 +85,7 @@ fn job(call: usize, small: bool, random: &mut Random) -> Job {
         25 => frames::write(small, random),
         26 => frames::read(small, random),
         105 => segments::build(small, random),
+        122 => joined(small, random),
         124 => axes::turn_over(small, random),
         _ => on_edges(call, small, random),
     }
@@ -141,6 +142,25 @@ fn stem_pass(table: Table<Edge>, rule: WidthRule, random: &mut Random) -> Job {
         rule,
     };
     Job::Stems(table, given)
+}
+
+/// A job of blues and stems in one call: mostly with zones, seldom where they are refused.
+fn joined(small: bool, random: &mut Random) -> Job {
+    let mut edges = edges::zoned(small, random);
+    let given = Joined {
+        dim: dimension(random),
+        group: group(random),
+        stem_adjust: random.coin(),
+        top_to_bottom: old_order(random),
+        rule: edges::rule(random),
+    };
+    let skipped = given.group == ScriptGroup::Default && given.dim == Dimension::Horizontal;
+    if skipped && random.below(4) > 0 {
+        for edge in &mut edges {
+            edge.blue_edge = None;
+        }
+    }
+    Job::Joined(Table::of(edges), given)
 }
 
 /// A job of the CJK stem: mostly a narrow one.

@@ -34,9 +34,14 @@ impl Mark {
     ];
 }
 
-/// The marks that a call gave so far, each with its edge, the latest last.
+/// What a call did so far.
 #[derive(Default)]
-pub struct HintsRecorder(Vec<(usize, Mark)>);
+pub struct HintsRecorder {
+    /// The marks that it gave, each with its edge, the latest last.
+    marks: Vec<(usize, Mark)>,
+    /// How often the stem pass took its fallback: an edge placed by its linked edge, which is on a zone.
+    pub fallbacks: usize,
+}
 
 impl HintsRecorder {
     /// Called by the given Rust where an edge got its position.
@@ -66,12 +71,12 @@ impl HintsRecorder {
 
     /// Gives a mark to edges.
     pub fn give(&mut self, mark: Mark, edges: impl IntoIterator<Item = usize>) {
-        self.0.extend(edges.into_iter().map(|ix| (ix, mark)));
+        self.marks.extend(edges.into_iter().map(|ix| (ix, mark)));
     }
 
     /// Writes the marks to their edges.
     pub fn write(self, edges: &mut [Edge]) {
-        for (ix, mark) in self.0 {
+        for (ix, mark) in self.marks {
             edges[ix].mark = mark;
         }
     }

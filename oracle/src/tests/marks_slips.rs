@@ -11,7 +11,7 @@ use crate::{
 use Mark::*;
 
 /// The calls that write edges, with the marks that each gives.
-const GIVEN: [(usize, &[Mark]); 8] = [
+const GIVEN: [(usize, &[Mark]); 9] = [
     (106, &[BlueAnchor, Blue, Linked]),
     (107, &[Linked]),
     (108, &[Serif]),
@@ -20,6 +20,10 @@ const GIVEN: [(usize, &[Mark]); 8] = [
     (112, &[Linked, Anchor, Stem, Adjusted, Bound]),
     (113, &[LowercaseM]),
     (114, &[LowercaseM]),
+    (
+        122,
+        &[BlueAnchor, Blue, Linked, Anchor, Stem, Adjusted, Bound],
+    ),
 ];
 
 /// The flag of an edge that is done.
@@ -61,7 +65,7 @@ fn answer_unmarked(job: &Words) -> Words {
 
 #[test]
 fn no_rule_reads_a_mark() {
-    for call in (105..=114).chain([124]) {
+    for call in (105..=114).chain([122, 124]) {
         for job in made_up(call) {
             let words = encode(&job);
             assert_eq!(unmarked(&answer(job)), unmarked(&answer_unmarked(&words)));
@@ -83,7 +87,7 @@ fn an_edge_keeps_its_mark_and_position_or_is_given_both() {
                 seen[mark as usize] = true;
                 assert_eq!(after[0][ix], if mark == 0 { before[0][ix] } else { mark });
                 // the request's exception: an edge already done, put on its zone
-                let on_zone = call == 106 && flags[ix] & DONE != 0;
+                let on_zone = [106, 122].contains(&call) && flags[ix] & DONE != 0;
                 assert!(mark != 0 || on_zone || after[1][ix] == before[1][ix]);
             }
         }

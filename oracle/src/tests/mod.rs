@@ -3,6 +3,7 @@
 mod catalogue;
 mod catalogue_slips;
 mod frames;
+mod joined;
 mod log;
 mod marks;
 mod marks_slips;

@@ -346,6 +346,7 @@ fn ordered(job: &Job, top_to_bottom: bool) -> Job {
         Job::Build(_, _, given) => given.top_to_bottom = top_to_bottom,
         Job::Adjust(_, _, _, order) => *order = top_to_bottom,
         Job::Stems(_, given) => given.top_to_bottom = top_to_bottom,
+        Job::Joined(_, given) => given.top_to_bottom = top_to_bottom,
         _ => unreachable!("the other calls know no order"),
     }
     job
@@ -353,7 +354,7 @@ fn ordered(job: &Job, top_to_bottom: bool) -> Job {
 
 #[test]
 fn slips_of_the_order() {
-    for call in [105, 109, 112] {
+    for call in [105, 109, 112, 122] {
         let jobs = made_up(call);
         let asks = |job: &&Job| ordered(job, true) == **job;
         let other: Vec<i32> = jobs

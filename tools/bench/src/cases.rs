@@ -10,9 +10,9 @@ use khsaemudol::{EDGE_WORDS, SEGMENT_WORDS};
 use oracle::generate::Random;
 
 /// The calls, by short names.
-pub const NAMES: [&str; 15] = [
+pub const NAMES: [&str; 16] = [
     "mid", "weak", "link", "build", "blues", "linked", "serif", "adjust", "bounds", "stem",
-    "stems", "m", "lent", "path", "step",
+    "stems", "joined", "m", "lent", "path", "step",
 ];
 
 /// The inputs of one round.
@@ -24,6 +24,8 @@ pub struct Case {
     pub jobs: Vec<Vec<i32>>,
     /// The same, refused by their last test; none for a call that refuses nothing.
     pub refused: Vec<Vec<i32>>,
+    /// Whether the library does blues and stems by a call each, where it has one for both.
+    pub apart: bool,
 }
 
 /// The groups of scripts by their words.
@@ -48,6 +50,7 @@ pub fn cases(name: &str) -> Vec<Case> {
         "stems" => by_group("stems", 112, edges::stems, |group| {
             vec![1, group, 0, 0, -1, 0, 0]
         }),
+        "joined" => joined(),
         "m" => m("m", 113),
         "lent" => m("lent", 114),
         "path" => path(),
@@ -67,6 +70,7 @@ fn middles() -> Vec<Case> {
         size: 1,
         jobs: (0..1_000).map(|_| vec![call, any(), any()]).collect(),
         refused: Vec::new(),
+        apart: false,
     };
     (1..).zip(titles).map(case).collect()
 }
@@ -89,6 +93,7 @@ fn weak() -> Vec<Case> {
                 size,
                 refused: jobs.iter().cloned().map(far).collect(),
                 jobs,
+                apart: false,
             });
         }
     }
@@ -127,6 +132,7 @@ fn paths(
                 size,
                 refused: jobs.iter().cloned().map(far).collect(),
                 jobs,
+                apart: false,
             });
         }
     }
@@ -177,6 +183,7 @@ fn link() -> Vec<Case> {
                 size,
                 refused: with_bad_score(&jobs, size),
                 jobs,
+                apart: false,
             });
         }
     }
@@ -212,6 +219,7 @@ fn build() -> Vec<Case> {
                 size,
                 refused: with_bad_score(&jobs, size),
                 jobs,
+                apart: false,
             });
         }
     }
@@ -240,6 +248,7 @@ fn over_edges(
         size,
         refused: jobs.iter().map(far).collect(),
         jobs,
+        apart: false,
     }
 }
 
@@ -259,6 +268,23 @@ fn by_group(
             cases.push(over_edges(name, call, kind, size, edges, &behind(group)));
         }
     }
+    cases
+}
+
+/// Blues and stems in one call, and beside it by a call each; the Rust runs the two in a row.
+fn joined() -> Vec<Case> {
+    let on_zones = |group| vec![1, group, 0, 0, 0, 0];
+    let apart = |case: Case| Case {
+        kind: format!("{}, blues and stems apart", case.kind),
+        apart: true,
+        ..case
+    };
+    let mut cases = by_group("joined", 122, edges::on_zones, on_zones);
+    cases.extend(
+        by_group("joined", 122, edges::on_zones, on_zones)
+            .into_iter()
+            .map(apart),
+    );
     cases
 }
 

@@ -140,7 +140,7 @@ fn beside(call: &Call, done: Option<[i32; 2]>) -> Vec<i32> {
         Call::Blues(..) => one(-1),
         Call::CjkStem(..) => one(0),
         Call::Bounds(_) => done.unwrap_or([-1, -1]).to_vec(),
-        Call::Stems(..) => done.unwrap_or([0, -1]).to_vec(),
+        Call::Stems(..) | Call::Joined(..) | Call::Apart(..) => done.unwrap_or([0, -1]).to_vec(),
         Call::Linked(..) | Call::Serif(..) | Call::Adjust(..) | Call::M(_) => Vec::new(),
     }
 }

@@ -90,7 +90,7 @@ fn same_line(a: &Row, b: &Row) -> bool {
 /// One line of the picture, and its name beside it.
 fn curve(ix: usize, rows: &[Row]) -> String {
     let colour = COLOURS[ix % COLOURS.len()];
-    let dashes = ["none", "6 3", "2 2"][ix / COLOURS.len() % 3];
+    let dashes = ["none", "6 3", "2 2", "8 3 2 3"][ix / COLOURS.len() % 4];
     let points: Vec<String> = rows
         .iter()
         .map(|row| place(row.size as f64, row.ratio))
@@ -107,7 +107,7 @@ fn curve(ix: usize, rows: &[Row]) -> String {
             "<circle cx=\"{x}\" cy=\"{y}\" r=\"2.5\" fill=\"{colour}\"/>"
         );
     }
-    let y = BOX[2] + 18.0 * ix as f64;
+    let y = BOX[2] + 15.0 * ix as f64;
     let _ = writeln!(
         svg,
         "<line x1=\"665\" y1=\"{y:.1}\" x2=\"690\" y2=\"{y:.1}\" stroke=\"{colour}\" stroke-width=\"1.5\" stroke-dasharray=\"{dashes}\"/>\n\

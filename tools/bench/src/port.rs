@@ -2,8 +2,8 @@
 
 use crate::records;
 use khsaemudol::{
-    Bounds, Building, Catalogue, CjkStem, Dimension, Direction, Edge, Group, Neighbour, Order,
-    Outline, PathStep, Refusal, Segment, StemPass, Stems, WidthRule, MOST_EDGES,
+    BluesAndStems, Bounds, Building, Catalogue, CjkStem, Dimension, Direction, Edge, Group,
+    Neighbour, Order, Outline, PathStep, Refusal, Segment, StemPass, Stems, WidthRule, MOST_EDGES,
 };
 use oracle::{
     job::{self, Job, Points, ScriptGroup, Walk},
@@ -71,6 +71,9 @@ pub enum Call {
     Bounds(u16),
     CjkStem(job::CjkStem, Rule),
     Stems(job::Stems, Rule),
+    Joined(job::Joined, Rule),
+    /// The same by a call each.
+    Apart(job::Joined, Rule),
     M(Group),
 }
 
@@ -201,6 +204,10 @@ impl Prepared {
                 let rule = Rule::of(given.rule.clone());
                 Call::Stems(given, rule)
             }
+            Job::Joined(_, given) => {
+                let rule = Rule::of(given.rule.clone());
+                Call::Joined(given, rule)
+            }
             Job::M(_, script) => Call::M(group(script)),
             Job::MLent(_, script) => {
                 let given = records::given(words, LENT);
@@ -216,6 +223,13 @@ impl Prepared {
                 return Self::by_job(words)
             }
         };
+        Self::Edges(records::given(words, EDGES), Vec::new(), call)
+    }
+
+    /// A job of blues and stems, which the library is to do by a call each.
+    pub fn apart(given: job::Joined, words: &[i32]) -> Self {
+        let rule = Rule::of(given.rule.clone());
+        let call = Call::Apart(given, rule);
         Self::Edges(records::given(words, EDGES), Vec::new(), call)
     }
 
@@ -325,6 +339,37 @@ impl Call {
                     stem_adjust: given.stem_adjust,
                     order: order(given.top_to_bottom),
                     anchor: given.anchor,
+                    rule: rule.rule(),
+                };
+                let Stems {
+                    passed_over,
+                    anchor,
+                } = khsaemudol::align_stem_edges(edges, &given)?;
+                [passed_over as i32, word(anchor)]
+            }
+            Self::Joined(given, rule) => {
+                let given = BluesAndStems {
+                    dimension: dimension(given.dim),
+                    group: group(given.group),
+                    stem_adjust: given.stem_adjust,
+                    order: order(given.top_to_bottom),
+                    rule: rule.rule(),
+                };
+                let Stems {
+                    passed_over,
+                    anchor,
+                } = khsaemudol::align_blues_and_stems(edges, &given)?;
+                [passed_over as i32, word(anchor)]
+            }
+            Self::Apart(given, rule) => {
+                let (dim, script) = (dimension(given.dim), group(given.group));
+                let anchor = khsaemudol::align_edges_to_blues(edges, dim, script, rule.rule())?;
+                let given = StemPass {
+                    dimension: dim,
+                    group: script,
+                    stem_adjust: given.stem_adjust,
+                    order: order(given.top_to_bottom),
+                    anchor,
                     rule: rule.rule(),
                 };
                 let Stems {

@@ -17,7 +17,7 @@ pub struct Row {
     pub ratio: f64,
 }
 
-/// Prints a table for each of the calls, and hands back its rows.
+/// Prints a table for each of the calls, and hands back its rows, but for those of calls beside it.
 pub fn run(names: &[&str]) -> Vec<Row> {
     println!("Median times of a call; setting back what it changes is not timed. The port is the library as gateways call it, from words to words (lent: its job):");
     println!("`reading` is the part of its time that the same call takes if its last test refuses it. The Rust works on its vectors in place, without tests.");
@@ -39,7 +39,9 @@ pub fn run(names: &[&str]) -> Vec<Row> {
         );
         for (ix, case) in cases::cases(name).into_iter().enumerate() {
             let counted = count::counts(name, ix, case.jobs.len());
-            rows.push(row(case, counted));
+            let apart = case.apart;
+            let row = row(case, counted);
+            rows.extend((!apart).then_some(row));
         }
     }
     rows
@@ -69,8 +71,8 @@ fn row(case: Case, counted: Option<[f64; 2]>) -> Row {
 
 /// The times of the port, of the port refused, and of the Rust, for a call.
 fn measure(case: &Case) -> [f64; 3] {
-    let mut port = ports(&case.jobs);
-    let mut refused = ports(&case.refused);
+    let mut port = ports(&case.jobs, case.apart);
+    let mut refused = ports(&case.refused, case.apart);
     let mut rust = rusts(&case.jobs);
     compare(&case.jobs);
     let times = time::medians([&mut port, &mut refused, &mut rust]);
@@ -82,10 +84,11 @@ fn job(words: &[i32]) -> Job {
     decode::decode(words).expect("the words are a job")
 }
 
-/// The library's side of jobs.
-pub fn ports(jobs: &[Vec<i32>]) -> Vec<port::Prepared> {
+/// The library's side of jobs, blues and stems by one call or apart.
+pub fn ports(jobs: &[Vec<i32>], apart: bool) -> Vec<port::Prepared> {
     let prepared = |words: &Vec<i32>| match job(words) {
         Job::MLent(..) => port::Prepared::by_job(words),
+        Job::Joined(_, given) if apart => port::Prepared::apart(given, words),
         job => port::Prepared::new(job, words),
     };
     jobs.iter().map(prepared).collect()

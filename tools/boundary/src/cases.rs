@@ -2,8 +2,8 @@
 
 use crate::{
     function::{
-        Function, Given, Kind, Lent, Record, BUILDING, EDGE, EMPTY_EDGE, LOWERCASE_M, SEGMENT,
-        TURNING,
+        Function, Given, Kind, Lent, Record, BLUE, BUILDING, EDGE, EMPTY_EDGE, JOINED, LOWERCASE_M,
+        SEGMENT, TURNING,
     },
     memory::SHUT_WORDS,
 };
@@ -323,7 +323,7 @@ fn numbers(function: &Function, random: &mut Random) -> Vec<Given> {
 type Fault = fn(&Function, &mut Given);
 
 /// One fault for each answer and each cause of it, those last that change lengths.
-const FAULTS: [Fault; 10] = [
+const FAULTS: [Fault; 11] = [
     // building calls for a 129th edge
     |function, given| {
         if function.call == BUILDING {
@@ -345,6 +345,12 @@ const FAULTS: [Fault; 10] = [
         }
         if function.call == LOWERCASE_M {
             given.lent.table.extend(plain_record(function.record));
+        }
+    },
+    // an edge has a zone where blues are skipped
+    |function, given| {
+        if function.call == JOINED {
+            given.lent.table[BLUE] = 1;
         }
     },
     // an edge is named by a word that is no index

@@ -112,6 +112,19 @@ extern "C" {
         count: *mut i32,
         found: *mut i32,
     ) -> u8;
+    pub fn khs_align_blues_and_stems(
+        edges: *mut i32,
+        edges_len: usize,
+        dim: i32,
+        group: i32,
+        stem_adjust: i32,
+        top_to_bottom: i32,
+        rule: i32,
+        standards: *const i32,
+        standards_len: usize,
+        count: *mut i32,
+        anchor: *mut i32,
+    ) -> u8;
     pub fn khs_hint_lowercase_m(edges: *mut i32, edges_len: usize, group: i32) -> u8;
     pub fn khs_path_step(
         xs: *const i32,

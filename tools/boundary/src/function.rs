@@ -100,7 +100,7 @@ pub struct Function {
 }
 
 /// All of them.
-pub static FUNCTIONS: [Function; 11] = [
+pub static FUNCTIONS: [Function; 12] = [
     Function {
         name: "khs_link_segments_cjk",
         call: 4,
@@ -192,6 +192,16 @@ pub static FUNCTIONS: [Function; 11] = [
         places: 2,
     },
     Function {
+        name: "khs_align_blues_and_stems",
+        call: 122,
+        record: &EDGE,
+        numbers: &[Choice, Choice, Choice, Choice, Choice],
+        rule: Some(4),
+        plain: &[0, 0, 0, 0, 0],
+        scale: None,
+        places: 2,
+    },
+    Function {
         name: "khs_hint_lowercase_m",
         call: 113,
         record: &EDGE,
@@ -213,10 +223,11 @@ pub static FUNCTIONS: [Function; 11] = [
     },
 ];
 
-/// The call that builds edges, the call that finds bounds, which does not write its edges, the m rule, and the call that turns edges over.
+/// The call that builds edges, the call that finds bounds, which does not write its edges, the m rule, blues and stems in one, and the call that turns edges over.
 pub const BUILDING: i32 = 105;
 pub const BOUNDS: i32 = 110;
 pub const LOWERCASE_M: i32 = 113;
+pub const JOINED: i32 = 122;
 pub const TURNING: i32 = 124;
 
 /// What everything lent holds, before a call or after it.
@@ -403,6 +414,19 @@ fn call(call: i32, lists: &Pointers, n: &[i32]) -> u8 {
                 second,
             ),
             113 => ffi::khs_hint_lowercase_m(table, len, n[0]),
+            122 => ffi::khs_align_blues_and_stems(
+                table,
+                len,
+                n[0],
+                n[1],
+                n[2],
+                n[3],
+                n[4],
+                standards,
+                standards_len,
+                first,
+                second,
+            ),
             124 => ffi::khs_turn_over(table, len, room, room_len),
             _ => unreachable!("no function has this call"),
         }

@@ -1,0 +1,2 @@
+-- What the contract of `flat_joined` cites.
+pub mod Joined

@@ -1,0 +1,2 @@
+// Edges lent as words without a count, for blue zones and then stems.
+pub mod pass;

@@ -1,0 +1,85 @@
+-- The stem pass over edges that are settled: a step keeps them so, and its plan is that of the group.
+use mathlib.Core.Path.{_≡_, refl, sym, ap, subst}
+use mathlib.Core.Bool.{Bool, _&&_}
+use mathlib.Core.List.{List}
+use Prim.Native.Nat.{ℕ, _+_, _<_, _-_}
+use lib.IntN.{ℤ}
+use Rattle.signed.proofs.Choices.{either-way}
+use Rattle.axis.specs.declared.kinds.Link.{Link}
+use Rattle.axis.specs.declared.kinds.Link.the-variants as Links
+use Rattle.axis.specs.declared.kinds.Blue.{Blue}
+use Rattle.axis.specs.declared.kinds.Blue.the-variants as Blues
+use Rattle.axis.specs.declared.edge.Edge.{Edge}
+use Rattle.axis.specs.declared.edge.Axis.{Axis}
+use Rattle.axis.specs.Edge.{edgeAt}
+use Rattle.zone.specs.Settled.{Settled}
+use Rattle.zone.proofs.Settled.{Grown, AllGrown, same-grown, all-same, all-then, put-grown, grown-settled}
+use Rattle.stems_plan.specs.declared.kinds.Mode.{Mode}
+use Rattle.stems_plan.specs.declared.kinds.Plan.{Plan}
+use Rattle.stems_plan.specs.declared.kinds.Second.{Second}
+use Rattle.stems_plan.specs.declared.kinds.Second.the-variants.{Stays, Placed, Fixed}
+use Rattle.stems_plan.specs.declared.kinds.Trail.{Trail}
+use Rattle.stems_plan.specs.Visit.{tooClose}
+use Rattle.stems_plan.specs.Plan.{groupPlan, zonePlan, planOf, secondEdge, isOver, isBounded, heldEdge}
+use Rattle.stems.specs.Stems.{State}
+use Rattle.stems.specs.Steps.{planAt, firstPut, secondPut, heldPut, carriedOut, stepLink, step}
+use Rattle.stems.proofs.Kept.{Goes, goes-on}
+
+-- ---- nothing is undone by a step
+first-grown : (plan : Plan) (i : ℕ) (axis : Axis) → AllGrown axis (firstPut plan i axis)
+first-grown plan i axis = put-grown axis i _ (record { done = λ h. refl; bare = λ h. h; link = refl })
+
+second-edge : (e : Edge) (x : Second) → Grown e (secondEdge e x)
+unfolding secondEdge
+second-edge e Stays = same-grown e
+second-edge e (Placed p) = record { done = λ h. h; bare = λ h. h; link = refl }
+second-edge e (Fixed p) = record { done = λ h. refl; bare = λ h. h; link = refl }
+
+second-grown : (plan : Plan) (k : ℕ) (axis : Axis) → AllGrown axis (secondPut plan k axis)
+second-grown plan k axis = put-grown axis k _ (second-edge (edgeAt axis k) (plan .second))
+
+held-edge : (plan : Plan) (i : ℕ) (e prev link : Edge) → Grown e (heldEdge plan i e prev link)
+unfolding heldEdge
+held-edge plan i e prev link = either-way (Grown e) (isBounded plan i && isOver e prev link) _ e (record { done = λ h. h; bare = λ h. h; link = refl }) (same-grown e)
+
+held-grown : (plan : Plan) (i k : ℕ) (axis : Axis) → AllGrown axis (heldPut plan i k axis)
+held-grown plan i k axis = put-grown axis i _ (held-edge plan i (edgeAt axis i) (edgeAt axis (i - 1)) (edgeAt axis k))
+
+carried-grown : (s : State) (i k : ℕ) (plan : Plan) → AllGrown (s .axis) (carriedOut s i k plan .axis)
+unfolding carriedOut
+carried-grown s i k plan =
+    all-then _ _ _ (first-grown plan i (s .axis)) (all-then _ _ _ (second-grown plan k (firstPut plan i (s .axis))) (held-grown plan i k (secondPut plan k (firstPut plan i (s .axis)))))
+
+module _ (m : Mode) (xs : List ℤ) where
+  link-grown : (s : State) (i : ℕ) (l : Link) → AllGrown (s .axis) (stepLink m xs s i l .axis)
+  unfolding stepLink
+  link-grown s i Links.None = all-same (s .axis)
+  link-grown s i (Links.To k) =
+      either-way (λ (t : State). AllGrown (s .axis) (t .axis)) (tooClose (m .group) (s .trail .last) (edgeAt (s .axis) i) (edgeAt (s .axis) k)) _ _ (all-same (s .axis))
+      (carried-grown s i k (planAt m xs s i k))
+
+  step-grown : (s : State) (i : ℕ) → AllGrown (s .axis) (step m xs s i .axis)
+  unfolding step
+  step-grown s i = either-way (λ (t : State). AllGrown (s .axis) (t .axis)) (edgeAt (s .axis) i .flags .done) s _ (all-same (s .axis)) (link-grown s i (edgeAt (s .axis) i .link))
+
+  pub step-settled : (n : ℕ) (s : State) (i : ℕ) → Settled n (s .axis) → Settled n (step m xs s i .axis)
+  step-settled n s i h = grown-settled n (s .axis) (step m xs s i .axis) (step-grown s i) h
+
+-- ---- the loop
+-- what holds before each visit: what holds in the stem pass, and that the edges are settled
+pub record GoesSettled (m : Mode) (xs : List ℤ) (n : ℕ) (anchor : Link) (axis : Axis) (s : State) (i : ℕ) : Type 0 where
+  pub goes : Goes m xs n anchor axis s i
+  pub settled : Settled n (s .axis)
+
+pub settled-on : {m : Mode} {xs : List ℤ} {n : ℕ} {anchor : Link} {axis : Axis} {s s′ : State} {i : ℕ}
+    → GoesSettled m xs n anchor axis s i → i < n → step m xs s i ≡ s′ → GoesSettled m xs n anchor axis s′ (i + 1)
+settled-on {m} {xs} {n} {anchor} {axis} {s} {s′} {i} g h e = record {
+  goes = goes-on (g .goes) h e;
+  settled = subst (λ (t : State). Settled n (t .axis)) e (step-settled m xs n s i (g .settled));
+}
+
+-- the plan of the group is the plan where the link has no zone
+pub plan-same : (m : Mode) (xs : List ℤ) (e e2 a : Edge) (anchor : Link) (before : Bool) (t : Trail) → e2 .blue ≡ Blues.None
+    → groupPlan (m .group) m xs e e2 a anchor before t ≡ planOf m xs e e2 a anchor before t
+unfolding zonePlan
+plan-same m xs e e2 a anchor before t h = sym (ap (λ (b : Blue). zonePlan b m xs e e2 a anchor before t) h)
