@@ -6,7 +6,7 @@
 
 #include "khsaemudol.h"
 
-enum { POINTS = 25, CONTOURS = 1, MOST_SIDES = 6, MOST_STEPS = POINTS + 2 * CONTOURS, EM = 1000, PIXELS = 12, PIXEL = 64 };
+enum { POINTS = 25, CONTOURS = 1, MOST_SIDES = 6, MOST_STEPS = POINTS + 2 * CONTOURS, EM = 1000, PIXELS = 12, PIXEL = 64, LEAST_GAP = PIXEL / 2 };
 
 /* From design units to units, in 16.16. */
 static const int32_t scale = (int32_t)((int64_t)PIXELS * PIXEL * 65536 / EM);
@@ -90,12 +90,15 @@ static void print_position(int32_t units) {
     printf("%10s", text);
 }
 
-/* Prints a width of less than a pixel, or of whole ones. */
+/* Prints a width in pixels and 64ths. */
 static void print_width(int32_t units) {
-    if (units % PIXEL == 0) {
+    int32_t size = units < 0 ? -units : units;
+    if (size % PIXEL == 0) {
         printf("%d", (int)(units / PIXEL));
-    } else {
+    } else if (size < PIXEL) {
         printf("%d/64", (int)units);
+    } else {
+        printf("%d %2d/64", (int)(units / PIXEL), (int)(size % PIXEL));
     }
 }
 
@@ -170,6 +173,21 @@ static uint8_t place_edges(const struct axis *axis, struct khs_edge *edges, int3
     return answer;
 }
 
+/* Asks whether two edges that were half a pixel apart or more have come to stand on one place, or the wrong way round, and tells so: a gateway would show the glyph
+   unfitted then, or at another size. */
+static uint8_t guard(const struct khs_edge *edges, int32_t count) {
+    int32_t lost, first, second, before, after;
+    uint8_t answer = khs_lost_gaps((const int32_t *)edges, (khs_length)count * KHS_EDGE_WORDS, LEAST_GAP, &lost, &first, &second, &before, &after);
+    if (answer == KHS_DONE && lost > 0) {
+        printf("  guard     %d lost, the first between edges %d and %d, width ", (int)lost, (int)first, (int)second);
+        print_width(before);
+        printf(" -> ");
+        print_width(after);
+        printf("\n");
+    }
+    return answer;
+}
+
 /* Moves the points of segments whose edges are done with them, and the other points behind these. */
 static uint8_t align_points(const struct axis *axis, const struct khs_segment *segments, const struct khs_edge *edges, int32_t currents[POINTS]) {
     int32_t originals[POINTS];
@@ -207,6 +225,9 @@ static uint8_t fit(const struct axis *axis, int32_t points[POINTS]) {
             give_zones(edges, count);
         }
         answer = place_edges(axis, edges, count);
+    }
+    if (answer == KHS_DONE) {
+        answer = guard(edges, count);
     }
     return answer == KHS_DONE ? align_points(axis, segments, edges, points) : answer;
 }

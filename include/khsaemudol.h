@@ -21,6 +21,8 @@
  *      KHS_LATIN have none on the horizontal axis.
  *   4. khs_align_blues_and_stems puts edges on their zones, and places the stems, beginning with the anchor that the zones give. It is khs_align_edges_to_blues and
  *      khs_align_stem_edges in a row, for who wants to look in between. khs_hint_lowercase_m evens out an m, on its horizontal axis.
+ *      khs_lost_gaps then tells whether two edges that were apart have come to stand on one place, or the wrong way round, as it can happen where few pixels are left
+ *      between two stems. Such a glyph is better shown unfitted, or at another size.
  *   5. An edge without KHS_FLAG_DONE has not been placed. The caller leaves it, and its points to step 6, or places it as it likes: one with a serif by
  *      khs_align_serif_edge with that as base, another one between the edges that khs_latin_remaining_bounds finds; khs_adjust_link keeps one with a link in order.
  *      None of these calls sets the flag: the caller does, by flags |= KHS_FLAG_DONE.
@@ -31,7 +33,7 @@
  *
  * An example: a bar from 0 to 80 of 1,000 design units to the em, at 12 pixels to the em, whose foot has a zone at 0; it goes clockwise, and its point 2 lies at 40
  * between the sides. It leaves 64 64 33 0 0 in currents. In the repository examples/three.c fits a figure 3 so.
- *     int32_t scale = (int32_t)((int64_t)12 * 64 * 65536 / 1000), standards[1] = {64}, count, passed_over, anchor;
+ *     int32_t scale = (int32_t)((int64_t)12 * 64 * 65536 / 1000), standards[1] = {64}, count, passed_over, anchor, lost, low, high, before, after;
  *     struct khs_segment segments[2] = {
  *         {0, KHS_DIR_RIGHT, 80, 0, 10, 200, 190, 32000, 0, 1, KHS_NONE, 0, 1, KHS_NONE, KHS_NONE},
  *         {0, KHS_DIR_LEFT, 0, 0, 10, 200, 190, 32000, 0, 0, KHS_NONE, 3, 4, KHS_NONE, KHS_NONE}};
@@ -45,6 +47,7 @@
  *     edges[segments[1].edge].blue_fitted = 0;
  *     if (khs_align_blues_and_stems((int32_t *)edges, count * KHS_EDGE_WORDS, KHS_VERTICAL, KHS_LATIN, 0, 0, KHS_SNAP, standards, 1, &passed_over, &anchor)
  *         != KHS_DONE) return 1;
+ *     if (khs_lost_gaps((int32_t *)edges, count * KHS_EDGE_WORDS, 32, &lost, &low, &high, &before, &after) != KHS_DONE || lost > 0) return 1;
  *     for (int i = 0; i < 2; i++) {
  *         int32_t edge = segments[i].edge;
  *         if (edge == KHS_NONE || !(edges[edge].flags & KHS_FLAG_DONE)) continue;
@@ -69,7 +72,8 @@
  *      group, rule or neighbour, and a number that is 0 or 1. So dim 2 and stem_adjust -1 are KHS_NOT_WORDS.
  *   4. KHS_RETIRED, then KHS_BAD_PARAMETER, KHS_BAD_INDEX, KHS_OUT_OF_RANGE and KHS_NO_ROOM.
  * Every other number of a call takes every word: an edge named in a call, and an anchor other than KHS_NONE, is KHS_BAD_INDEX where it is not below the count
- * of edges, whatever its word; scale, units per em, thresholds and standards are KHS_BAD_PARAMETER and a delta KHS_OUT_OF_RANGE outside of their limits.
+ * of edges, whatever its word; scale, units per em, thresholds, standards and a gap's least width are KHS_BAD_PARAMETER and a delta KHS_OUT_OF_RANGE outside of their
+ * limits.
  * The calls over points have no such fields, and test KHS_TOO_LONG, KHS_BAD_INDEX and KHS_OUT_OF_RANGE in this order; khs_align_catalogue so of each outline.
  * khs_read_frame tests KHS_NOT_WORDS, a room of another length, and then KHS_NOT_FRAME.
  *
@@ -98,8 +102,8 @@ enum khs_answer {
     KHS_DONE = 0,          /* done */
     KHS_TOO_LONG = 1,      /* a list is longer than its limit (4,096 points, 512 segments, 128 edges), lists of one outline differ in length, a path or a
                             * line has too little room, a frame more than 255 points or contours, or a catalogue's counts do not fit its lists */
-    KHS_BAD_PARAMETER = 2, /* a scale, units per em, threshold or the m call's count is outside its limits, the standards break their rule, or an edge has a
-                            * zone on an axis that khs_align_blues_and_stems takes none on */
+    KHS_BAD_PARAMETER = 2, /* a scale, units per em, threshold, a gap's least width or the m call's count is outside its limits, the standards break their
+                            * rule, or an edge has a zone on an axis that khs_align_blues_and_stems takes none on */
     KHS_BAD_INDEX = 3,     /* a contour end breaks its rule, or a link, serif, ring index, anchor or named edge is not below its list's length */
     KHS_OUT_OF_RANGE = 4,  /* a coordinate, position, score, len or passed delta is outside its limits; in building also a scaled position */
     KHS_NO_ROOM = 5,       /* building calls for one edge more than 128 */
@@ -317,6 +321,18 @@ uint8_t khs_align_blues_and_stems(int32_t *edges, khs_length edges_len, int32_t 
  * KHS_MARK_LOWERCASE_M, also where the third stem stood at that distance already.
  * Answers: KHS_DONE, KHS_TOO_LONG, KHS_BAD_PARAMETER, KHS_BAD_INDEX, KHS_OUT_OF_RANGE, KHS_NOT_WORDS. */
 uint8_t khs_hint_lowercase_m(int32_t *edges, khs_length edges_len, int32_t group);
+
+/* The guard: tells whether fitting lost a gap, so that a caller may show a glyph otherwise that it would show wrong.
+ * A gap is two done edges with no done edge between them in the list. Its width before is the second's opos less the first's, and its width after the same of pos. It
+ * is lost where it was at least `least` wide and is now turned, below 0, or closed, 0 though it was above 0. An edge that is not done is in no gap: a caller that places
+ * such edges asks behind that.
+ * least: 0 to 16,383 units, else KHS_BAD_PARAMETER. 32 is half a pixel: gaps below that may well close. With 0 and nothing lost, and on edges whose opos do not fall,
+ * as building leaves them, the done edges stand in their order, and those that were apart still are.
+ * Writes count, how many gaps are lost; of the first of them first and second, its two edges, and before and after, its widths in units: where none is, KHS_NONE twice
+ * and 0 twice. The edges are not written.
+ * Answers: KHS_DONE, KHS_TOO_LONG, KHS_BAD_PARAMETER, KHS_BAD_INDEX, KHS_OUT_OF_RANGE, KHS_NOT_WORDS. */
+uint8_t khs_lost_gaps(const int32_t *edges, khs_length edges_len, int32_t least, int32_t *count, int32_t *first, int32_t *second, int32_t *before,
+                      int32_t *after);
 
 /* The path of an outline is a list of steps. Each contour gives a KHS_MOVE to its start, lines and quadratic curves around it, and a KHS_CLOSE; a straight way
  * back to the start is left to the close. The start is the contour's first point that is on the curve, or where none is, halfway between its last and its first

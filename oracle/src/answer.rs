@@ -3,7 +3,7 @@
 use crate::{
     calls,
     decode::decode,
-    frames,
+    frames, gaps,
     job::{Job, Points},
     joined,
     path::Step,
@@ -51,6 +51,7 @@ pub fn answer(job: Job) -> Words {
         | Job::PathStep(..)
         | Job::Catalogue(_)
         | Job::TurnOver(..)
+        | Job::Gaps(..)
         | Job::WriteFrame(..)
         | Job::ReadFrame(_) => of_requests(&mut w, job),
         Job::MLent(mut edges, group) => {
@@ -92,6 +93,14 @@ fn of_requests(w: &mut Words, job: Job) {
             done(w, turn::turn_over(&mut segments, &mut edges));
             w.segments(&segments);
             w.edges(edges.count, &edges.items);
+        }
+        Job::Gaps(edges, least) => {
+            let (count, gap) = number(w, gaps::lost_gaps(&edges, least)).unwrap_or((0, None));
+            w.count("count", count);
+            index(w, "first edge", gap.map(|gap| gap.first));
+            index(w, "second edge", gap.map(|gap| gap.second));
+            w.put("width before", gap.map_or(0, |gap| gap.before));
+            w.put("width after", gap.map_or(0, |gap| gap.after));
         }
         Job::WriteFrame(points, mut line) => {
             let digits = number(w, frames::write_frame(&points, &mut line));

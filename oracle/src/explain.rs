@@ -126,7 +126,10 @@ fn shown_value(name: &str, value: i32) -> String {
             "serif",
             "lowercase m",
         ],
-        "next" | "edge" | "link" | "serif" | "anchor" | "lower" | "upper" if value == -1 => {
+        "next" | "edge" | "link" | "serif" | "anchor" | "lower" | "upper" | "first edge"
+        | "second edge"
+            if value == -1 =>
+        {
             return String::from("none");
         }
         _ => &[],

@@ -131,6 +131,7 @@ pub enum Job {
     Catalogue(Catalogue),
     Joined(Table<Edge>, Joined),
     TurnOver(Table<Segment>, Table<Edge>),
+    Gaps(Table<Edge>, i32),
     WriteFrame(Points, Vec<u8>),
     ReadFrame(Vec<u8>),
 }
@@ -158,6 +159,7 @@ pub const CALLS: &[(usize, &str)] = &[
     (114, "hint_lowercase_m (lent list)"),
     (122, "align_blues_and_stems"),
     (124, "turn_over"),
+    (127, "lost_gaps"),
 ];
 
 /// The name of the call that a word names, if it names one.

@@ -7,6 +7,7 @@ pub mod count;
 pub mod decode;
 pub mod explain;
 pub mod frames;
+pub mod gaps;
 pub mod generate;
 pub mod given;
 pub mod job;

@@ -26,6 +26,8 @@ pub const M_EDGES: [usize; 2] = [6, 12];
 pub const STANDARDS: usize = 16;
 /// One standard.
 pub const STANDARD: RangeInclusive<i32> = 1..=16_383;
+/// The least width of a gap that the guard asks about.
+pub const LEAST: RangeInclusive<i32> = 0..=16_383;
 /// Points of a frame, its contours, and a contour's end in it: one byte each.
 pub const FRAME_BYTE: usize = 255;
 /// A coordinate of a frame: two signed bytes.

@@ -1,7 +1,8 @@
-//! The path as one would write it for speed, for benchmarks: one pass over the points, each step pushed behind the one before.
+//! The path and the guard as one would write them for speed, for benchmarks: one pass over the points, each step pushed behind the one before, and one over the edges.
 
 use crate::{
-    job::Walk,
+    gaps::Gap,
+    job::{Edge, TopoFlags, Walk},
     path::{Place, Step},
 };
 use std::ops::Range;
@@ -65,4 +66,28 @@ fn halfway(walk: &Walk, a: usize, b: usize) -> Place {
         x: (walk.xs[a] + walk.xs[b]) as f32 / 128.0,
         y: (walk.ys[a] + walk.ys[b]) as f32 / 128.0,
     }
+}
+
+/// How many gaps of accepted edges are lost, and the first of them: the last done edge is kept from edge to edge.
+pub fn lost_gaps(edges: &[Edge], least: i32) -> (usize, Option<Gap>) {
+    let (mut count, mut found) = (0, None);
+    let mut last: Option<(usize, &Edge)> = None;
+    for (second, high) in edges.iter().enumerate() {
+        if !high.flags.contains(TopoFlags::DONE) {
+            continue;
+        }
+        if let Some((first, low)) = last.replace((second, high)) {
+            let (before, after) = (high.opos - low.opos, high.pos - low.pos);
+            if before >= least && (after < 0 || after == 0 && before > 0) {
+                count += 1;
+                found.get_or_insert(Gap {
+                    first,
+                    second,
+                    before,
+                    after,
+                });
+            }
+        }
+    }
+    (count, found)
 }

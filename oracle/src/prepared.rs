@@ -44,6 +44,7 @@ enum Call {
     CjkStem(usize, usize, i32),
     Stems(bool, Option<usize>),
     Joined(bool),
+    Gaps(i32),
     M,
 }
 
@@ -124,6 +125,7 @@ impl Prepared {
                 let group = given.group;
                 (edges, given.dim, group, given.rule, given.stem_adjust, call)
             }
+            Job::Gaps(edges, least) => (edges, Horizontal, Default, keep, false, Call::Gaps(least)),
             Job::M(edges, group) => (edges, Horizontal, group, keep, false, Call::M),
             Job::MLent(edges, group) => (Table::of(edges), Horizontal, group, keep, false, Call::M),
             _ => unreachable!("the other jobs are not over edges"),
@@ -160,7 +162,7 @@ impl Prepared {
         }
     }
 
-    /// Runs the given Rust, for a path, which it does not have, the plain loop, which makes the whole of it.
+    /// Runs the given Rust; for a path and the guard, which it does not have, the plain loop, which makes the whole of a path.
     pub fn run(&mut self) {
         match self {
             Self::Middle(middle, min, max) => {
@@ -237,6 +239,9 @@ impl Fitting {
                     anchor,
                     None,
                 ));
+            }
+            Call::Gaps(least) => {
+                black_box(plain::lost_gaps(&axis.edges, least));
             }
             Call::M => {
                 hint_edges::hint_lowercase_m(&mut axis.edges, group);

@@ -173,6 +173,13 @@ pub fn lowercase_m(table: &Table<Edge>) -> Answer<()> {
     edges(table, &[])
 }
 
+/// The guard.
+pub fn lost_gaps(table: &Table<Edge>, least: i32) -> Answer<()> {
+    refuse(1, table.count > EDGES)?;
+    refuse(2, !LEAST.contains(&least))?;
+    edges(table, &[])
+}
+
 /// The path.
 pub fn path(walk: &Walk) -> Answer<()> {
     let Walk {

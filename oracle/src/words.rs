@@ -266,7 +266,7 @@ fn build(w: &mut Words, segments: &Table<Segment>, edges: &Table<Edge>, given: &
     w.put("width threshold", given.width);
 }
 
-/// Calls 106 to 113 and 122: a table of edges first.
+/// Calls 106 to 113, 122 and 127: a table of edges first.
 fn on_edges(w: &mut Words, job: &Job) {
     let (call, edges) = match job {
         Job::Blues(edges, ..) => (106, edges),
@@ -278,6 +278,7 @@ fn on_edges(w: &mut Words, job: &Job) {
         Job::Stems(edges, ..) => (112, edges),
         Job::M(edges, ..) => (113, edges),
         Job::Joined(edges, ..) => (122, edges),
+        Job::Gaps(edges, ..) => (127, edges),
         _ => unreachable!("the other calls are not on a table of edges"),
     };
     w.put("call", call);
@@ -314,6 +315,7 @@ fn behind_edges(w: &mut Words, job: &Job) {
         Job::Stems(_, given) => stems(w, given),
         Job::M(_, group) => w.group(*group),
         Job::Joined(_, given) => joined(w, given),
+        Job::Gaps(_, least) => w.put("least", *least),
         _ => unreachable!("the other calls are not on a table of edges"),
     }
 }

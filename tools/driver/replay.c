@@ -38,7 +38,8 @@ static const char *const formats[] = {
     [113] = "Ec",         /* hint_lowercase_m, table form: edges, group */
     [114] = "Lc",         /* hint_lowercase_m, lent list: edges, group */
     [122] = "EcccccN",    /* align_blues_and_stems: edges, dimension, group, stem adjust, top to bottom, width rule */
-    [124] = "SE"          /* turn_over: segments, edges */
+    [124] = "SE",         /* turn_over: segments, edges */
+    [127] = "Ew"          /* lost_gaps: edges, least width */
 };
 enum { CALLS = sizeof formats / sizeof formats[0], MOST_ITEMS = 10 };
 
@@ -333,6 +334,19 @@ static void answer_turned(const struct job *job)
     say_list(given->count, edges, given->size);
 }
 
+/* The guard, whose answer has no edges. */
+static void answer_gaps(const struct job *job)
+{
+    khs_length len = lend(&job->list[0], KHS_EDGE_WORDS, KHS_MOST_EDGES);
+    int32_t count = 0, first = KHS_NONE, second = KHS_NONE, before = 0, after = 0;
+    say(khs_lost_gaps(table, len, job->number[0], &count, &first, &second, &before, &after));
+    say(count);
+    say(first);
+    say(second);
+    say(before);
+    say(after);
+}
+
 /* The calls over edges. What they hand back beside stands between their number and the edges. */
 static void answer_edges(const struct job *job)
 {
@@ -403,6 +417,7 @@ static void answer_line(size_t len)
     case 4:
     case 105: answer_segments(&job); break;
     case 124: answer_turned(&job); break;
+    case 127: answer_gaps(&job); break;
     default: answer_edges(&job);
     }
 }

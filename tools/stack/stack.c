@@ -13,7 +13,7 @@ static int32_t originals[POINTS], currents[POINTS], standards[STANDARDS];
 static uint8_t touched[POINTS];
 static uint16_t ends[POINTS / 4], point_counts[] = {POINTS}, contour_counts[] = {POINTS / 4};
 static uint8_t own_answer;
-static int32_t first, second;
+static int32_t first, second, third, fourth, fifth;
 static uint8_t kinds[POINTS + 2 * (POINTS / 4)];
 static float places[4 * sizeof kinds];
 static uint32_t number, contours;
@@ -60,6 +60,7 @@ static uint8_t write_frame(void) { return khs_write_frame(originals, FRAMED, cur
 static uint8_t read_frame(void) {
     return khs_read_frame(line, sizeof line, originals, FRAMED, currents, FRAMED, touched, FRAMED, ends, FRAMED, &number, &contours);
 }
+static uint8_t guard(void) { return khs_lost_gaps(edge_words(), EDGE_LIST, 0, &first, &second, &third, &fourth, &fifth); }
 static uint8_t lowercase_m(void) { return khs_hint_lowercase_m(edge_words(), 12 * KHS_EDGE_WORDS, group); }
 
 static const struct {
@@ -67,7 +68,7 @@ static const struct {
     uint8_t (*call)(void);
 } calls[] = {{"khs_align_weak_points", weak}, {"khs_align_catalogue", catalogue}, {"khs_link_segments_cjk", linking}, {"khs_compute_edges", building}, {"khs_align_edges_to_blues", blues},
              {"khs_align_linked_edge", linked}, {"khs_align_serif_edge", serif}, {"khs_adjust_link", adjust}, {"khs_latin_remaining_bounds", bounds},
-             {"khs_hint_normal_stem_cjk", stem}, {"khs_align_stem_edges", stems}, {"khs_align_blues_and_stems", joined}, {"khs_hint_lowercase_m", lowercase_m},
+             {"khs_hint_normal_stem_cjk", stem}, {"khs_align_stem_edges", stems}, {"khs_align_blues_and_stems", joined}, {"khs_hint_lowercase_m", lowercase_m}, {"khs_lost_gaps", guard},
              {"khs_path_step", step}, {"khs_path", path}, {"khs_turn_over", turn}, {"khs_write_frame", write_frame}, {"khs_read_frame", read_frame}};
 
 /* Segments in pairs, the pairs on 128 heights; edges in stems, each with a zone or done here and there; points touched here and there; the longest frame, all zeros. */

@@ -153,6 +153,17 @@ extern "C" {
 
     fn khs_hint_lowercase_m(edges: *mut i32, edges_len: Length, group: i32) -> u8;
 
+    fn khs_lost_gaps(
+        edges: *const i32,
+        edges_len: Length,
+        least: i32,
+        count: *mut i32,
+        first: *mut i32,
+        second: *mut i32,
+        before: *mut i32,
+        after: *mut i32,
+    ) -> u8;
+
     fn khs_path_step(
         xs: *const i32,
         xs_len: Length,
@@ -485,6 +496,14 @@ pub fn hint_lowercase_m(edges: &mut [Edge], group: i32) -> u8 {
     let (words, len) = edge_words(edges);
     // SAFETY: one slice, lent to this call alone.
     unsafe { khs_hint_lowercase_m(words, len, group) }
+}
+
+/// The places are for the count, the two edges and the two widths.
+pub fn lost_gaps(edges: &[Edge], least: i32, places: &mut [i32; 5]) -> u8 {
+    let (words, len) = (edges.as_ptr().cast(), length(edges) * EDGE_WORDS as Length);
+    let [count, first, second, before, after] = places;
+    // SAFETY: one slice and five places, which are lent to this call alone.
+    unsafe { khs_lost_gaps(words, len, least, count, first, second, before, after) }
 }
 
 pub fn path_step(

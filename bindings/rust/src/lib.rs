@@ -23,6 +23,7 @@ mod choices;
 #[allow(unsafe_code)]
 mod ffi;
 mod field;
+mod gaps;
 mod joined;
 mod log;
 mod path;
@@ -31,6 +32,7 @@ mod refusal;
 
 pub use choices::{Dimension, Group, Neighbour, Order, WidthRule};
 pub use field::{Direction, Flags, Mark};
+pub use gaps::{lost_gaps, LostGaps};
 pub use joined::{align_blues_and_stems, BluesAndStems};
 pub use log::{Job, MOST_DIGITS};
 pub use path::{path, path_step, Outline, Path, PathStep, PixelPoint};

@@ -20,8 +20,8 @@ use std::{error, fmt};
 pub enum Refusal {
     /// 1: a list is longer than its limit (4,096 points, 512 segments, 128 edges), the point lists of an outline differ in length, or a path has too little room.
     TooLong,
-    /// 2: a scale, units per em, a threshold or the edge count of the m rule is outside its limits, the standards of a width rule break its rule, or an edge has a zone
-    /// on an axis that blues and stems in one call take none on.
+    /// 2: a scale, units per em, a threshold, a gap's least width or the edge count of the m rule is outside its limits, the standards of a width rule break its rule, or
+    /// an edge has a zone on an axis that blues and stems in one call take none on.
     BadParameter,
     /// 3: a contour end breaks its rule, or a link, a serif, an anchor or an edge named in the call is not below its list's length; in turning over also any other
     /// index.

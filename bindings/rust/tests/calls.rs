@@ -701,6 +701,48 @@ fn lowercase_m() {
     });
 }
 
+#[test]
+fn guard() {
+    let placed = |opos: i32, pos: i32| at(opos).with_pos(pos).with_flags(Flags::DONE);
+    // a gap closed, an edge that is not done, and a gap turned across it
+    let edges = [
+        placed(0, 0),
+        placed(32, 0),
+        at(60).with_pos(500),
+        placed(160, -64),
+    ];
+    let lost = |count, first, second, before, after| LostGaps {
+        count,
+        first,
+        second,
+        before,
+        after,
+    };
+    assert_eq!(lost_gaps(&edges, 32), Ok(Some(lost(2, 0, 1, 32, 0))));
+    assert_eq!(lost_gaps(&edges, 33), Ok(Some(lost(1, 1, 3, 128, -64))));
+    assert_eq!(lost_gaps(&edges, 129), Ok(None));
+    // two edges at one place lose nothing while they stay there
+    let same = [placed(9, 70), placed(9, 70), placed(9, 69)];
+    assert_eq!(lost_gaps(&same, 0), Ok(Some(lost(1, 1, 2, 0, -1))));
+    assert_eq!(lost_gaps(&same[..2], 0), Ok(None));
+    assert_eq!(lost_gaps(&[], 0), Ok(None));
+    let apart = [placed(0, 16_777_216), placed(1, -16_777_216)];
+    let far = lost(1, 0, 1, 1, -33_554_432);
+    assert_eq!(lost_gaps(&apart, 0), Ok(Some(far)));
+    refuses_edges(&edges, |edges| lost_gaps(edges, 0));
+    for least in [-1, 16_384] {
+        refused(&edges, Refusal::BadParameter, |edges| {
+            lost_gaps(edges, least)
+        });
+        let many = [Edge::default(); MOST_EDGES + 1];
+        refused(&many, Refusal::TooLong, |edges| lost_gaps(edges, least));
+        let beyond = [at(0).with_link(Some(1))];
+        refused(&beyond, Refusal::BadParameter, |edges| {
+            lost_gaps(edges, least)
+        });
+    }
+}
+
 /// A triangle whose first corner is off the curve, a lone point, and a point of no contour.
 const OUTLINE: Outline<'_> = Outline {
     xs: &[0, 64, 0, 96, 7],

@@ -1,4 +1,4 @@
--- What building hands on is accepted by every later call and by linking, and every edge of it is a sound ring that nothing has placed yet.
+-- What building hands on is accepted by every later call and by linking; every edge of it is a sound ring that nothing has placed yet, and edges stand by rising position.
 use mathlib.Core.Path.{_≡_, refl, sym, ap, _∙_}
 use mathlib.Core.Bool.{Bool, true, false, cond, not}
 use mathlib.Core.List.{List, [], _∷_}
@@ -7,6 +7,7 @@ use native.Mathlib.Omega.{arith}
 use lib.Dec.{leb}
 use lib.IntN.{ℤ}
 use lib.ListN.{getD}
+use lib.Signed.{_≤ℤ_}
 use Rattle.signed.proofs.Choices.{cond-false, at-set}
 use Rattle.refusals.specs.Refusal.{refusal, noRoom}
 use Rattle.refusals.proofs.Answers.{none-refused}
@@ -44,6 +45,8 @@ use Rattle.building.proofs.Handing.{built-rows, ready}
 use Rattle.building.proofs.Joins.{last-good}
 use Rattle.building.proofs.Outcomes.{segments-within, properties-within, not-refused}
 use Rattle.building.proofs.Rings.{sound}
+use Rattle.building.proofs.Rising.{fpos-rises, opos-rises}
+use Rattle.building.proofs.Scales.{right}
 use Rattle.building.proofs.Sound.{clear-at}
 
 -- ---- the next of each segment
@@ -192,3 +195,12 @@ module _ (t : Segments) (old : Axis) (group : Group) (ttb : Bool) (scale : ℤ) 
     -- and was placed by nothing yet
     pub edges-unplaced : (k : ℕ) → k < computeEdges t old group ttb scale by .axis .len → edgeAt (computeEdges t old group ttb scale by .axis) k .mark ≡ Nothing
     edges-unplaced k h = rw outcome (unplaced t rules (taken .within) k (rw outcome at h))
+
+    -- the edges stand by rising position, in font units and, at a scale that is above 0, at the scale
+    pub edges-rise-in-font : (i j : ℕ) → i < j → j < computeEdges t old group ttb scale by .axis .len
+        → edgeAt (computeEdges t old group ttb scale by .axis) i .fpos ≤ℤ edgeAt (computeEdges t old group ttb scale by .axis) j .fpos
+    edges-rise-in-font i j o h = rw outcome (fpos-rises t rules (taken .within) i j o (rw outcome at h))
+
+    pub edges-rise : (i j : ℕ) → i < j → j < computeEdges t old group ttb scale by .axis .len
+        → edgeAt (computeEdges t old group ttb scale by .axis) i .opos ≤ℤ edgeAt (computeEdges t old group ttb scale by .axis) j .opos
+    edges-rise i j o h = rw outcome (opos-rises t rules (taken .within) (omega (arith, right scale by (taken .numbers) .scale-within)) i j o (rw outcome at h))

@@ -8,7 +8,9 @@ use Rattle.axis.specs.Limits.{mostSegments}
 use Rattle.joining.specs.declared.join.Joined.{Joined}
 use Rattle.joining.specs.declared.rules.Rules.{Rules}
 use Rattle.joining.specs.Joining.{shown, after, begun, stateAt}
+use Rattle.joining.specs.Walks.{Latin}
 use Rattle.joining.proofs.Good.{Good, good}
+use Rattle.joining.proofs.Rising.{Rises, rises}
 use Rattle.joining.proofs.Steps.{of-full, after-stuck}
 use Rattle.building.specs.Building.{lastState}
 
@@ -37,10 +39,17 @@ module _ (t : Segments) (r : Rules) where
   pub two-loops : (j : Joined) → j ≡ shown t r (stateAt t r true (t .len)) → r .cjk ≡ false → j ≡ shown t r (lastState t r)
   two-loops j e h = e ∙ ap (shown t r) (last-is true (ap not h))
 
-  -- the last state is good
-  pub last-good : t .len ≤ mostSegments → Good t r (not (r .cjk)) (lastState t r) (t .len)
-  last-good long = good t r (not (r .cjk)) (λ e. off (r .cjk) e) long (t .len) (omega arith)
+  -- the second one is Latin's
+  last-latin : Latin r (not (r .cjk))
+  last-latin = off (r .cjk)
     where
       off : (b : Bool) → not b ≡ true → b ≡ false
       off true e = sym e
       off false e = refl
+
+  -- the last state is good, and its edges rise
+  pub last-good : t .len ≤ mostSegments → Good t r (not (r .cjk)) (lastState t r) (t .len)
+  last-good long = good t r (not (r .cjk)) last-latin long (t .len) (omega arith)
+
+  pub last-rises : t .len ≤ mostSegments → Rises t r (lastState t r)
+  last-rises long = rises t r (not (r .cjk)) last-latin long (t .len) (omega arith)

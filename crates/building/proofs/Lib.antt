@@ -6,6 +6,7 @@ pub mod Handing
 pub mod Calls
 pub mod Outcomes
 pub mod Rings
+pub mod Rising
 pub mod Handed
 pub mod Blind
 pub mod Worked

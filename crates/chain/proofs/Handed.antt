@@ -29,6 +29,7 @@ use Rattle.stems.specs.Stems.{alignStemEdges}
 use Rattle.stems.proofs.Handed as Stems
 use Rattle.joined.proofs.Handed as Joined
 use Rattle.lowercase_m.proofs.Handed as M
+use Rattle.gaps.proofs.Outcomes as Gaps
 use Rattle.chain.specs.Accepts.{Accepts}
 
 -- ---- edges that are accepted
@@ -43,6 +44,7 @@ accepts axis a = record {
   stems = λ group adjust anchor rule xs b r. Stems.accepts axis group adjust false anchor rule xs a refl b r;
   joined = λ group adjust rule xs r z. Joined.accepts axis group adjust false rule xs a refl r z;
   m = λ group c. M.accepts axis group a c;
+  gaps = λ least h. Gaps.accepts axis least a h;
 }
 
 -- ---- linking

@@ -4,7 +4,7 @@ use mathlib.Core.Bool.{Bool, true, false}
 use mathlib.Core.List.{List}
 use Prim.Native.Nat.{ℕ}
 use lib.Dec.{ltb}
-use lib.IntN.{ℤ}
+use lib.IntN.{ℤ, pos}
 use Rattle.fixed.specs.declared.width.WidthRule.{WidthRule}
 use Rattle.fixed.specs.Width.{ruleHolds}
 use Rattle.axis.specs.declared.edge.Axis.{Axis}
@@ -12,7 +12,7 @@ use Rattle.axis.specs.declared.kinds.Group.{Group}
 use Rattle.axis.specs.declared.kinds.Link.{Link}
 use Rattle.axis.specs.Accepted.{Below}
 use Rattle.axis.specs.Limits.{mostUnits}
-use Rattle.axis.specs.Refusals.{within}
+use Rattle.axis.specs.Refusals.{inside, within}
 use Rattle.placing.specs.declared.adjust.LinkDir.{LinkDir}
 use Rattle.placing.specs.Placing.{bothBelow}
 use Rattle.fitting.specs.Fitting.{alignLinkedEdge, alignSerifEdge, adjustLink, latinRemainingBounds}
@@ -21,6 +21,7 @@ use Rattle.stem_cjk.specs.Cjk.{hintNormalStemCjk}
 use Rattle.stems.specs.Stems.{alignStemEdges}
 use Rattle.joined.specs.Joined.{zonesHold, alignBluesAndStems}
 use Rattle.lowercase_m.specs.M.{countHolds, hintLowercaseM}
+use Rattle.gaps.specs.Gaps.{lostGaps}
 
 -- every call over edges accepts those of the axis
 pub record Accepts (axis : Axis) : Type 0 where
@@ -36,3 +37,4 @@ pub record Accepts (axis : Axis) : Type 0 where
   pub joined : (group : Group) (adjust : Bool) (rule : WidthRule) (xs : List ℤ) → ruleHolds rule xs ≡ true → zonesHold group axis ≡ true
       → alignBluesAndStems axis group adjust false rule xs .answer ≡ 0
   pub m : (group : Group) → countHolds (axis .len) ≡ true → hintLowercaseM axis group .answer ≡ 0
+  pub gaps : (least : ℤ) → inside (pos 0) (pos mostUnits) least ≡ true → lostGaps axis least .answer ≡ 0

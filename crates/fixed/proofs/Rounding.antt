@@ -7,11 +7,12 @@ use mathlib.Core.Logic.{⊎-elim}
 use borrow.Author.Tests.{le-ltb}
 use lib.Dec.{T, ltb, ltb→lt}
 use lib.IntN.{ℤ, pos, negsuc, negℤ, natAbs, _*ℤ_}
+use lib.Signed.{_≤ℤ_}
 use mir.Syntax.{Width}
 use mir.Val.{SFits, hbits}
 use Rattle.signed.specs.Parts.{up, dn}
 use Rattle.signed.specs.Range.{Between}
-use Rattle.signed.proofs.Signed.{up-neg, dn-neg, mul-up, mul-dn, times-up, times-dn, natAbs-mul, fits-abs, abs-of, lt-or-le}
+use Rattle.signed.proofs.Signed.{signed, one-zero, to-≤ℤ, up-neg, dn-neg, mul-up, mul-dn, times-up, times-dn, natAbs-mul, fits-abs, abs-of, lt-or-le}
 use Rattle.fixed.specs.Point.{rounded, roundedZ, mulFix, divFix}
 use Rattle.fixed.specs.Steps.{signedLike}
 
@@ -95,6 +96,24 @@ mul-abs a b {A} {B} h k =
 pub mul-fits : {w : Width} {A B : ℕ} {a b : ℤ} → Between A A a → Between B B b → T (ltb (rounded (A * B) 65536) (2 ^ hbits w)) → SFits w (mulFix a b)
 mul-fits {w} {A} {B} {a} {b} h k t =
     fits-abs (omega (arith, mul-abs a b {A = A} {B = B} (omega (arith, abs-of h)) (omega (arith, abs-of k)), ltb→lt (rounded (A * B) 65536) (2 ^ hbits w) t))
+
+-- a product by a factor that is not negative grows with the other one
+pub mul-grows : (a b s : ℤ) → dn s ≤ up s → a ≤ℤ b → mulFix a s ≤ℤ mulFix b s
+unfolding mulFix
+mul-grows a b (pos k) h l =
+    let more : up a ≤ up b = omega (arith, signed, one-zero a, one-zero b) in
+    let less : dn b ≤ dn a = omega (arith, signed, one-zero a, one-zero b) in
+    to-≤ℤ (roundedZ (a *ℤ pos k) (pos 65536)) (roundedZ (b *ℤ pos k) (pos 65536))
+    (omega (
+      arith,
+      roundedZ-up (a *ℤ pos k) 65536 (omega arith),
+      roundedZ-dn (a *ℤ pos k) 65536 (omega arith),
+      roundedZ-up (b *ℤ pos k) 65536 (omega arith),
+      roundedZ-dn (b *ℤ pos k) 65536 (omega arith),
+      rounded-grows (up (a *ℤ pos k)) (up (b *ℤ pos k)) 65536 (omega arith) (omega (arith, mul-up a k, mul-up b k, mul-le-mul-right k more)),
+      rounded-grows (dn (b *ℤ pos k)) (dn (a *ℤ pos k)) 65536 (omega arith) (omega (arith, mul-dn a k, mul-dn b k, mul-le-mul-right k less)),
+    ))
+mul-grows a b (negsuc k) h l = absurd (omega arith)
 
 -- ---- fixed divide
 -- the magnitude of a quotient is no more than 65,536 times that of the dividend

@@ -1,5 +1,6 @@
 // The answer to a job, from the call that it names.
 use super::call::job_of;
+use super::gaps::answer_gaps;
 use super::lent::answer_lent;
 use super::table::answer_table;
 use jobs_log::answer_read;
@@ -54,6 +55,7 @@ pub fn answer(words: &[i32], out: &mut [i32]) -> usize
         25 => answer_write(words, out),
         26 => answer_read(words, out),
         114 => answer_lent(words, out),
+        127 => answer_gaps(words, out),
         _ => answer_table(call, words, out),
     }
 }

@@ -64,7 +64,7 @@ const FORMATS: [u64; CALLS] = [
 // The first word of the calls that carry edges, and how many words from it on are theirs.
 const FIRST_OF_EDGES: usize = 105;
 
-const CALLS_OF_EDGES: usize = 20;
+const CALLS_OF_EDGES: usize = 23;
 
 // The formats of these calls, by their words from the first on.
 const FORMATS_OF_EDGES: [u64; CALLS_OF_EDGES] = [
@@ -88,6 +88,9 @@ const FORMATS_OF_EDGES: [u64; CALLS_OF_EDGES] = [
     0x633333a, // align_blues_and_stems
     NONE, // 123: none
     0xa9, // turn_over
+    NONE, // 125 and 126: none
+    NONE,
+    0x1a, // lost_gaps
 ];
 
 // The format of the jobs of a call, by its word.

@@ -2,6 +2,7 @@
 pub mod answer;
 pub mod call;
 mod first;
+mod gaps;
 mod lent;
 mod table;
 

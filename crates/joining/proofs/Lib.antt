@@ -8,3 +8,4 @@ pub mod Good
 pub mod Steps
 pub mod Searching
 pub mod Turns
+pub mod Rising

@@ -27,6 +27,7 @@ use Rattle.path_lay.specs.Laying.{Lent}
 use Rattle.path_whole.specs.Writing.{WritesPath}
 use Rattle.path_whole.proofs.Outcomes as Path
 use Rattle.flat_turning.specs.Turn.{TurnedLent}
+use Rattle.flat_gaps.specs.Find.{Places, GapsLent}
 
 -- `khs_compute_mid_pos`
 pub mid-pos-determined : (min max : ℤ) {r r′ : ℤ} → ComputesMidPos min max r → ComputesMidPos min max r′ → r ≡ r′
@@ -128,3 +129,7 @@ read-frame-determined line rooms points contours a b = lent-determined a b
 -- `khs_turn_over`
 pub turning-determined : (ws es : List ℤ) {r r′ : ℕ} {now now′ : List ℤ × List ℤ} → TurnedLent ws es r now → TurnedLent ws es r′ now′ → (r ≡ r′) × (now ≡ now′)
 turning-determined ws es a b = lent-determined a b
+
+-- `khs_lost_gaps`
+pub gaps-determined : (ws : List ℤ) (least : ℤ) (old : Places) {r r′ : ℕ} {now now′ : Places} → GapsLent ws least old r now → GapsLent ws least old r′ now′ → (r ≡ r′) × (now ≡ now′)
+gaps-determined ws least old a b = lent-determined a b

@@ -7,6 +7,7 @@ use flat::fit::lend_bounds;
 use flat::fit::lend_linked_edge;
 use flat::fit::lend_serif_edge;
 use flat::m::lend_m;
+use flat_gaps::find::lend_gaps;
 use flat_joined::pass::lend_joined;
 use flat_segments::build::lend_building;
 use flat_segments::link::lend_linking;
@@ -38,6 +39,7 @@ ghost use Rattle.path.specs.Lending.{StepLent};
 ghost use Rattle.path_lay.specs.Laying.{lent};
 ghost use Rattle.path_whole.specs.Writing.{WritesPath};
 ghost use Rattle.flat_turning.specs.Turn.{TurnedLent};
+ghost use Rattle.flat_gaps.specs.Find.{GapsLent};
 
 // The middle of two coordinates.
 #[no_mangle]
@@ -370,4 +372,21 @@ pub extern "C" fn khs_turn_over(segments: &mut [i32], edges: &mut [i32]) -> u8
     ensures { λ r. ⌜ TurnedLent (now (segments .entry)) (now (edges .entry)) r (now (segments .exit), now (edges .exit)) ⌝ }
 {
     lend_turning(segments, edges)
+}
+
+// Finds the gaps between placed edges that fitting has lost.
+#[no_mangle]
+pub extern "C" fn khs_lost_gaps(
+    edges: &[i32],
+    least: i32,
+    count: &mut i32,
+    first: &mut i32,
+    second: &mut i32,
+    before: &mut i32,
+    after: &mut i32,
+) -> u8
+    ensures { λ r. ⌜ GapsLent (now (edges .entry)) least (now (count .entry), (now (first .entry), (now (second .entry), (now (before .entry), now (after .entry)))))
+        r (now (count .exit), (now (first .exit), (now (second .exit), (now (before .exit), now (after .exit))))) ⌝ }
+{
+    lend_gaps(edges, least, count, first, second, before, after)
 }

@@ -1,4 +1,4 @@
-// Edges fitted: put on their zones, with the stems behind them, then the m rule, whose jobs have no edges of their own.
+// Edges fitted: put on their zones, with the stems behind them, then the m rule, whose jobs have no edges of their own; behind each the guard is asked.
 use super::glyph::Glyph;
 use super::glyph::edge_words;
 use super::glyph::edges_of;
@@ -8,6 +8,7 @@ use axis::accept::least;
 use axis::limits::MOST_EDGES;
 use khsaemudol::khs_align_blues_and_stems;
 use khsaemudol::khs_hint_lowercase_m;
+use khsaemudol::khs_lost_gaps;
 use label_print::edges::BLUE;
 use label_print::edges::FITTED;
 use label_print::edges::changes;
@@ -52,6 +53,41 @@ fn fitted(mut glyph: Glyph, edges: [i32; TABLE_WORDS], anchor: i32) -> Glyph {
     glyph
 }
 
+// The gaps that the guard is asked for are half a pixel wide and more.
+const LEAST_GAP: i32 = 32;
+
+// Writes that a gap between placed edges was lost, where the guard finds one.
+fn guard(glyph: Glyph) {
+    let edges = edges_of(glyph);
+    let n = edge_words(glyph);
+    let mut count = 0;
+    let mut first = -1;
+    let mut second = -1;
+    let mut before = 0;
+    let mut after = 0;
+    let answer = khs_lost_gaps(
+        &edges[0..n],
+        LEAST_GAP,
+        &mut count,
+        &mut first,
+        &mut second,
+        &mut before,
+        &mut after,
+    );
+    if answer == 0 {
+        if count == 0 {
+            return;
+        }
+    }
+    if refused(b"  guard     ", answer) {
+        return;
+    }
+    show(
+        b"# lost, the first between edges # and #, width ~ -> ~\n",
+        &[count, first, second, before, after],
+    );
+}
+
 // Puts the edges on the zones that a job gives them, and aligns the stems to the anchor and to each other.
 pub fn fitting(words: &[i32], glyph: Glyph) -> Glyph {
     let numbers = tail(
@@ -78,7 +114,9 @@ pub fn fitting(words: &[i32], glyph: Glyph) -> Glyph {
     }
     show(b"# passed over, ", &[passed]);
     anchored(anchor);
-    fitted(glyph, edges, anchor)
+    let glyph = fitted(glyph, edges, anchor);
+    guard(glyph);
+    glyph
 }
 
 // Applies the m rule.
@@ -90,5 +128,7 @@ pub fn m(words: &[i32], glyph: Glyph) -> Glyph {
         return stopped(glyph);
     }
     text(b"equal distances between the stems\n");
-    fitted(glyph, edges, glyph.anchor)
+    let glyph = fitted(glyph, edges, glyph.anchor);
+    guard(glyph);
+    glyph
 }

@@ -2,13 +2,15 @@
 //! label, drawn in 1,000 design units to the em; examples/three.c does the same in C.
 
 use khsaemudol::{
-    align_blues_and_stems, align_weak_points, compute_edges, path, BluesAndStems, Building,
-    Dimension, Direction, Edge, Flags, Group, Order, Outline, PathStep, Refusal, Segment, Stems,
-    WidthRule, MOST_EDGES,
+    align_blues_and_stems, align_weak_points, compute_edges, lost_gaps, path, BluesAndStems,
+    Building, Dimension, Direction, Edge, Flags, Group, LostGaps, Order, Outline, PathStep,
+    Refusal, Segment, Stems, WidthRule, MOST_EDGES,
 };
 
 /// Units of a pixel.
 const PIXEL: i32 = 64;
+/// The least gap that may not be lost: half a pixel.
+const LEAST_GAP: i32 = PIXEL / 2;
 /// Pixels to the em.
 const PIXELS: i32 = 12;
 /// From design units to units, in 16.16.
@@ -206,6 +208,23 @@ fn place_edges(dimension: Dimension, edges: &mut [Edge]) -> Result<(), Refusal> 
     Ok(())
 }
 
+/// Asks whether two edges that were half a pixel apart or more have come to stand on one place, or the wrong way round, and tells so: a gateway would show the glyph
+/// unfitted then, or at another size.
+fn guard(edges: &[Edge]) -> Result<(), Refusal> {
+    if let Some(LostGaps {
+        count,
+        first,
+        second,
+        before,
+        after,
+    }) = lost_gaps(edges, LEAST_GAP)?
+    {
+        let (before, after) = (position(before), position(after));
+        println!("  guard     {count} lost, the first between edges {first} and {second}, width {before} -> {after}");
+    }
+    Ok(())
+}
+
 /// Moves the points of segments whose edges are done with them, and the other points behind these.
 fn align_points(
     points: [i32; POINTS],
@@ -239,6 +258,7 @@ fn fit(axis: &Axis<'_>) -> Result<[i32; POINTS], Refusal> {
         give_zones(edges);
     }
     place_edges(axis.dimension, edges)?;
+    guard(edges)?;
     align_points(axis.points, &segments, edges)
 }
 

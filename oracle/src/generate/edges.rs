@@ -188,6 +188,28 @@ fn zone(opos: i32, random: &mut Random) -> ScaledWidth {
     ScaledWidth { fitted }
 }
 
+/// Edges as a fitting may leave them, some or few of them done: gaps between these are kept, closed, turned, or were none.
+pub fn gapped(small: bool, random: &mut Random) -> Vec<Edge> {
+    let mut edges = edges(small, random);
+    let done = random.pick(&[1, 1, 2, 4]);
+    let gap = random.pick(&[1, 3, 40, 100]);
+    let falls = random.pick(&[0, 0, 1, gap]);
+    let strays = random.pick(&[0, 1, gap, 2 * gap, 8_000_000]);
+    let mut before = Edge::default();
+    for edge in &mut edges {
+        edge.flags = flags(done, random);
+        edge.opos = before.opos + random.between(-falls, gap);
+        edge.pos = match random.below(5) {
+            0 => before.pos,
+            1 => before.pos + random.between(-1, 1),
+            2 => before.pos - random.between(0, gap),
+            _ => edge.opos + random.between(-strays, strays),
+        };
+        before = *edge;
+    }
+    edges
+}
+
 /// What an edge table may hold before building: anything.
 pub fn old_table(random: &mut Random) -> Vec<Edge> {
     if random.coin() {

@@ -81,6 +81,7 @@ fn limit(name: &str, word: i32, random: &mut Random) -> i32 {
         "scale" => &[1, 16_777_216],
         "units per em" => &[16, 16_384],
         "standard" => &[1, 16_383],
+        "least" => &[0, 16_383],
         "touch" | "mark" | "own answer" => return random.pick(&[0, 1, 255]),
         "points" | "contours" => return random.pick(&[0, 1, word + 1, 4_096, 65_535]).min(65_535),
         "cursor" => return random.pick(&[0, word.saturating_add(1), i32::MAX - 1, i32::MAX]),
@@ -160,6 +161,12 @@ fn resize_on_edges(job: &mut Job, random: &mut Random) {
         }
         Job::Serif(edges, ..) | Job::Bounds(edges, _) => {
             resize_edges(edges, random);
+        }
+        Job::Gaps(edges, least) => {
+            resize_edges(edges, random);
+            if random.once_in(4) {
+                *least = -1;
+            }
         }
         Job::M(edges, _) => {
             let count = m_count(random);

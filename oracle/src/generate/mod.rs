@@ -18,7 +18,7 @@ pub use random::Random;
 
 use crate::{
     job::{CjkStem, Dimension, Edge, Job, Joined, ScriptGroup, Stems, Table, WidthRule},
-    text,
+    joined, text,
     words::encode,
 };
 
@@ -85,8 +85,9 @@ fn job(call: usize, small: bool, random: &mut Random) -> Job {
         25 => frames::write(small, random),
         26 => frames::read(small, random),
         105 => segments::build(small, random),
-        122 => joined(small, random),
+        122 => blues_and_stems(small, random),
         124 => axes::turn_over(small, random),
+        127 => gaps(small, random),
         _ => on_edges(call, small, random),
     }
 }
@@ -145,7 +146,7 @@ fn stem_pass(table: Table<Edge>, rule: WidthRule, random: &mut Random) -> Job {
 }
 
 /// A job of blues and stems in one call: mostly with zones, seldom where they are refused.
-fn joined(small: bool, random: &mut Random) -> Job {
+fn blues_and_stems(small: bool, random: &mut Random) -> Job {
     let mut edges = edges::zoned(small, random);
     let given = Joined {
         dim: dimension(random),
@@ -161,6 +162,25 @@ fn joined(small: bool, random: &mut Random) -> Job {
         }
     }
     Job::Joined(Table::of(edges), given)
+}
+
+/// A job of the guard: mostly on edges whose gaps are lost here and there, or on what blues and stems leave, with a least width about that of a gap.
+fn gaps(small: bool, random: &mut Random) -> Job {
+    let edges = match blues_and_stems(small, random) {
+        Job::Joined(mut edges, given) if random.once_in(4) => {
+            let _ = joined::align_blues_and_stems(&mut edges, &given);
+            edges.items
+        }
+        _ => edges::gapped(small, random),
+    };
+    let ix = random.below(edges.len());
+    let gap = edges[ix].opos - edges[ix.saturating_sub(random.below(3) + 1)].opos;
+    let least = match random.below(3) {
+        0 => random.pick(&[0, 1, 32, 64, 16_383]),
+        1 => 0,
+        _ => (gap + random.between(-1, 1)).clamp(0, 16_383),
+    };
+    Job::Gaps(Table::of(edges), least)
 }
 
 /// A job of the CJK stem: mostly a narrow one.

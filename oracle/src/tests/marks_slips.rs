@@ -65,7 +65,7 @@ fn answer_unmarked(job: &Words) -> Words {
 
 #[test]
 fn no_rule_reads_a_mark() {
-    for call in (105..=114).chain([122, 124]) {
+    for call in (105..=114).chain([122, 124, 127]) {
         for job in made_up(call) {
             let words = encode(&job);
             assert_eq!(unmarked(&answer(job)), unmarked(&answer_unmarked(&words)));

@@ -3,6 +3,7 @@
 mod catalogue;
 mod catalogue_slips;
 mod frames;
+mod gaps;
 mod joined;
 mod log;
 mod marks;

@@ -10,9 +10,9 @@ use khsaemudol::{EDGE_WORDS, SEGMENT_WORDS};
 use oracle::generate::Random;
 
 /// The calls, by short names.
-pub const NAMES: [&str; 16] = [
+pub const NAMES: [&str; 17] = [
     "mid", "weak", "link", "build", "blues", "linked", "serif", "adjust", "bounds", "stem",
-    "stems", "joined", "m", "lent", "path", "step",
+    "stems", "joined", "guard", "m", "lent", "path", "step",
 ];
 
 /// The inputs of one round.
@@ -24,8 +24,18 @@ pub struct Case {
     pub jobs: Vec<Vec<i32>>,
     /// The same, refused by their last test; none for a call that refuses nothing.
     pub refused: Vec<Vec<i32>>,
-    /// Whether the library does blues and stems by a call each, where it has one for both.
-    pub apart: bool,
+    pub role: Role,
+}
+
+/// What a case is in the table of its call.
+#[derive(Copy, Clone, PartialEq)]
+pub enum Role {
+    /// The call itself.
+    Own,
+    /// Beside blues and stems in one call: the two apart.
+    Apart,
+    /// Beside the guard: the call whose edges it is asked about.
+    Fitting,
 }
 
 /// The groups of scripts by their words.
@@ -51,6 +61,7 @@ pub fn cases(name: &str) -> Vec<Case> {
             vec![1, group, 0, 0, -1, 0, 0]
         }),
         "joined" => joined(),
+        "guard" => guard(),
         "m" => m("m", 113),
         "lent" => m("lent", 114),
         "path" => path(),
@@ -70,7 +81,7 @@ fn middles() -> Vec<Case> {
         size: 1,
         jobs: (0..1_000).map(|_| vec![call, any(), any()]).collect(),
         refused: Vec::new(),
-        apart: false,
+        role: Role::Own,
     };
     (1..).zip(titles).map(case).collect()
 }
@@ -93,7 +104,7 @@ fn weak() -> Vec<Case> {
                 size,
                 refused: jobs.iter().cloned().map(far).collect(),
                 jobs,
-                apart: false,
+                role: Role::Own,
             });
         }
     }
@@ -132,7 +143,7 @@ fn paths(
                 size,
                 refused: jobs.iter().cloned().map(far).collect(),
                 jobs,
-                apart: false,
+                role: Role::Own,
             });
         }
     }
@@ -183,7 +194,7 @@ fn link() -> Vec<Case> {
                 size,
                 refused: with_bad_score(&jobs, size),
                 jobs,
-                apart: false,
+                role: Role::Own,
             });
         }
     }
@@ -219,7 +230,7 @@ fn build() -> Vec<Case> {
                 size,
                 refused: with_bad_score(&jobs, size),
                 jobs,
-                apart: false,
+                role: Role::Own,
             });
         }
     }
@@ -237,19 +248,24 @@ fn over_edges(
 ) -> Case {
     let job = |_| [&[call, size as i32], &edges()[..], behind].concat();
     let jobs: Vec<Vec<i32>> = (0..ROUND).map(job).collect();
+    Case {
+        name,
+        kind,
+        size,
+        refused: far_edges(&jobs, size),
+        jobs,
+        role: Role::Own,
+    }
+}
+
+/// The same jobs with a position out of range in the last edge.
+fn far_edges(jobs: &[Vec<i32>], size: usize) -> Vec<Vec<i32>> {
     let far = |job: &Vec<i32>| {
         let mut job = job.clone();
         job[2 + EDGE_WORDS * (size - 1) + 1] = 16_384;
         job
     };
-    Case {
-        name,
-        kind,
-        size,
-        refused: jobs.iter().map(far).collect(),
-        jobs,
-        apart: false,
-    }
+    jobs.iter().map(far).collect()
 }
 
 /// A pass over edges, for each group.
@@ -274,17 +290,42 @@ fn by_group(
 /// Blues and stems in one call, and beside it by a call each; the Rust runs the two in a row.
 fn joined() -> Vec<Case> {
     let on_zones = |group| vec![1, group, 0, 0, 0, 0];
-    let apart = |case: Case| Case {
-        kind: format!("{}, blues and stems apart", case.kind),
-        apart: true,
-        ..case
-    };
     let mut cases = by_group("joined", 122, edges::on_zones, on_zones);
-    cases.extend(
-        by_group("joined", 122, edges::on_zones, on_zones)
-            .into_iter()
-            .map(apart),
-    );
+    let apart = by_group("joined", 122, edges::on_zones, on_zones);
+    let apart = apart.into_iter();
+    cases.extend(apart.map(|case| beside(case, "blues and stems apart", Role::Apart)));
+    cases
+}
+
+/// A case that stands beside the call's own.
+fn beside(case: Case, what: &str, role: Role) -> Case {
+    Case {
+        kind: format!("{}, {what}", case.kind),
+        role,
+        ..case
+    }
+}
+
+/// The guard, with a least width of half a pixel, on the edges that blues and stems leave, and beside it the call that leaves them.
+fn guard() -> Vec<Case> {
+    let on_zones = |group| vec![1, group, 0, 0, 0, 0];
+    let fitting = by_group("guard", 122, edges::on_zones, on_zones);
+    let asked = |case: &Case| {
+        // answer, count and anchor stand in front of the edges that are left
+        let ask = |job: &Vec<i32>| [&[127], &port::answer(job)[3..], &[32]].concat();
+        let jobs: Vec<Vec<i32>> = case.jobs.iter().map(ask).collect();
+        Case {
+            name: case.name,
+            kind: case.kind.clone(),
+            size: case.size,
+            refused: far_edges(&jobs, case.size),
+            jobs,
+            role: Role::Own,
+        }
+    };
+    let mut cases: Vec<Case> = fitting.iter().map(asked).collect();
+    let fitting = fitting.into_iter();
+    cases.extend(fitting.map(|case| beside(case, "the joined call", Role::Fitting)));
     cases
 }
 

@@ -50,7 +50,7 @@ pub fn run(name: &str, ix: &str, side: &str, copies: &str) {
     };
     let jobs = vec![case.jobs; copies].concat();
     if side == SIDES[0] {
-        counted(&mut table::ports(&jobs, case.apart));
+        counted(&mut table::ports(&jobs, case.role));
     } else {
         counted(&mut table::rusts(&jobs));
     }

@@ -1,7 +1,7 @@
 //! Job lines answered by the library's functions, each by its own call; `jobs` answers those alone whose call the wrapper does not have.
 
 use crate::{
-    port::{self, Call, Prepared},
+    port::{self, Beside, Call, Prepared, NO_GAP},
     records,
 };
 use khsaemudol::{PathStep, Refusal, EDGE_WORDS, SEGMENT_WORDS};
@@ -45,7 +45,7 @@ pub fn answer(words: &[i32]) -> Vec<i32> {
     let mut answer = vec![result.err().map_or(0, i32::from)];
     let done = result.ok();
     match &prepared {
-        Prepared::Middle(..) => answer.push(done.map_or(0, |[value, _]| value)),
+        Prepared::Middle(..) => answer.push(done.map_or(0, |[value, ..]| value)),
         Prepared::Weak(_, currents) => {
             answer.push(currents.len() as i32);
             answer.extend(currents);
@@ -65,7 +65,7 @@ pub fn answer(words: &[i32]) -> Vec<i32> {
         Prepared::Build(given, segments, room, _) => {
             answer.extend(table(given.len(), segments));
             match done {
-                Some([count, _]) => {
+                Some([count, ..]) => {
                     let count = count as usize;
                     answer.extend(records::words(count, &room[..count]));
                 }
@@ -73,7 +73,7 @@ pub fn answer(words: &[i32]) -> Vec<i32> {
             }
         }
         Prepared::Path(_, kinds, places) => {
-            let count = done.map_or(0, |[count, _]| count);
+            let count = done.map_or(0, |[count, ..]| count);
             answer.push(count);
             for (kind, places) in kinds.iter().zip(places.chunks(4)).take(count as usize) {
                 answer.push((*kind).into());
@@ -84,12 +84,12 @@ pub fn answer(words: &[i32]) -> Vec<i32> {
             let (kind, places) = parts(*step);
             answer.push(kind);
             answer.extend(places.map(bits));
-            answer.push(done.map_or(*cursor as i32, |[next, _]| next));
+            answer.push(done.map_or(*cursor as i32, |[next, ..]| next));
         }
         Prepared::Job(_, out) => answer.extend(out),
         Prepared::Edges(given, edges, call) => {
             answer.extend(beside(call, done));
-            if !matches!(call, Call::Bounds(_)) {
+            if !matches!(call, Call::Bounds(_) | Call::Gaps(_)) {
                 let carried = if words[0] == LENT_M {
                     edges.len()
                 } else {
@@ -134,15 +134,17 @@ fn table(count: usize, segments: &[khsaemudol::Segment]) -> Vec<i32> {
 }
 
 /// What stands between the number and the lists: beside a refusal 0 or none.
-fn beside(call: &Call, done: Option<[i32; 2]>) -> Vec<i32> {
-    let one = |none: i32| vec![done.map_or(none, |[first, _]| first)];
-    match call {
-        Call::Blues(..) => one(-1),
-        Call::CjkStem(..) => one(0),
-        Call::Bounds(_) => done.unwrap_or([-1, -1]).to_vec(),
-        Call::Stems(..) | Call::Joined(..) | Call::Apart(..) => done.unwrap_or([0, -1]).to_vec(),
-        Call::Linked(..) | Call::Serif(..) | Call::Adjust(..) | Call::M(_) => Vec::new(),
-    }
+fn beside(call: &Call, done: Option<Beside>) -> Vec<i32> {
+    let none: &[i32] = match call {
+        Call::Blues(..) => &[-1],
+        Call::CjkStem(..) => &[0],
+        Call::Bounds(_) => &[-1, -1],
+        Call::Stems(..) | Call::Joined(..) | Call::Apart(..) => &[0, -1],
+        Call::Gaps(_) => &NO_GAP,
+        Call::Linked(..) | Call::Serif(..) | Call::Adjust(..) | Call::M(_) => &[],
+    };
+    let words = done.as_ref().map_or(none, |words| &words[..none.len()]);
+    words.to_vec()
 }
 
 /// The words of a building job's old table of edges.

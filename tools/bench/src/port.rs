@@ -3,7 +3,8 @@
 use crate::records;
 use khsaemudol::{
     BluesAndStems, Bounds, Building, Catalogue, CjkStem, Dimension, Direction, Edge, Group,
-    Neighbour, Order, Outline, PathStep, Refusal, Segment, StemPass, Stems, WidthRule, MOST_EDGES,
+    LostGaps, Neighbour, Order, Outline, PathStep, Refusal, Segment, StemPass, Stems, WidthRule,
+    MOST_EDGES,
 };
 use oracle::{
     job::{self, Job, Points, ScriptGroup, Walk},
@@ -74,6 +75,7 @@ pub enum Call {
     Joined(job::Joined, Rule),
     /// The same by a call each.
     Apart(job::Joined, Rule),
+    Gaps(i32),
     M(Group),
 }
 
@@ -151,8 +153,24 @@ pub fn catalogue(given: &job::Catalogue) -> Catalogue<'_> {
     }
 }
 
-/// What a call hands back beside its lists, at most two words.
-pub type Beside = [i32; 2];
+/// What a call hands back beside its lists: its words in front, and 0 behind.
+pub type Beside = [i32; 5];
+
+/// Nothing beside the lists.
+const NOTHING: Beside = [0; 5];
+
+/// What the guard hands back where no gap is lost.
+pub const NO_GAP: Beside = [0, -1, -1, 0, 0];
+
+/// One word.
+fn one(word: i32) -> Beside {
+    two(word, 0)
+}
+
+/// Two words.
+fn two(first: i32, second: i32) -> Beside {
+    [first, second, 0, 0, 0]
+}
 
 /// An index or its absence as a word.
 fn word(index: Option<u16>) -> i32 {
@@ -208,6 +226,7 @@ impl Prepared {
                 let rule = Rule::of(given.rule.clone());
                 Call::Joined(given, rule)
             }
+            Job::Gaps(_, least) => Call::Gaps(least),
             Job::M(_, script) => Call::M(group(script)),
             Job::MLent(_, script) => {
                 let given = records::given(words, LENT);
@@ -256,7 +275,7 @@ impl Prepared {
         match self {
             Self::Middle(middle, min, max) => {
                 let value = middle(black_box(*min), black_box(*max));
-                Ok([value.into(), 0])
+                Ok(one(value.into()))
             }
             Self::Weak(points, currents) => {
                 let Points {
@@ -265,33 +284,33 @@ impl Prepared {
                     ends,
                     ..
                 } = points;
-                khsaemudol::align_weak_points(originals, currents, touches, ends).map(|()| [0; 2])
+                khsaemudol::align_weak_points(originals, currents, touches, ends).map(|()| NOTHING)
             }
             Self::Catalogue(given, currents, answers) => {
                 *answers = catalogue(given).align(currents)?;
-                Ok([0; 2])
+                Ok(NOTHING)
             }
             Self::Link(_, segments, major, units_per_em, scale) => {
                 khsaemudol::link_segments_cjk(segments, *major, *units_per_em, *scale)
-                    .map(|()| [0; 2])
+                    .map(|()| NOTHING)
             }
             Self::Build(_, segments, room, building) => {
                 let edges = khsaemudol::compute_edges(segments, room, building)?;
-                Ok([edges.len() as i32, 0])
+                Ok(one(edges.len() as i32))
             }
             Self::Edges(_, edges, call) => call.run(edges),
             Self::Path(walk, kinds, places) => {
                 let path = khsaemudol::path(&outline(walk), kinds, places)?;
-                Ok([path.len() as i32, 0])
+                Ok(one(path.len() as i32))
             }
             Self::PathStep(walk, cursor, step) => {
                 let found = khsaemudol::path_step(&outline(walk), *cursor)?;
                 *step = found.map(|(step, _)| step);
-                Ok([found.map_or(*cursor, |(_, next)| next) as i32, 0])
+                Ok(one(found.map_or(*cursor, |(_, next)| next) as i32))
             }
             Self::Job(words, out) => {
                 black_box(answer_into(words, out));
-                Ok([0; 2])
+                Ok(NOTHING)
             }
         }
     }
@@ -303,23 +322,23 @@ impl Call {
         Ok(match self {
             Self::Blues(dim, group, rule) => {
                 let anchor = khsaemudol::align_edges_to_blues(edges, *dim, *group, rule.rule())?;
-                [word(anchor), 0]
+                one(word(anchor))
             }
             Self::Linked(rule, base, stem) => {
                 khsaemudol::align_linked_edge(edges, rule.rule(), *base, *stem)?;
-                [0; 2]
+                NOTHING
             }
             Self::Serif(base, serif) => {
                 khsaemudol::align_serif_edge(edges, *base, *serif)?;
-                [0; 2]
+                NOTHING
             }
             Self::Adjust(edge, neighbour, order) => {
                 khsaemudol::adjust_link(edges, *edge, *neighbour, *order)?;
-                [0; 2]
+                NOTHING
             }
             Self::Bounds(edge) => {
                 let Bounds { lower, upper } = khsaemudol::latin_remaining_bounds(edges, *edge)?;
-                [lower, upper].map(word)
+                two(word(lower), word(upper))
             }
             Self::CjkStem(given, rule) => {
                 let given = CjkStem {
@@ -330,7 +349,7 @@ impl Call {
                     edge2: given.edge2,
                     delta: given.delta,
                 };
-                [khsaemudol::hint_normal_stem_cjk(edges, &given)?, 0]
+                one(khsaemudol::hint_normal_stem_cjk(edges, &given)?)
             }
             Self::Stems(given, rule) => {
                 let given = StemPass {
@@ -345,7 +364,7 @@ impl Call {
                     passed_over,
                     anchor,
                 } = khsaemudol::align_stem_edges(edges, &given)?;
-                [passed_over as i32, word(anchor)]
+                two(passed_over as i32, word(anchor))
             }
             Self::Joined(given, rule) => {
                 let given = BluesAndStems {
@@ -359,7 +378,7 @@ impl Call {
                     passed_over,
                     anchor,
                 } = khsaemudol::align_blues_and_stems(edges, &given)?;
-                [passed_over as i32, word(anchor)]
+                two(passed_over as i32, word(anchor))
             }
             Self::Apart(given, rule) => {
                 let (dim, script) = (dimension(given.dim), group(given.group));
@@ -376,11 +395,21 @@ impl Call {
                     passed_over,
                     anchor,
                 } = khsaemudol::align_stem_edges(edges, &given)?;
-                [passed_over as i32, word(anchor)]
+                two(passed_over as i32, word(anchor))
             }
+            Self::Gaps(least) => match khsaemudol::lost_gaps(edges, *least)? {
+                Some(LostGaps {
+                    count,
+                    first,
+                    second,
+                    before,
+                    after,
+                }) => [count as i32, first.into(), second.into(), before, after],
+                None => NO_GAP,
+            },
             Self::M(group) => {
                 khsaemudol::hint_lowercase_m(edges, *group)?;
-                [0; 2]
+                NOTHING
             }
         })
     }

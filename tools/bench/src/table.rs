@@ -1,7 +1,7 @@
 //! Times and instruction counts of both sides, as tables.
 
 use crate::{
-    cases::{self, Case},
+    cases::{self, Case, Role},
     count, library, port,
     time::{self, Side},
 };
@@ -39,9 +39,9 @@ pub fn run(names: &[&str]) -> Vec<Row> {
         );
         for (ix, case) in cases::cases(name).into_iter().enumerate() {
             let counted = count::counts(name, ix, case.jobs.len());
-            let apart = case.apart;
+            let own = case.role == Role::Own;
             let row = row(case, counted);
-            rows.extend((!apart).then_some(row));
+            rows.extend(own.then_some(row));
         }
     }
     rows
@@ -71,8 +71,8 @@ fn row(case: Case, counted: Option<[f64; 2]>) -> Row {
 
 /// The times of the port, of the port refused, and of the Rust, for a call.
 fn measure(case: &Case) -> [f64; 3] {
-    let mut port = ports(&case.jobs, case.apart);
-    let mut refused = ports(&case.refused, case.apart);
+    let mut port = ports(&case.jobs, case.role);
+    let mut refused = ports(&case.refused, case.role);
     let mut rust = rusts(&case.jobs);
     compare(&case.jobs);
     let times = time::medians([&mut port, &mut refused, &mut rust]);
@@ -84,11 +84,11 @@ fn job(words: &[i32]) -> Job {
     decode::decode(words).expect("the words are a job")
 }
 
-/// The library's side of jobs, blues and stems by one call or apart.
-pub fn ports(jobs: &[Vec<i32>], apart: bool) -> Vec<port::Prepared> {
+/// The library's side of jobs.
+pub fn ports(jobs: &[Vec<i32>], role: Role) -> Vec<port::Prepared> {
     let prepared = |words: &Vec<i32>| match job(words) {
         Job::MLent(..) => port::Prepared::by_job(words),
-        Job::Joined(_, given) if apart => port::Prepared::apart(given, words),
+        Job::Joined(_, given) if role == Role::Apart => port::Prepared::apart(given, words),
         job => port::Prepared::new(job, words),
     };
     jobs.iter().map(prepared).collect()

@@ -2,8 +2,8 @@
 
 use crate::{
     function::{
-        Function, Given, Kind, Lent, Record, BLUE, BUILDING, EDGE, EMPTY_EDGE, JOINED, LOWERCASE_M,
-        SEGMENT, TURNING,
+        Function, Given, Kind, Lent, Record, BLUE, BUILDING, EDGE, EMPTY_EDGE, GUARD, JOINED,
+        LOWERCASE_M, SEGMENT, TURNING,
     },
     memory::SHUT_WORDS,
 };
@@ -334,7 +334,7 @@ const FAULTS: [Fault; 11] = [
     |function, given| given.lent.table[function.record.measure] = -20_000,
     // a link is beyond the list
     |function, given| given.lent.table[function.record.link] = 60_000,
-    // the scale is 0, the standards repeat, or the m has seven edges
+    // the scale is 0, the standards repeat, the least width is below 0, or the m has seven edges
     |function, given| {
         if let Some(scale) = function.scale {
             given.numbers[scale] = 0;
@@ -342,6 +342,9 @@ const FAULTS: [Fault; 11] = [
         if let Some(rule) = function.rule {
             given.numbers[rule] = 1;
             given.lent.standards = vec![5, 5];
+        }
+        if function.call == GUARD {
+            given.numbers[0] = -1;
         }
         if function.call == LOWERCASE_M {
             given.lent.table.extend(plain_record(function.record));

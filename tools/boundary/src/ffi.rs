@@ -126,6 +126,16 @@ extern "C" {
         anchor: *mut i32,
     ) -> u8;
     pub fn khs_hint_lowercase_m(edges: *mut i32, edges_len: usize, group: i32) -> u8;
+    pub fn khs_lost_gaps(
+        edges: *const i32,
+        edges_len: usize,
+        least: i32,
+        count: *mut i32,
+        first: *mut i32,
+        second: *mut i32,
+        before: *mut i32,
+        after: *mut i32,
+    ) -> u8;
     pub fn khs_path_step(
         xs: *const i32,
         xs_len: usize,

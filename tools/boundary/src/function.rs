@@ -100,7 +100,7 @@ pub struct Function {
 }
 
 /// All of them.
-pub static FUNCTIONS: [Function; 12] = [
+pub static FUNCTIONS: [Function; 13] = [
     Function {
         name: "khs_link_segments_cjk",
         call: 4,
@@ -212,6 +212,16 @@ pub static FUNCTIONS: [Function; 12] = [
         places: 0,
     },
     Function {
+        name: "khs_lost_gaps",
+        call: 127,
+        record: &EDGE,
+        numbers: &[Free],
+        rule: None,
+        plain: &[0],
+        scale: None,
+        places: 5,
+    },
+    Function {
         name: "khs_turn_over",
         call: 124,
         record: &SEGMENT,
@@ -223,12 +233,17 @@ pub static FUNCTIONS: [Function; 12] = [
     },
 ];
 
-/// The call that builds edges, the call that finds bounds, which does not write its edges, the m rule, blues and stems in one, and the call that turns edges over.
+/// The call that builds edges, the call that finds bounds, the m rule, blues and stems in one, the call that turns edges over, and the guard; that and the bounds do not
+/// write their edges.
 pub const BUILDING: i32 = 105;
 pub const BOUNDS: i32 = 110;
 pub const LOWERCASE_M: i32 = 113;
 pub const JOINED: i32 = 122;
 pub const TURNING: i32 = 124;
+pub const GUARD: i32 = 127;
+
+/// The most places that a function is lent.
+const PLACES: usize = 5;
 
 /// What everything lent holds, before a call or after it.
 #[derive(Clone, PartialEq, Debug)]
@@ -270,7 +285,7 @@ pub struct Memories {
     table: Memory,
     room: Memory,
     standards: Memory,
-    places: [Memory; 2],
+    places: [Memory; PLACES],
 }
 
 impl Memories {
@@ -280,7 +295,7 @@ impl Memories {
             table: Memory::new(),
             room: Memory::new(),
             standards: Memory::new(),
-            places: [Memory::new(), Memory::new()],
+            places: [(); PLACES].map(|()| Memory::new()),
         }
     }
 
@@ -320,7 +335,7 @@ pub fn run(
     };
     let room = memories.room.lend(&given.lent.room, side);
     let standards = memories.standards.lend(&given.lent.standards, side);
-    let mut places = [ptr::null_mut(); 2];
+    let mut places = [ptr::null_mut(); PLACES];
     for (ix, place) in given.lent.places.iter().enumerate() {
         places[ix] = memories.places[ix].lend(&[*place], side);
     }
@@ -348,7 +363,7 @@ struct Pointers {
     room_len: usize,
     standards: *const i32,
     standards_len: usize,
-    places: [*mut i32; 2],
+    places: [*mut i32; PLACES],
 }
 
 /// Passes lists and numbers to a function.
@@ -360,7 +375,7 @@ fn call(call: i32, lists: &Pointers, n: &[i32]) -> u8 {
         room_len,
         standards,
         standards_len,
-        places: [first, second],
+        places: [first, second, third, fourth, fifth],
     } = *lists;
     // SAFETY: each pointer and length is of one list in memory of its own, but for a list that cannot be read: that one is too long, or not of whole records, and a
     // function that looked into it would be stopped.
@@ -428,6 +443,7 @@ fn call(call: i32, lists: &Pointers, n: &[i32]) -> u8 {
                 second,
             ),
             124 => ffi::khs_turn_over(table, len, room, room_len),
+            127 => ffi::khs_lost_gaps(table, len, n[0], first, second, third, fourth, fifth),
             _ => unreachable!("no function has this call"),
         }
     }

@@ -9,7 +9,7 @@
 
 use crate::function::{
     Function, Given, Kind, Lent, Outcome, Record, BLUE, BOUNDS, BUILDING, EDGE, EMPTY_EDGE, FITTED,
-    TURNING,
+    GUARD, TURNING,
 };
 use oracle::{answer, decode::decode};
 
@@ -142,7 +142,7 @@ fn changed(function: &Function, lent: &Lent, words: &[i32]) -> Lent {
     }
     let (places, table) = words.split_at(function.places);
     lent.places = places.to_vec();
-    if function.call != BOUNDS {
+    if ![BOUNDS, GUARD].contains(&function.call) {
         lent.table = table[1..].to_vec();
     }
     lent

@@ -1,0 +1,2 @@
+-- What the contracts of `flat_gaps` cite.
+pub mod Find

@@ -1,0 +1,2 @@
+// Edges lent as words without a count: the guard.
+pub mod find;

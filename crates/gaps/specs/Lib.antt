@@ -1,0 +1,3 @@
+-- What the contracts of `gaps` cite.
+pub mod Gaps
+pub mod Steps
