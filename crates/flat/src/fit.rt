@@ -1,16 +1,20 @@
-// The calls that place one edge, over lent edges.
-use fitting::adjust::adjust_link;
-use fitting::bounds::latin_remaining_bounds;
-use fitting::place::align_linked_edge;
-use fitting::place::align_serif_edge;
-use lent::edges::axis_of;
-use lent::edges::edges_refusal;
-use lent::edges::give_edges;
+// The calls that place one edge, over lent edges: the edges are tested and placed where their words stand.
+use edges_test::test::edges_test;
+use fixed::width::rule_holds;
 use lent::shown::both_in;
-use lent::word::give_word;
 use lent::word::named_edge;
+use placing::bounds::lower_bound;
+use placing::named::both_below;
+use placing_in::adjust::adjust_in;
+use placing_in::bounds::upper_in;
+use placing_in::place::linked_in;
+use placing_in::place::serif_in;
+use refusals::order::BAD_PARAMETER;
+use refusals::order::RETIRED;
+use refusals::order::or_refused;
 use shape::field::CHOICE;
 use shape::field::is_in;
+use words::edge::EDGE_WORDS;
 use words::field::choice_of;
 use words::field::link_dir_of;
 use words::field::link_word;
@@ -21,65 +25,61 @@ ghost use Rattle.flat.specs.Fit.{LinkedLent, SerifLent, AdjustLent, Boun
 pub fn lend_linked_edge(edges: &mut [i32], rule: i32, standards: &[i32], base: i32, stem: i32) -> u8
     ensures { λ r. ⌜ LinkedLent (now (edges .entry)) rule (now (standards .entry)) base stem r (now (edges .exit)) ⌝ }
 {
-    let refusal = edges_refusal(edges, is_in(rule, CHOICE));
-    if 0 < refusal {
-        return refusal;
+    let width = rule_of(rule);
+    let from = named_edge(base);
+    let to = named_edge(stem);
+    let named = both_below(from, to, edges.len() / EDGE_WORDS);
+    let own = or_refused(0, rule_holds(width, standards), BAD_PARAMETER);
+    let answer = edges_test(edges, is_in(rule, CHOICE), own, named, true);
+    if 0 < answer {
+        return answer;
     }
-    let axis = axis_of(edges);
-    let fitted = align_linked_edge(
-        axis,
-        rule_of(rule),
-        standards,
-        named_edge(base),
-        named_edge(stem),
-    );
-    let axis = fitted.axis;
-    give_edges(edges, fitted.answer, axis)
+    linked_in(edges, width, standards, from, to);
+    0
 }
 
 // Places a serif edge by its base edge.
 pub fn lend_serif_edge(edges: &mut [i32], base: i32, serif: i32) -> u8
     ensures { λ r. ⌜ SerifLent (now (edges .entry)) base serif r (now (edges .exit)) ⌝ }
 {
-    let refusal = edges_refusal(edges, true);
-    if 0 < refusal {
-        return refusal;
+    let from = named_edge(base);
+    let to = named_edge(serif);
+    let named = both_below(from, to, edges.len() / EDGE_WORDS);
+    let answer = edges_test(edges, true, 0, named, true);
+    if 0 < answer {
+        return answer;
     }
-    let fitted = align_serif_edge(axis_of(edges), named_edge(base), named_edge(serif));
-    let axis = fitted.axis;
-    give_edges(edges, fitted.answer, axis)
+    serif_in(edges, from, to);
+    0
 }
 
 // Holds an edge to its neighbour where it has passed it.
 pub fn lend_adjust(edges: &mut [i32], edge: i32, dir: i32, top_to_bottom: i32) -> u8
     ensures { λ r. ⌜ AdjustLent (now (edges .entry)) edge dir «top_to_bottom» r (now (edges .exit)) ⌝ }
 {
-    let refusal = edges_refusal(edges, both_in(dir, top_to_bottom, CHOICE));
-    if 0 < refusal {
-        return refusal;
+    let at = named_edge(edge);
+    let others = both_in(dir, top_to_bottom, CHOICE);
+    let own = or_refused(0, !choice_of(top_to_bottom), RETIRED);
+    let answer = edges_test(edges, others, own, at < edges.len() / EDGE_WORDS, true);
+    if 0 < answer {
+        return answer;
     }
-    let axis = axis_of(edges);
-    let fitted = adjust_link(
-        axis,
-        named_edge(edge),
-        link_dir_of(dir),
-        choice_of(top_to_bottom),
-    );
-    let axis = fitted.axis;
-    give_edges(edges, fitted.answer, axis)
+    adjust_in(edges, at, link_dir_of(dir));
+    0
 }
 
 // Finds the two edges that a remaining edge stands between.
 pub fn lend_bounds(edges: &[i32], edge: i32, lower: &mut i32, upper: &mut i32) -> u8
     ensures { λ r. ⌜ BoundsLent (now (edges .entry)) edge (now (lower .entry), now (upper .entry)) r (now (lower .exit), now (upper .exit)) ⌝ }
 {
-    let refusal = edges_refusal(edges, true);
-    if 0 < refusal {
-        return refusal;
+    let at = named_edge(edge);
+    let answer = edges_test(edges, true, 0, at < edges.len() / EDGE_WORDS, true);
+    if 0 < answer {
+        return answer;
     }
-    let bounds = latin_remaining_bounds(axis_of(edges), named_edge(edge));
-    let below = bounds.lower;
-    let above = bounds.upper;
-    give_word(upper, bounds.answer, link_word(above));
-    give_word(lower, bounds.answer, link_word(below))
+    let above = upper_in(edges, at);
+    let below = lower_bound(at);
+    *upper = link_word(above);
+    *lower = link_word(below);
+    0
 }

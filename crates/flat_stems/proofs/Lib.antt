@@ -1,3 +1,4 @@
 -- Laws on what the words of a call read as.
 pub mod Readings
+pub mod Lending
 pub mod Kept

@@ -11,22 +11,13 @@ use Rattle.axis.specs.declared.kinds.Direction.the-variants as Directions
 use Rattle.axis.specs.declared.kinds.Group.{Group}
 use Rattle.axis.specs.declared.kinds.Link.{Link}
 use Rattle.fixed.specs.declared.width.WidthRule.{WidthRule}
-use Rattle.stem_cjk.specs.declared.hint.StemCjk.{StemCjk}
-use Rattle.stem_cjk.specs.Cjk.{hintNormalStemCjk}
 use Rattle.stems.specs.declared.pass.Stems.{Stems}
 use Rattle.stems.specs.Stems.{alignStemEdges}
 use Rattle.stems.proofs.Kept.{call-counts}
 use Rattle.words.specs.Field.{choiceOf, dimensionOf, groupOf, ruleOf}
 use Rattle.words.specs.Edge.{flatAxis}
-use Rattle.lent.specs.Lent.{namedEdge, namedAnchor}
-use Rattle.flat_stems.specs.Stem.{stemHinted}
+use Rattle.lent.specs.Lent.{namedAnchor}
 use Rattle.flat_stems.specs.Stems.{stemsAligned}
-
-pub stem-reads :
-    (ws : List ℤ) (dim adjust rule : ℤ) (standards : List ℤ) (edge edge2 delta : ℤ) {axis : Axis} {d : Dimension} {a : Bool} {k : WidthRule} {i j : ℕ} {z : ℤ} {r : StemCjk}
-    → r ≡ hintNormalStemCjk axis a k standards i j z → axis ≡ flatAxis ws d Directions.None → d ≡ dimensionOf dim → a ≡ choiceOf adjust → k ≡ ruleOf rule → i ≡ namedEdge edge
-    → j ≡ namedEdge edge2 → z ≡ delta → r ≡ stemHinted ws dim adjust rule standards edge edge2 delta
-stem-reads ws dim adjust rule standards edge edge2 delta e p d a k i j z = e ∙ rw (p, d, a, k, i, j, z)
 
 pub stems-reads :
     (ws : List ℤ) (dim group adjust ttb anchor rule : ℤ) (standards : List ℤ) {axis : Axis} {d : Dimension} {g : Group} {a b : Bool} {l : Link} {k : WidthRule} {r : Stems}

@@ -1,12 +1,16 @@
-// The CJK stem over lent edges.
-use axis::kinds::Direction;
-use lent::edges::edges_refusal;
-use lent::edges::give_edges;
+// The CJK stem over lent edges: the edges are tested and placed where their words stand.
+use axis::accept::is_inside;
+use axis::limits::LEAST_UNITS;
+use axis::limits::MOST_UNITS;
+use edges_test::test::edges_test;
+use fixed::width::rule_holds;
 use lent::shown::are_choices;
-use lent::word::give_word;
 use lent::word::named_edge;
-use stem_cjk::hint::hint_normal_stem_cjk;
-use words::edge::flat_axis;
+use placing::named::both_below;
+use refusals::order::BAD_PARAMETER;
+use refusals::order::or_refused;
+use stem_cjk_in::stem::stem_in;
+use words::edge::EDGE_WORDS;
 use words::field::choice_of;
 use words::field::dimension_of;
 use words::field::rule_of;
@@ -26,21 +30,19 @@ pub fn lend_stem(
 ) -> u8
     ensures { λ r. ⌜ StemLent (now (edges .entry)) dim «stem_adjust» rule (now (standards .entry)) edge edge2 delta (now («own_delta» .entry)) r (now (edges .exit), now («own_delta» .exit)) ⌝ }
 {
-    let refusal = edges_refusal(edges, are_choices(dim, stem_adjust, rule));
-    if 0 < refusal {
-        return refusal;
+    let width = rule_of(rule);
+    let one = named_edge(edge);
+    let two = named_edge(edge2);
+    let named = both_below(one, two, edges.len() / EDGE_WORDS);
+    let own = or_refused(0, rule_holds(width, standards), BAD_PARAMETER);
+    let others = are_choices(dim, stem_adjust, rule);
+    let passed = is_inside(delta, LEAST_UNITS, MOST_UNITS);
+    let answer = edges_test(edges, others, own, named, passed);
+    if 0 < answer {
+        return answer;
     }
-    let axis = flat_axis(edges, dimension_of(dim), Direction::None);
-    let hinted = hint_normal_stem_cjk(
-        axis,
-        choice_of(stem_adjust),
-        rule_of(rule),
-        standards,
-        named_edge(edge),
-        named_edge(edge2),
-        delta,
-    );
-    let axis = hinted.axis;
-    give_word(own_delta, hinted.answer, hinted.delta);
-    give_edges(edges, hinted.answer, axis)
+    let axis = dimension_of(dim);
+    let adjust = choice_of(stem_adjust);
+    *own_delta = stem_in(edges, axis, adjust, width, standards, one, two, delta);
+    0
 }

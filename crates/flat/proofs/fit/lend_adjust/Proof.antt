@@ -1,98 +1,92 @@
 -- `flat::fit::lend_adjust` meets its contract. Assumes nothing.
-use borrow.Author.Needs.{needs}
 use mathlib.Core.Path.{_≡_, refl, ap, _∙_}
-use Rattle.refusals.specs.Refusal.{refusal}
-use Rattle.words.specs.Field.{choiceOf, linkDirOf}
-use Rattle.words.specs.Edge.{edgesOver}
 use Rattle.signed.proofs.Signed.{is}
-use Rattle.fitting.specs.Fitting.{adjustLink}
+use Rattle.signed.proofs.By.{by₂}
+use Rattle.words.specs.Field.{choiceOf, linkDirOf}
 use Rattle.shape.specs.Shape.{choice}
-use Rattle.fitting.specs.declared.place.Fitted.{Fitted}
-use Rattle.lent.specs.Lent.{edgesFront, bothIn, namedEdge}
-use Rattle.flat.specs.Fit.{adjustFitted}
-use Rattle.signed.proofs.By.{by₂, by₄}
-use Rattle.lent.proofs.Lents.{edgesRefusal, refused-before, passed-by}
+use Rattle.lent.specs.Lent.{bothIn, namedEdge}
+use Rattle.flat.proofs.Lending.{ReadyOne, adjust-ready, adjust-refused, adjust-done}
+use borrow.Author.Needs.{needs}
 use Rattle.flat.proofs.fit.lend_adjust.Statement.{statement}
 use Rattle.flat.proofs.fit.lend_adjust.Tie as tie
 
-abbrev start : tie.After-edges-refusal → tie.Start
-start c = c .before .before .before
+abbrev start : tie.After-edges-test → tie.Start
+start c = c .before .before .before .before .before .before
 
--- the refusal in front
-front : (c : tie.After-edges-refusal) → c .edges-refusal .result ≡ refusal (edgesFront (start c .args .edges .now) (bothIn choice (start c .args .dir) (start c .args .top-to-bottom)))
-front c =
-    let s = start c in
-    by₂ edgesRefusal (c .edges-refusal .ensures) refl (by₂ (bothIn choice) (c .before .both-in .ensures) (is (s .fits .dir)) (is (s .fits .top-to-bottom)))
+-- the edge named, the order asked for, and the test of the choices
+edge-is : (c : tie.After-edges-test) → c .before .before .before .before .before .named-edge .result ≡ namedEdge (start c .args .edge)
+edge-is c = c .before .before .before .before .before .named-edge .ensures ∙ ap namedEdge (is (start c .fits .edge))
 
-abbrev tested : tie.After-adjust-link → tie.Else1
-tested c = c .before .before .before .before .before .before
+order-is : (c : tie.After-edges-test) → c .before .before .before .choice-of .result ≡ choiceOf (start c .args .top-to-bottom)
+order-is c = c .before .before .before .choice-of .ensures ∙ ap choiceOf (is (start c .fits .top-to-bottom))
 
-abbrev from : tie.After-adjust-link → tie.Start
-from c = start (tested c .before)
+choices-are : (c : tie.After-edges-test) → c .before .before .before .before .both-in .result ≡ bothIn choice (start c .args .dir) (start c .args .top-to-bottom)
+choices-are c = by₂ (bothIn choice) (c .before .before .before .before .both-in .ensures) (is (start c .fits .dir)) (is (start c .fits .top-to-bottom))
 
--- what the call hands back
-handed : (c : tie.After-adjust-link) → c .adjust-link .result ≡ adjustFitted (from c .args .edges .now) (from c .args .edge) (from c .args .dir) (from c .args .top-to-bottom)
-handed c =
-    let s = from c in
-    let t = c .before in
-    let d = t .before in
-    let i = d .before in
-    by₄ adjustLink (c .adjust-link .ensures) (i .before .axis-of .ensures) (i .named-edge .ensures ∙ ap namedEdge (is (s .fits .edge)))
-    (d .link-dir-of .ensures ∙ ap linkDirOf (is (s .fits .dir))) (t .choice-of .ensures ∙ ap choiceOf (is (s .fits .top-to-bottom)))
+named-edge-requires : tie.Need-named-edge-requires
+named-edge-requires c κs = search needs
 
 both-in-requires : tie.Need-both-in-requires
 both-in-requires c κs = search needs
 
-edges-refusal-requires : tie.Need-edges-refusal-requires
-edges-refusal-requires c κs = search needs
+choice-of-requires : tie.Need-choice-of-requires
+choice-of-requires c κs = search needs
+
+or-refused-requires : tie.Need-or-refused-requires
+or-refused-requires c κs = search needs
+
+edges-test-requires : tie.Need-edges-test-requires
+edges-test-requires c κs = search needs
 
 same-length : tie.Need-same-length
 same-length c = search needs
 
 returns : tie.Need-returns
-returns c = refused-before (front (c .before)) (c .if1 .taken)
-
-axis-of-requires : tie.Need-axis-of-requires
-axis-of-requires c κs = search needs
-
-named-edge-requires : tie.Need-named-edge-requires
-named-edge-requires c κs = search needs
+returns c =
+    let t = c .before in
+    let s = start t in
+    adjust-refused (s .args .edges .now) (s .args .edge) (s .args .dir) (s .args .top-to-bottom) (edge-is t) refl (order-is t) (t .before .before .or-refused .ensures) (choices-are t)
+    (t .edges-test .ensures) (c .if1 .taken)
 
 link-dir-of-requires : tie.Need-link-dir-of-requires
 link-dir-of-requires c κs = search needs
 
-choice-of-requires : tie.Need-choice-of-requires
-choice-of-requires c κs = search needs
-
-adjust-link-requires : tie.Need-adjust-link-requires
-adjust-link-requires c κs = search needs
-
-give-edges-requires : tie.Need-give-edges-requires
-give-edges-requires c κs = search needs
+adjust-in-requires : tie.Need-adjust-in-requires
+adjust-in-requires c κs =
+    let o = c .before .before in
+    let t = o .before in
+    let s = start t in
+    let a =
+    adjust-ready (s .args .edges .now) (s .args .edge) (s .args .dir) (s .args .top-to-bottom) (edge-is t) refl (order-is t) (t .before .before .or-refused .ensures) (choices-are t)
+    (t .edges-test .ensures) (o .if1 .left) in
+    (a .whole, a .axis, a .below)
 
 same-length-2 : tie.Need-same-length-2
 same-length-2 c = search needs
 
 returns-2 : tie.Need-returns-2
 returns-2 c =
-    let h = c .before .before .before .before in
-    let e = tested h in
-    passed-by (λ (x : Fitted). x .answer) (λ (x : Fitted). edgesOver (start (e .before) .args .edges .now) (x .axis)) (front (e .before)) (e .if1 .left) (handed h)
-    (c .before .give-edges .ensures)
+    let i = c .before in
+    let d = i .before in
+    let o = d .before .before in
+    let t = o .before in
+    let s = start t in
+    adjust-done (s .args .edges .now) (s .args .edge) (s .args .dir) (s .args .top-to-bottom) (edge-is t) refl (order-is t) (t .before .before .or-refused .ensures) (choices-are t)
+    (t .edges-test .ensures) (o .if1 .left)
+    (d .link-dir-of .ensures ∙ ap linkDirOf (is (s .fits .dir))) _ (i .adjust-in .ensures)
 
 pub lend-adjust-spec : {M : Type 1} → statement M
 lend-adjust-spec =
     tie.close
     (tie.spec
+    named-edge-requires
     both-in-requires
-    edges-refusal-requires
+    choice-of-requires
+    or-refused-requires
+    edges-test-requires
     same-length
     returns
-    axis-of-requires
-    named-edge-requires
     link-dir-of-requires
-    choice-of-requires
-    adjust-link-requires
-    give-edges-requires
+    adjust-in-requires
     same-length-2
     returns-2)

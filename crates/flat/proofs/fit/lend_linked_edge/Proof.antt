@@ -1,59 +1,40 @@
 -- `flat::fit::lend_linked_edge` meets its contract. Assumes nothing.
-use borrow.Author.Needs.{needs}
-use mathlib.Core.Path.{_≡_, refl, ap, _∙_}
-use Rattle.refusals.specs.Refusal.{refusal}
-use Rattle.words.specs.Field.{ruleOf}
-use Rattle.words.specs.Edge.{edgesOver}
+use mathlib.Core.Path.{_≡_, ap, _∙_}
+use mathlib.Core.Bool.{Bool}
 use Rattle.signed.proofs.Signed.{is}
-use Rattle.fitting.specs.Fitting.{alignLinkedEdge}
+use Rattle.refusals.specs.Refusal.{badParameter, orRefused}
+use Rattle.fixed.specs.Width.{ruleHolds}
+use Rattle.words.specs.Field.{ruleOf}
 use Rattle.shape.specs.Shape.{isIn, choice}
-use Rattle.fitting.specs.declared.place.Fitted.{Fitted}
-use Rattle.lent.specs.Lent.{edgesFront, namedEdge}
-use Rattle.flat.specs.Fit.{linkedFitted}
-use Rattle.signed.proofs.By.{by₂, by₅}
-use Rattle.lent.proofs.Lents.{edgesRefusal, refused-before, passed-by}
+use Rattle.lent.specs.Lent.{namedEdge}
+use Rattle.flat.proofs.Lending.{ReadyPair, linked-ready, linked-right, linked-refused, linked-done}
+use borrow.Author.Needs.{needs}
 use Rattle.flat.proofs.fit.lend_linked_edge.Statement.{statement}
 use Rattle.flat.proofs.fit.lend_linked_edge.Tie as tie
 
-abbrev start : tie.After-edges-refusal → tie.Start
-start c = c .before .before .before
+abbrev below : tie.After-edges-test → tie.After-both-below
+below c = c .before .before .before .before .before
 
--- the refusal in front
-front : (c : tie.After-edges-refusal) → c .edges-refusal .result ≡ refusal (edgesFront (start c .args .edges .now) (isIn choice (start c .args .rule)))
-front c = let s = start c in by₂ edgesRefusal (c .edges-refusal .ensures) refl (c .before .is-in .ensures ∙ ap (isIn choice) (is (s .fits .rule)))
+abbrev start : tie.After-edges-test → tie.Start
+start c = below c .before .before .before .before
 
-abbrev tested : tie.After-align-linked-edge → tie.Else1
-tested c = c .before .before .before .before .before .before
+-- the rule and the two edges named
+rule-is : (c : tie.After-edges-test) → below c .before .before .before .rule-of .result ≡ ruleOf (start c .args .rule)
+rule-is c = below c .before .before .before .rule-of .ensures ∙ ap ruleOf (is (start c .fits .rule))
 
-abbrev from : tie.After-align-linked-edge → tie.Start
-from c = start (tested c .before)
+base-is : (c : tie.After-edges-test) → below c .before .before .named-edge .result ≡ namedEdge (start c .args .base)
+base-is c = below c .before .before .named-edge .ensures ∙ ap namedEdge (is (start c .fits .base))
 
--- what the call hands back
-handed :
-    (c : tie.After-align-linked-edge)
-    → c .align-linked-edge .result ≡ linkedFitted (from c .args .edges .now) (from c .args .rule) (from c .args .standards .now) (from c .args .base) (from c .args .stem)
-handed c =
-    let s = from c in
-    let j = c .before in
-    let i = j .before in
-    let k = i .before in
-    by₅ alignLinkedEdge (c .align-linked-edge .ensures) (k .before .axis-of .ensures) (k .rule-of .ensures ∙ ap ruleOf (is (s .fits .rule))) refl
-    (i .named-edge .ensures ∙ ap namedEdge (is (s .fits .base))) (j .named-edge2 .ensures ∙ ap namedEdge (is (s .fits .stem)))
+stem-is : (c : tie.After-edges-test) → below c .before .named-edge2 .result ≡ namedEdge (start c .args .stem)
+stem-is c = below c .before .named-edge2 .ensures ∙ ap namedEdge (is (start c .fits .stem))
 
-is-in-requires : tie.Need-is-in-requires
-is-in-requires c κs = search needs
+-- the tests of the rule and of its word
+own-is : (c : tie.After-edges-test)
+    → c .before .before .before .or-refused .result ≡ orRefused 0 (ruleHolds (below c .before .before .before .rule-of .result) (start c .args .standards .now)) badParameter
+own-is c = let o = c .before .before .before in o .or-refused .ensures ∙ ap (λ (t : Bool). orRefused 0 t badParameter) (o .before .rule-holds .ensures)
 
-edges-refusal-requires : tie.Need-edges-refusal-requires
-edges-refusal-requires c κs = search needs
-
-same-length : tie.Need-same-length
-same-length c = search needs
-
-returns : tie.Need-returns
-returns c = refused-before (front (c .before)) (c .if1 .taken)
-
-axis-of-requires : tie.Need-axis-of-requires
-axis-of-requires c κs = search needs
+choice-is : (c : tie.After-edges-test) → c .before .is-in .result ≡ isIn choice (start c .args .rule)
+choice-is c = c .before .is-in .ensures ∙ ap (isIn choice) (is (start c .fits .rule))
 
 rule-of-requires : tie.Need-rule-of-requires
 rule-of-requires c κs = search needs
@@ -64,35 +45,70 @@ named-edge-requires c κs = search needs
 named-edge-requires-2 : tie.Need-named-edge-requires-2
 named-edge-requires-2 c κs = search needs
 
-align-linked-edge-requires : tie.Need-align-linked-edge-requires
-align-linked-edge-requires c κs = search needs
+both-below-requires : tie.Need-both-below-requires
+both-below-requires c κs = search needs
 
-give-edges-requires : tie.Need-give-edges-requires
-give-edges-requires c κs = search needs
+rule-holds-requires : tie.Need-rule-holds-requires
+rule-holds-requires c κs = search needs
+
+or-refused-requires : tie.Need-or-refused-requires
+or-refused-requires c κs = search needs
+
+is-in-requires : tie.Need-is-in-requires
+is-in-requires c κs = search needs
+
+edges-test-requires : tie.Need-edges-test-requires
+edges-test-requires c κs = search needs
+
+same-length : tie.Need-same-length
+same-length c = search needs
+
+returns : tie.Need-returns
+returns c =
+    let t = c .before in
+    let s = start t in
+    linked-refused (s .args .edges .now) (s .args .rule) (s .args .standards .now) (s .args .base) (s .args .stem) (rule-is t) (base-is t) (stem-is t) (below t .both-below .ensures) (own-is t)
+    (choice-is t) (t .edges-test .ensures) (c .if1 .taken)
+
+linked-in-requires : tie.Need-linked-in-requires
+linked-in-requires c κs =
+    let o = c .before in
+    let t = o .before in
+    let s = start t in
+    let a =
+    linked-ready (s .args .edges .now) (s .args .rule) (s .args .standards .now) (s .args .base) (s .args .stem) (rule-is t) (base-is t) (stem-is t) (below t .both-below .ensures) (own-is t)
+    (choice-is t) (t .edges-test .ensures) (o .if1 .left) in
+    let r =
+    linked-right (s .args .edges .now) (s .args .rule) (s .args .standards .now) (s .args .base) (s .args .stem) (rule-is t) (base-is t) (stem-is t) (below t .both-below .ensures) (own-is t)
+    (choice-is t) (t .edges-test .ensures) (o .if1 .left) in
+    (r, (a .words, a .edges))
 
 same-length-2 : tie.Need-same-length-2
 same-length-2 c = search needs
 
 returns-2 : tie.Need-returns-2
 returns-2 c =
-    let h = c .before .before .before .before in
-    let e = tested h in
-    passed-by (λ (x : Fitted). x .answer) (λ (x : Fitted). edgesOver (start (e .before) .args .edges .now) (x .axis)) (front (e .before)) (e .if1 .left) (handed h)
-    (c .before .give-edges .ensures)
+    let i = c .before in
+    let o = i .before .before in
+    let t = o .before in
+    let s = start t in
+    linked-done (s .args .edges .now) (s .args .rule) (s .args .standards .now) (s .args .base) (s .args .stem) (rule-is t) (base-is t) (stem-is t) (below t .both-below .ensures) (own-is t)
+    (choice-is t) (t .edges-test .ensures) (o .if1 .left) _ (i .linked-in .ensures)
 
 pub lend-linked-edge-spec : {M : Type 1} → statement M
 lend-linked-edge-spec =
     tie.close
     (tie.spec
-    is-in-requires
-    edges-refusal-requires
-    same-length
-    returns
-    axis-of-requires
     rule-of-requires
     named-edge-requires
     named-edge-requires-2
-    align-linked-edge-requires
-    give-edges-requires
+    both-below-requires
+    rule-holds-requires
+    or-refused-requires
+    is-in-requires
+    edges-test-requires
+    same-length
+    returns
+    linked-in-requires
     same-length-2
     returns-2)

@@ -1,78 +1,50 @@
 -- `flat_stems::stem::lend_stem` meets its contract. Assumes nothing.
-use borrow.Author.Needs.{needs}
-use mathlib.Core.Path.{_≡_, refl, ap, _∙_}
+use mathlib.Core.Path.{_≡_, sym, ap, subst, _∙_}
+use mathlib.Core.Bool.{Bool}
 use mir.Syntax.{w32}
-use mir.Val.{toZ, ofZ}
-use Rattle.refusals.specs.Refusal.{refusal}
+use Rattle.signed.specs.Range.{Between}
+use Rattle.signed.proofs.Signed.{is}
+use Rattle.signed.proofs.By.{by₃}
+use Rattle.refusals.specs.Refusal.{badParameter, orRefused}
+use Rattle.fixed.specs.Width.{ruleHolds}
+use Rattle.axis.specs.Limits.{mostUnits}
+use Rattle.axis.specs.Refusals.{within}
 use Rattle.words.specs.Field.{choiceOf, dimensionOf, ruleOf}
 use Rattle.words.proofs.Fields.{kept}
-use Rattle.lent.specs.Lent.{edgesFront, choices, namedEdge}
-use Rattle.signed.proofs.By.{by₂, by₃}
-use Rattle.flat_stems.proofs.Readings.{stem-reads}
-use Rattle.signed.proofs.Signed.{is}
-use Rattle.stem_cjk.specs.declared.hint.StemCjk.{StemCjk}
-use Rattle.flat_stems.specs.Stem.{stemHinted, stemWords}
-use Rattle.lent.proofs.Lents.{edgesRefusal, refused-before, passed-by, lent-as, lent-pair}
+use Rattle.lent.specs.Lent.{choices, namedEdge}
+use Rattle.flat_stems.proofs.Lending.{ReadyStem, stem-ready, stem-right, stem-refused, stem-done}
+use borrow.Author.Needs.{needs}
 use Rattle.flat_stems.proofs.stem.lend_stem.Statement.{statement}
 use Rattle.flat_stems.proofs.stem.lend_stem.Tie as tie
 
-abbrev start : tie.After-edges-refusal → tie.Start
-start c = c .before .before .before
+abbrev below : tie.After-edges-test → tie.After-both-below
+below c = c .before .before .before .before .before .before
 
--- the refusal in front
-front :
-    (c : tie.After-edges-refusal)
-    → c .edges-refusal .result ≡ refusal (edgesFront (start c .args .edges .now) (choices (start c .args .dim) (start c .args .stem-adjust) (start c .args .rule)))
-front c =
+abbrev start : tie.After-edges-test → tie.Start
+start c = below c .before .before .before .before
+
+-- the rule and the two edges named
+rule-is : (c : tie.After-edges-test) → below c .before .before .before .rule-of .result ≡ ruleOf (start c .args .rule)
+rule-is c = below c .before .before .before .rule-of .ensures ∙ ap ruleOf (is (start c .fits .rule))
+
+edge-is : (c : tie.After-edges-test) → below c .before .before .named-edge .result ≡ namedEdge (start c .args .edge)
+edge-is c = below c .before .before .named-edge .ensures ∙ ap namedEdge (is (start c .fits .edge))
+
+edge2-is : (c : tie.After-edges-test) → below c .before .named-edge2 .result ≡ namedEdge (start c .args .edge2)
+edge2-is c = below c .before .named-edge2 .ensures ∙ ap namedEdge (is (start c .fits .edge2))
+
+-- the tests of the rule, of the choices and of the passed delta
+own-is : (c : tie.After-edges-test)
+    → c .before .before .before .before .or-refused .result ≡ orRefused 0 (ruleHolds (below c .before .before .before .rule-of .result) (start c .args .standards .now)) badParameter
+own-is c = let o = c .before .before .before .before in o .or-refused .ensures ∙ ap (λ (t : Bool). orRefused 0 t badParameter) (o .before .rule-holds .ensures)
+
+choices-are : (c : tie.After-edges-test) → c .before .before .before .are-choices .result ≡ choices (start c .args .dim) (start c .args .stem-adjust) (start c .args .rule)
+choices-are c =
     let s = start c in
-    by₂ edgesRefusal (c .edges-refusal .ensures) refl (by₃ choices (c .before .are-choices .ensures) (is (s .fits .dim)) (is (s .fits .stem-adjust)) (is (s .fits .rule)))
+    by₃ choices (c .before .before .before .are-choices .ensures) (is (s .fits .dim)) (is (s .fits .stem-adjust)) (is (s .fits .rule))
 
-abbrev tested : tie.After-hint-normal-stem-cjk → tie.Else1
-tested c = c .before .before .before .before .before .before .before .before
-
-abbrev from : tie.After-hint-normal-stem-cjk → tie.Start
-from c = start (tested c .before)
-
--- what the call hands back
-handed :
-    (c : tie.After-hint-normal-stem-cjk)
-    → c .hint-normal-stem-cjk .result ≡ stemHinted (from c .args .edges .now) (from c .args .dim) (from c .args .stem-adjust) (from c .args .rule) (from c .args .standards .now)
-    (from c .args .edge) (from c .args .edge2) (from c .args .delta)
-handed c =
-    let s = from c in
-    let a = s .args in
-    let i = c .before in
-    let k = i .before .before in
-    let x = k .before .before in
-    stem-reads (a .edges .now) (a .dim) (a .stem-adjust) (a .rule) (a .standards .now) (a .edge) (a .edge2) (a .delta) (c .hint-normal-stem-cjk .ensures) (x .flat-axis .ensures)
-    (x .before .dimension-of .ensures ∙ ap dimensionOf (is (s .fits .dim)))
-    (k .before .choice-of .ensures ∙ ap choiceOf (is (s .fits .stem-adjust))) (k .rule-of .ensures ∙ ap ruleOf (is (s .fits .rule)))
-    (i .before .named-edge .ensures ∙ ap namedEdge (is (s .fits .edge))) (i .named-edge2 .ensures ∙ ap namedEdge (is (s .fits .edge2))) (is (s .fits .delta))
-
--- the delta's word
-word : (c : tie.After-give-word) → toZ w32 (ofZ w32 (c .before .before .before .before .hint-normal-stem-cjk .result .delta)) ≡ c .before .before .before .before .hint-normal-stem-cjk .result .delta
-word c = kept w32 _ (c .before .struct-told .given .1 .0 .1)
-
-are-choices-requires : tie.Need-are-choices-requires
-are-choices-requires c κs = search needs
-
-edges-refusal-requires : tie.Need-edges-refusal-requires
-edges-refusal-requires c κs = search needs
-
-same-length : tie.Need-same-length
-same-length c = search needs
-
-returns : tie.Need-returns
-returns c = refused-before (front (c .before)) (c .if1 .taken)
-
-dimension-of-requires : tie.Need-dimension-of-requires
-dimension-of-requires c κs = search needs
-
-flat-axis-requires : tie.Need-flat-axis-requires
-flat-axis-requires c κs = search needs
-
-choice-of-requires : tie.Need-choice-of-requires
-choice-of-requires c κs = search needs
+near-is : (c : tie.After-edges-test) → c .before .before .is-inside .result ≡ within mostUnits (start c .args .delta)
+near-is c = c .before .before .is-inside .ensures ∙ ap (within mostUnits) (is (start c .fits .delta))
 
 rule-of-requires : tie.Need-rule-of-requires
 rule-of-requires c κs = search needs
@@ -83,41 +55,85 @@ named-edge-requires c κs = search needs
 named-edge-requires-2 : tie.Need-named-edge-requires-2
 named-edge-requires-2 c κs = search needs
 
-hint-normal-stem-cjk-requires : tie.Need-hint-normal-stem-cjk-requires
-hint-normal-stem-cjk-requires c κs = search needs
+both-below-requires : tie.Need-both-below-requires
+both-below-requires c κs = search needs
 
-give-word-requires : tie.Need-give-word-requires
-give-word-requires c κs = search needs
+rule-holds-requires : tie.Need-rule-holds-requires
+rule-holds-requires c κs = search needs
 
-give-edges-requires : tie.Need-give-edges-requires
-give-edges-requires c κs = search needs
+or-refused-requires : tie.Need-or-refused-requires
+or-refused-requires c κs = search needs
+
+are-choices-requires : tie.Need-are-choices-requires
+are-choices-requires c κs = search needs
+
+is-inside-requires : tie.Need-is-inside-requires
+is-inside-requires c κs = search needs
+
+edges-test-requires : tie.Need-edges-test-requires
+edges-test-requires c κs = search needs
+
+same-length : tie.Need-same-length
+same-length c = search needs
+
+returns : tie.Need-returns
+returns c =
+    let t = c .before in
+    let s = start t in
+    stem-refused (s .args .edges .now) (s .args .dim) (s .args .stem-adjust) (s .args .rule) (s .args .standards .now) (s .args .edge) (s .args .edge2) (s .args .delta) (s .args .own-delta .now)
+    (rule-is t) (edge-is t) (edge2-is t) (below t .both-below .ensures) (own-is t) (choices-are t) (near-is t) (t .edges-test .ensures) (c .if1 .taken)
+
+dimension-of-requires : tie.Need-dimension-of-requires
+dimension-of-requires c κs = search needs
+
+choice-of-requires : tie.Need-choice-of-requires
+choice-of-requires c κs = search needs
+
+stem-in-requires : tie.Need-stem-in-requires
+stem-in-requires c κs =
+    let o = c .before .before .before in
+    let t = o .before in
+    let s = start t in
+    let a =
+    stem-ready (s .args .edges .now) (s .args .dim) (s .args .stem-adjust) (s .args .rule) (s .args .standards .now) (s .args .edge) (s .args .edge2) (s .args .delta) (s .args .own-delta .now)
+    (rule-is t) (edge-is t) (edge2-is t) (below t .both-below .ensures) (own-is t) (choices-are t) (near-is t) (t .edges-test .ensures) (o .if1 .left) in
+    let r =
+    stem-right (s .args .edges .now) (s .args .dim) (s .args .stem-adjust) (s .args .rule) (s .args .standards .now) (s .args .edge) (s .args .edge2) (s .args .delta) (s .args .own-delta .now)
+    (rule-is t) (edge-is t) (edge2-is t) (below t .both-below .ensures) (own-is t) (choices-are t) (near-is t) (t .edges-test .ensures) (o .if1 .left) in
+    (r, (a .words, (a .numbers .0, a .numbers .1, subst (Between mostUnits mostUnits) (sym (is (s .fits .delta))) (a .numbers .2))))
 
 same-length-2 : tie.Need-same-length-2
 same-length-2 c = search needs
 
 returns-2 : tie.Need-returns-2
 returns-2 c =
-    let h = c .before .before .before .before .before .before .before in
-    let e = tested h in
-    passed-by (λ (x : StemCjk). x .answer) (λ (x : StemCjk). stemWords (start (e .before) .args .edges .now) x) (front (e .before)) (e .if1 .left) (handed h)
-    (lent-pair (c .before .give-edges .ensures) (lent-as (word (c .before .before .before)) (c .before .before .before .give-word .ensures)))
+    let i = c .before in
+    let a = i .before .before in
+    let o = a .before .before in
+    let t = o .before in
+    let s = start t in
+    stem-done (s .args .edges .now) (s .args .dim) (s .args .stem-adjust) (s .args .rule) (s .args .standards .now) (s .args .edge) (s .args .edge2) (s .args .delta) (s .args .own-delta .now)
+    (rule-is t) (edge-is t) (edge2-is t) (below t .both-below .ensures) (own-is t) (choices-are t) (near-is t) (t .edges-test .ensures) (o .if1 .left)
+    (a .before .dimension-of .ensures ∙ ap dimensionOf (is (s .fits .dim))) (a .choice-of .ensures ∙ ap choiceOf (is (s .fits .stem-adjust))) (is (s .fits .delta))
+    (kept w32 (i .stem-in .result) (i .stem-in .ok)) (i .stem-in .ensures)
 
 pub lend-stem-spec : {M : Type 1} → statement M
 lend-stem-spec =
     tie.close
     (tie.spec
-    are-choices-requires
-    edges-refusal-requires
-    same-length
-    returns
-    dimension-of-requires
-    flat-axis-requires
-    choice-of-requires
     rule-of-requires
     named-edge-requires
     named-edge-requires-2
-    hint-normal-stem-cjk-requires
-    give-word-requires
-    give-edges-requires
+    both-below-requires
+    rule-holds-requires
+    or-refused-requires
+    are-choices-requires
+    is-inside-requires
+    edges-test-requires
+    same-length
+    returns
+    dimension-of-requires
+    choice-of-requires
+    stem-in-requires
     same-length-2
     returns-2)

@@ -1,0 +1,100 @@
+-- What the words of edges become by the stores of a call.
+use mathlib.Core.Path.{_≡_, refl, sym, ap, subst, _∙_}
+use mathlib.Core.List.{List}
+use Prim.Native.Nat.{ℕ, _+_, _*_, _/_, _<_}
+use native.Mathlib.Omega.{arith}
+use lib.ListN.{length, set}
+use lib.Seq.{getD-set-same, set-set}
+use lib.IntN.{ℤ}
+use Rattle.axis.specs.declared.flags.Flags.{Flags}
+use Rattle.axis.specs.declared.kinds.Dimension.{Dimension}
+use Rattle.axis.specs.declared.kinds.Mark.{Mark}
+use Rattle.axis.specs.declared.edge.Edge.{Edge}
+use Rattle.axis.specs.declared.edge.Axis.{Axis}
+use Rattle.axis.specs.Flags.{asDone}
+use Rattle.axis.specs.Edge.{emptyEdge, edgeAt, putEdge, placed, flagged, finished}
+use Rattle.words.specs.Word.{wordAt, joined}
+use Rattle.words.specs.Field.{flagsOf, flagsWord, markWord}
+use Rattle.words.specs.Edge.{edgeSize, posPlace, flagsPlace, markPlace, wordOfEdge, edgeFrom, edgesIn, edgeWordsAt, edgesOver}
+use Rattle.edges_in.specs.Whole.{Whole, axisIn, Became, placing, fixing}
+use Rattle.edges_in.proofs.Wholes.{axis-long, edge-in, edges-over, words-joined}
+use Rattle.edges_in.proofs.Writes.{Wrote, wrote-again, wrote-as, pos-wrote, flags-wrote, mark-wrote}
+
+-- as many edges as before
+as-many : (ws ws′ : List ℤ) → length ws′ ≡ length ws → edgesIn ws′ ≡ edgesIn ws
+as-many ws ws′ e = ap (λ (k : ℕ). k / edgeSize) e
+
+still-below : (ws ws′ : List ℤ) (i : ℕ) → length ws′ ≡ length ws → i < edgesIn ws → i < edgesIn ws′
+still-below ws ws′ i e h = subst (λ (k : ℕ). i < k) (sym (as-many ws ws′ e)) h
+
+pub below-in : {f : Axis → Axis} {ws ws′ : List ℤ} (i : ℕ) → Became f ws ws′ → i < edgesIn ws → i < edgesIn ws′
+below-in {f} {ws} {ws′} i a h = still-below ws ws′ i (a .long) h
+
+-- ---- one store behind the other
+-- nothing is written
+pub stays : (f : Axis → Axis) {ws : List ℤ} → Whole ws → ((d : Dimension) → axisIn ws d ≡ f (axisIn ws d)) → Became f ws ws
+stays f w e = record { whole = w; long = refl; axis = e }
+
+pub became-then : {f g : Axis → Axis} {ws w1 w2 : List ℤ} → Became f ws w1 → Became g w1 w2 → Became (λ (axis : Axis). g (f axis)) ws w2
+became-then {f} {g} a b = record { whole = b .whole; long = b .long ∙ a .long; axis = λ (d : Dimension). b .axis d ∙ ap g (a .axis d) }
+
+-- what is made of the axis, by another name
+pub became-as : {f g : Axis → Axis} {ws w1 : List ℤ} → ((d : Dimension) → f (axisIn ws d) ≡ g (axisIn ws d)) → Became f ws w1 → Became g ws w1
+became-as e a = record { whole = a .whole; long = a .long; axis = λ (d : Dimension). a .axis d ∙ e d }
+
+-- the words are then that axis written over the words
+pub became-over : {f : Axis → Axis} {ws ws′ : List ℤ} → Whole ws → Became f ws ws′ → (d : Dimension) → ws′ ≡ edgesOver ws (f (axisIn ws d))
+became-over {f} {ws} {ws′} w a d =
+    words-joined ws′ d (a .whole) ∙ (λ k. joined (edgeWordsAt (a .axis d k)) (as-many ws ws′ (a .long) k)) ∙ sym (edges-over ws (f (axisIn ws d)) w)
+
+-- ---- the stores
+-- one edge changed, by what it was
+became : (f : Edge → Edge) {ws ws′ : List ℤ} (i : ℕ) → Whole ws → i < edgesIn ws → Wrote ws ws′ i (f (edgeFrom ws (edgeSize * i)))
+    → Became (λ (axis : Axis). putEdge axis i (f (edgeAt axis i))) ws ws′
+became f {ws} {ws′} i w h a =
+    record { whole = a .whole; long = a .long; axis = λ (d : Dimension). a .axis d ∙ ap (λ (e : Edge). putEdge (axisIn ws d) i (f e)) (sym (edge-in ws d i w h)) }
+
+-- its position and its mark
+pub place-law : (ws w1 w2 : List ℤ) (i : ℕ) (p v u : ℤ) (m : Mark) → Whole ws → i < edgesIn ws → w1 ≡ set ws (wordOfEdge i posPlace) v → v ≡ p
+    → w2 ≡ set w1 (wordOfEdge i markPlace) u → u ≡ markWord m → Became (placing i p m) ws w2
+place-law ws w1 w2 i p v u m w h q e r f = became (λ (x : Edge). placed x p m) i w h (wrote-again a (wrote-as (ap (λ (x : Edge). placed x (x .pos) m) (a .read)) b))
+  where
+    a : Wrote ws w1 i (placed (edgeFrom ws (edgeSize * i)) p (edgeFrom ws (edgeSize * i) .mark))
+    a =
+        subst (λ (x : List ℤ). Wrote ws x i (placed (edgeFrom ws (edgeSize * i)) p (edgeFrom ws (edgeSize * i) .mark)))
+        (sym (q ∙ ap (λ (z : ℤ). set ws (wordOfEdge i posPlace) z) e)) (pos-wrote ws i w h p)
+
+    b : Wrote w1 w2 i (placed (edgeFrom w1 (edgeSize * i)) (edgeFrom w1 (edgeSize * i) .pos) m)
+    b =
+        subst (λ (x : List ℤ). Wrote w1 x i (placed (edgeFrom w1 (edgeSize * i)) (edgeFrom w1 (edgeSize * i) .pos) m))
+        (sym (r ∙ ap (λ (z : ℤ). set w1 (wordOfEdge i markPlace) z) f)) (mark-wrote w1 i (a .whole) (still-below ws w1 i (a .long) h) m)
+
+flags-from : (ws : List ℤ) (at : ℕ) → edgeFrom ws at .flags ≡ flagsOf (wordAt ws (at + flagsPlace))
+unfolding edgeFrom
+flags-from ws at = refl
+
+-- it is done
+finishing : ℕ → Axis → Axis
+finishing i axis = putEdge axis i (finished (edgeAt axis i))
+
+done-law : (ws ws′ : List ℤ) (i : ℕ) (v : ℤ) (fl : Flags) → Whole ws → i < edgesIn ws → fl ≡ flagsOf (wordAt ws (wordOfEdge i flagsPlace)) → ws′ ≡ set ws (wordOfEdge i flagsPlace) v
+    → v ≡ flagsWord (asDone fl) → Became (finishing i) ws ws′
+unfolding finishing
+done-law ws ws′ i v fl w h q r f =
+    became finished i w h
+    (wrote-as (ap (λ (x : Flags). flagged (edgeFrom ws (edgeSize * i)) (asDone x)) (q ∙ sym (flags-from ws (edgeSize * i))))
+    (subst (λ (x : List ℤ). Wrote ws x i (flagged (edgeFrom ws (edgeSize * i)) (asDone fl))) (sym (r ∙ ap (λ (z : ℤ). set ws (wordOfEdge i flagsPlace) z) f)) (flags-wrote ws i w h (asDone fl))))
+
+-- behind its position and its mark
+pub fix-law : (ws w1 w2 : List ℤ) (i : ℕ) (p p′ v : ℤ) (m : Mark) (fl : Flags) → i < edgesIn ws → Whole ws → p′ ≡ p → Became (placing i p′ m) ws w1
+    → fl ≡ flagsOf (wordAt w1 (wordOfEdge i flagsPlace)) → w2 ≡ set w1 (wordOfEdge i flagsPlace) v → v ≡ flagsWord (asDone fl) → Became (fixing i p m) ws w2
+unfolding finishing
+fix-law ws w1 w2 i p p′ v m fl h w e a q r f =
+    became-as again (became-then (subst (λ (z : ℤ). Became (placing i z m) ws w1) e a) (done-law w1 w2 i v fl (a .whole) (below-in i a h) q r f))
+  where
+    again : (d : Dimension) → finishing i (placing i p m (axisIn ws d)) ≡ fixing i p m (axisIn ws d)
+    again d =
+        let A = axisIn ws d in
+        let x = placed (edgeAt A i) p m in
+        ap (λ (y : Edge). putEdge (putEdge A i x) i (finished y)) (getD-set-same (A .edges) i x emptyEdge (omega (arith, axis-long ws d, h, w .few)))
+        ∙ ap (λ (es : List Edge). record { dim = A .dim; «major_dir» = A .«major_dir»; edges = es; len = A .len }) (set-set (A .edges) i x (finished x))

@@ -1,0 +1,5 @@
+-- Laws on edges in place.
+pub mod Tables
+pub mod Wholes
+pub mod Writes
+pub mod Became

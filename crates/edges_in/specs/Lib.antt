@@ -1,0 +1,2 @@
+-- What the contracts of `edges_in` cite.
+pub mod Whole

@@ -1,0 +1,69 @@
+// One edge of a lent list: what fitting reads of it, and its position, its mark and its flags written.
+use axis::edge::Edge;
+use axis::kinds::Direction;
+use axis::kinds::Link;
+use axis::kinds::Mark;
+use words::edge::EDGE_WORDS;
+use words::field::blue_at;
+use words::field::flags_at;
+use words::field::flags_word;
+use words::field::link_at;
+use words::field::mark_word;
+use words::word::word_at;
+ghost use mathlib.Core.Path.{_≡_};
+ghost use Prim.Native.Nat.{_<_, _≤_, _+_, _*_};
+ghost use lib.ListN.{length, set};
+ghost use Rattle.axis.specs.Limits.{mostEdges};
+ghost use Rattle.axis.specs.Edge.{edgeAt};
+ghost use Rattle.words.specs.Edge.{edgeSize, edgesIn, wordOfEdge};
+ghost use Rattle.lent.specs.Lent.{edgesOf};
+ghost use Rattle.edges_in.specs.Whole.{Whole, reduced, Became, placing, fixing};
+
+// What fitting reads of an edge, its other fields empty: read whole, the function is too long to be inlined.
+pub fn fit_in(words: &[i32], i: usize) -> Edge
+    requires { ⌜ Whole (now words) × (i < edgesIn (now words)) ⌝ }
+    ensures { λ r. ⌜ r ≡ reduced (edgeAt (edgesOf (now (words .entry))) i) ⌝ }
+{
+    let at = EDGE_WORDS * i;
+    Edge {
+        fpos: 0,
+        opos: word_at(words, at + 1),
+        pos: word_at(words, at + 2),
+        flags: flags_at(words, at + 3),
+        dir: Direction::None,
+        blue: blue_at(words, at + 5),
+        link: link_at(words, at + 7),
+        serif: Link::None,
+        first: 0,
+        last: 0,
+        mark: Mark::Nothing,
+    }
+}
+
+// Writes the word of an edge in a field's place.
+fn put_word(words: &mut [i32], i: usize, place: usize, word: i32)
+    requires { ⌜ (i < mostEdges) × (place < edgeSize) × (edgeSize * i + edgeSize ≤ length (now words)) ⌝ }
+    ensures { λ _. ⌜ now (words .exit) ≡ set (now (words .entry)) (wordOfEdge i place) word ⌝ }
+{
+    words[EDGE_WORDS * i + place] = word;
+}
+
+// Places an edge.
+pub fn place_in(words: &mut [i32], i: usize, pos: i32, mark: Mark)
+    requires { ⌜ Whole (now words) × (i < edgesIn (now words)) ⌝ }
+    ensures { λ _. ⌜ Became (placing i pos mark) (now (words .entry)) (now (words .exit)) ⌝ }
+{
+    put_word(words, i, 2, pos);
+    put_word(words, i, 11, mark_word(mark));
+}
+
+// Places an edge for good.
+pub fn fix_in(words: &mut [i32], i: usize, pos: i32, mark: Mark)
+    requires { ⌜ Whole (now words) × (i < edgesIn (now words)) ⌝ }
+    ensures { λ _. ⌜ Became (fixing i pos mark) (now (words .entry)) (now (words .exit)) ⌝ }
+{
+    place_in(words, i, pos, mark);
+    let mut flags = flags_at(words, EDGE_WORDS * i + 3);
+    flags.done = true;
+    put_word(words, i, 3, flags_word(flags));
+}

@@ -1,0 +1,101 @@
+-- A call over lent edges, by what their test tells.
+use mathlib.Core.Path.{_≡_, refl, sym, ap, _∙_}
+use mathlib.Core.Bool.{Bool, true, cond, _&&_}
+use mathlib.Core.List.{List, [], _∷_}
+use Prim.Native.Nat.{ℕ, zero, suc, _<_, _≤_}
+use native.Mathlib.Omega.{arith}
+use borrow.Author.Tests.{leb-true, ne-eqb}
+use lib.Dec.{eqb, leb}
+use lib.IntN.{ℤ}
+use Rattle.refusals.specs.Refusal.{Test, _unless_, badIndex, outOfRange, refusal, answered}
+use Rattle.refusals.proofs.Tests.{and-first, and-second, all-hold}
+use Rattle.axis.specs.declared.edge.Axis.{Axis}
+use Rattle.axis.specs.Limits.{mostEdges, mostPos}
+use Rattle.axis.specs.Refusals.{edgesIndices, edgesNumbers}
+use Rattle.axis.specs.Accepted.{AxisWithin}
+use Rattle.axis.proofs.Acceptance.{axis-within}
+use Rattle.words.specs.Edge.{edgesIn}
+use Rattle.shape.specs.Shape.{edgesShown}
+use Rattle.lent.specs.Lent.{Lent, refusedOr, edgesFront, edgesOf}
+use Rattle.lent.proofs.Kept.{passed, not-new}
+use Rattle.edges_in.specs.Whole.{Whole}
+use Rattle.edges_in.proofs.Wholes.{shown-whole, edges-len}
+use Rattle.edges_test.specs.Held.{tested}
+
+-- ---- no refusal
+-- what the tests tell then
+record Holds (axis : Axis) (own : ℕ) (named passed : Bool) : Type 0 where
+  right : own ≡ 0
+  indexed : (edgesIndices axis && named) ≡ true
+  in-range : (edgesNumbers axis && passed) ≡ true
+
+tested-holds : (axis : Axis) (own : ℕ) (named near : Bool) → tested axis own named near ≡ 0 → Holds axis own named near
+unfolding tested
+tested-holds axis zero named near e =
+    let t = all-hold (badIndex unless (edgesIndices axis && named) ∷ outOfRange unless (edgesNumbers axis && near) ∷ []) refl e in
+    record { right = refl; indexed = t .0; in-range = t .1 .0 }
+tested-holds axis (suc k) named near e = absurd (omega (arith, e))
+
+-- what a call may use then: words that can be read and written in place, accepted edges, and its own tests
+pub record Ready (ws : List ℤ) (own : ℕ) (named near : Bool) : Type 0 where
+  pub whole : Whole ws
+  pub axis : AxisWithin mostPos (edgesOf ws)
+  pub right : own ≡ 0
+  pub named-hold : named ≡ true
+  pub near-hold : near ≡ true
+
+module _ (ws : List ℤ) (others : Bool) (own : ℕ) (named near : Bool) {r : ℕ} (e : r ≡ refusedOr (edgesFront ws others) (tested (edgesOf ws) own named near)) where
+  front-holds : r ≤ 0 → refusal (edgesFront ws others) ≡ 0
+  front-holds h = let z : 0 ≡ r = omega arith in passed (edgesFront ws others) _ (z ∙ e) .0
+
+  none-refused : r ≤ 0 → tested (edgesOf ws) own named near ≡ 0
+  none-refused h = let z : 0 ≡ r = omega arith in passed (edgesFront ws others) _ (z ∙ e) .1
+
+  short : refusal (edgesFront ws others) ≡ 0 → leb (edgesOf ws .len) mostEdges ≡ true
+  unfolding edgesFront
+  short q = ap (λ (k : ℕ). leb k mostEdges) (edges-len ws) ∙ all-hold (edgesFront ws others) refl q .1 .0
+
+  pub ready : r ≤ 0 → Ready ws own named near
+  unfolding edgesFront
+  ready h =
+      let q = front-holds h in
+      let t = all-hold (edgesFront ws others) refl q in
+      let g = tested-holds (edgesOf ws) own named near (none-refused h) in
+      record {
+        whole = shown-whole ws (and-first (edgesShown ws) others (t .1 .1 .0)) (leb-true (edgesIn ws) mostEdges (t .1 .0));
+        axis = axis-within (edgesOf ws) (short q) (and-first _ named (g .indexed)) (and-first _ near (g .in-range));
+        right = g .right;
+        named-hold = and-second (edgesIndices (edgesOf ws)) named (g .indexed);
+        near-hold = and-second (edgesNumbers (edgesOf ws)) near (g .in-range);
+      }
+
+  -- ---- a call with such tests, which is its refusal, then its work
+  module _ {R A : Type 0} (answer : R → ℕ) (new : R → A) (tests : List Test) (refused : ℕ → R) (result : R) (number : (k : ℕ) → answer (refused k) ≡ k) (none : answer result ≡ 0)
+      (same : leb (edgesOf ws .len) mostEdges ≡ true → refusal tests ≡ tested (edgesOf ws) own named near) where
+    abbrev call : R
+    call = answered (refusal tests) refused result
+
+    -- its answer is its refusal
+    answers : (k : ℕ) → answer (answered k refused result) ≡ k
+    answers zero = none
+    answers (suc k) = number (suc k)
+
+    numbered : r ≡ refusedOr (edgesFront ws others) (answer call)
+    unfolding refusedOr
+    numbered = e ∙ by (refusal (edgesFront ws others)) refl
+      where
+        by : (k : ℕ) → refusal (edgesFront ws others) ≡ k → answered k (λ (i : ℕ). i) (tested (edgesOf ws) own named near) ≡ answered k (λ (i : ℕ). i) (answer call)
+        by zero q = sym (answers (refusal tests) ∙ same (short q))
+        by (suc k) q = refl
+
+    -- it refuses
+    pub call-refused : {old : A} → 0 < r → Lent (edgesFront ws others) (answer call) (new call) old r old
+    call-refused {old} h = record { number = numbered; held = by r h }
+      where
+        by : (k : ℕ) → 0 < k → old ≡ cond (eqb k 0) (new call) old
+        by zero h = absurd (omega arith)
+        by (suc k) h = sym (not-new k (new call) old)
+
+    -- it does its work
+    pub call-done : {old now : A} → r ≤ 0 → now ≡ new result → Lent (edgesFront ws others) (answer call) (new call) old 0 now
+    call-done {old} {now} h q = record { number = (let z : 0 ≡ r = omega arith in z ∙ numbered); held = q ∙ sym (ap (λ (k : ℕ). new (answered k refused result)) (same (short (front-holds h)) ∙ none-refused h)) }

@@ -1,0 +1,2 @@
+-- What the contracts of `edges_test` cite.
+pub mod Held

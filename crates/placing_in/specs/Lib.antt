@@ -1,0 +1,2 @@
+-- What the contracts of `placing_in` cite.
+pub mod Placing

@@ -1,0 +1,2 @@
+-- Laws on a CJK stem in place.
+pub mod Stems

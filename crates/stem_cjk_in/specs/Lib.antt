@@ -1,0 +1,2 @@
+-- What the contracts of `stem_cjk_in` cite.
+pub mod Stem

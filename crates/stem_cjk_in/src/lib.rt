@@ -1,0 +1,2 @@
+// A CJK stem placed where the words of the edges stand.
+pub mod stem;
