@@ -14,6 +14,7 @@ use Rattle.axis.specs.declared.kinds.Link.{Link}
 use Rattle.axis.specs.declared.kinds.Link.the-variants as Links
 use Rattle.axis.specs.declared.kinds.Mark.{Mark}
 use Rattle.axis.specs.declared.kinds.Mark.the-variants as Marks
+use Rattle.axis.specs.Limits.{mostEdges}
 use Rattle.axis.specs.Flags.{normal, asDone}
 
 -- a new edge at a font position and a position in units, with a direction and its only segment: nothing special, without zone, link and serif, placed by nothing yet
@@ -27,7 +28,7 @@ emptyEdge = freshEdge (pos 0) (pos 0) Directions.None 0
 
 -- an axis without edges
 abbrev pub emptyAxis : Dimension → Direction → Axis
-emptyAxis dim major = record { dim = dim; «major_dir» = major; edges = replicate 128 emptyEdge; len = 0 }
+emptyAxis dim major = record { dim = dim; «major_dir» = major; edges = replicate mostEdges emptyEdge; len = 0 }
 
 -- the edge in a place of the table
 abbrev pub edgeAt : Axis → ℕ → Edge

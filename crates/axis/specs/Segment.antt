@@ -6,6 +6,7 @@ use Rattle.axis.specs.declared.segment.Segment.{Segment}
 use Rattle.axis.specs.declared.segment.Segments.{Segments}
 use Rattle.axis.specs.declared.kinds.Direction.the-variants as Directions
 use Rattle.axis.specs.declared.kinds.Link.the-variants as Links
+use Rattle.axis.specs.Limits.{mostSegments}
 use Rattle.axis.specs.Flags.{normal}
 
 -- the segment of an unused place
@@ -30,7 +31,7 @@ emptySegment = record {
 
 -- a table without segments
 abbrev pub emptySegments : Segments
-emptySegments = record { segments = replicate 512 emptySegment; len = 0 }
+emptySegments = record { segments = replicate mostSegments emptySegment; len = 0 }
 
 -- the segment in a place of the table
 abbrev pub segmentAt : Segments → ℕ → Segment

@@ -33,7 +33,7 @@ pub struct Segments {
 }
 
 // The segment of an unused place.
-pub const EMPTY_SEGMENT: Segment = Segment {
+const EMPTY_SEGMENT: Segment = Segment {
     flags: NORMAL,
     dir: Direction::None,
     pos: 0,

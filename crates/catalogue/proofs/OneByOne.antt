@@ -6,7 +6,7 @@ use native.Mathlib.Omega.{arith}
 use lib.ListN.{length, getD, take, drop, length-drop}
 use lib.Seq.{drop-drop, length-take-le, take-at, drop-append-add}
 use lib.IntN.{ℤ}
-use Rattle.refusals.specs.Refusal.{refusal, answered}
+use Rattle.refusals.specs.Refusal.{refusal}
 use Rattle.refusals.proofs.Answers.{worked}
 use Rattle.outline.specs.Weak.{result, Outcome}
 use Rattle.outline.specs.Faithful.{Demand3}

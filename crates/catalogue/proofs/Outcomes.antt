@@ -34,8 +34,8 @@ module _ (o c : List ℤ) (t es ns ks bs : List ℕ) where
   }
 
   -- and where nothing is refused every outline is done
-  pub done : (d : List ℤ) (rs : List ℕ) → refusal (catalogueTests o c t es ns ks bs) ≡ 0 → EachDone o c t es ns ks d rs → Catalogued o c t es ns ks bs 0 d rs
-  done d rs e w = record {
+  pub when-accepted : (d : List ℤ) (rs : List ℕ) → refusal (catalogueTests o c t es ns ks bs) ≡ 0 → EachDone o c t es ns ks d rs → Catalogued o c t es ns ks bs 0 d rs
+  when-accepted d rs e w = record {
     answer = sym e;
     currents = answered-yes 0 (refusal (catalogueTests o c t es ns ks bs)) (λ _. c) (currentsOf o c t es ns ks) d (sym e) (omega arith) (w .currents);
     answers = answered-yes 0 (refusal (catalogueTests o c t es ns ks bs)) (λ _. bs) (answersOf o c t es ns ks) rs (sym e) (omega arith) (w .answers);

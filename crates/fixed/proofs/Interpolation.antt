@@ -109,8 +109,12 @@ pub record Interpolation (d c s : ℤ) : Type 0 where
   pub product : SFits w32 (mulFix d (divFix c s))
   pub along : AlongLine d c s (mulFix d (divFix c s))
 
+-- spans, and how far currents are apart, at document 01's range
+abbrev mostSpan : ℕ
+mostSpan = 32766
+
 -- 0 ≤ d < s ≤ 32,766 and |c| ≤ 32,766
-pub interpolation : (d c s : ℤ) → dn d ≤ up d → up d + dn s < up s + dn d → up s ≤ dn s + 32766 → Between 32766 32766 c → Interpolation d c s
+pub interpolation : (d c s : ℤ) → dn d ≤ up d → up d + dn s < up s + dn d → up s ≤ dn s + mostSpan → Between mostSpan mostSpan c → Interpolation d c s
 interpolation (pos d) c (pos s) h k l b =
     let positive : 0 < s = omega arith in
     let p = interp-up d c s positive in

@@ -6,7 +6,7 @@ ghost use mir.Syntax.{w32};
 ghost use mir.Val.{SFits};
 ghost use Rattle.signed.specs.Range.{Between};
 ghost use Rattle.fixed.specs.Point.{rounded, mulFix, divFix, derived};
-ghost use Rattle.fixed.specs.Steps.{signedLike};
+ghost use Rattle.fixed.specs.Steps.{mostConstant, mostEm, signedLike};
 
 // The magnitude of x.
 pub fn magnitude(x: i64) -> u64
@@ -102,8 +102,8 @@ pub fn fixed_div(a: i32, b: i32) -> i32
 
 // c · units per em / 2048, fraction dropped.
 pub fn derived_constant(units_per_em: i32, c: i32) -> i32
-    requires { ⌜ Between 0 65535 c ⌝ }
-    requires { ⌜ Between 0 16384 «units_per_em» ⌝ }
+    requires { ⌜ Between 0 mostConstant c ⌝ }
+    requires { ⌜ Between 0 mostEm «units_per_em» ⌝ }
     ensures { λ r. ⌜ r ≡ derived «units_per_em» c ⌝ }
 {
     c * units_per_em / 2048

@@ -21,7 +21,7 @@ use Rattle.axis.specs.Segment.{segmentAt}
 use Rattle.turning.specs.declared.turn.Turned.{Turned}
 use Rattle.turning.specs.Turning.{turnedIndex, turnedLink, turnedSegment, turnedAxis, turnedSegments, beside, Whole}
 use Rattle.turning.proofs.Calls.{Taken, taken}
-use Rattle.turning.proofs.Outcomes.{done, accepted}
+use Rattle.turning.proofs.Outcomes.{when-accepted, accepted}
 use Rattle.turning.proofs.Places.{turned-edge-at, turned-segment-at}
 use Rattle.turning.proofs.Twice as Twice
 use Rattle.words.specs.Word.{wordAt, firsts, table}
@@ -84,7 +84,7 @@ module _ (ws es : List ℤ) (e : turned ws es .answer ≡ 0) where
   is-taken = taken axis segments (accepted axis segments e)
 
   outcome : turned ws es ≡ beside (turnedAxis axis) (turnedSegments (axis .len) segments) 0
-  outcome = done axis segments (accepted axis segments e)
+  outcome = when-accepted axis segments (accepted axis segments e)
 
   segment-same : (i j : ℕ) → i < segments .len → isOneOf turnedWord j ≡ false → wordAt (S.segmentWordsAt (turned ws es .segments) i) j ≡ wordAt (S.segmentWordsAt segments i) j
   segment-same i j h f =

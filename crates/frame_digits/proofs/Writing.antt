@@ -5,7 +5,7 @@ use Prim.Native.Nat.{ℕ, _+_, _*_, _/_, _%_, _≤_}
 use native.Mathlib.Numerals.{add-one}
 use native.Mathlib.Omega.{arith}
 use lib.ListN.{length, take, drop, set, length-append, length-take, length-drop}
-use lib.Seq.{take-at, drop-append-add, drop-drop, sets, sets-eq, paste-zero}
+use lib.Seq.{take-at, drop-append-add, drop-drop, sets-eq, paste-zero}
 use lib.IntN.{ℤ}
 use mir.Syntax.{w16}
 use mir.Val.{ofZ}

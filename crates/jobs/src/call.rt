@@ -18,6 +18,9 @@ use shape::field::skip_field;
 use words::word::count_at;
 use words::word::count_word;
 
+// Segments or edges that a job can count, more than a call accepts.
+const MOST_COUNTED: usize = 65535;
+
 // The number of a step in a path.
 const CURSOR: Range = Range {
     low: 0,
@@ -135,8 +138,8 @@ fn skip_item(words: &[i32], at: usize, item: u64) -> Place {
             MOST_NUMBERS,
             MOST_NUMBERS,
         ),
-        9 => skip_list(words, at, Element::Segment, 65535, MOST_SEGMENTS),
-        10 => skip_list(words, at, Element::Edge, 65535, MOST_EDGES),
+        9 => skip_list(words, at, Element::Segment, MOST_COUNTED, MOST_SEGMENTS),
+        10 => skip_list(words, at, Element::Edge, MOST_COUNTED, MOST_EDGES),
         11 => skip_list(words, at, Element::LentEdge, MOST_LENT, MOST_LENT),
         12 => skip_field(words, at, CURSOR),
         _ => Place::Nowhere,

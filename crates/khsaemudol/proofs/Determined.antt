@@ -23,7 +23,7 @@ use Rattle.flat.specs.Fit.{LinkedLent, SerifLent, AdjustLent, BoundsLent}
 use Rattle.flat.specs.M.{MLent}
 use Rattle.path.specs.Lending.{StepLent}
 use Rattle.path.proofs.Outcomes as Step
-use Rattle.path_lay.specs.Laying.{Lent}
+use Rattle.path_lay.specs.Laying.{Lists}
 use Rattle.path_whole.specs.Writing.{WritesPath}
 use Rattle.path_whole.proofs.Outcomes as Path
 use Rattle.flat_turning.specs.Turn.{TurnedLent}
@@ -112,7 +112,7 @@ pub step-determined :
 step-determined xs ys marks es cursor kind places next a b = Step.lent-determined xs ys marks es cursor kind places next a b
 
 -- `khs_path`
-pub path-determined : (xs ys : List ℤ) (marks es : List ℕ) (l : Lent) {r r′ : ℕ} {m m′ : Lent} → WritesPath xs ys marks es l r m → WritesPath xs ys marks es l r′ m′ → (r ≡ r′) × (m ≡ m′)
+pub path-determined : (xs ys : List ℤ) (marks es : List ℕ) (l : Lists) {r r′ : ℕ} {m m′ : Lists} → WritesPath xs ys marks es l r m → WritesPath xs ys marks es l r′ m′ → (r ≡ r′) × (m ≡ m′)
 path-determined xs ys marks es l a b = Path.determined xs ys marks es l a b
 
 -- `khs_write_frame`

@@ -34,7 +34,7 @@ pub const LINK: usize = 7;
 const MARK: usize = 11;
 
 // The place of none, which is past the end of every list.
-pub const NONE: usize = 65535;
+const NONE: usize = 65535;
 
 // The word of an edge's field, and 0 where there is no such edge.
 pub fn field(edges: &[i32], i: usize, k: usize) -> i32

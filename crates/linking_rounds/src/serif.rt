@@ -16,7 +16,7 @@ ghost use Rattle.axis.specs.Link.{linksTo};
 ghost use Rattle.linking_rounds.specs.Pairs.{serifOf, unlinked as unlinkedAs, nearStem, encloses as enclosesOf, muchLonger, rewritten as rewrittenAs, staysSerif, settled as settledAs};
 
 // The segment without a link, a serif of what `serif` names.
-pub fn as_serif(seg: Segment, serif: Link) -> Segment
+fn as_serif(seg: Segment, serif: Link) -> Segment
     ensures { λ r. ⌜ r ≡ serifOf seg serif ⌝ }
 {
     Segment {

@@ -39,7 +39,7 @@ module _ (line : List ℕ) (ended : Bool) (out : List ℕ) (size : ℕ) (room : 
   pub appended : Appends (reply line ended) out size (size + r) (putMid size (length out - size) out part)
   appended = record {
     count = ap (λ (n : ℕ). size + n) count-is;
-    within = appended-fits;
+    in-list = appended-fits;
     leaves =
         (λ i. take (size + count-is i) (putMid size (length out - size) out (part-is i)))
         ∙ front-put out size (length out - size) (reply line ended) (drop (length (reply line ended)) (midOf size (length out - size) out)) (omega arith);

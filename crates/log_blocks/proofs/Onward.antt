@@ -49,7 +49,7 @@ module _ (block : List ℕ) (from : ℕ) (l : List ℕ) (count : ℕ) (r : Taken
 pub record Onward (block : List ℕ) (from : ℕ) (l₀ : List ℕ) (count : ℕ) (out₀ l out : List ℕ) (at held size : ℕ) : Type 0 where
   pub list-kept : length l ≡ length l₀
   pub out-kept : length out ≡ length out₀
-  pub within : size ≤ length out
+  pub in-list : size ≤ length out
   pub few : held ≤ length l
   pub low : from ≤ at
   pub begun : 0 < size → from < at
@@ -58,7 +58,7 @@ pub record Onward (block : List ℕ) (from : ℕ) (l₀ : List ℕ) (count : ℕ
 -- nothing yet
 pub onward-none : (block : List ℕ) (from : ℕ) (l : List ℕ) (count : ℕ) (out : List ℕ) → count ≤ length l → Onward block from l count out l out from count 0
 onward-none block from l count out h =
-    record { list-kept = refl; out-kept = refl; within = omega arith; few = h; low = omega arith; begun = λ z. absurd (omega arith); gives = λ more. refl }
+    record { list-kept = refl; out-kept = refl; in-list = omega arith; few = h; low = omega arith; begun = λ z. absurd (omega arith); gives = λ more. refl }
 
 module _ (block : List ℕ) (from : ℕ) (l₀ : List ℕ) (count : ℕ) (out₀ l out : List ℕ) (at held size : ℕ) (o : Onward block from l₀ count out₀ l out at held size) where
   module _ (big : mostDigits < length l₀) (inside : at < length block) (r : Taken) (d : List ℕ) (k : Took block at l held r d) where
@@ -67,7 +67,7 @@ module _ (block : List ℕ) (from : ℕ) (l₀ : List ℕ) (count : ℕ) (out₀
     onward-held e = record {
       list-kept = length-kept block at l held r d k ∙ o .list-kept;
       out-kept = o .out-kept;
-      within = o .within;
+      in-list = o .in-list;
       few = count-few block at l held r d k;
       low = omega (arith, o .low, further block at l held r d k inside);
       begun = λ z. omega (arith, o .low, further block at l held r d k inside);
@@ -79,7 +79,7 @@ module _ (block : List ℕ) (from : ℕ) (l₀ : List ℕ) (count : ℕ) (out₀
     onward-ended e s left kept a = record {
       list-kept = length-kept block at l held r d k ∙ o .list-kept;
       out-kept = kept ∙ o .out-kept;
-      within = omega (arith, a .within, kept);
+      in-list = omega (arith, a .in-list, kept);
       few = omega arith;
       low = omega (arith, o .low, further block at l held r d k inside);
       begun = λ z. omega (arith, o .low, further block at l held r d k inside);
@@ -90,7 +90,7 @@ module _ (block : List ℕ) (from : ℕ) (l₀ : List ℕ) (count : ℕ) (out₀
     }
 
   refits : (from < length block → mostReply ≤ length out₀ → from < at) → Refits block from l₀ count out₀ (record { at = at; count = held; size = size }) l out
-  refits f = record { list-kept = o .list-kept; within = o .within; held = o .few; further = f; gives = o .gives }
+  refits f = record { list-kept = o .list-kept; in-list = o .in-list; held = o .few; further = f; gives = o .gives }
 
   -- there is no room for one more
   pub onward-full : length out - size < mostReply → Refits block from l₀ count out₀ (record { at = at; count = held; size = size }) l out
@@ -104,7 +104,7 @@ module _ (block : List ℕ) (from : ℕ) (l₀ : List ℕ) (count : ℕ) (out₀
 -- nothing
 pub rest-none : (l : List ℕ) (count : ℕ) (left : List ℕ) → count ≡ 0 → Rests l count 0 left
 unfolding linesFrom lastLine replies
-rest-none l count left e = record { within = omega arith; gives = rw e }
+rest-none l count left e = record { in-list = omega arith; gives = rw e }
 
 -- a line with no line feed
 last-reply : (begun : List ℕ) → 0 < length begun → replies (lastLine begun) ≡ reply begun false
@@ -117,6 +117,6 @@ pub rest-some :
     → Rests l count r left
 unfolding linesFrom
 rest-some l count out r left h few kept a = record {
-  within = omega (arith, a .within, kept);
+  in-list = omega (arith, a .in-list, kept);
   gives = a .leaves ∙ sym (last-reply (take count l) (omega (arith, length-take-le count l few, h)));
 }

@@ -20,19 +20,19 @@ printed stream = replies (lines stream)
 -- text is written behind the first `size` bytes, and there are r then
 pub record Appends (text out : List ℕ) (size r : ℕ) (left : List ℕ) : Type 0 where
   pub count : r ≡ size + length text
-  pub within : r ≤ length out
+  pub in-list : r ≤ length out
   pub leaves : take r left ≡ take size out ++ text
 
 -- what is written now, and what is printed for the rest of the stream by what is held then, is what is printed for the stream, whatever follows the block; and
 -- something of the block is taken
 pub record Refits (block : List ℕ) (from : ℕ) (l : List ℕ) (count : ℕ) (out : List ℕ) (r : Refitted) (d left : List ℕ) : Type 0 where
   pub list-kept : length d ≡ length l
-  pub within : r .size ≤ length left
+  pub in-list : r .size ≤ length left
   pub held : r .count ≤ length d
   pub further : from < length block → mostReply ≤ length out → from < r .at
   pub gives : (more : List ℕ) → replies (linesFrom (take count l) (drop from block ++ more)) ≡ take (r .size) left ++ replies (linesFrom (take (r .count) d) (drop (r .at) block ++ more))
 
 -- what is written is what is printed for the line that is held, behind which nothing follows
 pub record Rests (l : List ℕ) (count r : ℕ) (left : List ℕ) : Type 0 where
-  pub within : r ≤ length left
+  pub in-list : r ≤ length left
   pub gives : take r left ≡ replies (linesFrom (take count l) [])

@@ -10,7 +10,7 @@ ghost use Rattle.axis.specs.Limits.{mostEdges};
 ghost use Rattle.lowercase_m_list.specs.Table.{emptyTable, copied};
 
 // A table of empty edges.
-pub fn empty_table() -> [Edge; MOST_EDGES]
+fn empty_table() -> [Edge; MOST_EDGES]
     ensures { λ r. ⌜ r ≡ emptyTable ⌝ }
 {
     [EMPTY_EDGE; MOST_EDGES]

@@ -14,7 +14,7 @@ use Rattle.outline.proofs.Refusals.{passed}
 use Rattle.path_trip.specs.declared.step.PathStep.{PathStep}
 use Rattle.path_walk.specs.declared.walk.Sought.the-variants.{Here, Past}
 use Rattle.path_trip.specs.Path.{points, path}
-use Rattle.path_trip.specs.Trips.{Sound}
+use Rattle.path_trip.specs.Trips.{Admitted}
 use Rattle.path_walk.specs.Steps.{seek}
 use Rattle.path_walk.proofs.Seeks.{in-here, in-past}
 use Rattle.path.specs.declared.hand.Handed.{Handed}
@@ -35,7 +35,7 @@ named-past p k l e = rw (le-ltb k (length p) (in-past p k l e))
 -- ---- the call
 module _ (xs ys : List ℤ) (marks es : List ℕ) where
   -- an outline that is answered by 0 is sound, and its ends hold
-  pub accepted : refusal (pathTests xs ys marks es) ≡ 0 → Sound (points xs ys marks) × (endsHold 0 (length xs) es ≡ true)
+  pub accepted : refusal (pathTests xs ys marks es) ≡ 0 → Admitted (points xs ys marks) × (endsHold 0 (length xs) es ≡ true)
   accepted e = let p = passed mostResult xs ys marks es e in (record { few = p .points; ys-length = p .seconds-length; marks-length = p .marks-length; wide = p .firsts; high = p .seconds }, p .ends)
 
   module _ (k n : ℕ) (e : n ≡ refusal (pathTests xs ys marks es)) where

@@ -8,13 +8,13 @@ use Rattle.path_trip.specs.declared.step.PathStep.{PathStep}
 use Rattle.path_trip.specs.Numbers.{kindOf, firstOf, secondOf}
 
 -- a list of kinds, a list of places, four numbers a step, and how many steps stand in them
-pub record Lent : Type 0 where
+pub record Lists : Type 0 where
   pub kinds : List ℕ
   pub places : List Float
   pub count : ℕ
 
 -- these lists, with n steps
-abbrev pub lent : List ℕ → List Float → ℕ → Lent
+abbrev pub lent : List ℕ → List Float → ℕ → Lists
 lent ks ps n = record { kinds = ks; places = ps; count = n }
 
 -- one place, from the number i on
@@ -22,18 +22,18 @@ abbrev pub placedAt : List Float → ℕ → PixelPoint → List Float
 placedAt ps i p = set (set ps i (p .x)) (i + 1) (p .y)
 
 -- one step more
-unfoldable pub laid : Lent → PathStep → Lent
+unfoldable pub laid : Lists → PathStep → Lists
 laid l s =
     lent (set (l .kinds) (l .count) (kindOf s))
     (placedAt (placedAt (l .places) (4 * l .count) (firstOf s)) (4 * l .count + 2) (secondOf s))
     (l .count + 1)
 
 -- these steps more, in order
-unfoldable pub lay : Lent → List PathStep → Lent
+unfoldable pub lay : Lists → List PathStep → Lists
 lay l [] = l
 lay l (s ∷ ss) = lay (laid l s) ss
 
 -- the lent lists have room for n steps more
-pub record Room (l : Lent) (n : ℕ) : Type 0 where
+pub record Room (l : Lists) (n : ℕ) : Type 0 where
   pub kinds-room : l .count + n ≤ length (l .kinds)
   pub places-room : 4 * (l .count + n) ≤ length (l .places)

@@ -14,7 +14,7 @@ ghost use Prim.Native.Nat.{_-_};
 ghost use lib.ListN.{length, drop};
 ghost use Rattle.outline.specs.Weak.{endsHold};
 ghost use Rattle.path_trip.specs.Path.{points, roundOf, walked, stepsOf, path};
-ghost use Rattle.path_trip.specs.Trips.{Sound, Within, Walk};
+ghost use Rattle.path_trip.specs.Trips.{Admitted, Within, Walk};
 ghost use Rattle.path_lay.specs.Laying.{lent, lay, Room};
 
 // Writes the steps of a trip, behind its move, behind `count` others.
@@ -29,7 +29,7 @@ fn lay_walk(
     places: &mut [f32],
     count: usize,
 ) -> usize
-    requires { ⌜ Sound (points (now xs) (now ys) (now marks)) ⌝ }
+    requires { ⌜ Admitted (points (now xs) (now ys) (now marks)) ⌝ }
     requires { ⌜ Within (points (now xs) (now ys) (now marks)) a e ⌝ }
     requires { ⌜ Walk (roundOf (points (now xs) (now ys) (now marks)) a (e - 1) .walk) a e (trip .from) (trip .count) ⌝ }
     requires { ⌜ Room (lent (now kinds) (now places) count) (length (walked (points (now xs) (now ys) (now marks)) (trip .start) true (drop 0 (roundOf (points (now xs) (now ys) (now marks)) a (e - 1) .walk)))) ⌝ }
@@ -66,7 +66,7 @@ fn lay_contour(
     places: &mut [f32],
     count: usize,
 ) -> usize
-    requires { ⌜ Sound (points (now xs) (now ys) (now marks)) ⌝ }
+    requires { ⌜ Admitted (points (now xs) (now ys) (now marks)) ⌝ }
     requires { ⌜ Within (points (now xs) (now ys) (now marks)) a e ⌝ }
     requires { ⌜ Room (lent (now kinds) (now places) count) (length (stepsOf (points (now xs) (now ys) (now marks)) (roundOf (points (now xs) (now ys) (now marks)) a (e - 1)))) ⌝ }
     ensures { λ r. ⌜ lent (now (kinds .exit)) (now (places .exit)) r ≡ lay (lent (now (kinds .entry)) (now (places .entry)) count)
@@ -87,7 +87,7 @@ pub fn lay_path(
     kinds: &mut [u8],
     places: &mut [f32],
 ) -> usize
-    requires { ⌜ Sound (points (now xs) (now ys) (now marks)) ⌝ }
+    requires { ⌜ Admitted (points (now xs) (now ys) (now marks)) ⌝ }
     requires { ⌜ endsHold 0 (length (now xs)) (now ends) ≡ true ⌝ }
     requires { ⌜ Room (lent (now kinds) (now places) 0) (length (path (points (now xs) (now ys) (now marks)) (now ends))) ⌝ }
     ensures { λ r. ⌜ lent (now (kinds .exit)) (now (places .exit)) r

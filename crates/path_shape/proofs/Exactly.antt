@@ -10,7 +10,7 @@ use Rattle.contours.specs.Contour.{at}
 use Rattle.pixels.specs.Exact.{over, Exactly}
 use Rattle.pixels.proofs.Exact.{over-exact}
 use Rattle.path_trip.specs.Path.{Points}
-use Rattle.path_shape.specs.Legs.{Spot, point, between, placed}
+use Rattle.path_shape.specs.Legs.{Spot, point, between, spotPlace}
 use Rattle.path_shape.specs.Doubled.{doubled}
 
 -- a value is also twice as much over twice as much
@@ -26,7 +26,7 @@ by-128 (negsuc n) =
     subst (λ (k : ℕ). HasValue (over (negsuc n) 6) true k 128) (omega arith) (twice (over (negsuc n) 6) true (suc n) 64 (over-exact (negsuc n) 6))
 
 -- a place of a path
-pub exact : (o : Points) (s : Spot) → Exactly (placed o s .x) (doubled (o .xs) s) 128 × Exactly (placed o s .y) (doubled (o .ys) s) 128
+pub exact : (o : Points) (s : Spot) → Exactly (spotPlace o s .x) (doubled (o .xs) s) 128 × Exactly (spotPlace o s .y) (doubled (o .ys) s) 128
 exact o (point i) = (by-128 (at (o .xs) i), by-128 (at (o .ys) i))
 exact o (between i j) = (over-exact (at (o .xs) i +ℤ at (o .xs) j) 7, over-exact (at (o .ys) i +ℤ at (o .ys) j) 7)
 

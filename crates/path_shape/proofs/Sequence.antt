@@ -17,7 +17,7 @@ use Rattle.path_walk.proofs.Lengths.{at-most}
 use Rattle.path.specs.declared.hand.Handed.the-variants.{Refused, Finished, Step}
 use Rattle.path.specs.Handing.{pathTests, named, handed}
 use Rattle.path.proofs.Named.{accepted}
-use Rattle.path_lay.specs.Laying.{Lent}
+use Rattle.path_lay.specs.Laying.{Lists}
 use Rattle.path_whole.specs.Writing.{mostSteps, wholeTests, written, WritesPath}
 use Rattle.refusals.proofs.Answers.{worked}
 use Rattle.refusals.proofs.Tests.{all-hold, no-refusal}
@@ -67,7 +67,7 @@ module _ (xs ys : List ℤ) (marks es : List ℕ) (e : refusal (pathTests xs ys 
   sequence = followed (mostSteps (length xs) (length es)) 0 (omega (arith, few))
 
 -- what one call for the whole path writes is what stepping hands out
-pub whole : (xs ys : List ℤ) (marks es : List ℕ) (l : Lent) (r : ℕ) (l′ : Lent) → WritesPath xs ys marks es l r l′ → r ≡ 0
+pub whole : (xs ys : List ℤ) (marks es : List ℕ) (l : Lists) (r : ℕ) (l′ : Lists) → WritesPath xs ys marks es l r l′ → r ≡ 0
     → l′ ≡ written (follow xs ys marks es (mostSteps (length xs) (length es)) (handed xs ys marks es 0)) l
 whole xs ys marks es l r l′ w z =
     let tests = wholeTests xs ys marks es (length (l .kinds)) (length (l .places)) in

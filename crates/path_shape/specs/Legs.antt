@@ -18,13 +18,13 @@ pub data Leg : Type 0 where
   curve : ℕ → Spot → Leg
 
 -- ---- the picture
-abbrev pub placed : Points → Spot → PixelPoint
-placed o (point i) = place o i
-placed o (between i j) = middle o i j
+abbrev pub spotPlace : Points → Spot → PixelPoint
+spotPlace o (point i) = place o i
+spotPlace o (between i j) = middle o i j
 
 abbrev pub pictured : Points → Leg → PathStep
 pictured o (line i) = Line (place o i)
-pictured o (curve i s) = Curve (place o i) (placed o s)
+pictured o (curve i s) = Curve (place o i) (spotPlace o s)
 
 unfoldable pub pictures : Points → List Leg → List PathStep
 pictures o [] = []
@@ -59,4 +59,4 @@ legsOf o t = legs o (t .start) true (t .walk)
 
 -- a move to its start, its legs, and a close
 abbrev pub pictureOf : Points → Tour → List PathStep
-pictureOf o t = Move (placed o (t .start)) ∷ (pictures o (legsOf o t) ++ (Close ∷ []))
+pictureOf o t = Move (spotPlace o (t .start)) ∷ (pictures o (legsOf o t) ++ (Close ∷ []))

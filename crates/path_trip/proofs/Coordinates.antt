@@ -13,12 +13,12 @@ use Rattle.pixels.proofs.Exact.{mag-le}
 use Rattle.pixels.specs.Places.{pointAt, halfwayAt}
 use Rattle.pixels.specs.declared.PixelPoint.{PixelPoint}
 use Rattle.path_trip.specs.Path.{Points, place, middle}
-use Rattle.path_trip.specs.Trips.{Sound}
+use Rattle.path_trip.specs.Trips.{Admitted}
 
 read-back : (z : ℤ) → natAbs z ≤ mostResult → toZ w32 (ofZ w32 z) ≡ z
 read-back z h = toZ-ofZ w32 z (record { sfits = omega (arith, mag-le z) })
 
-module _ (o : Points) (s : Sound o) where
+module _ (o : Points) (s : Admitted o) where
   pub x-is : (i : ℕ) → toZ w32 (ofZ w32 (at (o .xs) i)) ≡ at (o .xs) i
   x-is i = read-back _ (s .wide i)
 

@@ -15,7 +15,7 @@ abbrev pub Fitted : List ℤ → Type 0
 Fitted l = (i : ℕ) → natAbs (at l i) ≤ mostResult
 
 -- lists of points that are not refused
-pub record Sound (o : Points) : Type 0 where
+pub record Admitted (o : Points) : Type 0 where
   pub few : length (o .xs) ≤ mostPoints
   pub ys-length : length (o .ys) ≡ length (o .xs)
   pub marks-length : length (o .marks) ≡ length (o .xs)

@@ -6,11 +6,11 @@ ghost use mathlib.Core.Path.{_≡_};
 ghost use Prim.Native.Nat.{_<_};
 ghost use lib.ListN.{length};
 ghost use Rattle.path_trip.specs.Path.{points, place, middle};
-ghost use Rattle.path_trip.specs.Trips.{Sound};
+ghost use Rattle.path_trip.specs.Trips.{Admitted};
 
 // The place of the point `i`.
 pub fn place_of(xs: &[i32], ys: &[i32], marks: &[u8], i: usize) -> PixelPoint
-    requires { ⌜ Sound (points (now xs) (now ys) (now marks)) ⌝ }
+    requires { ⌜ Admitted (points (now xs) (now ys) (now marks)) ⌝ }
     requires { ⌜ i < length (now xs) ⌝ }
     ensures { λ r. ⌜ r ≡ place (points (now (xs .entry)) (now (ys .entry)) (now (marks .entry))) i ⌝ }
 {
@@ -21,7 +21,7 @@ pub fn place_of(xs: &[i32], ys: &[i32], marks: &[u8], i: usize) -> PixelPoint
 
 // The place halfway between the points `i` and `j`.
 pub fn middle_of(xs: &[i32], ys: &[i32], marks: &[u8], i: usize, j: usize) -> PixelPoint
-    requires { ⌜ Sound (points (now xs) (now ys) (now marks)) ⌝ }
+    requires { ⌜ Admitted (points (now xs) (now ys) (now marks)) ⌝ }
     requires { ⌜ (i < length (now xs)) × (j < length (now xs)) ⌝ }
     ensures { λ r. ⌜ r ≡ middle (points (now (xs .entry)) (now (ys .entry)) (now (marks .entry))) i j ⌝ }
 {

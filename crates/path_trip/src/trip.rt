@@ -7,7 +7,7 @@ ghost use Prim.Native.Nat.{_+_, _-_, _≤_, _<_};
 ghost use lib.Dec.{ltb};
 ghost use lib.ListN.{length};
 ghost use Rattle.path_trip.specs.Path.{points, roundOf};
-ghost use Rattle.path_trip.specs.Trips.{Sound, Within, First, around, Walk};
+ghost use Rattle.path_trip.specs.Trips.{Admitted, Within, First, around, Walk};
 
 // The start of a contour, and the points that it then walks by: `count` of them, from `from` on.
 pub struct Trip {
@@ -40,7 +40,7 @@ fn first_on(marks: &[u8], from: usize, to: usize) -> usize
 
 // The start and the walk of the contour from `a` up to `e`.
 pub fn trip_of(xs: &[i32], ys: &[i32], marks: &[u8], a: usize, e: usize) -> Trip
-    requires { ⌜ Sound (points (now xs) (now ys) (now marks)) ⌝ }
+    requires { ⌜ Admitted (points (now xs) (now ys) (now marks)) ⌝ }
     requires { ⌜ Within (points (now xs) (now ys) (now marks)) a e ⌝ }
     ensures { λ r. ⌜ (r .start ≡ roundOf (points (now (xs .entry)) (now (ys .entry)) (now (marks .entry))) a (e - 1) .start)
         × Walk (roundOf (points (now (xs .entry)) (now (ys .entry)) (now (marks .entry))) a (e - 1) .walk) a e (r .from) (r .count) ⌝ }

@@ -13,7 +13,7 @@ use Rattle.outline.specs.Weak.{endsHold}
 use Rattle.pixels.specs.declared.PixelPoint.{PixelPoint}
 use Rattle.path_trip.specs.declared.step.PathStep.{PathStep}
 use Rattle.path_trip.specs.Path.{Points, onCurve, from, front, rest, Round, roundBy, roundOf, walked, stepsOf, pathFrom, path}
-use Rattle.path_trip.specs.Trips.{Sound}
+use Rattle.path_trip.specs.Trips.{Admitted}
 use Rattle.path_trip.proofs.Walks.{length-from}
 
 module _ (o : Points) where
@@ -77,5 +77,5 @@ unfolding path
 at-most o es h = omega (arith, path-short o (length (o .xs)) 0 es h)
 
 -- and so at most three a point
-pub whole-short : (o : Points) (es : List ℕ) → Sound o → endsHold 0 (length (o .xs)) es ≡ true → length (path o es) ≤ 3 * mostPoints
+pub whole-short : (o : Points) (es : List ℕ) → Admitted o → endsHold 0 (length (o .xs)) es ≡ true → length (path o es) ≤ 3 * mostPoints
 whole-short o es s h = omega (arith, at-most o es h, ends-few (length (o .xs)) 0 es h, s .few)

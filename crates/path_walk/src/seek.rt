@@ -7,12 +7,12 @@ ghost use mathlib.Core.Bool.{true};
 ghost use lib.ListN.{length};
 ghost use Rattle.outline.specs.Weak.{endsHold};
 ghost use Rattle.path_trip.specs.Path.{points, path};
-ghost use Rattle.path_trip.specs.Trips.{Sound};
+ghost use Rattle.path_trip.specs.Trips.{Admitted};
 ghost use Rattle.path_walk.specs.Steps.{seek};
 
 // Step k of the path, or how far k is behind its end.
 pub fn path_at(xs: &[i32], ys: &[i32], marks: &[u8], ends: &[u16], k: usize) -> Sought
-    requires { ⌜ Sound (points (now xs) (now ys) (now marks)) ⌝ }
+    requires { ⌜ Admitted (points (now xs) (now ys) (now marks)) ⌝ }
     requires { ⌜ endsHold 0 (length (now xs)) (now ends) ≡ true ⌝ }
     ensures { λ r. ⌜ r ≡ seek (path (points (now (xs .entry)) (now (ys .entry)) (now (marks .entry))) (now (ends .entry))) k ⌝ }
 {

@@ -11,7 +11,7 @@ ghost use mathlib.Core.Path.{_≡_};
 ghost use Prim.Native.Nat.{_+_, _-_, _<_};
 ghost use lib.ListN.{drop};
 ghost use Rattle.path_trip.specs.Path.{points, roundOf, curveEnd, stepsOf};
-ghost use Rattle.path_trip.specs.Trips.{Sound, Within, around, Walk};
+ghost use Rattle.path_trip.specs.Trips.{Admitted, Within, around, Walk};
 ghost use Rattle.path_walk.specs.Steps.{seek, countOf, stepOf};
 
 // A step of a list of steps, or how far a number is behind the list's end.
@@ -43,7 +43,7 @@ fn curve_end(
     trip: Trip,
     j: usize,
 ) -> PixelPoint
-    requires { ⌜ Sound (points (now xs) (now ys) (now marks)) ⌝ }
+    requires { ⌜ Admitted (points (now xs) (now ys) (now marks)) ⌝ }
     requires { ⌜ Within (points (now xs) (now ys) (now marks)) a e ⌝ }
     requires { ⌜ Walk (roundOf (points (now xs) (now ys) (now marks)) a (e - 1) .walk) a e (trip .from) (trip .count) ⌝ }
     requires { ⌜ j < trip .count ⌝ }
@@ -71,7 +71,7 @@ pub fn step_here(
     trip: Trip,
     j: usize,
 ) -> PathStep
-    requires { ⌜ Sound (points (now xs) (now ys) (now marks)) ⌝ }
+    requires { ⌜ Admitted (points (now xs) (now ys) (now marks)) ⌝ }
     requires { ⌜ Within (points (now xs) (now ys) (now marks)) a e ⌝ }
     requires { ⌜ Walk (roundOf (points (now xs) (now ys) (now marks)) a (e - 1) .walk) a e (trip .from) (trip .count) ⌝ }
     requires { ⌜ j < trip .count ⌝ }
@@ -89,7 +89,7 @@ pub fn step_here(
 
 // Step k of the contour from `a` up to `e`, or how far k is behind its steps.
 pub fn contour_step(xs: &[i32], ys: &[i32], marks: &[u8], a: usize, e: usize, k: usize) -> Sought
-    requires { ⌜ Sound (points (now xs) (now ys) (now marks)) ⌝ }
+    requires { ⌜ Admitted (points (now xs) (now ys) (now marks)) ⌝ }
     requires { ⌜ Within (points (now xs) (now ys) (now marks)) a e ⌝ }
     ensures { λ r. ⌜ r ≡ seek (stepsOf (points (now (xs .entry)) (now (ys .entry)) (now (marks .entry))) (roundOf (points (now (xs .entry)) (now (ys .entry)) (now (marks .entry))) a (e - 1))) k ⌝ }
 {

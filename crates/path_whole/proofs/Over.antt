@@ -11,7 +11,7 @@ use Rattle.pixels.specs.declared.PixelPoint.{PixelPoint}
 use Rattle.path_trip.specs.declared.step.PathStep.{PathStep}
 use Rattle.path_trip.specs.Numbers.{kindOf, firstOf, secondOf}
 use Rattle.path.specs.Lending.{four}
-use Rattle.path_lay.specs.Laying.{Lent, lent, placedAt, laid, lay, Room}
+use Rattle.path_lay.specs.Laying.{Lists, lent, placedAt, laid, lay, Room}
 use Rattle.path_whole.specs.Writing.{kindsOf, numbersOf, written}
 
 -- a store behind a list
@@ -63,7 +63,7 @@ lay-behind (s ∷ p) gs (k ∷ ks) bs (a ∷ b ∷ c ∷ d ∷ ps) h g e =
     let j =
     append-assoc bs (four (firstOf s) (secondOf s)) (numbersOf p ++ drop (4 * length p) ps)
     ∙ ap (λ (i : ℕ). bs ++ (four (firstOf s) (secondOf s) ++ (numbersOf p ++ drop i (a ∷ b ∷ c ∷ d ∷ ps)))) m in
-    ap (λ (x : Lent). lay x p) (laid-behind gs k ks bs a b c d ps s e) ∙ lay-behind p gs′ ks bs′ ps (omega arith) (omega arith) e′ ∙ λ i. lent (l i) (j i) (n i)
+    ap (λ (x : Lists). lay x p) (laid-behind gs k ks bs a b c d ps s e) ∙ lay-behind p gs′ ks bs′ ps (omega arith) (omega arith) e′ ∙ λ i. lent (l i) (j i) (n i)
 
 -- steps from the beginning on
 pub lay-over : (p : List PathStep) (ks : List ℕ) (ps : List Float) (n : ℕ) → Room (lent ks ps 0) (length p) → lay (lent ks ps 0) p ≡ written p (lent ks ps n)

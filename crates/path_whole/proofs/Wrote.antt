@@ -14,11 +14,11 @@ use Rattle.refusals.specs.Refusal.{refusal, tooLong}
 use Rattle.refusals.proofs.Tests.{and-first, and-second, all-hold, no-refusal, answered-no, answered-yes}
 use Rattle.outline.specs.Weak.{endsHold}
 use Rattle.path_trip.specs.Path.{points, path}
-use Rattle.path_trip.specs.Trips.{Sound}
+use Rattle.path_trip.specs.Trips.{Admitted}
 use Rattle.path_walk.proofs.Lengths.{at-most, whole-short}
 use Rattle.path.specs.Handing.{pathTests}
 use Rattle.path.proofs.Named.{accepted}
-use Rattle.path_lay.specs.Laying.{Lent, lent, lay, Room}
+use Rattle.path_lay.specs.Laying.{Lists, lent, lay, Room}
 use Rattle.path_whole.specs.Writing.{mostSteps, hasRoom, wholeTests, written, WritesPath}
 use Rattle.path_whole.proofs.Over.{lay-over}
 
@@ -68,7 +68,7 @@ module _ (xs ys : List ℤ) (marks es : List ℕ) (ks : List ℕ) (ps : List Flo
     none = omega arith
 
     -- what is not refused is accepted
-    pub sound : Sound (points xs ys marks) × (endsHold 0 (length xs) es ≡ true)
+    pub sound : Admitted (points xs ys marks) × (endsHold 0 (length xs) es ≡ true)
     sound = accepted xs ys marks es (no-refusal (pathTests xs ys marks es) (all-hold (wholeTests xs ys marks es (length ks) (length ps)) refl none .1))
 
     -- and has room
@@ -86,7 +86,7 @@ module _ (xs ys : List ℤ) (marks es : List ℕ) (ks : List ℕ) (ps : List Flo
 
       -- the count is small
       pub few : m ≤ 65535
-      few = omega (arith, ap (λ (l : Lent). l .count) written-is, whole-short (points xs ys marks) es (sound .0) (sound .1))
+      few = omega (arith, ap (λ (l : Lists). l .count) written-is, whole-short (points xs ys marks) es (sound .0) (sound .1))
 
       -- the path is written
       pub wrote : (j : ℕ) → j ≡ m → WritesPath xs ys marks es (lent ks ps n) 0 (lent ks′ ps′ j)

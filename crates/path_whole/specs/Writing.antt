@@ -13,7 +13,7 @@ use Rattle.path_trip.specs.Path.{points, path}
 use Rattle.path_trip.specs.Numbers.{kindOf, firstOf, secondOf}
 use Rattle.path.specs.Handing.{pathTests}
 use Rattle.path.specs.Lending.{four}
-use Rattle.path_lay.specs.Laying.{Lent, lent}
+use Rattle.path_lay.specs.Laying.{Lists, lent}
 
 -- ---- the refusals
 -- how many steps there are at most
@@ -40,10 +40,10 @@ numbersOf [] = []
 numbersOf (s ∷ ss) = four (firstOf s) (secondOf s) ++ numbersOf ss
 
 -- lent lists with a path written over their beginning, and the number of its steps: what stands behind stays
-abbrev pub written : List PathStep → Lent → Lent
+abbrev pub written : List PathStep → Lists → Lists
 written p l = lent (kindsOf p ++ drop (length p) (l .kinds)) (numbersOf p ++ drop (4 * length p) (l .places)) (length p)
 
 -- what `path` owes its caller, where l stood in the lent lists and the count: the answer r, 0 or the number of a refusal, and what it leaves there, l′
-pub record WritesPath (xs ys : List ℤ) (marks es : List ℕ) (l : Lent) (r : ℕ) (l′ : Lent) : Type 0 where
+pub record WritesPath (xs ys : List ℤ) (marks es : List ℕ) (l : Lists) (r : ℕ) (l′ : Lists) : Type 0 where
   pub answer : r ≡ refusal (wholeTests xs ys marks es (length (l .kinds)) (length (l .places)))
   pub lists : l′ ≡ answered (refusal (wholeTests xs ys marks es (length (l .kinds)) (length (l .places)))) (λ _. l) (written (path (points xs ys marks) es) l)

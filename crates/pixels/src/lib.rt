@@ -12,7 +12,7 @@ pub struct PixelPoint {
 }
 
 // A coordinate in units, as pixels.
-pub fn to_pixels(x: i32) -> f32
+fn to_pixels(x: i32) -> f32
     requires { ⌜ natAbs x ≤ mostExact ⌝ }
     ensures is { λ r. ⌜ r ≡ over x 6 ⌝ }
     ensures exact { λ r. ⌜ Exactly r x 64 ⌝ }
@@ -21,7 +21,7 @@ pub fn to_pixels(x: i32) -> f32
 }
 
 // Halfway between two coordinates in units, as pixels.
-pub fn halfway(a: i32, b: i32) -> f32
+fn halfway(a: i32, b: i32) -> f32
     requires { ⌜ (natAbs a ≤ mostExact) × (natAbs b ≤ mostExact) ⌝ }
     ensures is { λ r. ⌜ r ≡ over (a +ℤ b) 7 ⌝ }
     ensures exact { λ r. ⌜ Exactly r (a +ℤ b) 128 ⌝ }

@@ -13,7 +13,3 @@ by₄ f e p q s t = e ∙ λ i. f (p i) (q i) (s i) (t i)
 pub by₅ : {A B C D E R : Type 0} (f : A → B → C → D → E → R) {r : R} {a a′ : A} {b b′ : B} {c c′ : C} {d d′ : D} {x x′ : E}
     → r ≡ f a b c d x → a ≡ a′ → b ≡ b′ → c ≡ c′ → d ≡ d′ → x ≡ x′ → r ≡ f a′ b′ c′ d′ x′
 by₅ f e p q s t u = e ∙ λ i. f (p i) (q i) (s i) (t i) (u i)
-
-pub by₆ : {A B C D E F R : Type 0} (f : A → B → C → D → E → F → R) {r : R} {a a′ : A} {b b′ : B} {c c′ : C} {d d′ : D} {x x′ : E} {y y′ : F}
-    → r ≡ f a b c d x y → a ≡ a′ → b ≡ b′ → c ≡ c′ → d ≡ d′ → x ≡ x′ → y ≡ y′ → r ≡ f a′ b′ c′ d′ x′ y′
-by₆ f e p q s t u v = e ∙ λ i. f (p i) (q i) (s i) (t i) (u i) (v i)

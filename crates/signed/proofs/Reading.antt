@@ -7,7 +7,7 @@ use borrow.Author.Tests.{eqb-true, eqb-false}
 use lib.Dec.{eqb}
 use lib.IntN.{ℤ, pos, _-ℤ_}
 use lib.Signed.{ltZ, leZ, mag}
-use mir.Syntax.{Width, w16, w32, w64}
+use mir.Syntax.{Width, w16, w32}
 use mir.Val.{SFits, toZ, ofZ, hbits}
 use Rattle.signed.specs.Distance.{distance}
 use Rattle.signed.specs.Equality.{eqZ}
@@ -28,10 +28,6 @@ back w z p = is (got w z p)
 pub wide-16 : (z : ℤ) → SFits w16 z → SFits w32 z
 wide-16 z f = fits (omega (arith, signed, range f))
 
--- what fits 32 bits fits 64
-wide-32 : (z : ℤ) → SFits w32 z → SFits w64 z
-wide-32 z f = fits (omega (arith, signed, range f))
-
 -- a cast from 16 to 32 bits fits
 pub cast-16 : (z : ℤ) → mag z < 2 ^ hbits w16 → SFits w32 (toZ w16 (ofZ w16 z))
 cast-16 z p = rw (back w16 z p) (wide-16 z (got w16 z p))
@@ -39,14 +35,6 @@ cast-16 z p = rw (back w16 z p) (wide-16 z (got w16 z p))
 -- and is read back
 pub back-16 : (z : ℤ) → mag z < 2 ^ hbits w16 → toZ w32 (ofZ w32 (toZ w16 (ofZ w16 z))) ≡ z
 back-16 z p = rw (back w16 z p) (is (wide-16 z (got w16 z p)))
-
--- a cast from 32 to 64 bits fits
-pub cast-32 : (z : ℤ) → mag z < 2 ^ hbits w32 → SFits w64 (toZ w32 (ofZ w32 z))
-cast-32 z p = rw (back w32 z p) (wide-32 z (got w32 z p))
-
--- and is read back
-pub back-32 : (z : ℤ) → mag z < 2 ^ hbits w32 → toZ w64 (ofZ w64 (toZ w32 (ofZ w32 z))) ≡ z
-back-32 z p = rw (back w32 z p) (is (wide-32 z (got w32 z p)))
 
 -- ---- differences of coordinates
 -- of two of 16 bits the difference fits 32

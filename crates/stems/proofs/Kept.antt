@@ -65,14 +65,14 @@ held-put c i k plan axis h q =
 
 -- ---- a step
 -- a state after i visits of n edges, its positions within b
-pub record Sound (b n i : ℕ) (s : State) : Type 0 where
+pub record StateSound (b n i : ℕ) (s : State) : Type 0 where
   pub len : s .axis .len ≡ n
   pub axis-in : AxisWithin b (s .axis)
   pub count-in : s .count ≤ i
   pub anchor-in : Below n (s .anchor)
   pub trail-in : TrailWithin (s .trail)
 
-sound-more : (b c n i : ℕ) (s : State) → b ≤ c → Sound b n i s → Sound c n (i + 1) s
+sound-more : (b c n i : ℕ) (s : State) → b ≤ c → StateSound b n i s → StateSound c n (i + 1) s
 sound-more b c n i s h g = record {
   len = g .len;
   axis-in = within-more b c (s .axis) h (g .axis-in);
@@ -81,7 +81,7 @@ sound-more b c n i s h g = record {
   trail-in = g .trail-in;
 }
 
-counted-sound : (b c n i : ℕ) (s : State) → b ≤ c → Sound b n i s → Sound c n (i + 1) (counted s)
+counted-sound : (b c n i : ℕ) (s : State) → b ≤ c → StateSound b n i s → StateSound c n (i + 1) (counted s)
 counted-sound b c n i s h g = record {
   len = g .len;
   axis-in = within-more b c (s .axis) h (g .axis-in);
@@ -99,17 +99,17 @@ anchor-kept : (n i : ℕ) (plan : Plan) (anchor : Link) → Below n anchor → i
 unfolding anchorAfter
 anchor-kept n i plan anchor h q = either-way (Below n) (plan .anchors) (Links.To i) anchor (below-to n i q) h
 
-pub edge-in : (b n i j : ℕ) (s : State) → Sound b n i s → j < n → EdgeIn b (edgeAt (s .axis) j)
+pub edge-in : (b n i j : ℕ) (s : State) → StateSound b n i s → j < n → EdgeIn b (edgeAt (s .axis) j)
 edge-in b n i j s h q = let e = edge-at b n j (s .axis) (h .axis-in) (h .len) q in record { opos = e .opos; pos = e .pos }
 
-pub link-in : (b n i k : ℕ) (s : State) → Sound b n i s → i < n → edgeAt (s .axis) i .link ≡ Links.To k → k < n
+pub link-in : (b n i k : ℕ) (s : State) → StateSound b n i s → i < n → edgeAt (s .axis) i .link ≡ Links.To k → k < n
 link-in b n i k s h q e = edge-at b n i (s .axis) (h .axis-in) (h .len) q .link .at k e
 
-pub plan-in : (b n i k : ℕ) (m : Mode) (xs : List ℤ) (s : State) → Reached b → Sound b n i s → i < n → k < n → PlanWithin (b + mostGrowth) (planAt m xs s i k)
+pub plan-in : (b n i k : ℕ) (m : Mode) (xs : List ℤ) (s : State) → Reached b → StateSound b n i s → i < n → k < n → PlanWithin (b + mostGrowth) (planAt m xs s i k)
 plan-in b n i k m xs s r h q p =
     plan-within b r m xs _ _ _ (s .anchor) _ (s .trail) (edge-in b n i i s h q) (edge-in b n i k s h p) (edge-in b n i _ s h (anchor-or n i (s .anchor) (h .anchor-in) q)) (h .trail-in)
 
-carried-sound : (b n i k : ℕ) (s : State) (plan : Plan) → Sound b n i s → i < n → k < n → PlanWithin (b + mostGrowth) plan → Sound (b + mostGrowth) n (i + 1) (carriedOut s i k plan)
+carried-sound : (b n i k : ℕ) (s : State) (plan : Plan) → StateSound b n i s → i < n → k < n → PlanWithin (b + mostGrowth) plan → StateSound (b + mostGrowth) n (i + 1) (carriedOut s i k plan)
 unfolding carriedOut
 carried-sound b n i k s plan h q p g =
     let c = b + mostGrowth in
@@ -125,19 +125,21 @@ carried-sound b n i k s plan h q p g =
       trail-in = g .trail;
     }
 
-link-sound : (b n i : ℕ) (m : Mode) (xs : List ℤ) (s : State) (l : Link) → Reached b → Sound b n i s → i < n → edgeAt (s .axis) i .link ≡ l → Sound (b + mostGrowth) n (i + 1) (stepLink m xs s i l)
+link-sound :
+    (b n i : ℕ) (m : Mode) (xs : List ℤ) (s : State) (l : Link) → Reached b → StateSound b n i s → i < n → edgeAt (s .axis) i .link ≡ l
+    → StateSound (b + mostGrowth) n (i + 1) (stepLink m xs s i l)
 unfolding stepLink
 link-sound b n i m xs s Links.None r h q e = counted-sound b (b + mostGrowth) n i s (omega arith) h
 link-sound b n i m xs s (Links.To k) r h q e =
     let p = link-in b n i k s h q e in
-    either-way (Sound (b + mostGrowth) n (i + 1)) (tooClose (m .group) (s .trail .last) (edgeAt (s .axis) i) (edgeAt (s .axis) k)) (counted s) _
+    either-way (StateSound (b + mostGrowth) n (i + 1)) (tooClose (m .group) (s .trail .last) (edgeAt (s .axis) i) (edgeAt (s .axis) k)) (counted s) _
     (counted-sound b (b + mostGrowth) n i s (omega arith) h)
     (carried-sound b n i k s (planAt m xs s i k) h q p (plan-in b n i k m xs s r h q p))
 
-step-sound : (b n i : ℕ) (m : Mode) (xs : List ℤ) (s : State) → Reached b → Sound b n i s → i < n → Sound (b + mostGrowth) n (i + 1) (step m xs s i)
+step-sound : (b n i : ℕ) (m : Mode) (xs : List ℤ) (s : State) → Reached b → StateSound b n i s → i < n → StateSound (b + mostGrowth) n (i + 1) (step m xs s i)
 unfolding step
 step-sound b n i m xs s r h q =
-    either-way (Sound (b + mostGrowth) n (i + 1)) (edgeAt (s .axis) i .flags .done) s _
+    either-way (StateSound (b + mostGrowth) n (i + 1)) (edgeAt (s .axis) i .flags .done) s _
     (sound-more b (b + mostGrowth) n i s (omega arith) h)
     (link-sound b n i m xs s (edgeAt (s .axis) i .link) r h q refl)
 
@@ -149,19 +151,19 @@ grown i = mostPos + i * mostGrowth
 pub reached : (n i : ℕ) → n ≤ mostEdges → i < n → Reached (grown i)
 reached n i h q = record { least = omega arith; most = omega (arith, h, q) }
 
-begun-sound : (anchor : Link) (axis : Axis) → AxisWithin mostPos axis → Below (axis .len) anchor → Sound (grown 0) (axis .len) 0 (begun anchor axis)
+begun-sound : (anchor : Link) (axis : Axis) → AxisWithin mostPos axis → Below (axis .len) anchor → StateSound (grown 0) (axis .len) 0 (begun anchor axis)
 begun-sound anchor axis h g = record { len = refl; axis-in = h; count-in = omega arith; anchor-in = g; trail-in = record { last = last-none; delta = omega arith } }
 
-turn-sound : (n i : ℕ) (m : Mode) (xs : List ℤ) (s s′ : State) → n ≤ mostEdges → i < n → step m xs s i ≡ s′ → Sound (grown i) n i s → Sound (grown (i + 1)) n (i + 1) s′
+turn-sound : (n i : ℕ) (m : Mode) (xs : List ℤ) (s s′ : State) → n ≤ mostEdges → i < n → step m xs s i ≡ s′ → StateSound (grown i) n i s → StateSound (grown (i + 1)) n (i + 1) s′
 turn-sound n i m xs s s′ h q e g =
     let g′ : grown i + mostGrowth ≡ grown (i + 1) = omega arith in
-    subst (λ (c : ℕ). Sound c n (i + 1) s′) g′ (subst (Sound (grown i + mostGrowth) n (i + 1)) e (step-sound (grown i) n i m xs s (reached n i h q) g q))
+    subst (λ (c : ℕ). StateSound c n (i + 1) s′) g′ (subst (StateSound (grown i + mostGrowth) n (i + 1)) e (step-sound (grown i) n i m xs s (reached n i h q) g q))
 
 -- after i of n visits of the code: the state is sound, and what is left gives the whole pass
 pub record Goes (m : Mode) (xs : List ℤ) (n : ℕ) (anchor : Link) (axis : Axis) (s : State) (i : ℕ) : Type 0 where
   pub visited : i ≤ n
   pub few : n ≤ mostEdges
-  pub sound : Sound (grown i) n i s
+  pub sound : StateSound (grown i) n i s
   pub rest : visits (step m xs) (n - i) i s ≡ visits (step m xs) n 0 (begun anchor axis)
 
 pub goes-begun : (m : Mode) (xs : List ℤ) (anchor : Link) (axis : Axis) → AxisWithin mostPos axis → Below (axis .len) anchor → Goes m xs (axis .len) anchor axis (begun anchor axis) 0
@@ -183,9 +185,9 @@ goes-on {m} {xs} {n} {anchor} {axis} {s} {s′} {i} g q e = record {
   rest = turn (step m xs) n i s s′ _ q e (g .rest);
 }
 
-steps-sound : (j i n : ℕ) (m : Mode) (xs : List ℤ) (s : State) → n ≤ mostEdges → i + j ≡ n → Sound (grown i) n i s → Sound (grown n) n n (visits (step m xs) j i s)
+steps-sound : (j i n : ℕ) (m : Mode) (xs : List ℤ) (s : State) → n ≤ mostEdges → i + j ≡ n → StateSound (grown i) n i s → StateSound (grown n) n n (visits (step m xs) j i s)
 unfolding visits
-steps-sound zero i n m xs s h e g = let q : i ≡ n = omega (arith, e) in subst (λ (x : ℕ). Sound (grown x) n x s) q g
+steps-sound zero i n m xs s h e g = let q : i ≡ n = omega (arith, e) in subst (λ (x : ℕ). StateSound (grown x) n x s) q g
 steps-sound (suc j) i n m xs s h e g =
     let q : i < n = omega (arith, e) in
     steps-sound j (i + 1) n m xs (step m xs s i) h (omega (arith, e)) (turn-sound n i m xs s (step m xs s i) h q refl g)
@@ -203,7 +205,7 @@ pass-keeps m xs anchor axis h g =
     let n = axis .len in
     let f = h .few in
     let all = steps-sound n 0 n m xs (begun anchor axis) f (omega arith) (begun-sound anchor axis h g) in
-    let s = subst (Sound (grown n) n n) (steps-are m xs n 0 (begun anchor axis)) all in
+    let s = subst (StateSound (grown n) n n) (steps-are m xs n 0 (begun anchor axis)) all in
     record {
       positions = within-more (grown n) mostFitted _ (omega (arith, f)) (s .axis-in);
       counts = s .count-in;

@@ -22,9 +22,9 @@ module _ (axis : Axis) (t : Segments) where
   refused k e = rw e
 
   -- an accepted call hands back 0, and both turned over
-  pub done : refusal (turningTests axis t) ≡ 0 → turnOver axis t ≡ beside (turnedAxis axis) (turnedSegments (axis .len) t) 0
+  pub when-accepted : refusal (turningTests axis t) ≡ 0 → turnOver axis t ≡ beside (turnedAxis axis) (turnedSegments (axis .len) t) 0
   unfolding turnOver
-  done e = rw e
+  when-accepted e = rw e
 
   -- answer 0 says that nothing was refused
   pub accepted : turnOver axis t .answer ≡ 0 → refusal (turningTests axis t) ≡ 0
@@ -47,7 +47,7 @@ module _ (axis : Axis) (t : Segments) (w : Whole axis t) (e : turnOver axis t .a
   is-taken = taken axis t (accepted axis t e)
 
   outcome : turnOver axis t ≡ beside (turnedAxis axis) (turnedSegments (axis .len) t) 0
-  outcome = done axis t (accepted axis t e)
+  outcome = when-accepted axis t (accepted axis t e)
 
   -- it passes every test of the call, that of the indices too
   pub handed-on : refusal (turningTests turned table) ≡ 0
@@ -61,7 +61,7 @@ module _ (axis : Axis) (t : Segments) (w : Whole axis t) (e : turnOver axis t .a
   back = λ i. beside (axis-twice axis t w is-taken i) (segments-twice axis t w is-taken i) 0
 
   pub twice : turnOver turned table ≡ beside axis t 0
-  twice = done turned table handed-on ∙ ap (λ (x : Turned). beside (turnedAxis (x .axis)) (turnedSegments (x .axis .len) (x .segments)) 0) outcome ∙ back
+  twice = when-accepted turned table handed-on ∙ ap (λ (x : Turned). beside (turnedAxis (x .axis)) (turnedSegments (x .axis .len) (x .segments)) 0) outcome ∙ back
 
   -- every edge takes its mark along
   pub same-mark : (i : ℕ) → i < axis .len → edgeAt turned i .mark ≡ edgeAt axis (turnedIndex (axis .len) i) .mark

@@ -25,10 +25,10 @@ refit-block-requires : tie.Need-refit-block-requires Inv-loop μ-loop
 refit-block-requires c κs = omega (arith, c .before .before .before .loop .inv, c .before .before .before .before .before .before .before .pre)
 
 slice-reshare-prefix-write-all : tie.Need-slice-reshare-prefix-write-all Inv-loop μ-loop
-slice-reshare-prefix-write-all c = c .before .before .before .before .refit-block .ensures .within
+slice-reshare-prefix-write-all c = c .before .before .before .before .refit-block .ensures .in-list
 
 slice-aggregate-write-all : tie.Need-slice-aggregate-write-all Inv-loop μ-loop
-slice-aggregate-write-all c = sym (length-take-le _ _ (c .before .before .before .before .before .refit-block .ensures .within))
+slice-aggregate-write-all c = sym (length-take-le _ _ (c .before .before .before .before .before .refit-block .ensures .in-list))
 
 write-all-requires : tie.Need-write-all-requires Inv-loop μ-loop
 write-all-requires c κs = search needs

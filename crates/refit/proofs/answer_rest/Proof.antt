@@ -12,7 +12,7 @@ slice-reshare-prefix-write-all : tie.Need-slice-reshare-prefix-write-all
 slice-reshare-prefix-write-all c = search needs
 
 slice-aggregate-write-all : tie.Need-slice-aggregate-write-all
-slice-aggregate-write-all c = sym (length-take-le _ _ (c .before .before .before .refit-rest .ensures .within))
+slice-aggregate-write-all c = sym (length-take-le _ _ (c .before .before .before .refit-rest .ensures .in-list))
 
 write-all-requires : tie.Need-write-all-requires
 write-all-requires c κs = search needs

@@ -1,7 +1,7 @@
 -- `catalogue::align::align_catalogue` meets its contract: what is not refused adds up, and so every outline is done. Assumes nothing.
 use borrow.Author.Needs.{needs}
 use native.Mathlib.Omega.{arith}
-use Rattle.catalogue.proofs.Outcomes.{adding, refused, done}
+use Rattle.catalogue.proofs.Outcomes.{adding, refused, when-accepted}
 use Rattle.catalogue.proofs.align.align_catalogue.Statement.{statement}
 use Rattle.catalogue.proofs.align.align_catalogue.Tie as tie
 
@@ -30,7 +30,7 @@ returns-2 : tie.Need-returns-2
 returns-2 c =
     let o = c .before .before .before in
     let e = o .before .before .before in
-    done _ _ _ _ _ _ _ _ _ (omega (arith, e .before .catalogue-refusal .ensures, e .if1 .left)) (o .align-outlines .ensures)
+    when-accepted _ _ _ _ _ _ _ _ _ (omega (arith, e .before .catalogue-refusal .ensures, e .if1 .left)) (o .align-outlines .ensures)
 
 pub align-catalogue-spec : {M : Type 1} → statement M
 align-catalogue-spec =

@@ -2,8 +2,8 @@
 use borrow.Author.Needs.{needs}
 use native.Mathlib.Omega.{arith}
 use mathlib.Core.Path.{refl}
-use Prim.Native.Nat.{_+_, _-_, _≤_, _<_}
-use lib.ListN.{length, getD}
+use Prim.Native.Nat.{_-_}
+use lib.ListN.{length}
 use Rattle.catalogue.proofs.Outlines as laws
 use Rattle.catalogue.proofs.align.align_outlines.Statement.{statement}
 use Rattle.catalogue.proofs.align.align_outlines.Tie as tie

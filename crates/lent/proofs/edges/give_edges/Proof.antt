@@ -1,6 +1,5 @@
 -- `lent::edges::give_edges` meets its contract. Assumes nothing.
 use borrow.Author.Needs.{needs}
-use native.Mathlib.Omega.{arith}
 use Rattle.refusals.specs.Refusal.{refusal}
 use Rattle.lent.specs.Lent.{refusedOr}
 use Rattle.lent.proofs.Lents.{refused}

@@ -1,7 +1,5 @@
 -- `lent::word::give_word` meets its contract. Assumes nothing.
 use borrow.Author.Needs.{needs}
-use native.Mathlib.Omega.{arith}
-use Rattle.signed.proofs.Signed.{is}
 use Rattle.refusals.specs.Refusal.{refusal}
 use Rattle.lent.specs.Lent.{refusedOr}
 use Rattle.lent.proofs.Lents.{refused}

@@ -1,5 +1,5 @@
 -- `lowercase_m::hint::hint_lowercase_m` meets its contract. Assumes nothing.
-use mathlib.Core.Path.{_≡_, refl, sym, ap, subst, _∙_}
+use mathlib.Core.Path.{refl, sym, ap, subst, _∙_}
 use Rattle.refusals.proofs.Tests.{AllHold, all-held, answered-no, answered-yes}
 use Rattle.axis.specs.declared.edge.Axis.{Axis}
 use Rattle.axis.proofs.Acceptance.{axis-within}

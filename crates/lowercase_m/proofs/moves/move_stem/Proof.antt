@@ -9,6 +9,7 @@ use Rattle.signed.proofs.Signed.{is}
 use Rattle.axis.specs.declared.kinds.Link.{Link}
 use Rattle.axis.specs.declared.edge.Axis.{Axis}
 use Rattle.axis.specs.Edge.{putEdge, edgeAt, finished}
+use Rattle.axis.specs.Limits.{mostEdges}
 use Rattle.lowercase_m.specs.Steps.{Places, unmoved, onceMoved, twiceMoved, thriceMoved}
 use Rattle.lowercase_m.specs.M.{mostDelta, movedBack, moveDone, moveLink, moveSerifs, moveStem}
 use Rattle.signed.proofs.By.{by₂}
@@ -42,7 +43,7 @@ stem-places c = let s = start c in done-places unmoved (s .args .third) (s .args
 linked-edge : (c : tie.After-link) → c .link .given .0 .0 < start (c .before .before) .args .t1 .len
 linked-edge c = start (c .before .before) .pre .0 .1 .at _ (c .link .given .1)
 
-linked-below : (c : tie.After-link) → c .link .given .0 .0 < 128
+linked-below : (c : tie.After-link) → c .link .given .0 .0 < mostEdges
 linked-below c = let h = linked-edge c in let g = start (c .before .before) .pre .1 .0 .few in omega arith
 
 linked-place : (c : tie.After-link) → c .link .given .0 .0 < stemDone (c .before .before) .len

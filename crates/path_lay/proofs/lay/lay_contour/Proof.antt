@@ -7,7 +7,7 @@ use Prim.Native.Nat.{_-_}
 use lib.ListN.{drop}
 use Rattle.path_trip.specs.declared.step.PathStep.the-variants.{Move}
 use Rattle.path_trip.specs.Path.{points, Points, Round, roundOf, walked, stepsOf}
-use Rattle.path_lay.specs.Laying.{Lent, lent}
+use Rattle.path_lay.specs.Laying.{Lists, lent}
 use Rattle.path_lay.proofs.Lays.{Laying, laying, laying-as, laying-one, laying-room}
 use Rattle.path_walk.proofs.Seeks.{steps-are}
 use Rattle.path_lay.proofs.lay.lay_contour.Statement.{statement}
@@ -22,7 +22,7 @@ round s = roundOf (outline s) (s .args .a) (s .args .e - 1)
 abbrev entry : tie.After-trip-of → tie.Start
 entry t = t .before .before .before .before
 
-abbrev at-first : tie.Start → Lent
+abbrev at-first : tie.Start → Lists
 at-first s = lent (s .args .kinds .now) (s .args .places .now) (s .args .count)
 
 abbrev tripped : tie.After-lay-step → tie.After-trip-of

@@ -10,7 +10,7 @@ use lib.ListN.{getD, drop}
 use Rattle.path_trip.specs.declared.step.PathStep.{PathStep}
 use Rattle.path_trip.specs.declared.step.PathStep.the-variants.{Close}
 use Rattle.path_trip.specs.Path.{points, Points, onCurve, roundOf, walked}
-use Rattle.path_lay.specs.Laying.{Lent, lent, laid}
+use Rattle.path_lay.specs.Laying.{Lists, lent, laid}
 use Rattle.path_trip.specs.Trips.{around}
 use Rattle.path_walk.specs.Steps.{stepOf}
 use Rattle.path_lay.proofs.Lays.{Laying, laying, laying-as, laying-one, laying-room, laying-done}
@@ -38,10 +38,10 @@ entry l = l .before .before .before .before
 abbrev at-loop : tie.After-count-of Inv-loop μ-loop → tie.At-loop Inv-loop μ-loop
 at-loop n = n .before .before .before .before .before .before .before
 
-abbrev at-first : tie.At-loop Inv-loop μ-loop → Lent
+abbrev at-first : tie.At-loop Inv-loop μ-loop → Lists
 at-first l = lent (entry l .args .kinds .now) (entry l .args .places .now) (entry l .args .count)
 
-abbrev at-turn : tie.At-loop Inv-loop μ-loop → Lent
+abbrev at-turn : tie.At-loop Inv-loop μ-loop → Lists
 at-turn l = lent (l .loop .kinds) (l .loop .places) (l .loop .n)
 
 abbrev whole : tie.At-loop Inv-loop μ-loop → List PathStep

@@ -1,6 +1,6 @@
 -- `shape::element::is_run` meets its contract. Assumes nothing.
 use borrow.Author.Needs.{needs}
-use mathlib.Core.Path.{_≡_, sym, _∙_}
+use mathlib.Core.Path.{sym, _∙_}
 use Rattle.shape.proofs.Shapes.{run-none, run-ends}
 use Rattle.shape.proofs.element.is_run.Statement.{statement}
 use Rattle.shape.proofs.element.is_run.Tie as tie
