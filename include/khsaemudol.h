@@ -83,8 +83,9 @@
  * khs_turn_over, which holds first and last against the segments too.
  *
  * No call allocates, keeps a pointer, prints or fails otherwise. Each may be called from any thread, and on other lists at the same time. Working tables stand on
- * the stack, of which the x86-64 library was measured to use up to 158 KiB in linking and building, 143 KiB in khs_turn_over, 41 KiB in the other calls over
- * edges, and less than 1 KiB in the rest; the same code on aarch64 164 KiB, 143 KiB, 41 KiB and 1 KiB. */
+ * the stack, of which the x86-64 library was measured to use up to 160 KiB in linking and building, 149 KiB in khs_turn_over, 45 KiB in the other calls over
+ * edges but for those below, and less than 1 KiB in the rest and in khs_align_linked_edge, khs_align_serif_edge, khs_adjust_link and khs_latin_remaining_bounds; the same
+ * code on aarch64 166 KiB, 149 KiB, 45 KiB and 1 KiB. */
 #ifndef KHSAEMUDOL_H
 #define KHSAEMUDOL_H
 
