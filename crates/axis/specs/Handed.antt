@@ -8,7 +8,7 @@ use Rattle.signed.specs.Range.{Between}
 use Rattle.axis.specs.declared.edge.Axis.{Axis}
 use Rattle.axis.specs.declared.segment.Segment.{Segment}
 use Rattle.axis.specs.declared.segment.Segments.{Segments}
-use Rattle.axis.specs.Limits.{mostSegments}
+use Rattle.axis.specs.Limits.{mostEdges, mostSegments}
 use Rattle.axis.specs.Refusals.{edgesShort, edgesIndexed, edgesInRange, segmentsShort, segmentsIndexed, segmentsInRange}
 use Rattle.axis.specs.Segment.{segmentAt}
 
@@ -42,3 +42,7 @@ pub record TypedSegment (s : Segment) : Type 0 where
 pub record Typed (t : Segments) : Type 0 where
   pub places : length (t .segments) ≡ mostSegments
   pub segment : (i : ℕ) → TypedSegment (segmentAt t i)
+
+-- an axis has all its places
+pub record TypedAxis (axis : Axis) : Type 0 where
+  pub places : length (axis .edges) ≡ mostEdges

@@ -1,5 +1,5 @@
 -- What every value of the declared types is, by the kit's own meaning of them: a table of segments that the code is given or hands back has all its places, and
--- coordinates of 16 bits.
+-- coordinates of 16 bits; an axis has all its places.
 use mathlib.Core.Path.{sym, _∙_}
 use mathlib.Core.List.{List, [], _∷_, map}
 use Prim.Native.Nat.{ℕ, zero, suc}
@@ -13,10 +13,13 @@ use denote.Laws.{Is}
 use denote.Shadow.{shadow}
 use denote.Struct.Declared.{row}
 use Rattle.signed.proofs.Signed.{range}
+use Rattle.axis.specs.declared.edge.Axis.{Axis}
 use Rattle.axis.specs.declared.segment.Segment.{Segment}
 use Rattle.axis.specs.declared.segment.Segments.{Segments}
-use Rattle.axis.specs.Handed.{Short, TypedSegment, Typed}
+use Rattle.axis.specs.Handed.{Short, TypedSegment, Typed, TypedAxis}
 use Rattle.axis.specs.Segment.{emptySegment}
+use Rattle.axis.proofs.edge.Edge as Edge
+use Rattle.axis.proofs.edge.Axis as Edges
 use Rattle.axis.proofs.segment.Segment as One
 use Rattle.axis.proofs.segment.Segments as Table
 
@@ -48,3 +51,8 @@ pub typed : (t : Segments) (vs : List Val) → Is (row Table.the-type) t vs → 
 typed t vs p =
     let q = p .1 .1 .0 in
     record { places = sym (length-map (t .segments) (One.the-field .into)) ∙ q .1 .0 .1; segment = all (t .segments) (q .0) (q .1 .1) }
+
+-- ---- an axis
+-- the machine values of an axis are those of one that is `TypedAxis`
+pub typed-axis : (axis : Axis) (vs : List Val) → Is (row Edges.the-type) axis vs → TypedAxis axis
+typed-axis axis vs p = record { places = sym (length-map (axis .edges) (Edge.the-field .into)) ∙ p .1 .1 .1 .1 .0 .1 .0 .1 }

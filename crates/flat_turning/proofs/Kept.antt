@@ -3,11 +3,11 @@
 use mathlib.Core.Path.{_≡_, refl, sym, ap, subst, _∙_}
 use mathlib.Core.Bool.{true, false, cond}
 use mathlib.Core.List.{List, [], _∷_}
-use Prim.Native.Nat.{ℕ, zero, suc, _-_, _≤_, _<_, min}
+use Prim.Native.Nat.{ℕ, zero, suc, _≤_, _<_}
 use native.Mathlib.Omega.{arith}
 use borrow.Author.Tests.{leb-true}
 use lib.Dec.{eqb, leb}
-use lib.ListN.{length, set, length-append, length-replicate}
+use lib.ListN.{length, set}
 use lib.IntN.{ℤ}
 use Rattle.refusals.proofs.Tests.{and-first, and-second, all-hold}
 use Rattle.axis.specs.declared.edge.Edge.{Edge}
@@ -15,23 +15,23 @@ use Rattle.axis.specs.declared.edge.Axis.{Axis}
 use Rattle.axis.specs.declared.kinds.Link.{Link}
 use Rattle.axis.specs.declared.segment.Segment.{Segment}
 use Rattle.axis.specs.declared.segment.Segments.{Segments}
-use Rattle.axis.specs.Edge.{emptyEdge, edgeAt, joinedTo}
+use Rattle.axis.specs.Edge.{edgeAt, joinedTo}
 use Rattle.axis.specs.Limits.{mostEdges, mostSegments}
 use Rattle.axis.specs.Segment.{segmentAt}
 use Rattle.turning.specs.declared.turn.Turned.{Turned}
-use Rattle.turning.specs.Turning.{turnedIndex, turnedLink, turnedSegment, turnedAxis, turnedSegments, beside, Whole}
+use Rattle.turning.specs.Turning.{turnedIndex, turnedLink, turnedSegment, turnedAxis, turnedSegments, beside}
 use Rattle.turning.proofs.Calls.{Taken, taken}
 use Rattle.turning.proofs.Outcomes.{when-accepted, accepted}
 use Rattle.turning.proofs.Places.{turned-edge-at, turned-segment-at}
 use Rattle.turning.proofs.Twice as Twice
-use Rattle.words.specs.Word.{wordAt, firsts, table}
+use Rattle.words.specs.Word.{wordAt}
 use Rattle.words.specs.Field.{linkWord}
 use Rattle.words.specs.Edge as E
 use Rattle.words.specs.Segment as S
 use Rattle.words.proofs.Edges.{edge-lengths}
 use Rattle.words.proofs.Places.{joined-at, edge-read}
-use Rattle.words.proofs.Tables.{firsts-length, joined-length}
-use Rattle.words.proofs.Typed.{flat-typed}
+use Rattle.words.proofs.Tables.{joined-length}
+use Rattle.words.proofs.Typed.{flat-typed, axis-typed}
 use Rattle.shape.specs.Shape.{edgesShown, segmentsShown}
 use Rattle.shape.proofs.Back.{edges-back}
 use Rattle.lent.specs.Kept.{KeptBut, ofSegments, isOneOf}
@@ -59,18 +59,9 @@ edge-word e link serif j h =
     word-beside (set (E.edgeWords e) E.linkPlace (linkWord link)) E.serifPlace j (linkWord serif) (b .0) ∙ word-beside (E.edgeWords e) E.linkPlace j (linkWord link) (a .0)
 
 -- ---- the tables that are read
-edges-places : (es : List ℤ) → length (edgesOf es .edges) ≡ mostEdges
-unfolding E.flatAxis E.axisRun table
-edges-places es =
-    length-append (firsts (E.edgeInRun es 0) (min (E.edgesIn es) mostEdges)) _
-    ∙ omega (arith, firsts-length (E.edgeInRun es 0) (min (E.edgesIn es) mostEdges), length-replicate (mostEdges - min (E.edgesIn es) mostEdges) emptyEdge)
-
 edges-count : (es : List ℤ) → edgesOf es .len ≡ E.edgesIn es
 unfolding E.flatAxis E.axisRun
 edges-count es = refl
-
-whole : (ws es : List ℤ) → Whole (edgesOf es) (S.flatSegments ws)
-whole ws es = record { edges = edges-places es; segments = flat-typed ws .places }
 
 -- ---- an accepted call
 module _ (ws es : List ℤ) (e : turned ws es .answer ≡ 0) where
@@ -89,14 +80,14 @@ module _ (ws es : List ℤ) (e : turned ws es .answer ≡ 0) where
   segment-same : (i j : ℕ) → i < segments .len → isOneOf turnedWord j ≡ false → wordAt (S.segmentWordsAt (turned ws es .segments) i) j ≡ wordAt (S.segmentWordsAt segments i) j
   segment-same i j h f =
       ap (λ (x : Turned). wordAt (S.segmentWordsAt (x .segments) i) j) outcome
-      ∙ ap (λ (s : Segment). wordAt (S.segmentWords s) j) (turned-segment-at (axis .len) segments (Twice.segments-whole axis segments (whole ws es) is-taken) i h)
+      ∙ ap (λ (s : Segment). wordAt (S.segmentWords s) j) (turned-segment-at (axis .len) segments (Twice.segments-whole axis segments (axis-typed es _ _) (flat-typed ws) is-taken) i h)
       ∙ segment-word (axis .len) (segmentAt segments i) j f
 
   edge-moved : (i j : ℕ) → i < axis .len → isOneOf (E.linkPlace ∷ E.serifPlace ∷ []) j ≡ false
       → wordAt (E.edgeWordsAt (turned ws es .axis) i) j ≡ wordAt (E.edgeWordsAt axis (turnedIndex (axis .len) i)) j
   edge-moved i j h f =
       ap (λ (x : Turned). wordAt (E.edgeWordsAt (x .axis) i) j) outcome
-      ∙ ap (λ (d : Edge). wordAt (E.edgeWords d) j) (turned-edge-at axis (Twice.edges-whole axis segments (whole ws es) is-taken) i h)
+      ∙ ap (λ (d : Edge). wordAt (E.edgeWords d) j) (turned-edge-at axis (Twice.edges-whole axis segments (axis-typed es _ _) (flat-typed ws) is-taken) i h)
       ∙ edge-word (edgeAt axis (turnedIndex (axis .len) i)) _ _ j f
 
 -- ---- the tests in front

@@ -7,9 +7,10 @@ use Rattle.axis.specs.declared.edge.Edge.{Edge}
 use Rattle.axis.specs.declared.edge.Axis.{Axis}
 use Rattle.axis.specs.declared.segment.Segments.{Segments}
 use Rattle.axis.specs.Edge.{edgeAt}
+use Rattle.axis.specs.Handed.{TypedAxis, Typed}
 use Rattle.axis.specs.Ring.{members, Sound}
 use Rattle.turning.specs.declared.turn.Turned.{Turned}
-use Rattle.turning.specs.Turning.{turnedIndex, turnedAxis, turnedSegments, turningTests, beside, turnOver, TurnsOver, Whole}
+use Rattle.turning.specs.Turning.{turnedIndex, turnedAxis, turnedSegments, turningTests, beside, turnOver, TurnsOver}
 use Rattle.turning.proofs.Calls.{Taken, taken, not-refused}
 use Rattle.turning.proofs.Rings as Rings
 use Rattle.turning.proofs.Places.{turned-edge-at}
@@ -36,7 +37,7 @@ module _ (axis : Axis) (t : Segments) where
   determined x y p q = p ∙ sym q
 
 -- ---- what an accepted call hands back
-module _ (axis : Axis) (t : Segments) (w : Whole axis t) (e : turnOver axis t .answer ≡ 0) where
+module _ (axis : Axis) (t : Segments) (w : TypedAxis axis) (v : Typed t) (e : turnOver axis t .answer ≡ 0) where
   abbrev turned : Axis
   turned = turnOver axis t .axis
 
@@ -53,12 +54,12 @@ module _ (axis : Axis) (t : Segments) (w : Whole axis t) (e : turnOver axis t .a
   pub handed-on : refusal (turningTests turned table) ≡ 0
   handed-on =
       subst (λ (x : Turned). refusal (turningTests (x .axis) (x .segments)) ≡ 0) (sym outcome)
-      (not-refused (turnedAxis axis) (turnedSegments (axis .len) t) (taken-again axis t w is-taken))
+      (not-refused (turnedAxis axis) (turnedSegments (axis .len) t) (taken-again axis t w v is-taken))
 
   -- turned over twice, axis and segments are what they were
   back : beside (turnedAxis (turnedAxis axis)) (turnedSegments (turnedAxis axis .len) (turnedSegments (axis .len) t)) 0 ≡ beside axis t 0
   unfolding turnedAxis
-  back = λ i. beside (axis-twice axis t w is-taken i) (segments-twice axis t w is-taken i) 0
+  back = λ i. beside (axis-twice axis t w v is-taken i) (segments-twice axis t w v is-taken i) 0
 
   pub twice : turnOver turned table ≡ beside axis t 0
   twice = when-accepted turned table handed-on ∙ ap (λ (x : Turned). beside (turnedAxis (x .axis)) (turnedSegments (x .axis .len) (x .segments)) 0) outcome ∙ back
@@ -66,12 +67,12 @@ module _ (axis : Axis) (t : Segments) (w : Whole axis t) (e : turnOver axis t .a
   -- every edge takes its mark along
   pub same-mark : (i : ℕ) → i < axis .len → edgeAt turned i .mark ≡ edgeAt axis (turnedIndex (axis .len) i) .mark
   same-mark i h =
-      ap (λ (x : Turned). edgeAt (x .axis) i .mark) outcome ∙ ap (λ (x : Edge). x .mark) (turned-edge-at axis (edges-whole axis t w is-taken) i h)
+      ap (λ (x : Turned). edgeAt (x .axis) i .mark) outcome ∙ ap (λ (x : Edge). x .mark) (turned-edge-at axis (edges-whole axis t w v is-taken) i h)
 
   -- the ring of an edge has the same segments in the same order, sound or not
   pub same-ring : (k : ℕ) → k < axis .len → members turned table (turnedIndex (axis .len) k) ≡ members axis t k
-  same-ring k h = ap (λ (x : Turned). members (x .axis) (x .segments) (turnedIndex (axis .len) k)) outcome ∙ Rings.members-same axis t w is-taken k h
+  same-ring k h = ap (λ (x : Turned). members (x .axis) (x .segments) (turnedIndex (axis .len) k)) outcome ∙ Rings.members-same axis t w v is-taken k h
 
   -- and where it was sound it is sound
   pub sound-ring : (k : ℕ) → k < axis .len → Sound axis t k → Sound turned table (turnedIndex (axis .len) k)
-  sound-ring k h s = subst (λ (x : Turned). Sound (x .axis) (x .segments) (turnedIndex (axis .len) k)) (sym outcome) (Rings.ring-sound axis t w is-taken k h s)
+  sound-ring k h s = subst (λ (x : Turned). Sound (x .axis) (x .segments) (turnedIndex (axis .len) k)) (sym outcome) (Rings.ring-sound axis t w v is-taken k h s)

@@ -15,11 +15,12 @@ use Rattle.axis.specs.declared.kinds.Link.the-variants as Links
 use Rattle.axis.specs.declared.segment.Segment.{Segment}
 use Rattle.axis.specs.declared.segment.Segments.{Segments}
 use Rattle.axis.specs.Edge.{edgeAt}
+use Rattle.axis.specs.Handed.{TypedAxis, Typed}
 use Rattle.axis.specs.Limits.{mostSegments}
 use Rattle.axis.specs.Link.{indexOr}
 use Rattle.axis.specs.Ring.{walk, ends, times, nextOf, members, Sound}
 use Rattle.axis.specs.Segment.{segmentAt}
-use Rattle.turning.specs.Turning.{turnedIndex, turnedLink, turnedEdge, turnedAxis, turnedSegments, Whole}
+use Rattle.turning.specs.Turning.{turnedIndex, turnedLink, turnedEdge, turnedAxis, turnedSegments}
 use Rattle.turning.proofs.Calls.{Taken}
 use Rattle.turning.proofs.Places.{turned-edge-at, turned-segment-at, behind-segments}
 use Rattle.turning.proofs.Twice.{index-twice, link-twice, edges-whole, segments-whole, edge-below}
@@ -55,7 +56,7 @@ met-below next most last (suc n) x i h e g = by (λ l q r. met-below next most l
         (λ (r : 0 < times i (walk next last n (next x))). rest (ltb-true (next x) most (and-first _ _ e)) (and-second (ltb (next x) most) _ e) r)
         (met i x (walk next last n (next x)) g)
 
-module _ (axis : Axis) (t : Segments) (w : Whole axis t) (a : Taken axis t) where
+module _ (axis : Axis) (t : Segments) (w : TypedAxis axis) (v : Typed t) (a : Taken axis t) where
   abbrev m : ℕ
   m = axis .len
 
@@ -69,12 +70,12 @@ module _ (axis : Axis) (t : Segments) (w : Whole axis t) (a : Taken axis t) wher
   next-same : (i : ℕ) → segmentAt table i .next ≡ segmentAt t i .next
   next-same i =
       ⊎-elim
-      (λ (h : i < t .len). ap (λ (s : Segment). s .next) (turned-segment-at m t (segments-whole axis t w a) i h))
-      (λ (h : t .len ≤ i). ap (λ (s : Segment). s .next) (behind-segments m t (segments-whole axis t w a) i h))
+      (λ (h : i < t .len). ap (λ (s : Segment). s .next) (turned-segment-at m t (segments-whole axis t w v a) i h))
+      (λ (h : t .len ≤ i). ap (λ (s : Segment). s .next) (behind-segments m t (segments-whole axis t w v a) i h))
       (lt-or-le i (t .len))
 
   edge-moved : (k : ℕ) → k < m → edgeAt turned (turnedIndex m k) ≡ turnedEdge m (edgeAt axis k)
-  edge-moved k h = turned-edge-at axis (edges-whole axis t w a) (turnedIndex m k) (omega arith) ∙ ap (λ (i : ℕ). turnedEdge m (edgeAt axis i)) (index-twice m k h)
+  edge-moved k h = turned-edge-at axis (edges-whole axis t w v a) (turnedIndex m k) (omega arith) ∙ ap (λ (i : ℕ). turnedEdge m (edgeAt axis i)) (index-twice m k h)
 
   first-same : (k : ℕ) → k < m → edgeAt turned (turnedIndex m k) .first ≡ edgeAt axis k .first
   first-same k h = ap (λ (e : Edge). e .first) (edge-moved k h)
@@ -93,12 +94,12 @@ module _ (axis : Axis) (t : Segments) (w : Whole axis t) (a : Taken axis t) wher
   -- ---- sound rings
   edge-was : (k i : ℕ) → k < m → i < t .len → segmentAt table i .edge ≡ Links.To (turnedIndex m k) → segmentAt t i .edge ≡ Links.To k
   edge-was k i h l e =
-      sym (link-twice m (segmentAt t i .edge) (edge-below axis t w a i l))
-      ∙ ap (turnedLink m) (sym (ap (λ (s : Segment). s .edge) (turned-segment-at m t (segments-whole axis t w a) i l)) ∙ e)
+      sym (link-twice m (segmentAt t i .edge) (edge-below axis t w v a i l))
+      ∙ ap (turnedLink m) (sym (ap (λ (s : Segment). s .edge) (turned-segment-at m t (segments-whole axis t w v a) i l)) ∙ e)
       ∙ ap Links.To (index-twice m k h)
 
   edge-is : (k i : ℕ) → i < t .len → segmentAt t i .edge ≡ Links.To k → segmentAt table i .edge ≡ Links.To (turnedIndex m k)
-  edge-is k i l e = ap (λ (s : Segment). s .edge) (turned-segment-at m t (segments-whole axis t w a) i l) ∙ ap (turnedLink m) e
+  edge-is k i l e = ap (λ (s : Segment). s .edge) (turned-segment-at m t (segments-whole axis t w v a) i l) ∙ ap (turnedLink m) e
 
   pub ring-sound : (k : ℕ) → k < m → Sound axis t k → Sound turned table (turnedIndex m k)
   unfolding turnedSegments

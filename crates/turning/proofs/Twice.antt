@@ -14,6 +14,7 @@ use Rattle.axis.specs.declared.kinds.Link.the-variants as Links
 use Rattle.axis.specs.declared.segment.Segments.{Segments}
 use Rattle.axis.specs.Accepted.{Below, AxisWithin, SegmentsWithin}
 use Rattle.axis.specs.Edge.{emptyEdge, edgeAt}
+use Rattle.axis.specs.Handed.{TypedAxis, Typed}
 use Rattle.axis.specs.Limits.{mostEdges, mostSegments, mostPos}
 use Rattle.axis.specs.Refusals.{linkHolds}
 use Rattle.axis.specs.Segment.{emptySegment, segmentAt}
@@ -21,7 +22,7 @@ use Rattle.axis.proofs.Acceptance.{link-below, nexts-below}
 use Rattle.axis.proofs.Accepting.{every-holds, edges-accepted, edges-within, segments-accepted, segments-are-within, nexts-hold}
 use Rattle.axis.proofs.Tests.{every-at}
 use Rattle.turning.specs.Indices.{segmentEdge, edgeSegments, segmentsEdges, edgesSegments}
-use Rattle.turning.specs.Turning.{turnedIndex, turnedLink, turnedEdge, turnedSegment, turnedAxis, turnedSegments, Whole}
+use Rattle.turning.specs.Turning.{turnedIndex, turnedLink, turnedEdge, turnedSegment, turnedAxis, turnedSegments}
 use Rattle.turning.proofs.Calls.{Taken}
 use Rattle.turning.proofs.Places.{turned-edge-at, behind-edges, turned-edges-length, turned-segment-at, behind-segments, turned-segments-length}
 
@@ -41,7 +42,7 @@ link-turned m (Links.To k) b = lt-ltb (turnedIndex m k) m (let h = b .at k refl 
 turned-below : (m : ℕ) (l : Link) → Below m l → Below m (turnedLink m l)
 turned-below m l b = link-below m (turnedLink m l) (link-turned m l b)
 
-module _ (axis : Axis) (t : Segments) (w : Whole axis t) (a : Taken axis t) where
+module _ (axis : Axis) (t : Segments) (w : TypedAxis axis) (v : Typed t) (a : Taken axis t) where
   abbrev m : ℕ
   m = axis .len
 
@@ -52,10 +53,10 @@ module _ (axis : Axis) (t : Segments) (w : Whole axis t) (a : Taken axis t) wher
   few-segments = leb-true (t .len) mostSegments (a .segments .short)
 
   pub edges-whole : m ≤ length (axis .edges)
-  edges-whole = omega (arith, w .edges, few-edges)
+  edges-whole = omega (arith, w .places, few-edges)
 
   pub segments-whole : t .len ≤ length (t .segments)
-  segments-whole = omega (arith, w .segments, few-segments)
+  segments-whole = omega (arith, v .places, few-segments)
 
   -- the edge of a segment is one of the edges
   pub edge-below : (i : ℕ) → i < t .len → Below m (segmentAt t i .edge)

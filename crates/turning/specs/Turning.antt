@@ -2,7 +2,7 @@
 use mathlib.Core.Path.{_≡_}
 use mathlib.Core.List.{List, [], _∷_, _++_, map, reverse}
 use Prim.Native.Nat.{ℕ, _-_}
-use lib.ListN.{length, take, drop}
+use lib.ListN.{take, drop}
 use Rattle.refusals.specs.Refusal.{Test, _unless_, refusal, answered, badIndex}
 use Rattle.axis.specs.declared.edge.Edge.{Edge}
 use Rattle.axis.specs.declared.edge.Axis.{Axis}
@@ -11,7 +11,6 @@ use Rattle.axis.specs.declared.kinds.Link.the-variants as Links
 use Rattle.axis.specs.declared.segment.Segment.{Segment}
 use Rattle.axis.specs.declared.segment.Segments.{Segments}
 use Rattle.axis.specs.Edge.{joinedTo}
-use Rattle.axis.specs.Limits.{mostEdges, mostSegments}
 use Rattle.axis.specs.Mark.{unmarkedAxis}
 use Rattle.axis.specs.Refusals.{segmentsNexts, edgesShort, edgesIndexed, edgesInRange, segmentsShort, segmentsIndexed, segmentsInRange}
 use Rattle.turning.specs.declared.turn.Turned.{Turned}
@@ -94,9 +93,3 @@ turnOver axis t = answered (refusal (turningTests axis t)) (beside axis t) (besi
 -- what the call owes its caller: the answer, the axis and the segments
 abbrev pub TurnsOver : Axis → Segments → Turned → Type 0
 TurnsOver axis t r = r ≡ turnOver axis t
-
--- ---- for theorems on the definition
--- both tables have all their places, as what a call receives has
-pub record Whole (axis : Axis) (t : Segments) : Type 0 where
-  pub edges : length (axis .edges) ≡ mostEdges
-  pub segments : length (t .segments) ≡ mostSegments

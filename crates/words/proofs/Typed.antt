@@ -1,4 +1,4 @@
--- The segments that words are read as are values of the declared types: whatever the words are, coordinates are of 16 bits, and the table has all its places.
+-- The segments and edges that words are read as are values of the declared types: whatever the words are, coordinates are of 16 bits, and the tables have all their places.
 use mathlib.Core.Path.{_≡_, subst, _∙_}
 use mathlib.Core.List.{List, [], _∷_, _++_}
 use mathlib.Core.Logic.{⊎-elim}
@@ -8,9 +8,13 @@ use lib.IntN.{ℤ, pos}
 use lib.ListN.{length, getD, replicate, length-append, length-replicate}
 use Rattle.signed.specs.Parts.{up, dn}
 use Rattle.signed.proofs.Signed.{lt-or-le}
-use Rattle.axis.specs.Handed.{Short, TypedSegment, Typed}
-use Rattle.axis.specs.Limits.{mostSegments}
+use Rattle.axis.specs.declared.kinds.Dimension.{Dimension}
+use Rattle.axis.specs.declared.kinds.Direction.{Direction}
+use Rattle.axis.specs.Edge.{emptyEdge}
+use Rattle.axis.specs.Handed.{Short, TypedSegment, Typed, TypedAxis}
+use Rattle.axis.specs.Limits.{mostEdges, mostSegments}
 use Rattle.axis.specs.Segment.{emptySegment}
+use Rattle.words.specs.Edge.{edgeInRun, axisRun, edgesIn, flatAxis}
 use Rattle.words.specs.Field.{shortOf}
 use Rattle.words.specs.Segment.{segmentFrom, segmentInRun, segmentsRun, segmentsIn, flatSegments}
 use Rattle.words.specs.Word.{firsts, table}
@@ -79,3 +83,8 @@ typed ws first len = record {
 pub flat-typed : (ws : List ℤ) → Typed (flatSegments ws)
 unfolding flatSegments
 flat-typed ws = typed ws 0 (segmentsIn ws)
+
+-- ---- the edges
+pub axis-typed : (ws : List ℤ) (d : Dimension) (major : Direction) → TypedAxis (flatAxis ws d major)
+unfolding flatAxis axisRun
+axis-typed ws d major = record { places = table-length mostEdges emptyEdge (edgeInRun ws 0) (min (edgesIn ws) mostEdges) (omega arith) }
