@@ -1,6 +1,5 @@
--- `Settling`: the loop of the stem pass that does without its fallback. `Rows`: the call is the two calls in a row. `Unreached`: the fallback is not reached in it. `Worked`: calls
--- worked out by hand. `Determined`: the promise determines the outcome. `Changed`: what the call changes. `Handed`: what the next call may rely on. `Blind`: request #105.
-pub mod Settling
+-- `Rows`: the call is the two calls in a row. `Unreached`: the fallback is not reached in it. `Worked`: calls worked out by hand. `Determined`: the promise determines the outcome.
+-- `Changed`: what the call changes. `Handed`: what the next call may rely on. `Blind`: request #105.
 pub mod Rows
 pub mod Unreached
 pub mod Worked

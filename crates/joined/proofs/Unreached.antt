@@ -31,10 +31,10 @@ use Rattle.blues.specs.Zones.{hasBlues, bluesWhere}
 use Rattle.stems_plan.specs.declared.kinds.Mode.{Mode}
 use Rattle.stems.specs.Stems.{State, begun, modeOf}
 use Rattle.stems.specs.Steps.{step}
+use Rattle.stems.proofs.Settling.{step-settled}
 use Rattle.stems.proofs.Straight.{steps-are}
 use Rattle.joined.specs.Joined.{isBare, zonesHold, joinedTests}
 use Rattle.joined.specs.Unreached.{Unreached}
-use Rattle.joined.proofs.Settling.{step-settled}
 use Rattle.joined.proofs.Rows.{edges, same-len}
 
 -- ---- behind the blue zones

@@ -1,5 +1,4 @@
 // The call.
-use super::pass::align_settled;
 use axis::accept::edges_indices;
 use axis::accept::edges_numbers;
 use axis::accept::few_edges;
@@ -19,6 +18,7 @@ use refusals::order::RETIRED;
 use refusals::order::TOO_LONG;
 use refusals::order::or_refused;
 use stems::pass::Stems;
+use stems::pass::align_stems;
 use stems_plan::kinds::Mode;
 use zone::zone::has_blue;
 ghost use mathlib.Core.Path.{_≡_};
@@ -98,5 +98,5 @@ pub fn align_blues_and_stems(
         rule,
     };
     let anchor = zoned.anchor;
-    align_settled(zoned.axis, mode, standards, anchor)
+    align_stems(zoned.axis, mode, standards, anchor, false)
 }

@@ -3,6 +3,7 @@
 pub mod Straight
 pub mod Growth
 pub mod Kept
+pub mod Settling
 pub mod Turns
 pub mod Worked
 pub mod Determined

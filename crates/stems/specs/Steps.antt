@@ -1,5 +1,6 @@
 -- A visit along one path: a plan, and three stores that may change nothing. `steps-are` shows that steps are visits.
-use mathlib.Core.Bool.{cond}
+use mathlib.Core.Path.{_≡_}
+use mathlib.Core.Bool.{Bool, false, cond}
 use mathlib.Core.List.{List}
 use Prim.Native.Nat.{ℕ, _-_}
 use lib.Dec.{ltb}
@@ -9,6 +10,7 @@ use Rattle.axis.specs.declared.kinds.Link.the-variants as Links
 use Rattle.axis.specs.declared.edge.Axis.{Axis}
 use Rattle.axis.specs.Link.{indexOr}
 use Rattle.axis.specs.Edge.{edgeAt, putEdge, fixedAt}
+use Rattle.zone.specs.Settled.{Settled}
 use Rattle.stems_plan.specs.declared.kinds.Mode.{Mode}
 use Rattle.stems_plan.specs.declared.kinds.Plan.{Plan}
 use Rattle.stems_plan.specs.Visit.{tooClose}
@@ -47,3 +49,8 @@ stepLink m xs s i (Links.To k) =
 -- the step of edge i
 unfoldable pub step : Mode → List ℤ → State → ℕ → State
 step m xs s i = cond (edgeAt (s .axis) i .flags .done) s (stepLink m xs s i (edgeAt (s .axis) i .link))
+
+-- ---- the fallback, for an edge whose link has a zone
+-- without it the first n edges are settled
+pub record SettledWithout (fallback : Bool) (n : ℕ) (axis : Axis) : Type 0 where
+  pub settled : fallback ≡ false → Settled n axis

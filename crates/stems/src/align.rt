@@ -68,5 +68,5 @@ pub fn align_stem_edges(
         stem_adjust,
         rule,
     };
-    align_stems(axis, mode, standards, anchor)
+    align_stems(axis, mode, standards, anchor, true)
 }

@@ -6,7 +6,7 @@ use stems_plan::close::too_close;
 use stems_plan::kinds::LastStem;
 use stems_plan::kinds::Mode;
 use stems_plan::kinds::Trail;
-use stems_plan::plan::plan_of;
+use stems_plan::plan::plan_for;
 use stems_plan::store::anchor_after;
 use stems_plan::store::before;
 use stems_plan::store::first_edge;
@@ -18,6 +18,7 @@ ghost use Rattle.axis.specs.Limits.{mostPos};
 ghost use Rattle.axis.specs.Accepted.{Below, AxisWithin};
 ghost use Rattle.fixed.specs.Width.{ruleHolds};
 ghost use Rattle.stems.specs.Stems.{stemsOf};
+ghost use Rattle.stems.specs.Steps.{SettledWithout};
 
 // An answer, 0 or the refusal, the count of edges passed over, the anchor or its absence, and the axis.
 pub struct Stems {
@@ -27,10 +28,11 @@ pub struct Stems {
     pub axis: Axis,
 }
 
-// Aligns all stems that are not done. An edge with no link, and a CJK stem too close to the last one, is counted and passed over.
-pub fn align_stems(axis: Axis, mode: Mode, standards: &[i32], start: Link) -> Stems
+// Aligns all stems that are not done. An edge with no link, and a CJK stem too close to the last one, is counted and passed over. The fallback, for an edge whose link has a
+// zone, can be left out where there is no such edge.
+pub fn align_stems(axis: Axis, mode: Mode, standards: &[i32], start: Link, fallback: bool) -> Stems
     requires { ⌜ ruleHolds (mode .rule) (now standards) ≡ true ⌝ }
-    requires { ⌜ AxisWithin mostPos axis × Below (axis .len) start ⌝ }
+    requires { ⌜ AxisWithin mostPos axis × Below (axis .len) start × SettledWithout fallback (axis .len) axis ⌝ }
     ensures { λ r. ⌜ r ≡ stemsOf mode (now (standards .entry)) start axis ⌝ }
 {
     let n = axis.len;
@@ -57,9 +59,20 @@ pub fn align_stems(axis: Axis, mode: Mode, standards: &[i32], start: Link) -> St
             serif_count += 1; // dealt with behind the pass, with the serifs
             continue;
         }
-        let base = aligned.edges[index_or(anchor, i)];
+        let base_ix = index_or(anchor, i);
+        let base = aligned.edges[base_ix];
         let is_before = edge2_ix < i;
-        let plan = plan_of(mode, standards, edge, edge2, base, anchor, is_before, trail);
+        let plan = plan_for(
+            mode,
+            standards,
+            edge,
+            edge2,
+            base,
+            anchor,
+            is_before,
+            trail,
+            fallback,
+        );
         aligned.edges[i] = first_edge(edge, plan);
         aligned.edges[edge2_ix] = second_edge(aligned.edges[edge2_ix], plan);
         let prev = aligned.edges[before(i)];

@@ -1,4 +1,4 @@
--- What the contracts of `stems_plan` cite: `Visit`, the parts that a visit is defined by; `Plan`, what it decides; `Steps`, the ranges that its steps need.
+-- What the contracts of `stems_plan` cite: `Visit`, the parts that a visit is defined by; `Plan`, what it decides; `Steps`, what its steps need.
 pub mod Visit
 pub mod Plan
 pub mod Steps

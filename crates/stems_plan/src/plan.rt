@@ -16,9 +16,10 @@ ghost use Rattle.axis.specs.Limits.{mostUnits};
 ghost use Rattle.fixed.specs.Width.{ruleHolds};
 ghost use Rattle.placing.specs.Steps.{InReach};
 ghost use Rattle.stems_plan.specs.Plan.{groupPlan, planOf};
+ghost use Rattle.stems_plan.specs.Steps.{BareWithout};
 
 // A stem by its group.
-pub fn group_plan(
+fn group_plan(
     mode: Mode,
     standards: &[i32],
     edge: Edge,
@@ -59,4 +60,27 @@ pub fn plan_of(
         Blue::None => group_plan(mode, standards, edge, edge2, base, anchor, is_before, trail),
         Blue::Fitted(z) => linked_plan(mode, standards, edge, edge2, trail),
     }
+}
+
+// The plan for an edge and its link, with the fallback for a link that has a blue zone, or without it where no link has one.
+pub fn plan_for(
+    mode: Mode,
+    standards: &[i32],
+    edge: Edge,
+    edge2: Edge,
+    base: Edge,
+    anchor: Link,
+    is_before: bool,
+    trail: Trail,
+    fallback: bool,
+) -> Plan
+    requires { ⌜ ruleHolds (mode .rule) (now standards) ≡ true ⌝ }
+    requires { ⌜ InReach edge × InReach edge2 × InReach base × Between mostUnits mostUnits (trail .delta) ⌝ }
+    requires { ⌜ BareWithout fallback edge2 ⌝ }
+    ensures { λ r. ⌜ r ≡ planOf mode (now (standards .entry)) edge edge2 base anchor «is_before» trail ⌝ }
+{
+    if fallback {
+        return plan_of(mode, standards, edge, edge2, base, anchor, is_before, trail);
+    }
+    group_plan(mode, standards, edge, edge2, base, anchor, is_before, trail)
 }

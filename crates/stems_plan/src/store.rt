@@ -50,7 +50,7 @@ pub fn before(i: usize) -> usize
 }
 
 // Whether an edge has passed the previous one, and its link is far from that.
-fn is_over(edge: Edge, prev: Edge, link: Edge) -> bool
+pub fn is_over(edge: Edge, prev: Edge, link: Edge) -> bool
     requires { ⌜ InReach edge × InReach prev × InReach link ⌝ }
     ensures { λ r. ⌜ r ≡ isOver edge prev link ⌝ }
 {
@@ -61,7 +61,7 @@ fn is_over(edge: Edge, prev: Edge, link: Edge) -> bool
 }
 
 // Whether the previous edge bounds edge i: the first edge has none.
-fn is_bounded(plan: Plan, i: usize) -> bool
+pub fn is_bounded(plan: Plan, i: usize) -> bool
     ensures { λ r. ⌜ r ≡ isBounded plan i ⌝ }
 {
     if plan.bounded {

@@ -39,7 +39,7 @@ returns-2 c =
     let tested = o .before in
     let a = tested .before .args in
     answered-yes _ _ (stems 0 Links.None (a .axis)) _ _ (tested .joined-refusal .ensures) (o .if1 .left)
-    (c .align-settled .ensures
+    (c .align-stems .ensures
     ∙ ap (λ (r : Anchored). stemsOf (modeOf (a .axis) (a .group) (a .stem-adjust) (a .rule)) (a .standards .now) (r .anchor) (r .axis)) (z .align-where-zoned .ensures)
     ∙ in-a-row (a .axis) (a .group) (a .stem-adjust) (a .top-to-bottom) (a .rule) (a .standards .now) (tests-hold o))
 
@@ -49,8 +49,8 @@ align-where-zoned-requires c κs =
     let h = tests-hold c in
     (h .1 .1 .0, edges-within (a .axis) (edges (a .axis) (a .group) (a .stem-adjust) (a .top-to-bottom) (a .rule) (a .standards .now) h))
 
-align-settled-requires : tie.Need-align-settled-requires
-align-settled-requires c κs =
+align-stems-requires : tie.Need-align-stems-requires
+align-stems-requires c κs =
     let o = c .before in
     let a = o .before .before .args in
     let h = tests-hold o in
@@ -62,10 +62,10 @@ align-settled-requires c κs =
       (
         subst (λ (r : Anchored). AxisWithin mostPos (r .axis)) found (edges-within _ zoned),
         subst (λ (r : Anchored). Below (r .axis .len) (r .anchor)) found anchor,
-        subst (λ (r : Anchored). Settled (r .axis .len) (r .axis)) found settled,
+        record { settled = λ e. subst (λ (r : Anchored). Settled (r .axis .len) (r .axis)) found settled },
       ),
     )
 
 pub align-blues-and-stems-spec : {M : Type 1} → statement M
 align-blues-and-stems-spec =
-    tie.close (tie.spec joined-refusal-requires returns align-where-zoned-requires align-settled-requires returns-2)
+    tie.close (tie.spec joined-refusal-requires returns align-where-zoned-requires align-stems-requires returns-2)

@@ -1,5 +1,7 @@
 -- `stems::align::align_stem_edges` meets its contract. Assumes nothing.
 use mathlib.Core.Path.{refl}
+use mathlib.Core.Bool.{true}
+use Rattle.signed.proofs.Choices.{clash}
 use Rattle.refusals.proofs.Tests.{all-held, answered-no, answered-yes}
 use Rattle.axis.specs.declared.kinds.Link.the-variants as Links
 use Rattle.axis.proofs.Acceptance.{link-below, axis-within}
@@ -20,7 +22,7 @@ align-stems-requires c κs =
     let a = c .before .before .args in
     let t = all-held {ts = stemsTests (a .axis) (a .top-to-bottom) (a .anchor) (a .rule) (a .standards .now)} (record { refused = c .before .stems-refusal .ensures; numbers = refl }) (c .if1 .left) in
     let indexed = t .1 .1 .1 in
-    (t .1 .1 .0, (axis-within (a .axis) (t .0) (indexed .0) (indexed .1 .1 .0), link-below _ _ (indexed .1 .0)))
+    (t .1 .1 .0, (axis-within (a .axis) (t .0) (indexed .0) (indexed .1 .1 .0), link-below _ _ (indexed .1 .0), record { settled = λ e. absurd (clash true e refl) }))
 
 returns-2 : tie.Need-returns-2
 unfolding alignStemEdges

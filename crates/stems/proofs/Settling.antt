@@ -1,14 +1,12 @@
--- The stem pass over edges that are settled: a step keeps them so, and its plan is that of the group.
-use mathlib.Core.Path.{_≡_, refl, sym, ap, subst}
-use mathlib.Core.Bool.{Bool, _&&_}
+-- The stem pass over edges that are settled: a step keeps them so, and what the loop needs to do without the fallback.
+use mathlib.Core.Path.{_≡_, refl, subst}
+use mathlib.Core.Bool.{Bool, false, _&&_}
 use mathlib.Core.List.{List}
 use Prim.Native.Nat.{ℕ, _+_, _<_, _-_}
 use lib.IntN.{ℤ}
 use Rattle.signed.proofs.Choices.{either-way}
 use Rattle.axis.specs.declared.kinds.Link.{Link}
 use Rattle.axis.specs.declared.kinds.Link.the-variants as Links
-use Rattle.axis.specs.declared.kinds.Blue.{Blue}
-use Rattle.axis.specs.declared.kinds.Blue.the-variants as Blues
 use Rattle.axis.specs.declared.edge.Edge.{Edge}
 use Rattle.axis.specs.declared.edge.Axis.{Axis}
 use Rattle.axis.specs.Edge.{edgeAt}
@@ -18,12 +16,12 @@ use Rattle.stems_plan.specs.declared.kinds.Mode.{Mode}
 use Rattle.stems_plan.specs.declared.kinds.Plan.{Plan}
 use Rattle.stems_plan.specs.declared.kinds.Second.{Second}
 use Rattle.stems_plan.specs.declared.kinds.Second.the-variants.{Stays, Placed, Fixed}
-use Rattle.stems_plan.specs.declared.kinds.Trail.{Trail}
 use Rattle.stems_plan.specs.Visit.{tooClose}
-use Rattle.stems_plan.specs.Plan.{groupPlan, zonePlan, planOf, secondEdge, isOver, isBounded, heldEdge}
+use Rattle.stems_plan.specs.Plan.{secondEdge, isOver, isBounded, heldEdge}
+use Rattle.stems_plan.specs.Steps.{BareWithout}
 use Rattle.stems.specs.Stems.{State}
-use Rattle.stems.specs.Steps.{planAt, firstPut, secondPut, heldPut, carriedOut, stepLink, step}
+use Rattle.stems.specs.Steps.{planAt, firstPut, secondPut, heldPut, carriedOut, stepLink, step, SettledWithout}
 use Rattle.stems.proofs.Kept.{Goes, goes-on}
 
 -- ---- nothing is undone by a step
 first-grown : (plan : Plan) (i : ℕ) (axis : Axis) → AllGrown axis (firstPut plan i axis)
@@ -66,20 +64,18 @@ module _ (m : Mode) (xs : List ℤ) where
   step-settled n s i h = grown-settled n (s .axis) (step m xs s i .axis) (step-grown s i) h
 
 -- ---- the loop
--- what holds before each visit: what holds in the stem pass, and that the edges are settled
-pub record GoesSettled (m : Mode) (xs : List ℤ) (n : ℕ) (anchor : Link) (axis : Axis) (s : State) (i : ℕ) : Type 0 where
+-- what holds before each visit: what holds in every pass, and, without the fallback, that the edges are settled
+pub record GoesSettled (fallback : Bool) (m : Mode) (xs : List ℤ) (n : ℕ) (anchor : Link) (axis : Axis) (s : State) (i : ℕ) : Type 0 where
   pub goes : Goes m xs n anchor axis s i
-  pub settled : Settled n (s .axis)
+  pub without : SettledWithout fallback n (s .axis)
 
-pub settled-on : {m : Mode} {xs : List ℤ} {n : ℕ} {anchor : Link} {axis : Axis} {s s′ : State} {i : ℕ}
-    → GoesSettled m xs n anchor axis s i → i < n → step m xs s i ≡ s′ → GoesSettled m xs n anchor axis s′ (i + 1)
-settled-on {m} {xs} {n} {anchor} {axis} {s} {s′} {i} g h e = record {
-  goes = goes-on (g .goes) h e;
-  settled = subst (λ (t : State). Settled n (t .axis)) e (step-settled m xs n s i (g .settled));
-}
+module _ {fallback : Bool} {m : Mode} {xs : List ℤ} {n : ℕ} {anchor : Link} {axis : Axis} {s : State} {i : ℕ} (g : GoesSettled fallback m xs n anchor axis s i) (q : i < n) where
+  pub settled-on : {s′ : State} → step m xs s i ≡ s′ → GoesSettled fallback m xs n anchor axis s′ (i + 1)
+  settled-on e = record {
+    goes = goes-on (g .goes) q e;
+    without = record { settled = λ f. subst (λ (t : State). Settled n (t .axis)) e (step-settled m xs n s i (g .without .settled f)) };
+  }
 
--- the plan of the group is the plan where the link has no zone
-pub plan-same : (m : Mode) (xs : List ℤ) (e e2 a : Edge) (anchor : Link) (before : Bool) (t : Trail) → e2 .blue ≡ Blues.None
-    → groupPlan (m .group) m xs e e2 a anchor before t ≡ planOf m xs e e2 a anchor before t
-unfolding zonePlan
-plan-same m xs e e2 a anchor before t h = sym (ap (λ (b : Blue). zonePlan b m xs e e2 a anchor before t) h)
+  -- then the link of a visited edge has no zone
+  pub link-bare : (k : ℕ) → edgeAt (s .axis) i .flags .done ≡ false → edgeAt (s .axis) i .link ≡ Links.To k → BareWithout fallback (edgeAt (s .axis) k)
+  link-bare k d l = record { bare = λ f. g .without .settled f .bare i k q d l }
