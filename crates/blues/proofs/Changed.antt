@@ -33,7 +33,8 @@ module _ (axis : Axis) (rule : WidthRule) (xs : List ℤ) where
   small true e = let h = all-hold (bluesTests axis rule xs) refl e in blues-only rule xs axis mostPos (axis-within axis (h .0) (h .1 .1 .0) (h .1 .1 .1 .0))
   small false e = same-axis _ axis
 
-  accepted : (t : Bool) → work t .answer ≡ 0
+  -- its answer is 0
+  pub accepted : (t : Bool) → cond t (bluesOf rule xs axis) (anchored axis Links.None 0) .answer ≡ 0
   accepted true = blues-done rule xs axis
   accepted false = refl
 

@@ -13,17 +13,13 @@ use Rattle.axis.specs.Accepted.{AxisWithin}
 use Rattle.axis.specs.Visits.{visits}
 use Rattle.axis.proofs.Visits.{turn}
 use Rattle.placing.specs.Steps.{mostWidth}
-use Rattle.zone.specs.Zones.{State}
 use Rattle.zone.specs.Steps.{step}
 use Rattle.zone.proofs.Kept.{within-more}
+use Rattle.blues_pass.specs.Pass.{stateOf}
 
 -- what positions can have come to after i visits
 abbrev pub grown : ℕ → ℕ
 grown i = mostPos + i * mostWidth
-
--- an axis and an anchor
-abbrev pub stateOf : Axis → Link → State
-stateOf axis anchor = record { axis = axis; anchor = anchor }
 
 -- before the visit of edge i of n, the axis is within its bound, and what is left to do gives the whole pass's result
 pub record Going (rule : WidthRule) (xs : List ℤ) (n i : ℕ) (axis₀ axis : Axis) (anchor : Link) : Type 0 where

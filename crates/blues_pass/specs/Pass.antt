@@ -21,9 +21,13 @@ anchored axis anchor k = record { answer = k; anchor = anchor; axis = axis }
 abbrev pub outcome : State → Anchored
 outcome s = anchored (s .axis) (s .anchor) 0
 
+-- an axis and an anchor
+abbrev pub stateOf : Axis → Link → State
+stateOf axis anchor = record { axis = axis; anchor = anchor }
+
 -- every edge visited, with no anchor at the start
 unfoldable pub bluesOf : WidthRule → List ℤ → Axis → Anchored
-bluesOf rule xs axis = outcome (visits (visit rule xs) (axis .len) 0 (record { axis = axis; anchor = Links.None }))
+bluesOf rule xs axis = outcome (visits (visit rule xs) (axis .len) 0 (stateOf axis Links.None))
 
 -- an outcome without the marks of its edges
 abbrev pub unmarkedAnchored : Anchored → Anchored

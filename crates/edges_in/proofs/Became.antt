@@ -5,8 +5,9 @@ use Prim.Native.Nat.{ℕ, _+_, _*_, _/_, _<_}
 use native.Mathlib.Omega.{arith}
 use lib.ListN.{length, set}
 use lib.Seq.{getD-set-same, set-set}
-use lib.IntN.{ℤ}
+use lib.IntN.{ℤ, pos}
 use Rattle.axis.specs.declared.flags.Flags.{Flags}
+use Rattle.axis.specs.declared.kinds.Blue.the-variants as Blues
 use Rattle.axis.specs.declared.kinds.Dimension.{Dimension}
 use Rattle.axis.specs.declared.kinds.Mark.{Mark}
 use Rattle.axis.specs.declared.edge.Edge.{Edge}
@@ -14,14 +15,14 @@ use Rattle.axis.specs.declared.edge.Axis.{Axis}
 use Rattle.axis.specs.Flags.{asDone}
 use Rattle.axis.specs.Edge.{emptyEdge, edgeAt, putEdge, placed, flagged, finished}
 use Rattle.words.specs.Word.{wordAt, joined}
-use Rattle.words.specs.Field.{flagsOf, flagsWord, markWord}
-use Rattle.words.specs.Edge.{edgeSize, posPlace, flagsPlace, markPlace, wordOfEdge, edgeFrom, edgesIn, edgeWordsAt, edgesOver}
-use Rattle.edges_in.specs.Whole.{Whole, axisIn, Became, placing, fixing}
+use Rattle.words.specs.Field.{blueOf, flagsOf, flagsWord, markOf, markWord}
+use Rattle.words.specs.Edge.{edgeSize, posPlace, flagsPlace, bluePlace, fittedPlace, markPlace, wordOfEdge, edgeFrom, edgesIn, edgeWordsAt, edgesOver}
+use Rattle.edges_in.specs.Whole.{Whole, axisIn, Became, placing, flagging, fixing, zoned, unzoning}
 use Rattle.edges_in.proofs.Wholes.{axis-long, edge-in, edges-over, words-joined}
-use Rattle.edges_in.proofs.Writes.{Wrote, wrote-again, wrote-as, pos-wrote, flags-wrote, mark-wrote}
+use Rattle.edges_in.proofs.Writes.{Wrote, wrote-again, wrote-as, pos-wrote, flags-wrote, mark-wrote, fitted-wrote, present-wrote}
 
 -- as many edges as before
-as-many : (ws ws′ : List ℤ) → length ws′ ≡ length ws → edgesIn ws′ ≡ edgesIn ws
+pub as-many : (ws ws′ : List ℤ) → length ws′ ≡ length ws → edgesIn ws′ ≡ edgesIn ws
 as-many ws ws′ e = ap (λ (k : ℕ). k / edgeSize) e
 
 still-below : (ws ws′ : List ℤ) (i : ℕ) → length ws′ ≡ length ws → i < edgesIn ws → i < edgesIn ws′
@@ -42,10 +43,12 @@ became-then {f} {g} a b = record { whole = b .whole; long = b .long ∙ a .long;
 pub became-as : {f g : Axis → Axis} {ws w1 : List ℤ} → ((d : Dimension) → f (axisIn ws d) ≡ g (axisIn ws d)) → Became f ws w1 → Became g ws w1
 became-as e a = record { whole = a .whole; long = a .long; axis = λ (d : Dimension). a .axis d ∙ e d }
 
--- the words are then that axis written over the words
+-- words whose axis is known on one dimension are that axis written over the words before
+pub axis-over : (ws ws′ : List ℤ) (d : Dimension) {axis : Axis} → Whole ws → Whole ws′ → length ws′ ≡ length ws → axisIn ws′ d ≡ axis → ws′ ≡ edgesOver ws axis
+axis-over ws ws′ d {axis} w w′ l e = words-joined ws′ d w′ ∙ (λ k. joined (edgeWordsAt (e k)) (as-many ws ws′ l k)) ∙ sym (edges-over ws axis w)
+
 pub became-over : {f : Axis → Axis} {ws ws′ : List ℤ} → Whole ws → Became f ws ws′ → (d : Dimension) → ws′ ≡ edgesOver ws (f (axisIn ws d))
-became-over {f} {ws} {ws′} w a d =
-    words-joined ws′ d (a .whole) ∙ (λ k. joined (edgeWordsAt (a .axis d k)) (as-many ws ws′ (a .long) k)) ∙ sym (edges-over ws (f (axisIn ws d)) w)
+became-over {f} {ws} {ws′} w a d = axis-over ws ws′ d w (a .whole) (a .long) (a .axis d)
 
 -- ---- the stores
 -- one edge changed, by what it was
@@ -69,32 +72,65 @@ place-law ws w1 w2 i p v u m w h q e r f = became (λ (x : Edge). placed x p m) 
         subst (λ (x : List ℤ). Wrote w1 x i (placed (edgeFrom w1 (edgeSize * i)) (edgeFrom w1 (edgeSize * i) .pos) m))
         (sym (r ∙ ap (λ (z : ℤ). set w1 (wordOfEdge i markPlace) z) f)) (mark-wrote w1 i (a .whole) (still-below ws w1 i (a .long) h) m)
 
+-- other flags
+pub flag-law : (ws ws′ : List ℤ) (i : ℕ) (v : ℤ) (f : Flags) → Whole ws → i < edgesIn ws → ws′ ≡ set ws (wordOfEdge i flagsPlace) v → v ≡ flagsWord f → Became (flagging i f) ws ws′
+flag-law ws ws′ i v f w h r e =
+    became (λ (x : Edge). flagged x f) i w h
+    (subst (λ (x : List ℤ). Wrote ws x i (flagged (edgeFrom ws (edgeSize * i)) f)) (sym (r ∙ ap (λ (z : ℤ). set ws (wordOfEdge i flagsPlace) z) e)) (flags-wrote ws i w h f))
+
+-- no zone
+pub unzone-law : (ws w1 w2 : List ℤ) (i : ℕ) → Whole ws → i < edgesIn ws → w1 ≡ set ws (wordOfEdge i fittedPlace) (pos 0) → w2 ≡ set w1 (wordOfEdge i bluePlace) (pos 0) → Became (unzoning i) ws w2
+unzone-law ws w1 w2 i w h q r =
+    became (λ (x : Edge). zoned x Blues.None) i w h (wrote-again a (wrote-as (ap (λ (x : Edge). zoned x Blues.None) (a .read)) b))
+  where
+    a : Wrote ws w1 i (zoned (edgeFrom ws (edgeSize * i)) (blueOf (wordAt ws (wordOfEdge i bluePlace)) (pos 0)))
+    a = subst (λ (x : List ℤ). Wrote ws x i (zoned (edgeFrom ws (edgeSize * i)) (blueOf (wordAt ws (wordOfEdge i bluePlace)) (pos 0)))) (sym q) (fitted-wrote ws i w h)
+
+    b : Wrote w1 w2 i (zoned (edgeFrom w1 (edgeSize * i)) Blues.None)
+    b =
+        subst (λ (x : List ℤ). Wrote w1 x i (zoned (edgeFrom w1 (edgeSize * i)) Blues.None)) (sym r)
+        (present-wrote w1 i (a .whole) (still-below ws w1 i (a .long) h) (wordAt ws (wordOfEdge i bluePlace)) (ap (λ (x : Edge). x .blue) (a .read)))
+
+-- ---- fields read alone
+-- the flags and the mark that its words are read as
 flags-from : (ws : List ℤ) (at : ℕ) → edgeFrom ws at .flags ≡ flagsOf (wordAt ws (at + flagsPlace))
 unfolding edgeFrom
 flags-from ws at = refl
 
--- it is done
+pub flags-in : (ws : List ℤ) (d : Dimension) (i : ℕ) → Whole ws → i < edgesIn ws → edgeAt (axisIn ws d) i .flags ≡ flagsOf (wordAt ws (wordOfEdge i flagsPlace))
+flags-in ws d i w h = ap (λ (e : Edge). e .flags) (edge-in ws d i w h) ∙ flags-from ws (edgeSize * i)
+
+mark-from : (ws : List ℤ) (at : ℕ) → edgeFrom ws at .mark ≡ markOf (wordAt ws (at + markPlace))
+unfolding edgeFrom
+mark-from ws at = refl
+
+pub mark-in : (ws : List ℤ) (d : Dimension) (i : ℕ) → Whole ws → i < edgesIn ws → edgeAt (axisIn ws d) i .mark ≡ markOf (wordAt ws (wordOfEdge i markPlace))
+mark-in ws d i w h = ap (λ (e : Edge). e .mark) (edge-in ws d i w h) ∙ mark-from ws (edgeSize * i)
+
+-- ---- two stores on the same edge
+-- the second one changes what the first has made of it
+pub put-again : (g : Edge → Edge) (ws : List ℤ) (d : Dimension) (i : ℕ) (x : Edge) → Whole ws → i < edgesIn ws
+    → putEdge (putEdge (axisIn ws d) i x) i (g (edgeAt (putEdge (axisIn ws d) i x) i)) ≡ putEdge (axisIn ws d) i (g x)
+put-again g ws d i x w h =
+    let A = axisIn ws d in
+    ap (λ (y : Edge). putEdge (putEdge A i x) i (g y)) (getD-set-same (A .edges) i x emptyEdge (omega (arith, axis-long ws d, h, w .few)))
+    ∙ ap (λ (es : List Edge). record { dim = A .dim; «major_dir» = A .«major_dir»; edges = es; len = A .len }) (set-set (A .edges) i x (g x))
+
+-- its position and its mark, then that it is done
 finishing : ℕ → Axis → Axis
 finishing i axis = putEdge axis i (finished (edgeAt axis i))
 
-done-law : (ws ws′ : List ℤ) (i : ℕ) (v : ℤ) (fl : Flags) → Whole ws → i < edgesIn ws → fl ≡ flagsOf (wordAt ws (wordOfEdge i flagsPlace)) → ws′ ≡ set ws (wordOfEdge i flagsPlace) v
-    → v ≡ flagsWord (asDone fl) → Became (finishing i) ws ws′
+pub fix-law : (ws w1 w2 : List ℤ) (i : ℕ) (p p′ : ℤ) (m : Mark) (fl : Flags) → i < edgesIn ws → Whole ws → p′ ≡ p → Became (placing i p′ m) ws w1
+    → fl ≡ flagsOf (wordAt w1 (wordOfEdge i flagsPlace)) → Became (flagging i (asDone fl)) w1 w2 → Became (fixing i p m) ws w2
 unfolding finishing
-done-law ws ws′ i v fl w h q r f =
-    became finished i w h
-    (wrote-as (ap (λ (x : Flags). flagged (edgeFrom ws (edgeSize * i)) (asDone x)) (q ∙ sym (flags-from ws (edgeSize * i))))
-    (subst (λ (x : List ℤ). Wrote ws x i (flagged (edgeFrom ws (edgeSize * i)) (asDone fl))) (sym (r ∙ ap (λ (z : ℤ). set ws (wordOfEdge i flagsPlace) z) f)) (flags-wrote ws i w h (asDone fl))))
-
--- behind its position and its mark
-pub fix-law : (ws w1 w2 : List ℤ) (i : ℕ) (p p′ v : ℤ) (m : Mark) (fl : Flags) → i < edgesIn ws → Whole ws → p′ ≡ p → Became (placing i p′ m) ws w1
-    → fl ≡ flagsOf (wordAt w1 (wordOfEdge i flagsPlace)) → w2 ≡ set w1 (wordOfEdge i flagsPlace) v → v ≡ flagsWord (asDone fl) → Became (fixing i p m) ws w2
-unfolding finishing
-fix-law ws w1 w2 i p p′ v m fl h w e a q r f =
-    became-as again (became-then (subst (λ (z : ℤ). Became (placing i z m) ws w1) e a) (done-law w1 w2 i v fl (a .whole) (below-in i a h) q r f))
+fix-law ws w1 w2 i p p′ m fl h w e a q b =
+    became-as again (became-then (subst (λ (z : ℤ). Became (placing i z m) ws w1) e a) done-now)
   where
+    done : (d : Dimension) → flagging i (asDone fl) (axisIn w1 d) ≡ finishing i (axisIn w1 d)
+    done d = ap (λ (x : Flags). flagging i (asDone x) (axisIn w1 d)) (q ∙ sym (flags-in w1 d i (a .whole) (below-in i a h)))
+
+    done-now : Became (finishing i) w1 w2
+    done-now = became-as done b
+
     again : (d : Dimension) → finishing i (placing i p m (axisIn ws d)) ≡ fixing i p m (axisIn ws d)
-    again d =
-        let A = axisIn ws d in
-        let x = placed (edgeAt A i) p m in
-        ap (λ (y : Edge). putEdge (putEdge A i x) i (finished y)) (getD-set-same (A .edges) i x emptyEdge (omega (arith, axis-long ws d, h, w .few)))
-        ∙ ap (λ (es : List Edge). record { dim = A .dim; «major_dir» = A .«major_dir»; edges = es; len = A .len }) (set-set (A .edges) i x (finished x))
+    again d = put-again finished ws d i (placed (edgeAt (axisIn ws d) i) p m) w h

@@ -3,3 +3,4 @@ pub mod Tables
 pub mod Wholes
 pub mod Writes
 pub mod Became
+pub mod Passes

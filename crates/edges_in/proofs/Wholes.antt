@@ -22,21 +22,28 @@ use Rattle.shape.specs.Shape.{edgesShown}
 use Rattle.shape.proofs.Back.{edges-back}
 use Rattle.lent.specs.Lent.{edgesOf}
 use Rattle.lent.proofs.Whole.{edges-long}
-use Rattle.edges_in.specs.Whole.{Whole, axisIn}
+use Rattle.edges_in.specs.Whole.{Whole, axisIn, reduced}
 
 -- words that are edges and no more
 pub shown-whole : (ws : List ℤ) → edgesShown ws ≡ true → edgesIn ws ≤ mostEdges → Whole ws
 shown-whole ws shown few = record { few = few; long = edges-long ws shown; word = edges-back ws shown }
 
--- how many edges their axis has
-pub edges-len : (ws : List ℤ) → edgesOf ws .len ≡ edgesIn ws
+-- how many edges their axis has, on any dimension and on the one that `edgesOf` takes
+pub len-in : (ws : List ℤ) (d : Dimension) → axisIn ws d .len ≡ edgesIn ws
 unfolding flatAxis axisRun
-edges-len ws = refl
+len-in ws d = refl
+
+pub edges-len : (ws : List ℤ) → edgesOf ws .len ≡ edgesIn ws
+edges-len ws = len-in ws _
 
 -- on any dimension it has the same edges
 pub same-edges : (ws : List ℤ) (d : Dimension) (i : ℕ) → edgeAt (axisIn ws d) i ≡ edgeAt (edgesOf ws) i
 unfolding flatAxis axisRun
 same-edges ws d i = refl
+
+-- what is read of an edge is read of it there
+pub read-in : (ws : List ℤ) (i : ℕ) {e : Edge} → e ≡ reduced (edgeAt (edgesOf ws) i) → (d : Dimension) → e ≡ reduced (edgeAt (axisIn ws d) i)
+read-in ws i q d = q ∙ ap reduced (sym (same-edges ws d i))
 
 -- its table has all its places
 table-length : (f : ℕ → Edge) (n : ℕ) → n ≤ mostEdges → length (table mostEdges emptyEdge f n) ≡ mostEdges

@@ -1,6 +1,6 @@
 -- One word of an edge written, where the words stand, is that edge changed in the axis that they are read as.
 use mathlib.Core.Path.{_≡_, refl, sym, ap, subst, _∙_}
-use mathlib.Core.Bool.{Bool, true, false}
+use mathlib.Core.Bool.{Bool, true, false, cond}
 use mathlib.Core.List.{List}
 use mathlib.Core.Logic.{⊎-elim}
 use Prim.Native.Nat.{ℕ, _+_, _*_, _/_, _≤_, _<_, min}
@@ -11,6 +11,8 @@ use lib.Seq.{getD-set-same, getD-set-other, set-set}
 use lib.IntN.{ℤ, pos}
 use Rattle.signed.proofs.Signed.{lt-or-le}
 use Rattle.axis.specs.declared.flags.Flags.{Flags}
+use Rattle.axis.specs.declared.kinds.Blue.{Blue}
+use Rattle.axis.specs.declared.kinds.Blue.the-variants as Blues
 use Rattle.axis.specs.declared.kinds.Dimension.{Dimension}
 use Rattle.axis.specs.declared.kinds.Direction.the-variants as Directions
 use Rattle.axis.specs.declared.kinds.Mark.{Mark}
@@ -20,14 +22,14 @@ use Rattle.axis.specs.declared.edge.Axis.{Axis}
 use Rattle.axis.specs.Edge.{emptyEdge, putEdge, placed, flagged}
 use Rattle.axis.specs.Limits.{mostEdges}
 use Rattle.words.specs.Word.{wordAt, table}
-use Rattle.words.specs.Field.{flagsOf, flagsWord, markOf, markWord}
-use Rattle.words.specs.Edge.{edgeSize, posPlace, flagsPlace, markPlace, wordOfEdge, edgeFrom, edgesIn, edgeInRun, axisRun, flatAxis, edgeWords}
+use Rattle.words.specs.Field.{choiceOf, blueOf, flagsOf, presentWord, fittedWord, flagsWord, markOf, markWord}
+use Rattle.words.specs.Edge.{edgeSize, posPlace, flagsPlace, bluePlace, fittedPlace, markPlace, wordOfEdge, edgeFrom, edgesIn, edgeInRun, axisRun, flatAxis, edgeWords}
 use Rattle.words.proofs.Edges.{edge-length}
-use Rattle.edges_in.specs.Whole.{Whole, axisIn}
+use Rattle.edges_in.specs.Whole.{Whole, axisIn, zoned}
 use Rattle.edges_in.proofs.Tables.{table-set}
 
 -- two numbers are the same, or not
-same-or-not : {C : Type 0} (m i : ℕ) → (m ≡ i → C) → ((m ≡ i → ⊥) → C) → C
+pub same-or-not : {C : Type 0} (m i : ℕ) → (m ≡ i → C) → ((m ≡ i → ⊥) → C) → C
 same-or-not {C} m i here else =
     ⊎-elim (λ (l : m < i). else (λ (e : m ≡ i). omega arith))
     (λ (l : i ≤ m). ⊎-elim (λ (e : i ≡ m). here (sym e)) (λ (g : i < m). else (λ (e : m ≡ i). omega arith)) (eq-or-lt-of-le l)) (lt-or-le m i)
@@ -103,6 +105,42 @@ module _ (ws : List ℤ) (at : ℕ) (v : ℤ) (room : at + edgeSize ≤ length w
         other 3 9 (λ q. omega arith),
         other 3 10 (λ q. omega arith),
         other 3 11 (λ q. omega arith),
+      )
+
+  present-read : edgeFrom (written bluePlace) at ≡ zoned (edgeFrom ws at) (blueOf v (wordAt ws (at + fittedPlace)))
+  unfolding edgeFrom
+  present-read =
+      rw (
+        here 5 (omega arith),
+        first 5 (omega arith),
+        other 5 1 (λ q. omega arith),
+        other 5 2 (λ q. omega arith),
+        other 5 3 (λ q. omega arith),
+        other 5 4 (λ q. omega arith),
+        other 5 6 (λ q. omega arith),
+        other 5 7 (λ q. omega arith),
+        other 5 8 (λ q. omega arith),
+        other 5 9 (λ q. omega arith),
+        other 5 10 (λ q. omega arith),
+        other 5 11 (λ q. omega arith),
+      )
+
+  fitted-read : edgeFrom (written fittedPlace) at ≡ zoned (edgeFrom ws at) (blueOf (wordAt ws (at + bluePlace)) v)
+  unfolding edgeFrom
+  fitted-read =
+      rw (
+        here 6 (omega arith),
+        first 6 (omega arith),
+        other 6 1 (λ q. omega arith),
+        other 6 2 (λ q. omega arith),
+        other 6 3 (λ q. omega arith),
+        other 6 4 (λ q. omega arith),
+        other 6 5 (λ q. omega arith),
+        other 6 7 (λ q. omega arith),
+        other 6 8 (λ q. omega arith),
+        other 6 9 (λ q. omega arith),
+        other 6 10 (λ q. omega arith),
+        other 6 11 (λ q. omega arith),
       )
 
   mark-read : (m : Mark) → markOf v ≡ m → edgeFrom (written markPlace) at ≡ placed (edgeFrom ws at) (edgeFrom ws at .pos) m
@@ -258,3 +296,55 @@ module _ (ws : List ℤ) (i : ℕ) (w : Whole ws) (h : i < edgesIn ws) where
   pub mark-wrote : (m : Mark) → Wrote ws (set ws (wordOfEdge i markPlace) (markWord m)) i (placed (edgeFrom ws (edgeSize * i)) (edgeFrom ws (edgeSize * i) .pos) m)
   unfolding edgeWords
   mark-wrote m = word-wrote ws i markPlace (markWord m) _ w h (omega arith) (mark-read ws (edgeSize * i) (markWord m) room m (mark-back m)) refl
+
+-- ---- no zone, by its two words: first its position is 0, then it is absent
+present-kept : (p v : ℤ) → presentWord (blueOf p (pos 0)) ≡ presentWord (blueOf p v)
+unfolding blueOf
+present-kept p v = by (choiceOf p)
+  where
+    by : (t : Bool) → presentWord (cond t (Blues.Fitted (pos 0)) Blues.None) ≡ presentWord (cond t (Blues.Fitted v) Blues.None)
+    by true = refl
+    by false = refl
+
+fitted-zero : (p : ℤ) → fittedWord (blueOf p (pos 0)) ≡ pos 0
+unfolding blueOf
+fitted-zero p = by (choiceOf p)
+  where
+    by : (t : Bool) → fittedWord (cond t (Blues.Fitted (pos 0)) Blues.None) ≡ pos 0
+    by true = refl
+    by false = refl
+
+none-is : (v : ℤ) → blueOf (pos 0) v ≡ Blues.None
+unfolding blueOf choiceOf
+none-is v = refl
+
+-- the words of an edge by the two of its zone
+fitted-words : (e : Edge) (b : Blue) (v : ℤ) → presentWord b ≡ presentWord (e .blue) → fittedWord b ≡ v → edgeWords (zoned e b) ≡ set (edgeWords e) fittedPlace v
+unfolding edgeWords
+fitted-words e b v p q = rw (p, q)
+
+none-words : (e : Edge) → fittedWord (e .blue) ≡ pos 0 → edgeWords (zoned e Blues.None) ≡ set (edgeWords e) bluePlace (pos 0)
+unfolding edgeWords
+none-words e p = rw p
+
+blue-from : (ws : List ℤ) (at : ℕ) → edgeFrom ws at .blue ≡ blueOf (wordAt ws (at + bluePlace)) (wordAt ws (at + fittedPlace))
+unfolding edgeFrom
+blue-from ws at = refl
+
+module _ (ws : List ℤ) (i : ℕ) (w : Whole ws) (h : i < edgesIn ws) where
+  abbrev old : Edge
+  old = edgeFrom ws (edgeSize * i)
+
+  -- the position of its zone, where it has one
+  pub fitted-wrote : Wrote ws (set ws (wordOfEdge i fittedPlace) (pos 0)) i (zoned old (blueOf (wordAt ws (wordOfEdge i bluePlace)) (pos 0)))
+  fitted-wrote =
+      let present = wordAt ws (wordOfEdge i bluePlace) in
+      word-wrote ws i fittedPlace (pos 0) _ w h (omega arith) (fitted-read ws (edgeSize * i) (pos 0) (room ws i w h))
+      (fitted-words old _ (pos 0) (present-kept present (wordAt ws (wordOfEdge i fittedPlace)) ∙ ap (λ (b : Blue). presentWord b) (sym (blue-from ws (edgeSize * i)))) (fitted-zero present))
+
+  -- that it has one, where its position is 0 already
+  pub present-wrote : (p : ℤ) → old .blue ≡ blueOf p (pos 0) → Wrote ws (set ws (wordOfEdge i bluePlace) (pos 0)) i (zoned old Blues.None)
+  present-wrote p q =
+      word-wrote ws i bluePlace (pos 0) _ w h (omega arith)
+      (present-read ws (edgeSize * i) (pos 0) (room ws i w h) ∙ ap (λ (b : Blue). zoned old b) (none-is (wordAt ws (wordOfEdge i fittedPlace))))
+      (none-words old (ap (λ (b : Blue). fittedWord b) q ∙ fitted-zero p))

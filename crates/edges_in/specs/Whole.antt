@@ -6,12 +6,15 @@ use lib.ListN.{length}
 use lib.IntN.{ℤ, pos}
 use Rattle.axis.specs.declared.edge.Edge.{Edge}
 use Rattle.axis.specs.declared.edge.Axis.{Axis}
+use Rattle.axis.specs.declared.flags.Flags.{Flags}
+use Rattle.axis.specs.declared.kinds.Blue.{Blue}
+use Rattle.axis.specs.declared.kinds.Blue.the-variants as Blues
 use Rattle.axis.specs.declared.kinds.Dimension.{Dimension}
 use Rattle.axis.specs.declared.kinds.Direction.the-variants as Directions
 use Rattle.axis.specs.declared.kinds.Link.the-variants as Links
 use Rattle.axis.specs.declared.kinds.Mark.{Mark}
 use Rattle.axis.specs.declared.kinds.Mark.the-variants as Marks
-use Rattle.axis.specs.Edge.{edgeAt, putEdge, placed, fixedAt}
+use Rattle.axis.specs.Edge.{edgeAt, putEdge, changed, placed, flagged, fixedAt}
 use Rattle.axis.specs.Limits.{mostEdges}
 use Rattle.words.specs.Word.{wordAt}
 use Rattle.words.specs.Edge.{edgeSize, wordOfEdge, edgesIn, edgeFrom, flatAxis, edgeWords}
@@ -38,6 +41,17 @@ placing i p m axis = putEdge axis i (placed (edgeAt axis i) p m)
 
 abbrev pub fixing : ℕ → ℤ → Mark → Axis → Axis
 fixing i p m axis = putEdge axis i (fixedAt (edgeAt axis i) p m)
+
+-- with these flags
+abbrev pub flagging : ℕ → Flags → Axis → Axis
+flagging i f axis = putEdge axis i (flagged (edgeAt axis i) f)
+
+-- an edge with this zone or none, and edge i with none
+abbrev pub zoned : Edge → Blue → Edge
+zoned e b = changed e (e .pos) (e .mark) (e .flags) b (e .link) (e .serif) (e .last)
+
+abbrev pub unzoning : ℕ → Axis → Axis
+unzoning i axis = putEdge axis i (zoned (edgeAt axis i) Blues.None)
 
 -- what fitting reads of an edge, its other fields empty
 abbrev pub reduced : Edge → Edge

@@ -1,5 +1,6 @@
-// One edge of a lent list: what fitting reads of it, and its position, its mark and its flags written.
+// One edge of a lent list: what fitting reads of it, and its position, its mark, its flags and its zone written.
 use axis::edge::Edge;
+use axis::flags::Flags;
 use axis::kinds::Direction;
 use axis::kinds::Link;
 use axis::kinds::Mark;
@@ -17,7 +18,7 @@ ghost use Rattle.axis.specs.Limits.{mostEdges};
 ghost use Rattle.axis.specs.Edge.{edgeAt};
 ghost use Rattle.words.specs.Edge.{edgeSize, edgesIn, wordOfEdge};
 ghost use Rattle.lent.specs.Lent.{edgesOf};
-ghost use Rattle.edges_in.specs.Whole.{Whole, reduced, Became, placing, fixing};
+ghost use Rattle.edges_in.specs.Whole.{Whole, reduced, Became, placing, flagging, fixing, unzoning};
 
 // What fitting reads of an edge, its other fields empty: read whole, the function is too long to be inlined.
 pub fn fit_in(words: &[i32], i: usize) -> Edge
@@ -57,6 +58,14 @@ pub fn place_in(words: &mut [i32], i: usize, pos: i32, mark: Mark)
     put_word(words, i, 11, mark_word(mark));
 }
 
+// Gives an edge other flags.
+pub fn flag_in(words: &mut [i32], i: usize, flags: Flags)
+    requires { ⌜ Whole (now words) × (i < edgesIn (now words)) ⌝ }
+    ensures { λ _. ⌜ Became (flagging i flags) (now (words .entry)) (now (words .exit)) ⌝ }
+{
+    put_word(words, i, 3, flags_word(flags));
+}
+
 // Places an edge for good.
 pub fn fix_in(words: &mut [i32], i: usize, pos: i32, mark: Mark)
     requires { ⌜ Whole (now words) × (i < edgesIn (now words)) ⌝ }
@@ -65,5 +74,14 @@ pub fn fix_in(words: &mut [i32], i: usize, pos: i32, mark: Mark)
     place_in(words, i, pos, mark);
     let mut flags = flags_at(words, EDGE_WORDS * i + 3);
     flags.done = true;
-    put_word(words, i, 3, flags_word(flags));
+    flag_in(words, i, flags);
+}
+
+// Takes the zone of an edge away: its position first, so that each word written leaves the words of an edge.
+pub fn unzone_in(words: &mut [i32], i: usize)
+    requires { ⌜ Whole (now words) × (i < edgesIn (now words)) ⌝ }
+    ensures { λ _. ⌜ Became (unzoning i) (now (words .entry)) (now (words .exit)) ⌝ }
+{
+    put_word(words, i, 6, 0);
+    put_word(words, i, 5, 0);
 }

@@ -13,8 +13,7 @@ use Rattle.refusals.proofs.Tests.{and-first, and-second, no-refusal}
 use Rattle.axis.specs.declared.edge.Axis.{Axis}
 use Rattle.axis.specs.Limits.{mostEdges}
 use Rattle.axis.specs.Refusals.{edgesIndices, edgesNumbers}
-use Rattle.words.specs.Edge.{edgeSize, edgesIn}
-use Rattle.shape.specs.Shape.{edgesShown}
+use Rattle.words.specs.Edge.{edgeSize}
 use Rattle.lent.specs.Lent.{refusedOr, edgesFront, edgesOf}
 use Rattle.lent.proofs.Whole.{edges-long}
 use Rattle.edges_in.proofs.Wholes.{edges-len}

@@ -4,7 +4,7 @@ use mathlib.Core.Bool.{Bool, true, cond, _&&_}
 use mathlib.Core.List.{List, [], _∷_}
 use Prim.Native.Nat.{ℕ, zero, suc, _<_, _≤_}
 use native.Mathlib.Omega.{arith}
-use borrow.Author.Tests.{leb-true, ne-eqb}
+use borrow.Author.Tests.{leb-true}
 use lib.Dec.{eqb, leb}
 use lib.IntN.{ℤ}
 use Rattle.refusals.specs.Refusal.{Test, _unless_, badIndex, outOfRange, refusal, answered}
@@ -21,6 +21,41 @@ use Rattle.lent.proofs.Kept.{passed, not-new}
 use Rattle.edges_in.specs.Whole.{Whole}
 use Rattle.edges_in.proofs.Wholes.{shown-whole, edges-len}
 use Rattle.edges_test.specs.Held.{tested}
+
+-- ---- a call that is its refusal, then its work
+-- by what is answered to the words that it is lent: the refusal by the tests in front, or t, which is the refusal by its own tests behind them
+module _ (fronts : List Test) (t : ℕ) {r : ℕ} (e : r ≡ refusedOr fronts t) {R A : Type 0} (answer : R → ℕ) (new : R → A) (tests : List Test) (refused : ℕ → R) (result : R)
+    (number : (k : ℕ) → answer (refused k) ≡ k) (none : answer result ≡ 0) (same : refusal fronts ≡ 0 → refusal tests ≡ t) where
+  abbrev call : R
+  call = answered (refusal tests) refused result
+
+  -- its answer is its refusal
+  answers : (k : ℕ) → answer (answered k refused result) ≡ k
+  answers zero = none
+  answers (suc k) = number (suc k)
+
+  numbered : r ≡ refusedOr fronts (answer call)
+  unfolding refusedOr
+  numbered = e ∙ by (refusal fronts) refl
+    where
+      by : (k : ℕ) → refusal fronts ≡ k → answered k (λ (i : ℕ). i) t ≡ answered k (λ (i : ℕ). i) (answer call)
+      by zero q = sym (answers (refusal tests) ∙ same q)
+      by (suc k) q = refl
+
+  -- it refuses
+  pub lent-refused : {old : A} → 0 < r → Lent fronts (answer call) (new call) old r old
+  lent-refused {old} h = record { number = numbered; held = by r h }
+    where
+      by : (k : ℕ) → 0 < k → old ≡ cond (eqb k 0) (new call) old
+      by zero h = absurd (omega arith)
+      by (suc k) h = sym (not-new k (new call) old)
+
+  -- it does its work
+  pub lent-done : {old now : A} → r ≤ 0 → now ≡ new result → Lent fronts (answer call) (new call) old 0 now
+  lent-done {old} {now} h q =
+      let z : 0 ≡ r = omega arith in
+      let p = passed fronts t (z ∙ e) in
+      record { number = z ∙ numbered; held = q ∙ sym (ap (λ (k : ℕ). new (answered k refused result)) (same (p .0) ∙ p .1)) }
 
 -- ---- no refusal
 -- what the tests tell then
@@ -69,33 +104,17 @@ module _ (ws : List ℤ) (others : Bool) (own : ℕ) (named near : Bool) {r : �
         near-hold = and-second (edgesNumbers (edgesOf ws)) near (g .in-range);
       }
 
-  -- ---- a call with such tests, which is its refusal, then its work
+  -- none by the tests of a call, which are those
+  pub unrefused : (tests : List Test) → (leb (edgesOf ws .len) mostEdges ≡ true → refusal tests ≡ tested (edgesOf ws) own named near) → r ≤ 0 → refusal tests ≡ 0
+  unrefused tests same h = same (short (front-holds h)) ∙ none-refused h
+
+  -- ---- a call with such tests
   module _ {R A : Type 0} (answer : R → ℕ) (new : R → A) (tests : List Test) (refused : ℕ → R) (result : R) (number : (k : ℕ) → answer (refused k) ≡ k) (none : answer result ≡ 0)
       (same : leb (edgesOf ws .len) mostEdges ≡ true → refusal tests ≡ tested (edgesOf ws) own named near) where
-    abbrev call : R
-    call = answered (refusal tests) refused result
-
-    -- its answer is its refusal
-    answers : (k : ℕ) → answer (answered k refused result) ≡ k
-    answers zero = none
-    answers (suc k) = number (suc k)
-
-    numbered : r ≡ refusedOr (edgesFront ws others) (answer call)
-    unfolding refusedOr
-    numbered = e ∙ by (refusal (edgesFront ws others)) refl
-      where
-        by : (k : ℕ) → refusal (edgesFront ws others) ≡ k → answered k (λ (i : ℕ). i) (tested (edgesOf ws) own named near) ≡ answered k (λ (i : ℕ). i) (answer call)
-        by zero q = sym (answers (refusal tests) ∙ same (short q))
-        by (suc k) q = refl
-
     -- it refuses
-    pub call-refused : {old : A} → 0 < r → Lent (edgesFront ws others) (answer call) (new call) old r old
-    call-refused {old} h = record { number = numbered; held = by r h }
-      where
-        by : (k : ℕ) → 0 < k → old ≡ cond (eqb k 0) (new call) old
-        by zero h = absurd (omega arith)
-        by (suc k) h = sym (not-new k (new call) old)
+    pub call-refused : {old : A} → 0 < r → Lent (edgesFront ws others) (answer (answered (refusal tests) refused result)) (new (answered (refusal tests) refused result)) old r old
+    call-refused h = lent-refused (edgesFront ws others) (tested (edgesOf ws) own named near) e answer new tests refused result number none (λ q. same (short q)) h
 
     -- it does its work
-    pub call-done : {old now : A} → r ≤ 0 → now ≡ new result → Lent (edgesFront ws others) (answer call) (new call) old 0 now
-    call-done {old} {now} h q = record { number = (let z : 0 ≡ r = omega arith in z ∙ numbered); held = q ∙ sym (ap (λ (k : ℕ). new (answered k refused result)) (same (short (front-holds h)) ∙ none-refused h)) }
+    pub call-done : {old now : A} → r ≤ 0 → now ≡ new result → Lent (edgesFront ws others) (answer (answered (refusal tests) refused result)) (new (answered (refusal tests) refused result)) old 0 now
+    call-done h q = lent-done (edgesFront ws others) (tested (edgesOf ws) own named near) e answer new tests refused result number none (λ q. same (short q)) h q

@@ -3,7 +3,7 @@ use mathlib.Core.Path.{_≡_, refl, sym, ap, subst, _∙_}
 use mathlib.Core.Bool.{Bool, true, false, cond, _&&_, _||_}
 use mathlib.Core.List.{List, [], _∷_}
 use mathlib.Core.Logic.{⊎-elim}
-use Prim.Native.Nat.{ℕ, zero, suc, _+_, _*_, _%_, _/_, _≤_, _<_, min}
+use Prim.Native.Nat.{ℕ, zero, suc, _+_, _*_, _%_, _≤_, _<_, min}
 use native.Mathlib.Nat.{mod-eq-of-lt, eq-or-lt-of-le}
 use native.Mathlib.Omega.{arith}
 use borrow.Author.Tests.{lt-ltb, le-leb, eq-eqb, ne-eqb}
@@ -18,7 +18,7 @@ use Rattle.signed.specs.Equality.{eqZ}
 use Rattle.signed.proofs.Signed.{eqZ-true, bits-of, to-le-true, sub-law}
 use Rattle.signed.proofs.Order.{le-true}
 use Rattle.axis.specs.declared.kinds.Blue.the-variants as Blues
-use Rattle.axis.specs.Limits.{mostEdges, mostUnits, mostPos}
+use Rattle.axis.specs.Limits.{mostEdges, mostUnits}
 use Rattle.axis.specs.Refusals.{inside, within, blueHolds, linkHolds, edgeIndices, edgeNumbers, edgesIndices, edgesNumbers}
 use Rattle.refusals.proofs.Tests.{and-first, and-second}
 use Rattle.axis.proofs.Accepting.{every-holds}
@@ -29,6 +29,7 @@ use Rattle.shape.specs.declared.field.Place.{Place}
 use Rattle.shape.specs.declared.field.Place.the-variants.{Nowhere, At}
 use Rattle.shape.specs.declared.field.Range.{Range}
 use Rattle.shape.specs.declared.element.Record.the-variants as Records
+use Rattle.shape.specs.declared.element.Element.{Element}
 use Rattle.shape.specs.declared.element.Element.the-variants as Elements
 use Rattle.shape.specs.Shape as Shape
 use Rattle.lent.specs.Lent.{edgesOf}
@@ -39,11 +40,11 @@ use Rattle.edges_test.specs.Held.{zoneTest, FrontHeld, BackHeld, Held}
 pub clash : false ≡ true → ⊥
 clash h = absurd (let z : _≡_ {A = ℕ} 0 1 = cc in omega arith)
 
-and-both : (x y : Bool) → x ≡ true → y ≡ true → (x && y) ≡ true
+pub and-both : (x y : Bool) → x ≡ true → y ≡ true → (x && y) ≡ true
 and-both x y p q = rw (p, q)
 
 -- ---- words
-inside-more : (lo hi lo′ hi′ w : ℤ) → leZ lo′ lo ≡ true → leZ hi hi′ ≡ true → inside lo hi w ≡ true → inside lo′ hi′ w ≡ true
+pub inside-more : (lo hi lo′ hi′ w : ℤ) → leZ lo′ lo ≡ true → leZ hi hi′ ≡ true → inside lo hi w ≡ true → inside lo′ hi′ w ≡ true
 inside-more lo hi lo′ hi′ w p q h =
     let a = le-true lo′ lo p in
     let b = le-true hi hi′ q in
@@ -51,7 +52,7 @@ inside-more lo hi lo′ hi′ w p q h =
     let d = le-true w hi (and-second (leZ lo w) _ h) in
     and-both (leZ lo′ w) (leZ w hi′) (to-le-true lo′ w (omega (arith, a, c))) (to-le-true w hi′ (omega (arith, b, d)))
 
-module _ (n : ℕ) (w : ℤ) (few : n ≤ mostEdges) (h : inside (negsuc 0) (pos n -ℤ pos 1) w ≡ true) where
+module _ (n : ℕ) (w : ℤ) (few : n ≤ 65536) (h : inside (negsuc 0) (pos n -ℤ pos 1) w ≡ true) where
   low : up (negsuc 0) + dn w ≤ up w + dn (negsuc 0)
   low = le-true (negsuc 0) w (and-first (leZ (negsuc 0) w) _ h)
 
@@ -61,10 +62,10 @@ module _ (n : ℕ) (w : ℤ) (few : n ≤ mostEdges) (h : inside (negsuc 0) (pos
   below-count : up w + 1 ≤ n + dn w
   below-count = let s = sub-law (pos n) (pos 1) in omega (arith, s, high)
 
-  link-word : Shape.isIn Shape.link w ≡ true
+  pub link-word : Shape.isIn Shape.link w ≡ true
   link-word = and-both (leZ (negsuc 0) w) (leZ w (pos 65535)) (to-le-true (negsuc 0) w low) (to-le-true w (pos 65535) (omega (arith, below-count)))
 
-link-holds : (n : ℕ) (w : ℤ) → n ≤ mostEdges → inside (negsuc 0) (pos n -ℤ pos 1) w ≡ true → linkHolds n (linkOf w) ≡ true
+pub link-holds : (n : ℕ) (w : ℤ) → n ≤ 65536 → inside (negsuc 0) (pos n -ℤ pos 1) w ≡ true → linkHolds n (linkOf w) ≡ true
 unfolding linkOf linkHolds
 link-holds n (pos m) few h = let l = below-count n (pos m) few h in let e : m % 65536 ≡ m = mod-eq-of-lt (omega (arith, l)) in lt-ltb (m % 65536) n (omega (arith, l, e))
 link-holds n (negsuc m) few h = refl
@@ -110,7 +111,7 @@ pub zone-none : (p v : ℤ) (t r : Bool) → t ≡ choiceOf p → t ≡ false �
 zone-none p v t r e g q = q ∙ ap (λ (x : Bool). cond x (within mostUnits v) (eqZ v (pos 0))) (sym g ∙ e)
 
 -- ---- an edge
-fields-make : (rs : List Range) (ws : List ℤ) (at : ℕ) → at + length rs ≤ length ws → ((k : ℕ) → k < length rs → Shape.isIn (getD rs k Shape.noRange) (wordAt ws (at + k)) ≡ true) → Shape.fields rs ws at ≡ At (at + length rs)
+pub fields-make : (rs : List Range) (ws : List ℤ) (at : ℕ) → at + length rs ≤ length ws → ((k : ℕ) → k < length rs → Shape.isIn (getD rs k Shape.noRange) (wordAt ws (at + k)) ≡ true) → Shape.fields rs ws at ≡ At (at + length rs)
 unfolding Shape.fields Shape.andThen Shape.field
 fields-make [] ws at room h = let q : at ≡ at + 0 = omega arith in ap At q
 fields-make (r ∷ rs) ws at room h =
@@ -129,8 +130,8 @@ module _ (ws : List ℤ) (at n : ℕ) (few : n ≤ mostEdges) (room : at + edgeS
   words-hold (suc (suc (suc (suc zero)))) h = f .w4
   words-hold (suc (suc (suc (suc (suc zero))))) h = b .w5
   words-hold (suc (suc (suc (suc (suc (suc zero)))))) h = zone-word (wordAt ws (at + 5)) (wordAt ws (at + 6)) (b .w6)
-  words-hold (suc (suc (suc (suc (suc (suc (suc zero))))))) h = link-word n (wordAt ws (at + 7)) few (b .w7)
-  words-hold (suc (suc (suc (suc (suc (suc (suc (suc zero)))))))) h = link-word n (wordAt ws (at + 8)) few (b .w8)
+  words-hold (suc (suc (suc (suc (suc (suc (suc zero))))))) h = link-word n (wordAt ws (at + 7)) (omega (arith, few)) (b .w7)
+  words-hold (suc (suc (suc (suc (suc (suc (suc (suc zero)))))))) h = link-word n (wordAt ws (at + 8)) (omega (arith, few)) (b .w8)
   words-hold (suc (suc (suc (suc (suc (suc (suc (suc (suc zero))))))))) h = b .w9
   words-hold (suc (suc (suc (suc (suc (suc (suc (suc (suc (suc zero)))))))))) h = b .w10
   words-hold (suc (suc (suc (suc (suc (suc (suc (suc (suc (suc (suc zero))))))))))) h = b .w11
@@ -144,21 +145,23 @@ module _ (ws : List ℤ) (at n : ℕ) (few : n ≤ mostEdges) (room : at + edgeS
 
   indices-make : edgeIndices n (edgeFrom ws at) ≡ true
   unfolding edgeIndices edgeFrom
-  indices-make = and-both _ _ (link-holds n (wordAt ws (at + 7)) few (b .w7)) (link-holds n (wordAt ws (at + 8)) few (b .w8))
+  indices-make = and-both _ _ (link-holds n (wordAt ws (at + 7)) (omega (arith, few)) (b .w7)) (link-holds n (wordAt ws (at + 8)) (omega (arith, few)) (b .w8))
 
   numbers-make : edgeNumbers (edgeFrom ws at) ≡ true
   unfolding edgeNumbers edgeFrom
   numbers-make = and-both _ _ (f .w1) (and-both _ _ (f .w2) (zone-holds (wordAt ws (at + 5)) (wordAt ws (at + 6)) (b .w6)))
 
 -- ---- every edge
-elements-make : (ws : List ℤ) (n at : ℕ) → ((i : ℕ) → i < n → Shape.edge ws (at + edgeSize * i) ≡ At (at + edgeSize * i + edgeSize)) → Shape.elements n Elements.Edge ws at ≡ At (at + edgeSize * n)
-unfolding Shape.elements Shape.element Shape.andThen
-elements-make ws zero at h = let q : at ≡ at + edgeSize * 0 = omega arith in ap At q
-elements-make ws (suc n) at h =
-    let q : at + edgeSize * 0 ≡ at = omega arith in
-    let e : Shape.edge ws at ≡ At (at + edgeSize) = rw q at (h 0 (omega arith)) in
-    let m : at + edgeSize + edgeSize * n ≡ at + edgeSize * suc n = omega arith in
-    rw e (elements-make ws n (at + edgeSize) (λ i l. let k : at + edgeSize + edgeSize * i ≡ at + edgeSize * suc i = omega arith in rw k (h (suc i) (omega arith))) ∙ ap At m)
+-- a run of elements of k words each
+pub elements-make :
+    (e : Element) (k : ℕ) (ws : List ℤ) (n at : ℕ) → ((i : ℕ) → i < n → Shape.element e ws (at + k * i) ≡ At (at + k * i + k)) → Shape.elements n e ws at ≡ At (at + k * n)
+unfolding Shape.elements Shape.andThen
+elements-make e k ws zero at h = let q : at ≡ at + k * 0 = omega arith in ap At q
+elements-make e k ws (suc n) at h =
+    let q : at + k * 0 ≡ at = omega arith in
+    let f : Shape.element e ws at ≡ At (at + k) = rw q at (h 0 (omega arith)) in
+    let m : at + k + k * n ≡ at + k * suc n = omega arith in
+    rw f (elements-make e k ws n (at + k) (λ i l. let z : at + k + k * i ≡ at + k * suc i = omega arith in rw z (h (suc i) (omega arith))) ∙ ap At m)
 
 -- the first i edges hold
 pub record Passed (ws : List ℤ) (n i : ℕ) : Type 0 where
@@ -183,9 +186,9 @@ passed-more ws n i p h f b = record {
 }
 
 pub passed-all : (ws : List ℤ) (n i : ℕ) → Passed ws n i → n ≤ i → Held ws
-unfolding Shape.edgesShown Shape.isRun edgesIndices edgesNumbers
+unfolding Shape.edgesShown Shape.isRun Shape.element edgesIndices edgesNumbers
 passed-all ws n i p h = record {
-  shown = ap (λ (x : Place). Shape.isAt (length ws) x) (elements-make ws (edgesIn ws) 0 (λ k l. whole k (0 + edgeSize * k) (omega arith) (omega (arith, p .count)))) ∙ eq-eqb (0 + edgeSize * edgesIn ws) (length ws) (omega (arith, p .count, p .long));
+  shown = ap (λ (x : Place). Shape.isAt (length ws) x) (elements-make Elements.Edge edgeSize ws (edgesIn ws) 0 (λ k l. whole k (0 + edgeSize * k) (omega arith) (omega (arith, p .count)))) ∙ eq-eqb (0 + edgeSize * edgesIn ws) (length ws) (omega (arith, p .count, p .long));
   short = le-leb (edgesOf ws .len) mostEdges (omega (arith, edges-len ws, p .count, p .few));
   indexed = every-holds _ (min (edgesOf ws .len) mostEdges) (λ k l. indices-held ws k true true (at-most k l) (sym (indexed k (omega (arith, edges-len ws, p .count, l)))) refl);
   in-range = every-holds _ (min (edgesOf ws .len) mostEdges) (λ k l. numbers-held ws k true true (at-most k l) (sym (numbered k (omega (arith, edges-len ws, p .count, l)))) refl);

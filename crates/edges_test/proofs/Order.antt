@@ -1,11 +1,12 @@
 -- The tests of a call in document 01's order are those of the answer to lent edges.
-use mathlib.Core.Path.{_≡_, refl, sym, ap, _∙_}
+use mathlib.Core.Path.{_≡_, refl, ap, _∙_}
 use mathlib.Core.Bool.{Bool, true, false, cond, _&&_}
-use mathlib.Core.List.{List, [], _∷_}
-use Prim.Native.Nat.{ℕ, zero, suc, _<_}
-use native.Mathlib.Omega.{arith}
-use lib.Dec.{leb}
-use Rattle.refusals.specs.Refusal.{_unless_, tooLong, badIndex, outOfRange, refusal, orRefused, answered}
+use mathlib.Core.List.{List, [], _∷_, _++_}
+use Prim.Native.Nat.{ℕ, _<_}
+use borrow.Author.Tests.{ltb-true, lt-ltb}
+use lib.Dec.{leb, ltb}
+use Rattle.refusals.specs.Refusal.{Test, _unless_, tooLong, badIndex, outOfRange, refusal, orRefused, answered}
+use Rattle.refusals.proofs.Tests.{and-first, and-second, numbered, answered-no}
 use Rattle.axis.specs.declared.edge.Axis.{Axis}
 use Rattle.axis.specs.Limits.{mostEdges}
 use Rattle.axis.specs.Refusals.{edgesIndices, edgesNumbers, edgesShort, edgesIndexed, edgesInRange}
@@ -20,27 +21,34 @@ in-order true true false p = refl
 in-order true true true p = refl
 
 -- the parameters first
-own-first : (h : Bool) (n a : ℕ) → 0 < n → cond h a n ≡ answered (orRefused 0 h n) (λ (k : ℕ). k) a
-unfolding orRefused
-own-first true n a p = refl
-own-first false zero a p = absurd (omega arith)
-own-first false (suc n) a p = refl
+pub own-first : (ts us : List Test) → numbered ts ≡ true → refusal (ts ++ us) ≡ answered (refusal ts) (λ (k : ℕ). k) (refusal us)
+unfolding refusal
+own-first [] us e = refl
+own-first (t ∷ ts) us e = go (own-first ts us (and-second (ltb 0 (t .number)) _ e)) (t .holds)
+  where
+    go : refusal (ts ++ us) ≡ answered (refusal ts) (λ (k : ℕ). k) (refusal us) → (b : Bool)
+        → cond b (refusal (ts ++ us)) (t .number) ≡ answered (cond b (refusal ts) (t .number)) (λ (k : ℕ). k) (refusal us)
+    go rest true = rest
+    go rest false = answered-no (t .number) (t .number) (λ (k : ℕ). k) (refusal us) refl (ltb-true 0 (t .number) (and-first _ _ e))
 
 module _ (axis : Axis) (named passed : Bool) (short : leb (axis .len) mostEdges ≡ true) where
-  rest : ℕ
-  rest = refusal (edgesIndexed axis ∷ badIndex unless named ∷ edgesInRange axis ∷ outOfRange unless passed ∷ [])
+  abbrev rest : List Test
+  rest = edgesIndexed axis ∷ badIndex unless named ∷ edgesInRange axis ∷ outOfRange unless passed ∷ []
 
-  -- a call without parameters
-  pub plain-tests : refusal (edgesShort axis ∷ edgesIndexed axis ∷ badIndex unless named ∷ edgesInRange axis ∷ outOfRange unless passed ∷ []) ≡ tested axis 0 named passed
-  unfolding refusal tested rest
-  plain-tests = ap (λ (t : Bool). cond t rest tooLong) short ∙ in-order (edgesIndices axis) named (edgesNumbers axis) passed
+  -- a call by the tests of its parameters
+  pub call-tests : (own : List Test) → numbered own ≡ true → refusal (edgesShort axis ∷ (own ++ rest)) ≡ tested axis (refusal own) named passed
+  unfolding refusal tested
+  call-tests own e =
+      ap (λ (t : Bool). cond t (refusal (own ++ rest)) tooLong) short
+      ∙ own-first own rest e
+      ∙ ap (answered (refusal own) (λ (k : ℕ). k)) (in-order (edgesIndices axis) named (edgesNumbers axis) passed)
 
-  -- a call with a parameter that may be refused
-  pub own-tests : (number : ℕ) (right : Bool) → 0 < number
-      → refusal (edgesShort axis ∷ number unless right ∷ edgesIndexed axis ∷ badIndex unless named ∷ edgesInRange axis ∷ outOfRange unless passed ∷ [])
-      ≡ tested axis (orRefused 0 right number) named passed
-  unfolding refusal tested rest
-  own-tests number right h =
-      ap (λ (t : Bool). cond t (cond right rest number) tooLong) short
-      ∙ own-first right number rest h
-      ∙ ap (answered (orRefused 0 right number) (λ (k : ℕ). k)) (in-order (edgesIndices axis) named (edgesNumbers axis) passed)
+  -- without parameters
+  pub plain-tests : refusal (edgesShort axis ∷ rest) ≡ tested axis 0 named passed
+  unfolding refusal
+  plain-tests = call-tests [] refl
+
+  -- with one that may be refused
+  pub own-tests : (number : ℕ) (right : Bool) → 0 < number → refusal (edgesShort axis ∷ number unless right ∷ rest) ≡ tested axis (orRefused 0 right number) named passed
+  unfolding refusal orRefused
+  own-tests number right h = call-tests (number unless right ∷ []) (rw (lt-ltb 0 number h))

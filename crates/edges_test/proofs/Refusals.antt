@@ -46,7 +46,7 @@ module _ (ws : List ℤ) (at : ℕ) (o : Bool) (e : o ≡ within mostUnits (word
 
 -- ---- an edge of the table
 -- in each place that the table holds, however many words there are
-edge-held : (ws : List ℤ) (i : ℕ) → i < min (edgesIn ws) mostEdges → edgeAt (edgesOf ws) i ≡ edgeFrom ws (edgeSize * i)
+pub edge-held : (ws : List ℤ) (i : ℕ) → i < min (edgesIn ws) mostEdges → edgeAt (edgesOf ws) i ≡ edgeFrom ws (edgeSize * i)
 unfolding flatAxis axisRun table
 edge-held ws i h = let q : 0 + edgeSize * i ≡ edgeSize * i = omega arith in firsts-at (edgeInRun ws 0) (min (edgesIn ws) mostEdges) i _ emptyEdge h ∙ ap (edgeFrom ws) q
 

@@ -20,7 +20,7 @@ ghost use Rattle.words.specs.Edge.{edgeSize};
 ghost use Rattle.edges_test.specs.Held.{zoneTest, FrontHeld, BackHeld, Held};
 
 // Whether the word at a place is from low to high.
-fn in_at(words: &[i32], at: usize, low: i32, high: i32) -> bool
+pub fn in_at(words: &[i32], at: usize, low: i32, high: i32) -> bool
     requires { ⌜ at < length (now words) ⌝ }
     ensures { λ r. ⌜ r ≡ inside low high (wordAt (now (words .entry)) at) ⌝ }
 {

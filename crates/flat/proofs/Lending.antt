@@ -1,4 +1,4 @@
--- The calls that place one edge, by what the test of their edges tells.
+-- The calls over lent edges, by what the test of their edges tells.
 use mathlib.Core.Path.{_≡_, refl, sym, ap, _∙_}
 use mathlib.Core.Bool.{Bool, true, false, not}
 use mathlib.Core.List.{List}
@@ -11,12 +11,15 @@ use Rattle.refusals.specs.Refusal.{badParameter, retired, refusal, orRefused}
 use Rattle.fixed.specs.declared.width.WidthRule.{WidthRule}
 use Rattle.fixed.specs.Width.{ruleHolds}
 use Rattle.axis.specs.declared.kinds.Dimension.the-variants as Dimensions
+use Rattle.axis.specs.declared.kinds.Group.{Group}
 use Rattle.axis.specs.declared.kinds.Link.{Link}
 use Rattle.axis.specs.declared.kinds.Link.the-variants as Links
 use Rattle.axis.specs.declared.edge.Axis.{Axis}
 use Rattle.axis.specs.Edge.{edgeAt}
 use Rattle.axis.specs.Limits.{mostEdges, mostPos}
 use Rattle.axis.specs.Accepted.{AxisWithin}
+use Rattle.lowercase_m.specs.declared.hint.Hinted.{Hinted}
+use Rattle.lowercase_m.specs.M.{countHolds, mTests, hinted, hintLowercaseM}
 use Rattle.placing.specs.declared.adjust.LinkDir.{LinkDir}
 use Rattle.placing.specs.Placing.{bothBelow, lowerBound, upperBound, adjusted}
 use Rattle.placing.specs.Steps.{InReach}
@@ -24,7 +27,7 @@ use Rattle.placing.proofs.Reach.{below-first, below-second}
 use Rattle.fitting.specs.declared.bounds.Bounds.{Bounds}
 use Rattle.fitting.specs.declared.place.Fitted.{Fitted}
 use Rattle.fitting.specs.Fitting.{linkedTests, serifTests, edgeTests, adjustTests, fitted, bounds, alignLinkedEdge, alignSerifEdge, latinRemainingBounds, adjustLink}
-use Rattle.words.specs.Field.{choiceOf, linkDirOf, linkWord, ruleOf}
+use Rattle.words.specs.Field.{choiceOf, groupOf, linkDirOf, linkWord, ruleOf}
 use Rattle.words.specs.Edge.{edgesIn, edgesOver}
 use Rattle.shape.specs.Shape.{isIn, choice}
 use Rattle.lent.specs.Lent.{refusedOr, edgesFront, bothIn, namedEdge, edgesOf}
@@ -36,7 +39,9 @@ use Rattle.edges_test.proofs.Calls.{ready, call-refused, call-done}
 use Rattle.edges_test.proofs.Order.{plain-tests, own-tests}
 use Rattle.placing_in.specs.Placing.{linkedTo, serifTo, adjusting}
 use Rattle.placing_in.proofs.Places.{edge-reach}
+use Rattle.lowercase_m_in.specs.M.{aligning}
 use Rattle.flat.specs.Fit.{LinkedLent, SerifLent, AdjustLent, boundsWords, BoundsLent}
+use Rattle.flat.specs.M.{MLent}
 
 -- ---- what a call on two edges, or on one, may use
 pub record ReadyPair (ws : List ℤ) (i j : ℕ) : Type 0 where
@@ -61,6 +66,12 @@ pair-named ws p q n = sym (n ∙ (λ x. bothBelow (sym (edges-len ws) x) (p x) (
 one-named : (ws : List ℤ) {i k : ℕ} {named : Bool} → i ≡ k → named ≡ ltb i (edgesIn ws) → ltb k (edgesOf ws .len) ≡ named
 one-named ws p n = sym (n ∙ (λ x. ltb (p x) (sym (edges-len ws) x)))
 
+-- a parameter that is not refused is right
+own-right : (right : Bool) → orRefused 0 right badParameter ≡ 0 → right ≡ true
+unfolding orRefused
+own-right true z = refl
+own-right false z = absurd (omega (arith, z))
+
 -- ---- the linked edge
 module _ (ws : List ℤ) (rule : ℤ) (xs : List ℤ) (base stem : ℤ) {width : WidthRule} {i j own r : ℕ} {named others : Bool} (w : width ≡ ruleOf rule) (p : i ≡ namedEdge base)
     (q : j ≡ namedEdge stem) (n : named ≡ bothBelow (edgesIn ws) i j) (o : own ≡ orRefused 0 (ruleHolds width xs) badParameter) (t : others ≡ isIn choice rule)
@@ -68,7 +79,9 @@ module _ (ws : List ℤ) (rule : ℤ) (xs : List ℤ) (base stem : ℤ) {width :
   abbrev linked : Axis → Axis
   linked = linkedTo (ruleOf rule) xs (namedEdge base) (namedEdge stem)
 
-  linked-is : r ≡ refusedOr (edgesFront ws (isIn choice rule)) (tested (edgesOf ws) (orRefused 0 (ruleHolds (ruleOf rule) xs) badParameter) (bothBelow (edgesOf ws .len) (namedEdge base) (namedEdge stem)) true)
+  linked-is :
+      r ≡ refusedOr (edgesFront ws (isIn choice rule))
+      (tested (edgesOf ws) (orRefused 0 (ruleHolds (ruleOf rule) xs) badParameter) (bothBelow (edgesOf ws .len) (namedEdge base) (namedEdge stem)) true)
   linked-is =
       e ∙ (λ x. refusedOr (edgesFront ws (t x)) (tested (edgesOf ws) ((o ∙ ap (λ (k : WidthRule). orRefused 0 (ruleHolds k xs) badParameter) w) x) (sym (pair-named ws p q n) x) true))
 
@@ -81,12 +94,7 @@ module _ (ws : List ℤ) (rule : ℤ) (xs : List ℤ) (base stem : ℤ) {width :
   linked-ready h = let a = ready ws others own named true e h in pair-ready ws i j n (a .named-hold) (a .whole) (a .axis)
 
   pub linked-right : r ≤ 0 → ruleHolds width xs ≡ true
-  unfolding orRefused
-  linked-right h = by (ruleHolds width xs) (sym o ∙ ready ws others own named true e h .right)
-    where
-      by : (x : Bool) → orRefused 0 x badParameter ≡ 0 → x ≡ true
-      by true z = refl
-      by false z = absurd (omega (arith, z))
+  linked-right h = own-right (ruleHolds width xs) (sym o ∙ ready ws others own named true e h .right)
 
   pub linked-refused : 0 < r → LinkedLent ws rule xs base stem r ws
   unfolding alignLinkedEdge
@@ -186,3 +194,37 @@ module _ (ws : List ℤ) (edge : ℤ) (old : ℤ × ℤ) {i r : ℕ} {named : Bo
       call-done ws true 0 _ true bounds-is (λ (z : Bounds). z .answer) (λ (z : Bounds). boundsWords z) (edgeTests (edgesOf ws) (namedEdge edge))
       (bounds Links.None Links.None) (bounds (lowerBound (namedEdge edge)) (upperBound (edgesOf ws) (namedEdge edge)) 0) (λ k. refl) refl bounds-same h
       (λ k. ((x ∙ ap (λ (z : Link). linkWord z) (l ∙ ap lowerBound p)) k, (y ∙ ap (λ (z : Link). linkWord z) (u ∙ ap (upperBound (edgesOf ws)) p)) k))
+
+-- ---- the m rule
+pub record ReadyM (ws : List ℤ) : Type 0 where
+  pub whole : Whole ws
+  pub axis : AxisWithin mostPos (edgesOf ws)
+  pub count : countHolds (edgesIn ws) ≡ true
+
+module _ (ws : List ℤ) (group : ℤ) {own r : ℕ} {others : Bool} (o : own ≡ orRefused 0 (countHolds (edgesIn ws)) badParameter) (t : others ≡ isIn choice group)
+    (e : r ≡ refusedOr (edgesFront ws others) (tested (edgesOf ws) own true true)) where
+  m-is : r ≡ refusedOr (edgesFront ws (isIn choice group)) (tested (edgesOf ws) (orRefused 0 (countHolds (edgesOf ws .len)) badParameter) true true)
+  m-is =
+      e ∙ (λ x. refusedOr (edgesFront ws (t x)) (tested (edgesOf ws) ((o ∙ ap (λ (n : ℕ). orRefused 0 (countHolds n) badParameter) (sym (edges-len ws))) x) true true))
+
+  m-same : leb (edgesOf ws .len) mostEdges ≡ true → refusal (mTests (edgesOf ws)) ≡ tested (edgesOf ws) (orRefused 0 (countHolds (edgesOf ws .len)) badParameter) true true
+  unfolding refusal
+  m-same h = own-tests (edgesOf ws) true true h badParameter (countHolds (edgesOf ws .len)) (omega arith)
+
+  pub m-ready : r ≤ 0 → ReadyM ws
+  m-ready h =
+      let a = ready ws others own true true e h in
+      record { whole = a .whole; axis = a .axis; count = own-right (countHolds (edgesIn ws)) (sym o ∙ a .right) }
+
+  pub m-refused : 0 < r → MLent ws group r ws
+  unfolding hintLowercaseM
+  m-refused h =
+      call-refused ws (isIn choice group) _ true true m-is (λ (x : Hinted). x .answer) (λ (x : Hinted). edgesOver ws (x .axis)) (mTests (edgesOf ws)) (hinted (edgesOf ws))
+      (hinted (aligning (groupOf group) (edgesOf ws)) 0) (λ k. refl) refl m-same h
+
+  pub m-done : r ≤ 0 → {g : Group} → g ≡ groupOf group → (now : List ℤ) → Became (aligning g) ws now → MLent ws group 0 now
+  unfolding hintLowercaseM
+  m-done h {g} q now b =
+      call-done ws (isIn choice group) _ true true m-is (λ (x : Hinted). x .answer) (λ (x : Hinted). edgesOver ws (x .axis)) (mTests (edgesOf ws)) (hinted (edgesOf ws))
+      (hinted (aligning (groupOf group) (edgesOf ws)) 0) (λ k. refl) refl m-same h
+      (became-over (m-ready h .whole) b Dimensions.Horizontal ∙ (λ x. edgesOver ws (aligning (q x) (edgesOf ws))))

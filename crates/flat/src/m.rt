@@ -1,10 +1,12 @@
-// The lowercase m rule over lent edges.
-use lent::edges::axis_of;
-use lent::edges::edges_refusal;
-use lent::edges::give_edges;
-use lowercase_m::hint::hint_lowercase_m;
+// The lowercase m rule over lent edges: the edges are tested and moved where their words stand.
+use edges_test::test::edges_test;
+use lowercase_m::hint::count_holds;
+use lowercase_m_in::hint::m_in;
+use refusals::order::BAD_PARAMETER;
+use refusals::order::or_refused;
 use shape::field::CHOICE;
 use shape::field::is_in;
+use words::edge::EDGE_WORDS;
 use words::field::group_of;
 ghost use Rattle.flat.specs.M.{MLent};
 
@@ -12,11 +14,11 @@ ghost use Rattle.flat.specs.M.{MLent};
 pub fn lend_m(edges: &mut [i32], group: i32) -> u8
     ensures { λ r. ⌜ MLent (now (edges .entry)) group r (now (edges .exit)) ⌝ }
 {
-    let refusal = edges_refusal(edges, is_in(group, CHOICE));
-    if 0 < refusal {
-        return refusal;
+    let own = or_refused(0, count_holds(edges.len() / EDGE_WORDS), BAD_PARAMETER);
+    let answer = edges_test(edges, is_in(group, CHOICE), own, true, true);
+    if 0 < answer {
+        return answer;
     }
-    let hinted = hint_lowercase_m(axis_of(edges), group_of(group));
-    let axis = hinted.axis;
-    give_edges(edges, hinted.answer, axis)
+    m_in(edges, group_of(group));
+    0
 }

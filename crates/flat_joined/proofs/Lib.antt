@@ -1,3 +1,4 @@
--- `Readings`: what the words of the call read as, and how many edges it counts. `Kept`: which words stay.
-pub mod Readings
+-- Laws on the call: whether edges have zones where the group has none, by what the test of its edges tells, and which words it can change.
+pub mod Zoning
+pub mod Lending
 pub mod Kept

@@ -1,2 +1,3 @@
 // Edges lent as words without a count, for blue zones and then stems.
 pub mod pass;
+pub mod zones;

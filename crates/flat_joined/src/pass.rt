@@ -1,14 +1,17 @@
-// Blue zones and then stems over lent edges.
-use axis::kinds::Direction;
-use joined::align::align_blues_and_stems;
-use lent::edges::edges_refusal;
-use lent::edges::give_edges;
+// Blue zones and then stems over lent edges: the edges are tested and aligned where their words stand.
+use super::zones::zones_hold_in;
+use blues_in::pass::where_zoned_in;
+use edges_test::test::edges_test;
+use fixed::width::rule_holds;
 use lent::shown::are_choices;
 use lent::shown::both;
 use lent::shown::both_in;
-use lent::word::give_word;
+use refusals::order::BAD_PARAMETER;
+use refusals::order::RETIRED;
+use refusals::order::or_refused;
 use shape::field::CHOICE;
-use words::edge::flat_axis;
+use stems_in::pass::stems_in;
+use stems_plan::kinds::Mode;
 use words::field::choice_of;
 use words::field::dimension_of;
 use words::field::group_of;
@@ -17,7 +20,7 @@ use words::field::rule_of;
 use words::word::count_word;
 ghost use Rattle.flat_joined.specs.Joined.{JoinedLent};
 
-// Puts edges on their blue zones, then aligns all stems, and tells how many edges were passed over and the anchor.
+// Puts edges on their blue zones, then aligns all stems beside the anchor that these left, and tells how many edges were passed over and the anchor.
 pub fn lend_joined(
     edges: &mut [i32],
     dim: i32,
@@ -36,22 +39,26 @@ pub fn lend_joined(
         are_choices(dim, group, stem_adjust),
         both_in(top_to_bottom, rule, CHOICE),
     );
-    let refusal = edges_refusal(edges, others);
-    if 0 < refusal {
-        return refusal;
+    let axis = dimension_of(dim);
+    let script = group_of(group);
+    let width = rule_of(rule);
+    let order = or_refused(0, !choice_of(top_to_bottom), RETIRED);
+    let right = or_refused(order, rule_holds(width, standards), BAD_PARAMETER);
+    let own = or_refused(right, zones_hold_in(edges, axis, script), BAD_PARAMETER);
+    let answer = edges_test(edges, others, own, true, true);
+    if 0 < answer {
+        return answer;
     }
-    let axis = flat_axis(edges, dimension_of(dim), Direction::None);
-    let aligned = align_blues_and_stems(
-        axis,
-        group_of(group),
-        choice_of(stem_adjust),
-        choice_of(top_to_bottom),
-        rule_of(rule),
-        standards,
-    );
-    let axis = aligned.axis;
-    let last = aligned.anchor;
-    give_word(found, aligned.answer, link_word(last));
-    give_word(count, aligned.answer, count_word(aligned.count));
-    give_edges(edges, aligned.answer, axis)
+    let start = where_zoned_in(edges, axis, script, width, standards);
+    let mode = Mode {
+        dim: axis,
+        group: script,
+        stem_adjust: choice_of(stem_adjust),
+        rule: width,
+    };
+    let passed = stems_in(edges, mode, standards, start, false);
+    let last = passed.anchor;
+    *count = count_word(passed.count);
+    *found = link_word(last);
+    0
 }

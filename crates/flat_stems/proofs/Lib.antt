@@ -1,4 +1,4 @@
--- Laws on what the words of a call read as.
-pub mod Readings
+-- Laws on the calls: by what the test of their edges tells, and which words they can change.
 pub mod Lending
+pub mod LendingStems
 pub mod Kept

@@ -1,15 +1,18 @@
-// The stem pass over lent edges.
-use axis::kinds::Direction;
-use lent::edges::edges_refusal;
-use lent::edges::give_edges;
+// The stem pass over lent edges: the edges are tested and aligned where their words stand.
+use axis::accept::link_holds;
+use edges_test::test::edges_test;
+use fixed::width::rule_holds;
 use lent::shown::are_choices;
 use lent::shown::both;
 use lent::shown::both_in;
-use lent::word::give_word;
 use lent::word::named_anchor;
+use refusals::order::BAD_PARAMETER;
+use refusals::order::RETIRED;
+use refusals::order::or_refused;
 use shape::field::CHOICE;
-use stems::align::align_stem_edges;
-use words::edge::flat_axis;
+use stems_in::pass::stems_in;
+use stems_plan::kinds::Mode;
+use words::edge::EDGE_WORDS;
 use words::field::choice_of;
 use words::field::dimension_of;
 use words::field::group_of;
@@ -38,23 +41,24 @@ pub fn lend_stems(
         are_choices(dim, group, stem_adjust),
         both_in(top_to_bottom, rule, CHOICE),
     );
-    let refusal = edges_refusal(edges, others);
-    if 0 < refusal {
-        return refusal;
+    let width = rule_of(rule);
+    let start = named_anchor(anchor);
+    let named = link_holds(start, edges.len() / EDGE_WORDS);
+    let order = or_refused(0, !choice_of(top_to_bottom), RETIRED);
+    let own = or_refused(order, rule_holds(width, standards), BAD_PARAMETER);
+    let answer = edges_test(edges, others, own, named, true);
+    if 0 < answer {
+        return answer;
     }
-    let axis = flat_axis(edges, dimension_of(dim), Direction::None);
-    let aligned = align_stem_edges(
-        axis,
-        group_of(group),
-        choice_of(stem_adjust),
-        choice_of(top_to_bottom),
-        named_anchor(anchor),
-        rule_of(rule),
-        standards,
-    );
-    let axis = aligned.axis;
-    let last = aligned.anchor;
-    give_word(found, aligned.answer, link_word(last));
-    give_word(count, aligned.answer, count_word(aligned.count));
-    give_edges(edges, aligned.answer, axis)
+    let mode = Mode {
+        dim: dimension_of(dim),
+        group: group_of(group),
+        stem_adjust: choice_of(stem_adjust),
+        rule: width,
+    };
+    let passed = stems_in(edges, mode, standards, start, true);
+    let last = passed.anchor;
+    *count = count_word(passed.count);
+    *found = link_word(last);
+    0
 }

@@ -1,11 +1,10 @@
-// Blue zones over lent edges.
-use axis::kinds::Direction;
-use blues::align::align_edges_to_blues;
-use lent::edges::edges_refusal;
-use lent::edges::give_edges;
+// Blue zones over lent edges: the edges are tested and placed where their words stand.
+use blues_in::pass::where_zoned_in;
+use edges_test::test::edges_test;
+use fixed::width::rule_holds;
 use lent::shown::are_choices;
-use lent::word::give_word;
-use words::edge::flat_axis;
+use refusals::order::BAD_PARAMETER;
+use refusals::order::or_refused;
 use words::field::dimension_of;
 use words::field::group_of;
 use words::field::link_word;
@@ -23,14 +22,15 @@ pub fn lend_zones(
 ) -> u8
     ensures { λ r. ⌜ ZonesLent (now (edges .entry)) dim group rule (now (standards .entry)) (now (anchor .entry)) r (now (edges .exit), now (anchor .exit)) ⌝ }
 {
-    let refusal = edges_refusal(edges, are_choices(dim, group, rule));
-    if 0 < refusal {
-        return refusal;
+    let width = rule_of(rule);
+    let own = or_refused(0, rule_holds(width, standards), BAD_PARAMETER);
+    let others = are_choices(dim, group, rule);
+    let answer = edges_test(edges, others, own, true, true);
+    if 0 < answer {
+        return answer;
     }
-    let axis = flat_axis(edges, dimension_of(dim), Direction::None);
-    let anchored = align_edges_to_blues(axis, group_of(group), rule_of(rule), standards);
-    let found = anchored.anchor;
-    let axis = anchored.axis;
-    give_word(anchor, anchored.answer, link_word(found));
-    give_edges(edges, anchored.answer, axis)
+    let axis = dimension_of(dim);
+    let found = where_zoned_in(edges, axis, group_of(group), width, standards);
+    *anchor = link_word(found);
+    0
 }

@@ -32,7 +32,7 @@ pub struct Gaps {
 }
 
 // What is found with one gap more.
-fn with_gap(found: Gaps, gap: Gap, least: i32) -> Gaps
+pub fn with_gap(found: Gaps, gap: Gap, least: i32) -> Gaps
     requires { ⌜ found .count ≤ mostEdges ⌝ }
     ensures { λ r. ⌜ r ≡ withGap least found gap ⌝ }
 {

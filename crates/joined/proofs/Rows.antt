@@ -2,11 +2,11 @@
 use mathlib.Core.Path.{_≡_, refl, sym, ap, subst, _∙_}
 use mathlib.Core.Bool.{Bool, true, false, not, cond}
 use mathlib.Core.List.{List, [], _∷_}
-use Prim.Native.Nat.{ℕ}
+use Prim.Native.Nat.{ℕ, zero, suc}
 use lib.IntN.{ℤ}
-use Rattle.refusals.specs.Refusal.{_unless_, tooLong, badParameter, retired, refusal}
+use Rattle.refusals.specs.Refusal.{_unless_, tooLong, badParameter, retired, refusal, answered}
 use Rattle.refusals.proofs.Answers.{none-refused, worked}
-use Rattle.refusals.proofs.Tests.{AllHold, no-refusal}
+use Rattle.refusals.proofs.Tests.{AllHold, all-hold, no-refusal}
 use Rattle.fixed.specs.declared.width.WidthRule.{WidthRule}
 use Rattle.fixed.specs.Width.{ruleHolds}
 use Rattle.axis.specs.declared.kinds.Link.the-variants as Links
@@ -94,7 +94,20 @@ module _ (axis : Axis) (group : Group) (adjust ttb : Bool) (rule : WidthRule) (x
   unfolding alignBluesAndStems
   accepted-row e = worked (stems 0 Links.None axis) (thenStems group adjust ttb rule xs (alignEdgesToBlues axis group rule xs)) (refusal (joinedTests axis group ttb rule xs)) e
 
-  -- which is where it answers 0
+  -- so that it is its refusal, or the stem pass behind the blue zones
+  pub passes : alignBluesAndStems axis group adjust ttb rule xs
+      ≡ answered (refusal (joinedTests axis group ttb rule xs)) (stems 0 Links.None axis)
+      (stemsOf (modeOf axis group adjust rule) xs (bluesWhere axis group rule xs .anchor) (bluesWhere axis group rule xs .axis))
+  unfolding alignBluesAndStems
+  passes = by (refusal (joinedTests axis group ttb rule xs)) refl
+    where
+      by : (k : ℕ) → refusal (joinedTests axis group ttb rule xs) ≡ k
+          → answered k (stems 0 Links.None axis) (thenStems group adjust ttb rule xs (alignEdgesToBlues axis group rule xs))
+          ≡ answered k (stems 0 Links.None axis) (stemsOf (modeOf axis group adjust rule) xs (bluesWhere axis group rule xs .anchor) (bluesWhere axis group rule xs .axis))
+      by zero e = sym (in-a-row axis group adjust ttb rule xs (all-hold (joinedTests axis group ttb rule xs) refl e))
+      by (suc k) e = refl
+
+  -- it is not refused where it answers 0
   pub unrefused : alignBluesAndStems axis group adjust ttb rule xs .answer ≡ 0 → refusal (joinedTests axis group ttb rule xs) ≡ 0
   unfolding alignBluesAndStems
   unrefused e =

@@ -1,25 +1,23 @@
 -- Positions are as without marks: the rule reads no mark (request #105).
-use mathlib.Core.Path.{_≡_, refl, ap, subst}
+use mathlib.Core.Path.{_≡_, ap, subst}
 use mathlib.Core.List.{[], _∷_}
-use mathlib.Core.Bool.{_&&_}
-use Prim.Native.Nat.{ℕ, _+_}
+use Prim.Native.Nat.{ℕ}
 use lib.Dec.{leb, eqb}
 use lib.IntN.{ℤ, _-ℤ_}
 use Rattle.refusals.specs.Refusal.{_unless_, refusal, tooLong, badParameter, badIndex, outOfRange}
 use Rattle.axis.specs.declared.kinds.Group.{Group}
-use Rattle.axis.specs.declared.kinds.Group.the-variants.{Default, Cjk}
 use Rattle.axis.specs.declared.kinds.Link.{Link}
 use Rattle.axis.specs.declared.kinds.Link.the-variants as Links
 use Rattle.axis.specs.declared.edge.Edge.{Edge}
 use Rattle.axis.specs.declared.edge.Axis.{Axis}
 use Rattle.axis.specs.Edge.{edgeAt}
 use Rattle.axis.specs.Limits.{mostEdges}
-use Rattle.axis.specs.Link.{linksTo}
 use Rattle.axis.specs.Mark.{Blind}
 use Rattle.axis.proofs.Alike.{Alike, AlikeAxis, placed-alike, fixed-alike, at-alike, put-alike, alike-len, cond-alike, indices-alike, numbers-alike, answered-alike, blind}
 use Rattle.lowercase_m.specs.declared.stems.Stems.{Stems}
-use Rattle.lowercase_m.specs.M.{even, delta, stemsOf, linkedOn, groupHolds, applies, moveDone, moveOnly, moveLink, moveSerifs, moveStem, aligned, countHolds, mTests}
+use Rattle.lowercase_m.specs.M.{delta, stemsOf, moveDone, moveOnly, moveLink, moveSerifs, moveStem, aligned, countHolds, mTests}
 use Rattle.lowercase_m.specs.M.{hinted, hintLowercaseM, withoutMarks}
+use Rattle.lowercase_m.proofs.Reading.{SameRead, applies-by}
 
 -- ---- the moves
 done-alike : (a b : Axis) (i : ℕ) (d : ℤ) → AlikeAxis a b → AlikeAxis (moveDone a i d) (moveDone b i d)
@@ -52,22 +50,14 @@ module _ (a b : Axis) (alike : AlikeAxis a b) where
       (serifs-alike _ _ d (link-alike _ _ (edgeAt a i .link) d now))
 
   -- ---- the rule
-  group-same : (group : Group) (s : Stems) → groupHolds group a s ≡ groupHolds group b s
-  unfolding groupHolds linkedOn
-  group-same Default s = refl
-  group-same Cjk s = λ j.
-      linksTo (at (s .first) .same j .link) (s .first + 1)
-      && (linksTo (at (s .second) .same j .link) (s .second + 1) && linksTo (at (s .third) .same j .link) (s .third + 1))
-
-  applies-same : (group : Group) (s : Stems) → applies group a s ≡ applies group b s
-  unfolding applies
-  applies-same group s = λ j. group-same group s j && even (at (s .first) .same j .opos) (at (s .second) .same j .opos) (at (s .third) .same j .opos)
+  read : (i : ℕ) → SameRead (edgeAt a i) (edgeAt b i)
+  read i = record { opos = ap (λ (e : Edge). e .opos) (at i .same); link = ap (λ (e : Edge). e .link) (at i .same) }
 
   aligned-alike : (group : Group) (s : Stems) → AlikeAxis (aligned group a s) (aligned group b s)
   unfolding aligned
   aligned-alike group s =
       let d = delta (edgeAt a (s .first) .pos) (edgeAt a (s .second) .pos) (edgeAt a (s .third) .pos) in
-      cond-alike AlikeAxis _ _ _ a _ b (applies-same group s)
+      cond-alike AlikeAxis _ _ _ a _ b (applies-by group s (read (s .first)) (read (s .second)) (read (s .third)))
       (subst (λ (e : ℤ). AlikeAxis (moveStem a (s .third) d) (moveStem b (s .third) e))
       (λ j. delta (at (s .first) .same j .pos) (at (s .second) .same j .pos) (at (s .third) .same j .pos)) (stem-alike (s .third) d)) alike
 

@@ -22,7 +22,7 @@ use Rattle.axis.specs.Mark.{among}
 use Rattle.axis.specs.Changes.{Extent, nothing, position, place, Only, OnlyAxis, Changes}
 use Rattle.axis.proofs.Only.{or-true, position-place, placed-only, fixed-only, same-axis, also-put, call-changes}
 use Rattle.lowercase_m.specs.declared.hint.Hinted.{Hinted}
-use Rattle.lowercase_m.specs.M.{stemsOf, applies, moveDone, moveOnly, moveLink, moveSerifs, moveStem, aligned, mTests, hinted, hintLowercaseM, HintsLowercaseM}
+use Rattle.lowercase_m.specs.M.{stemsOf, appliesTo, moveDone, moveOnly, moveLink, moveSerifs, moveStem, aligned, mTests, hinted, hintLowercaseM, HintsLowercaseM}
 use Rattle.lowercase_m.specs.M.{isStem, isSerif, mExtent}
 
 -- ---- the extent
@@ -83,7 +83,7 @@ module _ (axis : Axis) where
 
   rule : (group : Group) → Kept (aligned group axis (stemsOf (axis .len)))
   unfolding aligned
-  rule group = either-way Kept (applies group axis (stemsOf (axis .len))) _ axis (stem _) (same-axis _ axis)
+  rule group = either-way Kept (appliesTo group axis (stemsOf (axis .len))) _ axis (stem _) (same-axis _ axis)
 
   -- ---- the call
   pub changed : (group : Group) {r : Hinted} → HintsLowercaseM axis group r → Changes (OnlyAxis (mExtent (axis .edges) (axis .len))) (r .answer) axis (r .axis)

@@ -26,7 +26,7 @@ use Rattle.axis.specs.Limits.{mostEdges}
 use Rattle.axis.specs.Ring.{times}
 use Rattle.axis.proofs.Accepting.{edges-within}
 use Rattle.lowercase_m.specs.declared.hint.Hinted.{Hinted}
-use Rattle.lowercase_m.specs.M.{stemsOf, delta, mostDelta, applies, moveDone, moveOnly, moveLink, moveSerifs, moveStem, aligned, countHolds, mTests, hinted, hintLowercaseM}
+use Rattle.lowercase_m.specs.M.{stemsOf, delta, mostDelta, appliesTo, moveDone, moveOnly, moveLink, moveSerifs, moveStem, aligned, countHolds, mTests, hinted, hintLowercaseM}
 use Rattle.lowercase_m.specs.Steps.{unmoved, twiceMoved}
 use Rattle.lowercase_m.proofs.Places.{stems-hold}
 
@@ -160,7 +160,7 @@ aligned-within axis group h c =
     let s = stemsOf (axis .len) in
     let S = stems-hold axis (h .few) c in
     let p : (i : ℕ) → i < axis .len → Between unmoved unmoved (edgeAt axis i .pos) = λ i q. h .edge i q .pos in
-    either-way (AxisWithin twiceMoved) (applies group axis s) _ axis
+    either-way (AxisWithin twiceMoved) (appliesTo group axis s) _ axis
     (stem-within axis (s .third) _ h (S .third-below) (third-is (axis .len)) (delta-within _ _ _ (p _ (S .first-below)) (p _ (S .second-below)) (p _ (S .third-below))))
     (record { few = h .few; edge = λ k q. edge-more unmoved twiceMoved (axis .len) (edgeAt axis k) (omega arith) (h .edge k q) })
 

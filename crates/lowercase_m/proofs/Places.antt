@@ -16,8 +16,9 @@ use Rattle.axis.specs.declared.edge.Axis.{Axis}
 use Rattle.axis.specs.Edge.{emptyEdge, edgeAt, putEdge}
 use Rattle.axis.specs.Limits.{mostEdges, mostUnits}
 use Rattle.axis.specs.Accepted.{AxisWithin}
+use Rattle.lowercase_m.specs.declared.stems.Stems.{Stems}
 use Rattle.lowercase_m.specs.M.{stemsOf, countHolds, mostDelta, moveDone, moveOnly}
-use Rattle.lowercase_m.specs.Steps.{Places, StemsOf, unmoved, thriceMoved}
+use Rattle.lowercase_m.specs.Steps.{Places, InTable, StemsOf, unmoved, thriceMoved}
 
 wider : (m n : ℕ) (z : ℤ) → m ≤ n → Between m m z → Between n n z
 wider m n z e h = omega arith
@@ -81,3 +82,7 @@ stems-hold axis few h = by-count (eqb (axis .len) 6) refl
     by-count : (six : Bool) → eqb (axis .len) 6 ≡ six → StemsOf axis (stemsOf (axis .len))
     by-count true e = let n = eqb-true (axis .len) 6 e in rw e (record { few = few; first-below = omega arith; second-below = omega arith; third-below = omega arith })
     by-count false e = let n = eqb-true (axis .len) 12 (rw e at h) in rw e (record { few = few; first-below = omega arith; second-below = omega arith; third-below = omega arith })
+
+-- the stems of an axis are places of the table
+pub in-table : (axis : Axis) (s : Stems) → StemsOf axis s → InTable s
+in-table axis s h = record { first = omega (arith, h .few, h .first-below); second = omega (arith, h .few, h .second-below); third = omega (arith, h .few, h .third-below) }

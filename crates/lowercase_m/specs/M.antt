@@ -39,20 +39,22 @@ delta p1 p2 p3 = p3 -ℤ ((p2 *ℤ pos 2) -ℤ p1)
 abbrev pub mostDelta : ℕ
 mostDelta = 67108864
 
--- each stem is linked to the edge behind it
-unfoldable pub linkedOn : Axis → Stems → Bool
-linkedOn axis s =
-    linksTo (edgeAt axis (s .first) .link) (s .first + 1)
-    && (linksTo (edgeAt axis (s .second) .link) (s .second + 1) && linksTo (edgeAt axis (s .third) .link) (s .third + 1))
+-- each of the stems, whose first edges are these, is linked to the edge behind it
+unfoldable pub linkedOn : Stems → Edge → Edge → Edge → Bool
+linkedOn s e1 e2 e3 = linksTo (e1 .link) (s .first + 1) && (linksTo (e2 .link) (s .second + 1) && linksTo (e3 .link) (s .third + 1))
 
 -- the group's own condition: CJK wants linked stems, the default group nothing
-unfoldable pub groupHolds : Group → Axis → Stems → Bool
-groupHolds Default axis s = true
-groupHolds Cjk axis s = linkedOn axis s
+unfoldable pub groupHolds : Group → Stems → Edge → Edge → Edge → Bool
+groupHolds Default s e1 e2 e3 = true
+groupHolds Cjk s e1 e2 e3 = linkedOn s e1 e2 e3
 
 -- the rule applies
-unfoldable pub applies : Group → Axis → Stems → Bool
-applies group axis s = groupHolds group axis s && even (edgeAt axis (s .first) .opos) (edgeAt axis (s .second) .opos) (edgeAt axis (s .third) .opos)
+unfoldable pub applies : Group → Stems → Edge → Edge → Edge → Bool
+applies group s e1 e2 e3 = groupHolds group s e1 e2 e3 && even (e1 .opos) (e2 .opos) (e3 .opos)
+
+-- to the stems of an axis
+abbrev pub appliesTo : Group → Axis → Stems → Bool
+appliesTo group axis s = applies group s (edgeAt axis (s .first)) (edgeAt axis (s .second)) (edgeAt axis (s .third))
 
 -- ---- the moves
 -- the edge, moved back by d, which marks it
@@ -83,7 +85,7 @@ moveStem axis i d = moveSerifs (moveLink (moveDone axis i d) (edgeAt axis i .lin
 -- the third stem is moved to the same distance as the second, where the rule applies
 unfoldable pub aligned : Group → Axis → Stems → Axis
 aligned group axis s =
-    cond (applies group axis s)
+    cond (appliesTo group axis s)
     (moveStem axis (s .third) (delta (edgeAt axis (s .first) .pos) (edgeAt axis (s .second) .pos) (edgeAt axis (s .third) .pos)))
     axis
 

@@ -25,6 +25,12 @@ pub record Places (m : ℕ) (axis : Axis) : Type 0 where
   pub few : axis .len ≤ mostEdges
   pub at : (i : ℕ) → i < axis .len → Between m m (edgeAt axis i .pos)
 
+-- the stems are places of the table
+pub record InTable (s : Stems) : Type 0 where
+  pub first : s .first ≤ mostEdges
+  pub second : s .second ≤ mostEdges
+  pub third : s .third ≤ mostEdges
+
 -- the stems are edges of the axis
 pub record StemsOf (axis : Axis) (s : Stems) : Type 0 where
   pub few : axis .len ≤ mostEdges

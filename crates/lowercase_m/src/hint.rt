@@ -1,9 +1,8 @@
 // The call.
 use super::moves::move_stem;
 use super::stems::Stems;
+use super::stems::applies;
 use super::stems::delta_of;
-use super::stems::is_even;
-use super::stems::links_on;
 use super::stems::stems_of;
 use axis::accept::edges_indices;
 use axis::accept::edges_numbers;
@@ -19,7 +18,7 @@ ghost use mathlib.Core.Path.{_≡_};
 ghost use Rattle.refusals.specs.Refusal.{refusal};
 ghost use Rattle.axis.specs.Limits.{mostPos};
 ghost use Rattle.axis.specs.Accepted.{AxisWithin};
-ghost use Rattle.lowercase_m.specs.M.{linkedOn, groupHolds, aligned, countHolds, mTests, HintsLowercaseM};
+ghost use Rattle.lowercase_m.specs.M.{aligned, countHolds, mTests, HintsLowercaseM};
 ghost use Rattle.lowercase_m.specs.Steps.{StemsOf};
 
 // An answer, 0 or the refusal, and the axis.
@@ -28,49 +27,18 @@ pub struct Hinted {
     pub axis: Axis,
 }
 
-// Whether each stem is linked to the edge behind it.
-fn linked_on(axis: Axis, stems: Stems) -> bool
-    requires { ⌜ StemsOf axis stems ⌝ }
-    ensures { λ r. ⌜ r ≡ linkedOn axis stems ⌝ }
-{
-    let first = stems.first;
-    if !links_on(axis.edges[first], first) {
-        return false;
-    }
-    let second = stems.second;
-    if !links_on(axis.edges[second], second) {
-        return false;
-    }
-    let third = stems.third;
-    links_on(axis.edges[third], third)
-}
-
-// Whether the group's own condition holds: CJK wants linked stems.
-fn group_holds(axis: Axis, group: Group, stems: Stems) -> bool
-    requires { ⌜ StemsOf axis stems ⌝ }
-    ensures { λ r. ⌜ r ≡ groupHolds group axis stems ⌝ }
-{
-    match group {
-        Group::Default => true,
-        Group::Cjk => linked_on(axis, stems),
-    }
-}
-
 // Moves the third stem to the same distance as the second, where the rule applies.
 fn align_stems(axis: Axis, group: Group, stems: Stems) -> Axis
     requires { ⌜ AxisWithin mostPos axis × StemsOf axis stems ⌝ }
     ensures { λ r. ⌜ r ≡ aligned group axis stems ⌝ }
 {
-    if !group_holds(axis, group, stems) {
-        return axis;
-    }
     let first = stems.first;
     let second = stems.second;
     let third = stems.third;
     let edge1 = axis.edges[first];
     let edge2 = axis.edges[second];
     let edge3 = axis.edges[third];
-    if !is_even(edge1.opos, edge2.opos, edge3.opos) {
+    if !applies(group, stems, edge1, edge2, edge3) {
         return axis;
     }
     let delta = delta_of(edge1.pos, edge2.pos, edge3.pos);
@@ -78,7 +46,7 @@ fn align_stems(axis: Axis, group: Group, stems: Stems) -> Axis
 }
 
 // Whether an m has as many edges.
-fn count_holds(count: usize) -> bool
+pub fn count_holds(count: usize) -> bool
     ensures { λ r. ⌜ r ≡ countHolds count ⌝ }
 {
     if count == 6 {

@@ -15,7 +15,7 @@ ghost use Rattle.lowercase_m.specs.M.{moveSerifs, moveStem, mostDelta};
 ghost use Rattle.lowercase_m.specs.Steps.{Places, unmoved, twiceMoved, thriceMoved};
 
 // The edge, moved back by delta, and what moved it.
-fn moved_back(edge: Edge, delta: i32, mark: Mark) -> Edge
+pub fn moved_back(edge: Edge, delta: i32, mark: Mark) -> Edge
     requires { ⌜ Between thriceMoved thriceMoved (edge .pos) × Between mostDelta mostDelta delta ⌝ }
     ensures { λ r. ⌜ r ≡ placed edge (edge .pos -ℤ delta) mark ⌝ }
 {

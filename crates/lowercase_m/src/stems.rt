@@ -1,5 +1,6 @@
 // The three stems of an m: which edges they are, and whether the rule applies to them.
 use axis::edge::Edge;
+use axis::kinds::Group;
 use axis::link::links_to;
 use fixed::point::magnitude;
 ghost use mathlib.Core.Path.{_≡_};
@@ -7,7 +8,8 @@ ghost use Prim.Native.Nat.{_≤_, _+_};
 ghost use Rattle.signed.specs.Range.{Between, I32};
 ghost use Rattle.axis.specs.Limits.{mostEdges, mostUnits, mostPos};
 ghost use Rattle.axis.specs.Link.{linksTo};
-ghost use Rattle.lowercase_m.specs.M.{stemsOf, even, delta, mostDelta};
+ghost use Rattle.lowercase_m.specs.M.{stemsOf, even, delta, mostDelta, linkedOn, groupHolds, applies};
+ghost use Rattle.lowercase_m.specs.Steps.{InTable};
 
 // The first edges of the three stems.
 pub struct Stems {
@@ -35,7 +37,7 @@ pub fn stems_of(count: usize) -> Stems
 }
 
 // Whether the original distances between the stems differ by less than 8.
-pub fn is_even(first: i32, second: i32, third: i32) -> bool
+fn is_even(first: i32, second: i32, third: i32) -> bool
     requires { ⌜ Between mostUnits mostUnits first × Between mostUnits mostUnits second × Between mostUnits mostUnits third ⌝ }
     ensures { λ r. ⌜ r ≡ even first second third ⌝ }
 {
@@ -54,10 +56,47 @@ pub fn delta_of(first: i32, second: i32, third: i32) -> i32
 }
 
 // Whether an edge is linked to the one behind it.
-pub fn links_on(edge: Edge, ix: usize) -> bool
+fn links_on(edge: Edge, ix: usize) -> bool
     requires { ⌜ ix ≤ mostEdges ⌝ }
     ensures { λ r. ⌜ r ≡ linksTo (edge .link) (ix + 1) ⌝ }
 {
     let link = edge.link;
     links_to(link, (ix + 1) as u16)
+}
+
+// Whether each stem is linked to the edge behind it.
+fn linked_on(stems: Stems, edge1: Edge, edge2: Edge, edge3: Edge) -> bool
+    requires { ⌜ InTable stems ⌝ }
+    ensures { λ r. ⌜ r ≡ linkedOn stems edge1 edge2 edge3 ⌝ }
+{
+    if !links_on(edge1, stems.first) {
+        return false;
+    }
+    if !links_on(edge2, stems.second) {
+        return false;
+    }
+    links_on(edge3, stems.third)
+}
+
+// Whether the group's own condition holds: CJK wants linked stems.
+fn group_holds(group: Group, stems: Stems, edge1: Edge, edge2: Edge, edge3: Edge) -> bool
+    requires { ⌜ InTable stems ⌝ }
+    ensures { λ r. ⌜ r ≡ groupHolds group stems edge1 edge2 edge3 ⌝ }
+{
+    match group {
+        Group::Default => true,
+        Group::Cjk => linked_on(stems, edge1, edge2, edge3),
+    }
+}
+
+// Whether the rule applies to the stems, whose first edges these are.
+pub fn applies(group: Group, stems: Stems, edge1: Edge, edge2: Edge, edge3: Edge) -> bool
+    requires { ⌜ InTable stems ⌝ }
+    requires { ⌜ Between mostUnits mostUnits (edge1 .opos) × Between mostUnits mostUnits (edge2 .opos) × Between mostUnits mostUnits (edge3 .opos) ⌝ }
+    ensures { λ r. ⌜ r ≡ applies group stems edge1 edge2 edge3 ⌝ }
+{
+    if group_holds(group, stems, edge1, edge2, edge3) {
+        return is_even(edge1.opos, edge2.opos, edge3.opos);
+    }
+    false
 }

@@ -1,8 +1,8 @@
 -- The rule on a table that holds a list, empty places behind it, is the rule on the list.
 use mathlib.Core.Path.{_≡_, refl, ap, _∙_}
-use mathlib.Core.Bool.{Bool, true, false, cond, _&&_}
+use mathlib.Core.Bool.{Bool, true, false, cond}
 use mathlib.Core.List.{List, [], _∷_, _++_}
-use Prim.Native.Nat.{ℕ, zero, suc, _+_, _≤_, min}
+use Prim.Native.Nat.{ℕ, zero, suc, _≤_, min}
 use native.Mathlib.Omega.{arith}
 use borrow.Author.Tests.{leb-true}
 use lib.Dec.{leb, eqb}
@@ -13,15 +13,13 @@ use Rattle.refusals.specs.Refusal.{_unless_, refusal, badParameter, badIndex, o
 use Rattle.axis.specs.declared.kinds.Link.{Link}
 use Rattle.axis.specs.declared.kinds.Link.the-variants as Links
 use Rattle.axis.specs.declared.kinds.Group.{Group}
-use Rattle.axis.specs.declared.kinds.Group.the-variants.{Default, Cjk}
 use Rattle.axis.specs.declared.edge.Edge.{Edge}
 use Rattle.axis.specs.declared.edge.Axis.{Axis}
 use Rattle.axis.specs.Edge.{emptyEdge, edgeAt, putEdge, finished}
-use Rattle.axis.specs.Link.{linksTo}
 use Rattle.axis.specs.Limits.{mostEdges}
 use Rattle.axis.specs.Refusals.{every, edgeIndices, edgeNumbers, edgesIndices, edgesNumbers}
 use Rattle.lowercase_m.specs.declared.stems.Stems.{Stems}
-use Rattle.lowercase_m.specs.M.{even, delta, linkedOn, groupHolds, applies, movedBack, moveDone, moveOnly, moveLink, moveSerifs, moveStem, aligned, countHolds, mTests}
+use Rattle.lowercase_m.specs.M.{delta, applies, appliesTo, movedBack, moveDone, moveOnly, moveLink, moveSerifs, moveStem, aligned, countHolds, mTests}
 use Rattle.lowercase_m_list.specs.Table.{axisWith}
 use Rattle.lowercase_m_list.specs.M.{axisOf}
 
@@ -102,16 +100,6 @@ module _ (l : List Edge) (few : length l ≤ mostEdges) where
       ∙ ap (λ (a : Axis). moveSerifs a d) (cut-link n (moveDone t i d) (edgeAt t i .link) d ∙ (λ j. moveLink ((cut-done n t i d ∙ ap (λ (a : Axis). moveDone a i d) first) j) (place i j .link) d))
 
   -- ---- the rule
-  group-same : (group : Group) (s : Stems) → groupHolds group (tableAxis l) s ≡ groupHolds group (axisOf l) s
-  unfolding groupHolds linkedOn
-  group-same Default s = refl
-  group-same Cjk s = λ j.
-      linksTo (place (s .first) j .link) (s .first + 1) && (linksTo (place (s .second) j .link) (s .second + 1) && linksTo (place (s .third) j .link) (s .third + 1))
-
-  applies-same : (group : Group) (s : Stems) → applies group (tableAxis l) s ≡ applies group (axisOf l) s
-  unfolding applies
-  applies-same group s = λ j. group-same group s j && even (place (s .first) j .opos) (place (s .second) j .opos) (place (s .third) j .opos)
-
   pub aligned-same : (group : Group) (s : Stems) → take (length l) (aligned group (tableAxis l) s .edges) ≡ aligned group (axisOf l) s .edges
   unfolding aligned
   aligned-same group s =
@@ -120,8 +108,9 @@ module _ (l : List Edge) (few : length l ≤ mostEdges) where
       let a = axisOf l in
       let d = delta (edgeAt t (s .first) .pos) (edgeAt t (s .second) .pos) (edgeAt t (s .third) .pos) in
       ap (λ (x : Axis). x .edges)
-      (cond-map (cut n) (applies group t s) (moveStem t (s .third) d) t (moveStem a (s .third) d) a (stem (s .third) d) first
-      ∙ (λ j. cond (applies-same group s j) (moveStem a (s .third) (delta (place (s .first) j .pos) (place (s .second) j .pos) (place (s .third) j .pos))) a))
+      (cond-map (cut n) (appliesTo group t s) (moveStem t (s .third) d) t (moveStem a (s .third) d) a (stem (s .third) d) first
+      ∙ (λ j. cond (applies group s (place (s .first) j) (place (s .second) j) (place (s .third) j))
+      (moveStem a (s .third) (delta (place (s .first) j .pos) (place (s .second) j .pos) (place (s .third) j .pos))) a))
 
   -- ---- the tests
   tests-same : refusal (badParameter unless countHolds (length l) ∷ badIndex unless edgesIndices (tableAxis l) ∷ outOfRange unless edgesNumbers (tableAxis l) ∷ [])

@@ -151,10 +151,10 @@ grown i = mostPos + i * mostGrowth
 pub reached : (n i : ℕ) → n ≤ mostEdges → i < n → Reached (grown i)
 reached n i h q = record { least = omega arith; most = omega (arith, h, q) }
 
-begun-sound : (anchor : Link) (axis : Axis) → AxisWithin mostPos axis → Below (axis .len) anchor → StateSound (grown 0) (axis .len) 0 (begun anchor axis)
+pub begun-sound : (anchor : Link) (axis : Axis) → AxisWithin mostPos axis → Below (axis .len) anchor → StateSound (grown 0) (axis .len) 0 (begun anchor axis)
 begun-sound anchor axis h g = record { len = refl; axis-in = h; count-in = omega arith; anchor-in = g; trail-in = record { last = last-none; delta = omega arith } }
 
-turn-sound : (n i : ℕ) (m : Mode) (xs : List ℤ) (s s′ : State) → n ≤ mostEdges → i < n → step m xs s i ≡ s′ → StateSound (grown i) n i s → StateSound (grown (i + 1)) n (i + 1) s′
+pub turn-sound : (n i : ℕ) (m : Mode) (xs : List ℤ) (s s′ : State) → n ≤ mostEdges → i < n → step m xs s i ≡ s′ → StateSound (grown i) n i s → StateSound (grown (i + 1)) n (i + 1) s′
 turn-sound n i m xs s s′ h q e g =
     let g′ : grown i + mostGrowth ≡ grown (i + 1) = omega arith in
     subst (λ (c : ℕ). StateSound c n (i + 1) s′) g′ (subst (StateSound (grown i + mostGrowth) n (i + 1)) e (step-sound (grown i) n i m xs s (reached n i h q) g q))

@@ -41,7 +41,7 @@ fn group_plan(
 }
 
 // The plan for an edge and its link: an edge whose link has a blue zone is placed by that one alone.
-pub fn plan_of(
+fn plan_of(
     mode: Mode,
     standards: &[i32],
     edge: Edge,

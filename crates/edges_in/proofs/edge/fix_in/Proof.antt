@@ -1,7 +1,5 @@
 -- `edges_in::edge::fix_in` meets its contract. Assumes nothing.
-use mathlib.Core.Path.{_∙_}
-use mir.Syntax.{w32}
-use Rattle.signed.proofs.Signed.{is, got}
+use Rattle.signed.proofs.Signed.{is}
 use Rattle.edges_in.proofs.Became.{fix-law}
 use borrow.Author.Needs.{needs}
 use Rattle.edges_in.proofs.edge.fix_in.Statement.{statement}
@@ -19,11 +17,8 @@ add-flags-at c = search needs
 flags-at-requires : tie.Need-flags-at-requires
 flags-at-requires c κs = search needs
 
-flags-word-requires : tie.Need-flags-word-requires
-flags-word-requires c κs = search needs
-
-put-word-requires : tie.Need-put-word-requires
-put-word-requires c κs = search needs
+flag-in-requires : tie.Need-flag-in-requires
+flag-in-requires c κs = search needs
 
 same-length : tie.Need-same-length
 same-length c = search needs
@@ -31,12 +26,11 @@ same-length c = search needs
 returns : tie.Need-returns
 returns c =
     let put = c .before in
-    let word = put .before in
-    let flags = word .before .before in
+    let flags = put .before .before in
     let one = flags .before .before .before in
     let s = one .before .before in
-    fix-law (s .args .words .now) _ _ (s .args .i) (s .args .pos) _ _ (s .args .mark) (flags .flags-at .result) (s .pre .1) (s .pre .0) (is (s .fits .pos)) (one .place-in .ensures)
-    (flags .flags-at .ensures) (put .put-word .ensures) (is (got w32 (word .flags-word .result) (word .flags-word .ok)) ∙ word .flags-word .ensures)
+    fix-law (s .args .words .now) _ _ (s .args .i) (s .args .pos) _ (s .args .mark) (flags .flags-at .result) (s .pre .1) (s .pre .0) (is (s .fits .pos)) (one .place-in .ensures)
+    (flags .flags-at .ensures) (put .flag-in .ensures)
 
 pub fix-in-spec : {M : Type 1} → statement M
 fix-in-spec =
@@ -46,7 +40,6 @@ fix-in-spec =
     mul-flags-at
     add-flags-at
     flags-at-requires
-    flags-word-requires
-    put-word-requires
+    flag-in-requires
     same-length
     returns)

@@ -1,10 +1,5 @@
 -- `edges_test::exact::edge_indices_in` meets its contract. Assumes nothing.
 use borrow.Author.Needs.{needs}
-use mathlib.Core.Path.{_≡_, sym, ap, _∙_}
-use mathlib.Core.Bool.{Bool, true, false}
-use Rattle.axis.specs.declared.kinds.Link.{Link}
-use Rattle.axis.specs.Refusals.{linkHolds, edgeIndices}
-use Rattle.words.specs.Edge.{edgeFrom}
 use Rattle.edges_test.proofs.Refusals.{link-fails, serif-decides}
 use Rattle.edges_test.proofs.exact.edge_indices_in.Statement.{statement}
 use Rattle.edges_test.proofs.exact.edge_indices_in.Tie as tie

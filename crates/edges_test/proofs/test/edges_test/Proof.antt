@@ -1,7 +1,6 @@
 -- `edges_test::test::edges_test` meets its contract. Assumes nothing.
-use mathlib.Core.Path.{sym, ap, _∙_}
-use mathlib.Core.Bool.{Bool, _&&_}
-use lib.Dec.{eqb}
+use mathlib.Core.Path.{sym, _∙_}
+use mathlib.Core.Bool.{_&&_}
 use Rattle.refusals.proofs.Tests.{and-first, and-second}
 use Rattle.edges_test.proofs.Answers.{held-tested}
 use borrow.Author.Needs.{needs}

@@ -7,7 +7,7 @@ use Rattle.fixed.specs.Width.{ruleHolds}
 use Rattle.words.specs.Field.{ruleOf}
 use Rattle.shape.specs.Shape.{isIn, choice}
 use Rattle.lent.specs.Lent.{namedEdge}
-use Rattle.flat.proofs.Lending.{ReadyPair, linked-ready, linked-right, linked-refused, linked-done}
+use Rattle.flat.proofs.Lending.{linked-ready, linked-right, linked-refused, linked-done}
 use borrow.Author.Needs.{needs}
 use Rattle.flat.proofs.fit.lend_linked_edge.Statement.{statement}
 use Rattle.flat.proofs.fit.lend_linked_edge.Tie as tie
@@ -81,7 +81,9 @@ linked-in-requires c κs =
     let r =
     linked-right (s .args .edges .now) (s .args .rule) (s .args .standards .now) (s .args .base) (s .args .stem) (rule-is t) (base-is t) (stem-is t) (below t .both-below .ensures) (own-is t)
     (choice-is t) (t .edges-test .ensures) (o .if1 .left) in
-    (r, (a .words, a .edges))
+    let w = a .words in
+    let g = a .edges in
+    search needs
 
 same-length-2 : tie.Need-same-length-2
 same-length-2 c = search needs

@@ -2,7 +2,7 @@
 use mathlib.Core.Path.{_≡_, ap, _∙_}
 use Rattle.signed.proofs.Signed.{is}
 use Rattle.lent.specs.Lent.{namedEdge}
-use Rattle.flat.proofs.Lending.{ReadyPair, serif-ready, serif-refused, serif-done}
+use Rattle.flat.proofs.Lending.{serif-ready, serif-refused, serif-done}
 use borrow.Author.Needs.{needs}
 use Rattle.flat.proofs.fit.lend_serif_edge.Statement.{statement}
 use Rattle.flat.proofs.fit.lend_serif_edge.Tie as tie
@@ -44,7 +44,9 @@ serif-in-requires c κs =
     let t = o .before in
     let s = start t in
     let a = serif-ready (s .args .edges .now) (s .args .base) (s .args .serif) (base-is t) (serif-is t) (t .before .before .both-below .ensures) (t .edges-test .ensures) (o .if1 .left) in
-    (a .words, a .edges)
+    let w = a .words in
+    let g = a .edges in
+    search needs
 
 same-length-2 : tie.Need-same-length-2
 same-length-2 c = search needs

@@ -1,82 +1,82 @@
 -- `flat::m::lend_m` meets its contract. Assumes nothing.
-use borrow.Author.Needs.{needs}
-use mathlib.Core.Path.{_≡_, refl, ap, _∙_}
-use Rattle.refusals.specs.Refusal.{refusal}
-use Rattle.words.specs.Field.{groupOf}
-use Rattle.words.specs.Edge.{edgesOver}
+use mathlib.Core.Path.{_≡_, ap, _∙_}
+use mathlib.Core.Bool.{Bool}
 use Rattle.signed.proofs.Signed.{is}
-use Rattle.lowercase_m.specs.declared.hint.Hinted.{Hinted}
-use Rattle.lowercase_m.specs.M.{hintLowercaseM}
+use Rattle.refusals.specs.Refusal.{badParameter, orRefused}
+use Rattle.lowercase_m.specs.M.{countHolds}
+use Rattle.words.specs.Field.{groupOf}
+use Rattle.words.specs.Edge.{edgesIn}
 use Rattle.shape.specs.Shape.{isIn, choice}
-use Rattle.lent.specs.Lent.{edgesFront}
-use Rattle.flat.specs.M.{mHinted}
-use Rattle.signed.proofs.By.{by₂}
-use Rattle.lent.proofs.Lents.{edgesRefusal, refused-before, passed-by}
+use Rattle.flat.proofs.Lending.{m-ready, m-refused, m-done}
+use borrow.Author.Needs.{needs}
 use Rattle.flat.proofs.m.lend_m.Statement.{statement}
 use Rattle.flat.proofs.m.lend_m.Tie as tie
 
-abbrev start : tie.After-edges-refusal → tie.Start
-start c = c .before .before .before
+abbrev start : tie.After-edges-test → tie.Start
+start c = c .before .before .before .before .before
 
--- the refusal in front
-front : (c : tie.After-edges-refusal) → c .edges-refusal .result ≡ refusal (edgesFront (start c .args .edges .now) (isIn choice (start c .args .group)))
-front c = let s = start c in by₂ edgesRefusal (c .edges-refusal .ensures) refl (c .before .is-in .ensures ∙ ap (isIn choice) (is (s .fits .group)))
+-- the tests of the count and of the group's word
+own-is : (c : tie.After-edges-test) → c .before .before .before .or-refused .result ≡ orRefused 0 (countHolds (edgesIn (start c .args .edges .now))) badParameter
+own-is c = let o = c .before .before .before in o .or-refused .ensures ∙ ap (λ (t : Bool). orRefused 0 t badParameter) (o .before .count-holds .ensures)
 
-abbrev tested : tie.After-hint-lowercase-m → tie.Else1
-tested c = c .before .before .before .before
+choice-is : (c : tie.After-edges-test) → c .before .is-in .result ≡ isIn choice (start c .args .group)
+choice-is c = c .before .is-in .ensures ∙ ap (isIn choice) (is (start c .fits .group))
 
-abbrev from : tie.After-hint-lowercase-m → tie.Start
-from c = start (tested c .before)
+count-holds-requires : tie.Need-count-holds-requires
+count-holds-requires c κs = search needs
 
--- what the call hands back
-handed : (c : tie.After-hint-lowercase-m) → c .hint-lowercase-m .result ≡ mHinted (from c .args .edges .now) (from c .args .group)
-handed c = by₂ hintLowercaseM (c .hint-lowercase-m .ensures) (c .before .before .axis-of .ensures) (c .before .group-of .ensures ∙ ap groupOf (is (from c .fits .group)))
+or-refused-requires : tie.Need-or-refused-requires
+or-refused-requires c κs = search needs
 
 is-in-requires : tie.Need-is-in-requires
 is-in-requires c κs = search needs
 
-edges-refusal-requires : tie.Need-edges-refusal-requires
-edges-refusal-requires c κs = search needs
+edges-test-requires : tie.Need-edges-test-requires
+edges-test-requires c κs = search needs
 
 same-length : tie.Need-same-length
 same-length c = search needs
 
 returns : tie.Need-returns
-returns c = refused-before (front (c .before)) (c .if1 .taken)
-
-axis-of-requires : tie.Need-axis-of-requires
-axis-of-requires c κs = search needs
+returns c =
+    let t = c .before in
+    let s = start t in
+    m-refused (s .args .edges .now) (s .args .group) (own-is t) (choice-is t) (t .edges-test .ensures) (c .if1 .taken)
 
 group-of-requires : tie.Need-group-of-requires
 group-of-requires c κs = search needs
 
-hint-lowercase-m-requires : tie.Need-hint-lowercase-m-requires
-hint-lowercase-m-requires c κs = search needs
-
-give-edges-requires : tie.Need-give-edges-requires
-give-edges-requires c κs = search needs
+m-in-requires : tie.Need-m-in-requires
+m-in-requires c κs =
+    let o = c .before .before in
+    let t = o .before in
+    let s = start t in
+    let a = m-ready (s .args .edges .now) (s .args .group) (own-is t) (choice-is t) (t .edges-test .ensures) (o .if1 .left) in
+    (a .whole, a .axis, a .count)
 
 same-length-2 : tie.Need-same-length-2
 same-length-2 c = search needs
 
 returns-2 : tie.Need-returns-2
 returns-2 c =
-    let h = c .before .before .before .before in
-    let e = tested h in
-    passed-by (λ (x : Hinted). x .answer) (λ (x : Hinted). edgesOver (start (e .before) .args .edges .now) (x .axis)) (front (e .before)) (e .if1 .left) (handed h)
-    (c .before .give-edges .ensures)
+    let i = c .before in
+    let g = i .before in
+    let o = g .before .before in
+    let t = o .before in
+    let s = start t in
+    m-done (s .args .edges .now) (s .args .group) (own-is t) (choice-is t) (t .edges-test .ensures) (o .if1 .left) (g .group-of .ensures ∙ ap groupOf (is (s .fits .group))) _ (i .m-in .ensures)
 
 pub lend-m-spec : {M : Type 1} → statement M
 lend-m-spec =
     tie.close
     (tie.spec
+    count-holds-requires
+    or-refused-requires
     is-in-requires
-    edges-refusal-requires
+    edges-test-requires
     same-length
     returns
-    axis-of-requires
     group-of-requires
-    hint-lowercase-m-requires
-    give-edges-requires
+    m-in-requires
     same-length-2
     returns-2)

@@ -1,136 +1,104 @@
 -- `flat_gaps::find::lend_gaps` meets its contract. Assumes nothing.
 use borrow.Author.Needs.{needs}
-use native.Mathlib.Omega.{arith}
-use mathlib.Core.Path.{_≡_, sym, subst, _∙_}
-use Prim.Native.Nat.{_≤_}
-use lib.IntN.{pos}
+use mathlib.Core.Path.{_≡_, ap, _∙_}
+use mathlib.Core.Bool.{Bool, true}
+use Prim.Native.Nat.{_%_}
+use lib.IntN.{ℤ, pos}
 use mir.Syntax.{w32}
-use mir.Val.{toZ, ofZ}
-use Rattle.signed.proofs.By.{by₂}
 use Rattle.signed.proofs.Signed.{is}
-use Rattle.axis.specs.Limits.{mostEdges}
+use Rattle.refusals.specs.Refusal.{badParameter, orRefused}
+use Rattle.axis.specs.Limits.{mostUnits}
+use Rattle.axis.specs.Refusals.{inside}
 use Rattle.gaps.specs.declared.find.Gaps.{Gaps}
-use Rattle.gaps.specs.Gaps.{lostGaps}
-use Rattle.gaps.proofs.Outcomes.{count-small}
+use Rattle.gaps.specs.Gaps.{foundIn}
 use Rattle.words.specs.Field.{linkWord}
 use Rattle.words.proofs.Fields.{kept}
 use Rattle.lent.specs.Lent.{edgesOf}
 use Rattle.lent.proofs.Counting.{count-is}
-use Rattle.lent.proofs.Lents.{refused-before, passed-by, lent-as, lent-pair}
-use Rattle.flat_gaps.specs.Find.{gapsFound, gapsWords}
+use Rattle.edges_test.proofs.Calls.{Ready}
+use Rattle.flat_gaps.specs.Find.{Places}
+use Rattle.flat_gaps.proofs.Search.{few-found}
+use Rattle.flat_gaps.proofs.Lending.{gaps-ready, gaps-refused, gaps-done}
 use Rattle.flat_gaps.proofs.find.lend_gaps.Statement.{statement}
 use Rattle.flat_gaps.proofs.find.lend_gaps.Tie as tie
 
-abbrev tested : tie.After-lost-gaps → tie.Else1
-tested c = c .before .before
+abbrev start : tie.After-edges-test → tie.Start
+start c = c .before .before .before
 
-abbrev from : tie.After-lost-gaps → tie.Start
-from c = tested c .before .before
+-- what the five places held
+abbrev old : tie.Start → Places
+old c = let a = c .args in (a .count .now, (a .first .now, (a .second .now, (a .before .now, a .after .now))))
 
--- what the call hands back
-handed : (c : tie.After-lost-gaps) → c .lost-gaps .result ≡ gapsFound (from c .args .edges .now) (from c .args .least)
-handed c = by₂ lostGaps (c .lost-gaps .ensures) (c .before .axis-of .ensures) (is (from c .fits .least))
+-- the test of the least width
+own-is : (c : tie.After-edges-test) → c .before .or-refused .result ≡ orRefused 0 (inside (pos 0) (pos mostUnits) (start c .args .least)) badParameter
+own-is c =
+    let o = c .before in
+    o .or-refused .ensures ∙ ap (λ (t : Bool). orRefused 0 t badParameter) (o .before .is-inside .ensures ∙ ap (inside (pos 0) (pos mostUnits)) (is (start c .fits .least)))
 
-few : (c : tie.After-lost-gaps) → c .lost-gaps .result .count ≤ mostEdges
-few c =
-    let a = from c .args in
-    let h = count-small (edgesOf (a .edges .now)) (a .least) in
-    subst (λ (g : Gaps). g .count ≤ mostEdges) (sym (handed c)) (omega arith)
+-- where the code goes on, the edges can be searched
+allowed : (c : tie.Else1) → Ready (start (c .before) .args .edges .now) (c .before .before .or-refused .result) true true
+allowed c = let t = c .before in let s = start t in gaps-ready (s .args .edges .now) (s .args .least) (old s) (own-is t) (t .edges-test .ensures) (c .if1 .left)
 
--- ---- from behind each word back to what the call handed back
-abbrev at-after : tie.After-give-word → tie.After-lost-gaps
-at-after c = c .before .before .before .before
+-- what is found
+abbrev from : tie.After-find-in → tie.Start
+from c = start (c .before .before)
 
-abbrev at-before : tie.After-give-word2 → tie.After-lost-gaps
-at-before c = at-after (c .before .before .before)
+found : (c : tie.After-find-in) → c .find-in .result ≡ foundIn (from c .args .least) (edgesOf (from c .args .edges .now))
+found c = let s = from c in c .find-in .ensures ∙ ap (λ (z : ℤ). foundIn z (edgesOf (s .args .edges .now))) (is (s .fits .least))
 
-abbrev at-second : tie.After-give-word3 → tie.After-lost-gaps
-at-second c = at-before (c .before .before .before)
+is-inside-requires : tie.Need-is-inside-requires
+is-inside-requires c κs = search needs
 
-abbrev at-first : tie.After-give-word4 → tie.After-lost-gaps
-at-first c = at-second (c .before .before .before)
+or-refused-requires : tie.Need-or-refused-requires
+or-refused-requires c κs = search needs
 
-abbrev at-count : tie.After-give-word5 → tie.After-lost-gaps
-at-count c = at-first (c .before .before .before)
-
--- ---- the words
-after-given : (c : tie.After-give-word) → toZ w32 (ofZ w32 (at-after c .lost-gaps .result .gap .after)) ≡ at-after c .lost-gaps .result .gap .after
-after-given c = kept w32 _ (c .before .struct-told .given .1 .1 .1 .0 .1)
-
-before-given : (c : tie.After-give-word2) → toZ w32 (ofZ w32 (at-before c .lost-gaps .result .gap .before)) ≡ at-before c .lost-gaps .result .gap .before
-before-given c = kept w32 _ (c .before .struct-told2 .given .1 .1 .0 .1)
-
-second-given : (c : tie.After-give-word3) → toZ w32 (ofZ w32 (c .before .link-word .result)) ≡ linkWord (at-second c .lost-gaps .result .gap .second)
-second-given c = let w = c .before .link-word in kept w32 (w .result) (w .ok) ∙ w .ensures
-
-first-given : (c : tie.After-give-word4) → toZ w32 (ofZ w32 (c .before .link-word2 .result)) ≡ linkWord (at-first c .lost-gaps .result .gap .first)
-first-given c = let w = c .before .link-word2 in kept w32 (w .result) (w .ok) ∙ w .ensures
-
-count-given : (c : tie.After-give-word5) → toZ w32 (ofZ w32 (c .before .count-word .result)) ≡ pos (at-count c .lost-gaps .result .count)
-count-given c = let w = c .before .count-word in kept w32 (w .result) (w .ok) ∙ w .ensures ∙ count-is _ (few (at-count c))
-
-edges-refusal-requires : tie.Need-edges-refusal-requires
-edges-refusal-requires c κs = search needs
+edges-test-requires : tie.Need-edges-test-requires
+edges-test-requires c κs = search needs
 
 returns : tie.Need-returns
-returns c = refused-before (c .before .edges-refusal .ensures) (c .if1 .taken)
+returns c = let t = c .before in let s = start t in gaps-refused (s .args .edges .now) (s .args .least) (old s) (own-is t) (t .edges-test .ensures) (c .if1 .taken)
 
-axis-of-requires : tie.Need-axis-of-requires
-axis-of-requires c κs = search needs
-
-lost-gaps-requires : tie.Need-lost-gaps-requires
-lost-gaps-requires c κs = search needs
-
-give-word-requires : tie.Need-give-word-requires
-give-word-requires c κs = search needs
-
-give-word-requires-2 : tie.Need-give-word-requires-2
-give-word-requires-2 c κs = search needs
+find-in-requires : tie.Need-find-in-requires
+find-in-requires c κs = (allowed c .whole, allowed c .axis)
 
 link-word-requires : tie.Need-link-word-requires
 link-word-requires c κs = search needs
 
-give-word-requires-3 : tie.Need-give-word-requires-3
-give-word-requires-3 c κs = search needs
-
 link-word-requires-2 : tie.Need-link-word-requires-2
 link-word-requires-2 c κs = search needs
-
-give-word-requires-4 : tie.Need-give-word-requires-4
-give-word-requires-4 c κs = search needs
 
 count-word-requires : tie.Need-count-word-requires
 count-word-requires c κs = search needs
 
-give-word-requires-5 : tie.Need-give-word-requires-5
-give-word-requires-5 c κs = search needs
-
 returns-2 : tie.Need-returns-2
 returns-2 c =
-    let f = c .before .before .before in
-    let s = f .before .before .before in
-    let b = s .before .before .before in
-    let a = b .before .before .before in
-    let h = at-count c in
-    let e = tested h in
-    passed-by (λ (x : Gaps). x .answer) (λ (x : Gaps). gapsWords x) (e .before .edges-refusal .ensures) (e .if1 .left) (handed h)
-    (lent-pair (lent-as (count-given c) (c .give-word5 .ensures)) (lent-pair (lent-as (first-given f) (f .give-word4 .ensures))
-    (lent-pair (lent-as (second-given s) (s .give-word3 .ensures)) (lent-pair (lent-as (before-given b) (b .give-word2 .ensures)) (lent-as (after-given a) (a .give-word .ensures))))))
+    let n = c .count-word in
+    let one = c .before in
+    let two = one .before in
+    let now = two .before in
+    let was = now .before in
+    let f = was .before .before in
+    let o = f .before in
+    let t = o .before in
+    let s = start t in
+    let axis = edgesOf (s .args .edges .now) in
+    let count = kept w32 (n .result) (n .ok) ∙ n .ensures ∙ ap (λ (g : Gaps). pos (g .count % 65536)) (found f) ∙ count-is _ (few-found (s .args .least) axis (allowed o .axis)) in
+    let first = kept w32 (one .link-word2 .result) (one .link-word2 .ok) ∙ one .link-word2 .ensures ∙ ap (λ (g : Gaps). linkWord (g .gap .first)) (found f) in
+    let second = kept w32 (two .link-word .result) (two .link-word .ok) ∙ two .link-word .ensures ∙ ap (λ (g : Gaps). linkWord (g .gap .second)) (found f) in
+    let before = kept w32 _ (was .struct-told .given .1 .1 .0 .1) ∙ ap (λ (g : Gaps). g .gap .before) (found f) in
+    let after = kept w32 _ (now .struct-told2 .given .1 .1 .1 .0 .1) ∙ ap (λ (g : Gaps). g .gap .after) (found f) in
+    gaps-done (s .args .edges .now) (s .args .least) (old s) (own-is t) (t .edges-test .ensures) (o .if1 .left) _ (λ k. (count k, (first k, (second k, (before k, after k)))))
 
 pub lend-gaps-spec : {M : Type 1} → statement M
 lend-gaps-spec =
     tie.close
     (tie.spec
-    edges-refusal-requires
+    is-inside-requires
+    or-refused-requires
+    edges-test-requires
     returns
-    axis-of-requires
-    lost-gaps-requires
-    give-word-requires
-    give-word-requires-2
+    find-in-requires
     link-word-requires
-    give-word-requires-3
     link-word-requires-2
-    give-word-requires-4
     count-word-requires
-    give-word-requires-5
     returns-2)

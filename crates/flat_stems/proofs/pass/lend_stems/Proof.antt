@@ -1,79 +1,65 @@
 -- `flat_stems::pass::lend_stems` meets its contract. Assumes nothing.
-use borrow.Author.Needs.{needs}
-use mathlib.Core.Path.{_≡_, refl, sym, ap, subst, _∙_}
-use mathlib.Core.Bool.{_&&_}
-use Prim.Native.Nat.{_≤_}
-use lib.IntN.{pos}
+use mathlib.Core.Path.{_≡_, refl, ap, _∙_}
+use mathlib.Core.Bool.{not, _&&_}
 use mir.Syntax.{w32}
 use mir.Val.{toZ, ofZ}
-use Rattle.refusals.specs.Refusal.{refusal}
+use lib.IntN.{pos}
 use Rattle.signed.proofs.Signed.{is}
-use Rattle.axis.specs.Limits.{mostEdges}
-use Rattle.stems.specs.declared.pass.Stems.{Stems}
-use Rattle.words.specs.Field.{choiceOf, dimensionOf, groupOf, ruleOf, linkWord}
+use Rattle.signed.proofs.By.{by₂, by₃}
+use Rattle.refusals.specs.Refusal.{badParameter, retired}
+use Rattle.refusals.proofs.Tests.{none-tested, then-tested}
+use Rattle.signed.proofs.Choices.{clash}
+use Rattle.words.specs.Field.{choiceOf, dimensionOf, groupOf, ruleOf}
 use Rattle.words.proofs.Fields.{kept}
 use Rattle.shape.specs.Shape.{choice}
-use Rattle.lent.specs.Lent.{edgesFront, bothIn, choices, namedAnchor}
-use Rattle.signed.proofs.By.{by₂, by₃}
+use Rattle.lent.specs.Lent.{bothIn, choices, namedAnchor}
 use Rattle.lent.proofs.Counting.{count-is}
-use Rattle.lent.proofs.Lents.{edgesRefusal, refused-before, passed-by, lent-as, lent-pair}
-use Rattle.flat_stems.specs.Stems.{stemsAligned, stemsWords}
-use Rattle.flat_stems.proofs.Readings.{stems-reads, stems-few}
+use Rattle.stems_in.proofs.Passes.{passed-few}
+use Rattle.flat_stems.proofs.LendingStems.{TestedStems, stems-ready, stems-refused, stems-done}
+use borrow.Author.Needs.{needs}
 use Rattle.flat_stems.proofs.pass.lend_stems.Statement.{statement}
 use Rattle.flat_stems.proofs.pass.lend_stems.Tie as tie
 
-abbrev start : tie.After-edges-refusal → tie.Start
-start c = c .before .before .before .before .before
+-- ---- the contexts, from each to one before it
+abbrev named : tie.After-edges-test → tie.After-link-holds
+named c = c .before .before .before .before .before .before
 
--- the refusal in front
-front :
-    (c : tie.After-edges-refusal)
-    → c .edges-refusal .result ≡ refusal (edgesFront (start c .args .edges .now) (choices (start c .args .dim) (start c .args .group) (start c .args .stem-adjust)
-    && bothIn choice (start c .args .top-to-bottom) (start c .args .rule)))
-front c =
+abbrev start : tie.After-edges-test → tie.Start
+start c = named c .before .before .before .before .before .before
+
+abbrev passes : tie.After-stems-in → tie.Else1
+passes c = c .before .before .before .before .before
+
+-- what the tests have found
+abbrev Found : tie.After-edges-test → Type 0
+Found c =
+    let a = start c .args in
+    TestedStems (a .edges .now) (a .dim) (a .group) (a .stem-adjust) (a .top-to-bottom) (a .anchor) (a .rule) (a .standards .now)
+    (named c .before .before .rule-of .result) (named c .before .named-anchor .result) (c .edges-test .result)
+
+found : (c : tie.After-edges-test) → Found c
+found c =
     let s = start c in
-    let b = c .before .before in
-    by₂ edgesRefusal (c .edges-refusal .ensures) refl (by₂ _&&_ (b .both .ensures)
-    (by₃ choices (b .before .before .are-choices .ensures) (is (s .fits .dim)) (is (s .fits .group)) (is (s .fits .stem-adjust)))
-    (by₂ (bothIn choice) (b .before .both-in .ensures) (is (s .fits .top-to-bottom)) (is (s .fits .rule))))
-
-abbrev tested : tie.After-align-stem-edges → tie.Else1
-tested c = c .before .before .before .before .before .before .before .before .before
-
-abbrev from : tie.After-align-stem-edges → tie.Start
-from c = start (tested c .before)
-
--- what the call hands back
-handed :
-    (c : tie.After-align-stem-edges)
-    → c .align-stem-edges .result ≡ stemsAligned (from c .args .edges .now) (from c .args .dim) (from c .args .group) (from c .args .stem-adjust) (from c .args .top-to-bottom)
-    (from c .args .anchor) (from c .args .rule) (from c .args .standards .now)
-handed c =
-    let s = from c in
-    let a = s .args in
-    let k = c .before in
-    let b = k .before .before in
-    let g = b .before .before in
-    stems-reads (a .edges .now) (a .dim) (a .group) (a .stem-adjust) (a .top-to-bottom) (a .anchor) (a .rule) (a .standards .now) (c .align-stem-edges .ensures)
-    (g .before .flat-axis .ensures) (g .before .before .dimension-of .ensures ∙ ap dimensionOf (is (s .fits .dim)))
-    (g .group-of .ensures ∙ ap groupOf (is (s .fits .group))) (b .before .choice-of .ensures ∙ ap choiceOf (is (s .fits .stem-adjust)))
-    (b .choice-of2 .ensures ∙ ap choiceOf (is (s .fits .top-to-bottom))) (k .before .named-anchor .ensures ∙ ap namedAnchor (is (s .fits .anchor)))
-    (k .rule-of .ensures ∙ ap ruleOf (is (s .fits .rule)))
-
--- the words of the anchor and of the count
-anchor : (c : tie.After-give-word) → toZ w32 (ofZ w32 (c .before .link-word .result)) ≡ linkWord (c .before .before .before .before .align-stem-edges .result .anchor)
-anchor c = let w = c .before .link-word in kept w32 (w .result) (w .ok) ∙ w .ensures
-
-abbrev aligned : tie.After-give-word2 → tie.After-align-stem-edges
-aligned c = c .before .before .before .before .before .before .before
-
-few : (c : tie.After-align-stem-edges) → c .align-stem-edges .result .count ≤ mostEdges
-few c =
-    let a = from c .args in
-    subst (λ (s : Stems). s .count ≤ mostEdges) (sym (handed c)) (stems-few (a .edges .now) (a .dim) (a .group) (a .stem-adjust) (a .top-to-bottom) (a .anchor) (a .rule) (a .standards .now))
-
-count : (c : tie.After-give-word2) → toZ w32 (ofZ w32 (c .before .count-word .result)) ≡ pos (aligned c .align-stem-edges .result .count)
-count c = let w = c .before .count-word in kept w32 (w .result) (w .ok) ∙ w .ensures ∙ count-is _ (few (aligned c))
+    let n = named c in
+    let own = c .before .before in
+    let rule = own .before in
+    let order = rule .before in
+    let both = n .before .before .before in
+    let turned = ap not (order .before .choice-of .ensures ∙ ap choiceOf (is (s .fits .top-to-bottom))) in
+    record {
+      own = own .or-refused2 .result;
+      others = both .both .result;
+      named = n .link-holds .result;
+      width-is = n .before .before .rule-of .ensures ∙ ap ruleOf (is (s .fits .rule));
+      start-is = n .before .named-anchor .ensures ∙ ap namedAnchor (is (s .fits .anchor));
+      own-is = then-tested badParameter (then-tested retired none-tested refl (order .or-refused .ensures) turned) refl (own .or-refused2 .ensures) (rule .rule-holds .ensures);
+      others-are =
+          by₂ _&&_ (both .both .ensures)
+          (by₃ choices (both .before .before .are-choices .ensures) (is (s .fits .dim)) (is (s .fits .group)) (is (s .fits .stem-adjust)))
+          (by₂ (bothIn choice) (both .before .both-in .ensures) (is (s .fits .top-to-bottom)) (is (s .fits .rule)));
+      named-is = n .link-holds .ensures;
+      answer = c .edges-test .ensures;
+    }
 
 are-choices-requires : tie.Need-are-choices-requires
 are-choices-requires c κs = search needs
@@ -84,65 +70,94 @@ both-in-requires c κs = search needs
 both-requires : tie.Need-both-requires
 both-requires c κs = search needs
 
-edges-refusal-requires : tie.Need-edges-refusal-requires
-edges-refusal-requires c κs = search needs
+rule-of-requires : tie.Need-rule-of-requires
+rule-of-requires c κs = search needs
+
+named-anchor-requires : tie.Need-named-anchor-requires
+named-anchor-requires c κs = search needs
+
+link-holds-requires : tie.Need-link-holds-requires
+link-holds-requires c κs = search needs
+
+choice-of-requires : tie.Need-choice-of-requires
+choice-of-requires c κs = search needs
+
+or-refused-requires : tie.Need-or-refused-requires
+or-refused-requires c κs = search needs
+
+rule-holds-requires : tie.Need-rule-holds-requires
+rule-holds-requires c κs = search needs
+
+or-refused-requires-2 : tie.Need-or-refused-requires-2
+or-refused-requires-2 c κs = search needs
+
+edges-test-requires : tie.Need-edges-test-requires
+edges-test-requires c κs = search needs
 
 same-length : tie.Need-same-length
 same-length c = search needs
 
 returns : tie.Need-returns
-returns c = refused-before (front (c .before)) (c .if1 .taken)
+returns c =
+    let t = c .before in
+    let a = start t .args in
+    stems-refused (a .edges .now) (a .dim) (a .group) (a .stem-adjust) (a .top-to-bottom) (a .anchor) (a .rule) (a .standards .now) (a .count .now, a .found .now) (found t) (c .if1 .taken)
 
 dimension-of-requires : tie.Need-dimension-of-requires
 dimension-of-requires c κs = search needs
 
-flat-axis-requires : tie.Need-flat-axis-requires
-flat-axis-requires c κs = search needs
-
 group-of-requires : tie.Need-group-of-requires
 group-of-requires c κs = search needs
-
-choice-of-requires : tie.Need-choice-of-requires
-choice-of-requires c κs = search needs
 
 choice-of-requires-2 : tie.Need-choice-of-requires-2
 choice-of-requires-2 c κs = search needs
 
-named-anchor-requires : tie.Need-named-anchor-requires
-named-anchor-requires c κs = search needs
-
-rule-of-requires : tie.Need-rule-of-requires
-rule-of-requires c κs = search needs
-
-align-stem-edges-requires : tie.Need-align-stem-edges-requires
-align-stem-edges-requires c κs = search needs
-
-link-word-requires : tie.Need-link-word-requires
-link-word-requires c κs = search needs
-
-give-word-requires : tie.Need-give-word-requires
-give-word-requires c κs = search needs
+stems-in-requires : tie.Need-stems-in-requires
+stems-in-requires c κs =
+    let o = c .before .before .before .before in
+    let t = o .before in
+    let a = start t .args in
+    let r =
+    stems-ready (a .edges .now) (a .dim) (a .group) (a .stem-adjust) (a .top-to-bottom) (a .anchor) (a .rule) (a .standards .now) (a .count .now, a .found .now) (found t) (o .if1 .left) in
+    (r .right, (r .words .0, r .words .1, r .words .2, record { settled = λ e. absurd (clash _ e refl) }))
 
 count-word-requires : tie.Need-count-word-requires
 count-word-requires c κs = search needs
 
-give-word-requires-2 : tie.Need-give-word-requires-2
-give-word-requires-2 c κs = search needs
-
-give-edges-requires : tie.Need-give-edges-requires
-give-edges-requires c κs = search needs
+link-word-requires : tie.Need-link-word-requires
+link-word-requires c κs = search needs
 
 same-length-2 : tie.Need-same-length-2
 same-length-2 c = search needs
 
+-- the count's word
+count-word-is : (c : tie.After-count-word) → toZ w32 (ofZ w32 (c .count-word .result)) ≡ pos (c .before .before .stems-in .result .count)
+count-word-is c =
+    let p = c .before .before in
+    let o = passes p in
+    let t = o .before in
+    let a = start t .args in
+    let w = c .count-word in
+    let r =
+    stems-ready (a .edges .now) (a .dim) (a .group) (a .stem-adjust) (a .top-to-bottom) (a .anchor) (a .rule) (a .standards .now) (a .count .now, a .found .now) (found t) (o .if1 .left) .words in
+    kept w32 (w .result) (w .ok) ∙ w .ensures
+    ∙ count-is _ (passed-few (r .0) (r .1) (r .2) (p .stems-in .ensures))
+
 returns-2 : tie.Need-returns-2
 returns-2 c =
-    let n = c .before .before .before in
-    let g = n .before .before .before in
-    let h = g .before .before .before .before in
-    let e = tested h in
-    passed-by (λ (x : Stems). x .answer) (λ (x : Stems). stemsWords (start (e .before) .args .edges .now) x) (front (e .before)) (e .if1 .left) (handed h)
-    (lent-pair (c .before .give-edges .ensures) (lent-pair (lent-as (count n) (n .give-word2 .ensures)) (lent-as (anchor g) (g .give-word .ensures))))
+    let n = c .before in
+    let p = n .before .before in
+    let adjust = p .before .before in
+    let group = adjust .before in
+    let dim = group .before in
+    let o = passes p in
+    let t = o .before in
+    let s = start t in
+    let a = s .args in
+    let w = c .link-word in
+    stems-done (a .edges .now) (a .dim) (a .group) (a .stem-adjust) (a .top-to-bottom) (a .anchor) (a .rule) (a .standards .now) (a .count .now, a .found .now) (found t) (o .if1 .left)
+    (dim .dimension-of .ensures ∙ ap dimensionOf (is (s .fits .dim))) (group .group-of .ensures ∙ ap groupOf (is (s .fits .group)))
+    (adjust .choice-of2 .ensures ∙ ap choiceOf (is (s .fits .stem-adjust))) (p .stems-in .ensures) (count-word-is n) (kept w32 (w .result) (w .ok) ∙ w .ensures)
 
 pub lend-stems-spec : {M : Type 1} → statement M
 lend-stems-spec =
@@ -151,21 +166,21 @@ lend-stems-spec =
     are-choices-requires
     both-in-requires
     both-requires
-    edges-refusal-requires
+    rule-of-requires
+    named-anchor-requires
+    link-holds-requires
+    choice-of-requires
+    or-refused-requires
+    rule-holds-requires
+    or-refused-requires-2
+    edges-test-requires
     same-length
     returns
     dimension-of-requires
-    flat-axis-requires
     group-of-requires
-    choice-of-requires
     choice-of-requires-2
-    named-anchor-requires
-    rule-of-requires
-    align-stem-edges-requires
-    link-word-requires
-    give-word-requires
+    stems-in-requires
     count-word-requires
-    give-word-requires-2
-    give-edges-requires
+    link-word-requires
     same-length-2
     returns-2)

@@ -12,7 +12,7 @@ use Rattle.axis.specs.Refusals.{within}
 use Rattle.words.specs.Field.{choiceOf, dimensionOf, ruleOf}
 use Rattle.words.proofs.Fields.{kept}
 use Rattle.lent.specs.Lent.{choices, namedEdge}
-use Rattle.flat_stems.proofs.Lending.{ReadyStem, stem-ready, stem-right, stem-refused, stem-done}
+use Rattle.flat_stems.proofs.Lending.{stem-ready, stem-right, stem-refused, stem-done}
 use borrow.Author.Needs.{needs}
 use Rattle.flat_stems.proofs.stem.lend_stem.Statement.{statement}
 use Rattle.flat_stems.proofs.stem.lend_stem.Tie as tie

@@ -1,8 +1,8 @@
--- `lowercase_m::hint::group_holds` meets its contract. Assumes nothing.
+-- `lowercase_m::stems::group_holds` meets its contract. Assumes nothing.
 use Rattle.lowercase_m.specs.M.{groupHolds}
 use borrow.Author.Needs.{needs}
-use Rattle.lowercase_m.proofs.hint.group_holds.Statement.{statement}
-use Rattle.lowercase_m.proofs.hint.group_holds.Tie as tie
+use Rattle.lowercase_m.proofs.stems.group_holds.Statement.{statement}
+use Rattle.lowercase_m.proofs.stems.group_holds.Tie as tie
 
 enum-told : tie.Need-enum-told
 enum-told c = search needs

@@ -1,0 +1,2 @@
+-- What the contracts of `blues_in` cite.
+pub mod Blues

@@ -1,0 +1,74 @@
+-- `flat_joined::zones::none_zoned_in` meets its contract. Assumes nothing.
+use mathlib.Core.Path.{_≡_, sym}
+use mathlib.Core.Bool.{true}
+use Prim.Native.Nat.{ℕ, _≤_, _-_, min}
+use native.Mathlib.Omega.{arith}
+use borrow.Author.Needs.{needs}
+use borrow.Author.Tests.{not-true, not-false}
+use Rattle.axis.specs.Limits.{mostEdges}
+use Rattle.axis.specs.Edge.{edgeAt}
+use Rattle.axis.specs.Refusals.{every}
+use Rattle.axis.proofs.Tests.{every-none, every-more, every-fails, every-done}
+use Rattle.words.specs.Edge.{edgesIn, flatAxis, axisRun}
+use Rattle.joined.specs.Joined.{isBare}
+use Rattle.lent.specs.Lent.{edgesOf}
+use Rattle.flat_joined.proofs.Zoning.{bare-held}
+use Rattle.flat_joined.proofs.zones.none_zoned_in.Statement.{statement}
+use Rattle.flat_joined.proofs.zones.none_zoned_in.Tie as tie
+
+abbrev Inv-loop : tie.InvT-loop
+Inv-loop words n i₀ i = (i ≤ n) × (n ≡ min (edgesIn words) mostEdges) × (every (λ (k : ℕ). isBare (edgeAt (edgesOf words) k)) i ≡ true)
+
+abbrev μ-loop : tie.MeasureT-loop
+μ-loop words n i₀ i = n - i
+
+least-requires : tie.Need-least-requires Inv-loop μ-loop
+least-requires c κs = search needs
+
+loop-holds : tie.Need-loop-holds Inv-loop μ-loop
+loop-holds c = (omega arith, c .least .ensures, every-none _)
+
+mul-is-bare : tie.Need-mul-is-bare Inv-loop μ-loop
+mul-is-bare c = omega arith
+
+is-bare-requires : tie.Need-is-bare-requires Inv-loop μ-loop
+is-bare-requires c κs = omega arith
+
+returns : tie.Need-returns Inv-loop μ-loop
+unfolding flatAxis axisRun
+returns c =
+    let o = c .before .before .before .loop in
+    let ws = c .before .before .before .before .before .args .words .now in
+    sym (every-fails _ (o .i) _ (omega arith) (bare-held ws (o .i) _ _ (omega arith) (c .before .is-bare .ensures) (not-true _ (c .if1 .taken))))
+
+add-i : tie.Need-add-i Inv-loop μ-loop
+add-i c = omega arith
+
+loop-less : tie.Need-loop-less Inv-loop μ-loop
+loop-less c = omega arith
+
+loop-again : tie.Need-loop-again Inv-loop μ-loop
+loop-again c =
+    let o = c .before .before .before .loop in
+    let ws = c .before .before .before .before .before .args .words .now in
+    (omega arith, o .inv .1, every-more _ _ (o .inv .2) (bare-held ws (o .i) _ _ (omega arith) (c .before .is-bare .ensures) (not-false _ (c .if1 .left))))
+
+returns-2 : tie.Need-returns-2 Inv-loop μ-loop
+unfolding flatAxis axisRun
+returns-2 c = let o = c .before .loop .inv in every-done _ _ _ _ (o .0) (omega arith) (o .1) (o .2)
+
+pub none-zoned-in-spec : {M : Type 1} → statement M
+none-zoned-in-spec =
+    tie.close
+    (tie.spec
+    Inv-loop
+    μ-loop
+    least-requires
+    loop-holds
+    mul-is-bare
+    is-bare-requires
+    returns
+    add-i
+    loop-less
+    loop-again
+    returns-2)

@@ -1,0 +1,3 @@
+-- Laws on the m rule in place.
+pub mod Moving
+pub mod Stems

@@ -1,0 +1,2 @@
+-- What the contracts of `lowercase_m_in` cite.
+pub mod M

@@ -1,0 +1,2 @@
+-- What the contracts of `stems_in` cite.
+pub mod Stems
