@@ -1,43 +1,36 @@
 -- The loops of joining, one after the other.
 use mathlib.Core.Path.{_≡_, refl, sym, ap, _∙_}
 use mathlib.Core.Bool.{Bool, true, false, not}
-use Prim.Native.Nat.{_≤_, _+_}
+use Prim.Native.Nat.{_≤_}
 use native.Mathlib.Omega.{arith}
 use Rattle.axis.specs.declared.segment.Segments.{Segments}
 use Rattle.axis.specs.Limits.{mostSegments}
 use Rattle.joining.specs.declared.join.Joined.{Joined}
 use Rattle.joining.specs.declared.rules.Rules.{Rules}
-use Rattle.joining.specs.Joining.{shown, after, begun, stateAt}
+use Rattle.joining.specs.Joining.{shown, begun, stateAt, lastState}
 use Rattle.joining.specs.Walks.{Latin}
 use Rattle.joining.proofs.Good.{Good, good}
 use Rattle.joining.proofs.Rising.{Rises, rises}
-use Rattle.joining.proofs.Steps.{of-full, after-stuck}
-use Rattle.building.specs.Building.{lastState}
+use Rattle.joining.proofs.Steps.{of-full}
+use Rattle.joining.proofs.Loops.{one-last, two-last, second-begins, full-last}
 
 module _ (t : Segments) (r : Rules) where
-  last-is : (b : Bool) → not (r .cjk) ≡ b → stateAt t r b (t .len) ≡ lastState t r
-  last-is b e = ap (λ (c : Bool). stateAt t r c (t .len)) (sym e)
-
   -- CJK has one loop
   pub one-loop : (j : Joined) → j ≡ shown t r (stateAt t r false (t .len)) → r .cjk ≡ true → j ≡ shown t r (lastState t r)
-  one-loop j e h = e ∙ ap (shown t r) (last-is false (ap not h))
+  one-loop j e h = e ∙ ap (shown t r) (one-last t r h)
 
   -- the second one starts where the first ends
   pub second-begun : (j : Joined) → j ≡ shown t r (stateAt t r false (t .len)) → j ≡ shown t r (begun t r true)
-  unfolding begun
-  second-begun j e = e
+  second-begun j e = e ∙ ap (shown t r) (second-begins t r)
 
   -- and changes nothing where a 129th edge was called for
   pub full-stays : (j : Joined) → j ≡ shown t r (stateAt t r false (t .len)) → r .cjk ≡ false → j .full ≡ true → j ≡ shown t r (lastState t r)
-  unfolding after
   full-stays j e h f =
       let b = second-begun j e in
-      let z : t .len + 0 ≡ t .len = omega arith in
-      let stuck : stateAt t r true (t .len) ≡ begun t r true = rw z at (after-stuck t r true (begun t r true) 0 (t .len) (sym (of-full t r (begun t r true) (j .full) (j .axis) (j .next) b) ∙ f)) in
-      b ∙ ap (shown t r) (sym stuck ∙ last-is true (ap not h))
+      b ∙ ap (shown t r) (full-last t r h (sym (of-full t r (begun t r true) (j .full) (j .axis) (j .next) b) ∙ f))
 
   pub two-loops : (j : Joined) → j ≡ shown t r (stateAt t r true (t .len)) → r .cjk ≡ false → j ≡ shown t r (lastState t r)
-  two-loops j e h = e ∙ ap (shown t r) (last-is true (ap not h))
+  two-loops j e h = e ∙ ap (shown t r) (two-last t r h)
 
   -- the second one is Latin's
   last-latin : Latin r (not (r .cjk))

@@ -1,6 +1,6 @@
 -- Building (document 01, module 4): the refusals, then edges from segments, in groups (`joining`), and their properties (`properties`).
 use mathlib.Core.Path.{_≡_}
-use mathlib.Core.Bool.{Bool, true, false, cond, not, _&&_}
+use mathlib.Core.Bool.{Bool, true, false, cond, _&&_}
 use mathlib.Core.List.{List, [], _∷_}
 use Prim.Native.Nat.{ℕ}
 use lib.Dec.{leb}
@@ -19,7 +19,8 @@ use Rattle.axis.specs.Limits.{mostEdges, mostUnits, mostScore, leastScale, most
 use Rattle.axis.specs.Mark.{unmarkedAxis}
 use Rattle.axis.specs.Refusals.{inside, within, everySegment, bottomToTop, segmentsShort, segmentsIndexed, segmentsInRange}
 use Rattle.joining.specs.declared.rules.Rules.{Rules}
-use Rattle.joining.specs.Joining.{State, shown, stateAt}
+use Rattle.joining.specs.Joining.{State, shown}
+pub use Rattle.joining.specs.Joining.{lastState}
 use Rattle.properties.specs.Properties.{edgeProperties}
 use Rattle.marking.specs.Marks.{cleared, groupMarks}
 use Rattle.building.specs.declared.build.Built.{Built}
@@ -79,10 +80,6 @@ rulesOf dim major cjk scale by = record {
 }
 
 -- ---- the work
--- the state behind the last loop: CJK has one, Latin two
-abbrev pub lastState : Segments → Rules → State
-lastState t r = stateAt t r (not (r .cjk)) (t .len)
-
 -- the segments of a state: old rings and edges forgotten, and each member with its edge and its next
 unfoldable pub builtSegments : Segments → State → Segments
 builtSegments t s = groupMarks s (s .count) (cleared t)

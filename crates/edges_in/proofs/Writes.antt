@@ -36,7 +36,7 @@ same-or-not {C} m i here else =
 
 -- ---- an edge read
 -- its words are kept
-edge-same : (ws ws′ : List ℤ) (at : ℕ) → ((k : ℕ) → k < edgeSize → wordAt ws′ (at + k) ≡ wordAt ws (at + k)) → edgeFrom ws′ at ≡ edgeFrom ws at
+pub edge-same : (ws ws′ : List ℤ) (at : ℕ) → ((k : ℕ) → k < edgeSize → wordAt ws′ (at + k) ≡ wordAt ws (at + k)) → edgeFrom ws′ at ≡ edgeFrom ws at
 unfolding edgeFrom
 edge-same ws ws′ at h =
     let q : at + 0 ≡ at = omega arith in

@@ -1,23 +1,25 @@
-// CJK linking over lent segments.
-use lent::segments::give_segments;
-use lent::segments::segments_refusal;
-use linking::link::link_segments_cjk;
+// CJK linking over lent segments: the segments are tested and linked where their words stand.
+use linking::thresholds::numbers_hold;
+use linking::thresholds::thresholds_of;
+use linking_in::rounds::link_in;
+use refusals::order::BAD_PARAMETER;
+use refusals::order::or_refused;
+use segments_test::test::segments_test;
 use shape::field::DIRECTION;
 use shape::field::is_in;
 use words::field::direction_of;
-use words::segment::flat_segments;
 ghost use Rattle.flat_segments.specs.Link.{LinkingLent};
 
 // Links segments into stems and serifs.
 pub fn lend_linking(segments: &mut [i32], major_dir: i32, units_per_em: i32, scale: i32) -> u8
     ensures { λ r. ⌜ LinkingLent (now (segments .entry)) «major_dir» «units_per_em» scale r (now (segments .exit)) ⌝ }
 {
-    let refusal = segments_refusal(segments, true, is_in(major_dir, DIRECTION));
-    if 0 < refusal {
-        return refusal;
+    let own = or_refused(0, numbers_hold(units_per_em, scale), BAD_PARAMETER);
+    let answer = segments_test(segments, true, is_in(major_dir, DIRECTION), own, true, true);
+    if 0 < answer {
+        return answer;
     }
-    let table = flat_segments(segments);
-    let linked = link_segments_cjk(table, direction_of(major_dir), units_per_em, scale);
-    let table = linked.segments;
-    give_segments(segments, linked.answer, table)
+    let thresholds = thresholds_of(units_per_em, scale);
+    link_in(segments, direction_of(major_dir), thresholds);
+    0
 }

@@ -1,22 +1,19 @@
 -- Which words the call can change: of each segment its edge; of the edges, link and serif are renumbered and every other word comes to stand in the place counted from
 -- the other end; with a refusal none.
-use mathlib.Core.Path.{_≡_, refl, sym, ap, subst, _∙_}
-use mathlib.Core.Bool.{true, false, cond}
+use mathlib.Core.Path.{_≡_, sym, ap, subst, _∙_}
+use mathlib.Core.Bool.{false, cond}
 use mathlib.Core.List.{List, [], _∷_}
-use Prim.Native.Nat.{ℕ, zero, suc, _≤_, _<_}
+use Prim.Native.Nat.{ℕ, zero, suc, _<_}
 use native.Mathlib.Omega.{arith}
-use borrow.Author.Tests.{leb-true}
-use lib.Dec.{eqb, leb}
+use lib.Dec.{eqb}
 use lib.ListN.{length, set}
 use lib.IntN.{ℤ}
-use Rattle.refusals.proofs.Tests.{and-first, and-second, all-hold}
 use Rattle.axis.specs.declared.edge.Edge.{Edge}
 use Rattle.axis.specs.declared.edge.Axis.{Axis}
 use Rattle.axis.specs.declared.kinds.Link.{Link}
 use Rattle.axis.specs.declared.segment.Segment.{Segment}
 use Rattle.axis.specs.declared.segment.Segments.{Segments}
 use Rattle.axis.specs.Edge.{edgeAt, joinedTo}
-use Rattle.axis.specs.Limits.{mostEdges, mostSegments}
 use Rattle.axis.specs.Segment.{segmentAt}
 use Rattle.turning.specs.declared.turn.Turned.{Turned}
 use Rattle.turning.specs.Turning.{turnedIndex, turnedLink, turnedSegment, turnedAxis, turnedSegments, beside}
@@ -32,14 +29,15 @@ use Rattle.words.proofs.Edges.{edge-lengths}
 use Rattle.words.proofs.Places.{joined-at, edge-read}
 use Rattle.words.proofs.Tables.{joined-length}
 use Rattle.words.proofs.Typed.{flat-typed, axis-typed}
-use Rattle.shape.specs.Shape.{edgesShown, segmentsShown}
 use Rattle.shape.proofs.Back.{edges-back}
 use Rattle.lent.specs.Kept.{KeptBut, ofSegments, isOneOf}
 use Rattle.lent.specs.Lent.{refusedOr, edgesOf}
 use Rattle.lent.proofs.Kept.{all-kept, segments-kept as kept, passed, not-new, lent-first}
 use Rattle.lent.proofs.Moved.{none-of, word-beside}
 use Rattle.lent.proofs.Whole.{edges-long, edges-whole}
+use Rattle.edges_in.proofs.Wholes.{edges-len}
 use Rattle.flat_turning.specs.Turn.{turnFront, turned, turnedWords, TurnedLent, EdgesTurned}
+use Rattle.flat_turning.proofs.Lending.{Shown, all-shown}
 
 -- ---- one record
 -- the words of a segment but its edge's
@@ -57,11 +55,6 @@ edge-word e link serif j h =
     let a = none-of E.linkPlace (E.serifPlace ∷ []) j h in
     let b = none-of E.serifPlace [] j (a .1) in
     word-beside (set (E.edgeWords e) E.linkPlace (linkWord link)) E.serifPlace j (linkWord serif) (b .0) ∙ word-beside (E.edgeWords e) E.linkPlace j (linkWord link) (a .0)
-
--- ---- the tables that are read
-edges-count : (es : List ℤ) → edgesOf es .len ≡ E.edgesIn es
-unfolding E.flatAxis E.axisRun
-edges-count es = refl
 
 -- ---- an accepted call
 module _ (ws es : List ℤ) (e : turned ws es .answer ≡ 0) where
@@ -92,25 +85,8 @@ module _ (ws es : List ℤ) (e : turned ws es .answer ≡ 0) where
 
 -- ---- the tests in front
 -- what answer 0 says of them, and of the call
-record Passed (ws es : List ℤ) : Type 0 where
-  few-segments : S.segmentsIn ws ≤ mostSegments
-  few-edges : E.edgesIn es ≤ mostEdges
-  segments-shown : segmentsShown ws ≡ true
-  edges-shown : edgesShown es ≡ true
-  answer : turned ws es .answer ≡ 0
-
-all-passed : (ws es : List ℤ) → 0 ≡ refusedOr (turnFront ws es) (turned ws es .answer) → Passed ws es
-unfolding turnFront
-all-passed ws es e =
-    let p = passed (turnFront ws es) (turned ws es .answer) e in
-    let h = all-hold (turnFront ws es) refl (p .0) in
-    record {
-      few-segments = leb-true (S.segmentsIn ws) mostSegments (and-first _ _ (h .1 .0));
-      few-edges = leb-true (E.edgesIn es) mostEdges (and-second (leb (S.segmentsIn ws) mostSegments) _ (h .1 .0));
-      segments-shown = and-first (segmentsShown ws) _ (h .1 .1 .0);
-      edges-shown = and-second (segmentsShown ws) _ (h .1 .1 .0);
-      answer = p .1;
-    }
+all-passed : (ws es : List ℤ) → 0 ≡ refusedOr (turnFront ws es) (turned ws es .answer) → Shown ws es × (turned ws es .answer ≡ 0)
+all-passed ws es e = let p = passed (turnFront ws es) (turned ws es .answer) e in (all-shown ws es (p .0), p .1)
 
 pub refused-left : (ws es : List ℤ) {r : ℕ} {now : List ℤ × List ℤ} → TurnedLent ws es r now → 0 < r → now ≡ (ws, es)
 refused-left ws es {r} {now} l h = by r h (l .held)
@@ -128,7 +104,7 @@ segments-kept ws es {r} {now} {edges} l = by r (l .number) (lent-first l .held)
     by zero e h =
         let p = all-passed ws es e in
         subst (KeptBut (ofSegments (λ (i : ℕ). isOneOf turnedWord)) ws) (sym h)
-        (kept (λ (i : ℕ). isOneOf turnedWord) ws (turned ws es .segments) (p .segments-shown) (p .few-segments) (λ i j g f. segment-same ws es (p .answer) i j g f))
+        (kept (λ (i : ℕ). isOneOf turnedWord) ws (turned ws es .segments) (p .0 .segments-shown) (p .0 .few-segments) (λ i j g f. segment-same ws es (p .1) i j g f))
     by (suc k) e h = subst (KeptBut (ofSegments (λ (i : ℕ). isOneOf turnedWord)) ws) (sym (h ∙ not-new k (S.segmentsOver ws (turned ws es .segments)) ws)) (all-kept _ ws)
 
 -- ---- edges
@@ -138,17 +114,17 @@ edges-held ws es {now} {edges} l = ap (λ (p : List ℤ × List ℤ). p .1) (l .
 pub edges-turned : (ws es : List ℤ) {now edges : List ℤ} → TurnedLent ws es 0 (now, edges) → EdgesTurned es edges
 edges-turned ws es {now} {edges} l =
     let p = all-passed ws es (l .number) in
-    let few = p .few-edges in
-    let held = edges-held ws es l ∙ edges-whole es (turned ws es .axis) (p .edges-shown) few in
+    let few = p .0 .few-edges in
+    let held = edges-held ws es l ∙ edges-whole es (turned ws es .axis) (p .0 .edges-shown) few in
     record {
       size =
-          ap length held ∙ joined-length (E.edgeWordsAt (turned ws es .axis)) E.edgeSize (edge-lengths (turned ws es .axis)) (E.edgesIn es) ∙ sym (edges-long es (p .edges-shown));
+          ap length held ∙ joined-length (E.edgeWordsAt (turned ws es .axis)) E.edgeSize (edge-lengths (turned ws es .axis)) (E.edgesIn es) ∙ sym (edges-long es (p .0 .edges-shown));
       word = λ i j h b f.
           let q : turnedIndex (E.edgesIn es) i < E.edgesIn es = omega arith in
           ap (λ (xs : List ℤ). wordAt xs (E.wordOfEdge i j)) held
           ∙ joined-at (E.edgeWordsAt (turned ws es .axis)) E.edgeSize (edge-lengths (turned ws es .axis)) (E.edgesIn es) i j h b
-          ∙ edge-moved ws es (p .answer) i j (omega (arith, h, edges-count es)) f
-          ∙ ap (λ (n : ℕ). wordAt (E.edgeWordsAt (edgesOf es) (turnedIndex n i)) j) (edges-count es)
+          ∙ edge-moved ws es (p .1) i j (omega (arith, h, edges-len es)) f
+          ∙ ap (λ (n : ℕ). wordAt (E.edgeWordsAt (edgesOf es) (turnedIndex n i)) j) (edges-len es)
           ∙ ap (λ (d : Edge). wordAt (E.edgeWords d) j) (edge-read es _ _ (turnedIndex (E.edgesIn es) i) q few)
-          ∙ edges-back es (p .edges-shown) (turnedIndex (E.edgesIn es) i) j q b;
+          ∙ edges-back es (p .0 .edges-shown) (turnedIndex (E.edgesIn es) i) j q b;
     }

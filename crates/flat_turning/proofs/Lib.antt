@@ -1,2 +1,3 @@
--- Which words the call can change.
+-- `Lending`, the call by its tests and its passes; `Kept`, which words it can change.
+pub mod Lending
 pub mod Kept

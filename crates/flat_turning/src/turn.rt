@@ -1,18 +1,16 @@
 // The converter over lent segments and lent edges.
 use axis::accept::few_edges;
 use axis::accept::few_segments;
-use lent::edges::axis_of;
-use lent::edges::give_edges;
-use lent::segments::give_segments;
 use lent::shown::NOT_WORDS;
 use lent::shown::both;
 use refusals::order::TOO_LONG;
 use shape::element::is_edges;
 use shape::element::is_segments;
-use turning::turn::turn_over;
+use turning_in::test::refusal_in;
+use turning_in::turn::turn_edges_in;
+use turning_in::turn::turn_segments_in;
 use words::edge::EDGE_WORDS;
 use words::segment::SEGMENT_WORDS;
-use words::segment::flat_segments;
 ghost use mathlib.Core.Path.{_≡_};
 ghost use Rattle.refusals.specs.Refusal.{refusal};
 ghost use Rattle.flat_turning.specs.Turn.{turnFront, TurnedLent};
@@ -46,11 +44,11 @@ pub fn lend_turning(segments: &mut [i32], edges: &mut [i32]) -> u8
     if 0 < refusal {
         return refusal;
     }
-    let table = flat_segments(segments);
-    let axis = axis_of(edges);
-    let turned = turn_over(axis, table);
-    let table = turned.segments;
-    let axis = turned.axis;
-    give_edges(edges, turned.answer, axis);
-    give_segments(segments, turned.answer, table)
+    let refusal = refusal_in(segments, edges);
+    if 0 < refusal {
+        return refusal;
+    }
+    turn_segments_in(segments, edges.len() / EDGE_WORDS);
+    turn_edges_in(edges);
+    0
 }

@@ -9,3 +9,4 @@ pub mod Steps
 pub mod Searching
 pub mod Turns
 pub mod Rising
+pub mod Loops

@@ -88,10 +88,10 @@ stems-agree t true stems near i ms S hi h = by-link t stems near (segmentAt t i 
 stems-agree t false stems near i ms S hi h = rw (far (getD stems i (pos 0)) (S .none refl i hi))
 
 -- ---- two links
-none-to : (k : ℕ) → Links.None ≡ Links.To k → ⊥
+pub none-to : (k : ℕ) → Links.None ≡ Links.To k → ⊥
 none-to k e = let z : _≡_ {A = ℕ} 0 1 = cc in omega arith
 
-to-same : (j k : ℕ) → Links.To j ≡ Links.To k → j ≡ k
+pub to-same : (j k : ℕ) → Links.To j ≡ Links.To k → j ≡ k
 to-same j k e = cc
 
 -- ---- filling them in

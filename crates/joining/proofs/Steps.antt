@@ -75,7 +75,7 @@ last-of : (t : Segments) (scale : ℤ) (g : List ℕ) → edgeOf t scale g .last
 last-of t scale [] = refl
 last-of t scale (m ∷ ms) = refl
 
-last-snoc : (m i : ℕ) (ms : List ℕ) → lastOf m (ms ++ i ∷ []) ≡ i
+pub last-snoc : (m i : ℕ) (ms : List ℕ) → lastOf m (ms ++ i ∷ []) ≡ i
 last-snoc m i [] = refl
 last-snoc m i (x ∷ ms) = last-snoc x i ms
 

@@ -82,7 +82,7 @@ abbrev pub left : Segments → Rules → Bool → ℕ → ℕ → ℕ → ℕ �
 left t r second i n k best limit = seek (mayJoin t r second (stateAt t r second i) i) (behind t r second (stateAt t r second i) i) (n - k) k best limit
 
 -- no edge yet
-map-replicate : {A B : Type 0} (f : A → B) (n : ℕ) (a : A) → map f (replicate n a) ≡ replicate n (f a)
+pub map-replicate : {A B : Type 0} (f : A → B) (n : ℕ) (a : A) → map f (replicate n a) ≡ replicate n (f a)
 map-replicate f zero a = refl
 map-replicate {A} {B} f (suc n) a = ap (λ (l : List B). f a ∷ l) (map-replicate f n a)
 
@@ -102,7 +102,7 @@ unfolding after
 stands-begun t r second j e f = ap (λ (b : Bool). record { full = b; axis = j .axis; next = j .next }) (sym f) ∙ e
 
 -- nothing is nearer than 0
-never-0 : (second : Bool) (s : Segment) (e : Edge) → fitsIn second 0 s e ≡ false
+pub never-0 : (second : Bool) (s : Segment) (e : Edge) → fitsIn second 0 s e ≡ false
 unfolding fitsIn fits
 never-0 false s e = rw (le-ltb (distance (s .pos) (e .fpos)) 0 (omega arith))
 never-0 true s e = le-ltb (distance (s .pos) (e .fpos)) 0 (omega arith)

@@ -191,3 +191,7 @@ begun t r true = after t r false start (t .len)
 -- the state before segment i of a loop
 abbrev pub stateAt : Segments → Rules → Bool → ℕ → State
 stateAt t r second i = after t r second (begun t r second) i
+
+-- the state behind the last loop: CJK has one, Latin two
+abbrev pub lastState : Segments → Rules → State
+lastState t r = stateAt t r (not (r .cjk)) (t .len)

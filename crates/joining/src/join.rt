@@ -49,7 +49,7 @@ pub fn none_joined(dim: Dimension, major_dir: Direction) -> Joined
 }
 
 // Whether a loop leaves a segment out: the first one those that Latin passes over, the second one all with a direction.
-fn skips(segment: Segment, rules: Rules, second: bool) -> bool
+pub fn skips(segment: Segment, rules: Rules, second: bool) -> bool
     requires { ⌜ Between 0 mostScore (rules .length) ⌝ }
     ensures { λ r. ⌜ r ≡ skipped rules second segment ⌝ }
 {
@@ -84,7 +84,7 @@ fn may_join(
 }
 
 // What an edge must be nearer than to be taken in the place of this one: CJK takes the nearest, Latin stays with the first.
-fn limit_behind(segment: Segment, edge: Edge, cjk: bool) -> u64
+pub fn limit_behind(segment: Segment, edge: Edge, cjk: bool) -> u64
     ensures { λ r. ⌜ r ≡ limitBehind cjk (distance (segment .pos) (edge .fpos)) ⌝ }
 {
     if cjk {

@@ -14,7 +14,7 @@ ghost use Rattle.joining.specs.Joining.{appended};
 ghost use Rattle.joining.specs.Walks.{nextIn, noStem, stemNear, stemsAgree, StemsOf};
 
 // Stands in the place of a link's position where there is no link: positions are below it.
-const NO_STEM: i32 = 65536;
+pub const NO_STEM: i32 = 65536;
 
 // Segment i behind the last of the ring from first to last.
 pub fn append(next: &mut [u16; MOST_SEGMENTS], first: u16, last: u16, i: u16)
@@ -51,7 +51,7 @@ pub fn stems_of(segments: Segments, cjk: bool) -> [i32; MOST_SEGMENTS]
 }
 
 // Whether a link, where there is one, is nearer than a limit to a stem.
-fn stem_near(stem: i32, other: i32, near: u64) -> bool
+pub fn stem_near(stem: i32, other: i32, near: u64) -> bool
     ensures { λ r. ⌜ r ≡ stemNear near stem other ⌝ }
 {
     if NO_STEM <= other {

@@ -7,7 +7,6 @@ use Rattle.axis.specs.declared.kinds.Link.the-variants as Links
 use Rattle.axis.specs.declared.segment.Segment.{Segment}
 use Rattle.axis.specs.declared.segment.Segments.{Segments}
 use Rattle.axis.specs.Segment.{segmentAt, putSegment}
-use Rattle.linking_rounds.specs.declared.thresholds.Thresholds.{Thresholds}
 use Rattle.linking_rounds.specs.Loops.{till}
 use Rattle.linking_rounds.specs.Pairs.{unlinked, encloses, muchLonger}
 use Rattle.linking_rounds.specs.Rounds.{rewriteAll, unlink, heldTo, givenUpTo, holdTurn, givenUp, hold}
@@ -18,24 +17,24 @@ use Rattle.linking_rounds.proofs.Within.{Within, hold-within}
 -- ---- a turn by the link of its segment, and whether it is the last
 module _ (a b : Segment) (i k : ℕ) where
   -- v is what the turn makes, and the turn is the last or not
-  record Made (j : ℕ) (l : Link) (t v : Segments) (last : Bool) : Type 0 where
-    table : v ≡ heldTo a b i k j l t
-    ends : givenUpTo a b i k j l t ≡ last
+  pub record Made (j : ℕ) (l : Link) (t v : Segments) (last : Bool) : Type 0 where
+    pub table : v ≡ heldTo a b i k j l t
+    pub ends : givenUpTo a b i k j l t ≡ last
 
-  made-none : (j : ℕ) (l : Link) (t : Segments) → l ≡ Links.None → Made j l t t false
+  pub made-none : (j : ℕ) (l : Link) (t : Segments) → l ≡ Links.None → Made j l t t false
   unfolding heldTo givenUpTo
   made-none j l t e = record { table = rw e; ends = rw e }
 
-  made-skip : (j m : ℕ) (l : Link) (t : Segments) → l ≡ Links.To m → encloses a b (segmentAt t j) (segmentAt t m) i j ≡ false → Made j l t t false
+  pub made-skip : (j m : ℕ) (l : Link) (t : Segments) → l ≡ Links.To m → encloses a b (segmentAt t j) (segmentAt t m) i j ≡ false → Made j l t t false
   unfolding heldTo givenUpTo
   made-skip j m l t e h = record { table = rw (e, h); ends = rw (e, h) }
 
-  made-serifs : (j m : ℕ) (l : Link) (t v : Segments) → l ≡ Links.To m → encloses a b (segmentAt t j) (segmentAt t m) i j ≡ true → muchLonger a (segmentAt t j) ≡ true
+  pub made-serifs : (j m : ℕ) (l : Link) (t v : Segments) → l ≡ Links.To m → encloses a b (segmentAt t j) (segmentAt t m) i j ≡ true → muchLonger a (segmentAt t j) ≡ true
       → v ≡ rewriteAll j k m i t → Made j l t v false
   unfolding heldTo givenUpTo
   made-serifs j m l t v e h g p = record { table = rw (e, h, g) p; ends = rw (e, h, g) }
 
-  made-last : (j m : ℕ) (l : Link) (t v : Segments) → l ≡ Links.To m → encloses a b (segmentAt t j) (segmentAt t m) i j ≡ true → muchLonger a (segmentAt t j) ≡ false
+  pub made-last : (j m : ℕ) (l : Link) (t v : Segments) → l ≡ Links.To m → encloses a b (segmentAt t j) (segmentAt t m) i j ≡ true → muchLonger a (segmentAt t j) ≡ false
       → v ≡ unlink k (unlink i t) → Made j l t v true
   unfolding heldTo givenUpTo
   made-last j m l t v e h g p = record { table = rw (e, h, g) p; ends = rw (e, h, g) }
@@ -45,7 +44,7 @@ pub record Held (n : ℕ) (a b : Segment) (i k : ℕ) (t : Segments) (j : ℕ) (
   pub within : Every n (Within n) u
   pub rest : till (givenUp a b i k) (holdTurn a b i k) (n - j) j u ≡ hold a b i k n t
 
-module _ (by : Thresholds) (n : ℕ) (a b : Segment) (i k : ℕ) (x : i < n) (y : k < n) (t : Segments) where
+module _ (n : ℕ) (a b : Segment) (i k : ℕ) (x : i < n) (y : k < n) (t : Segments) where
   pub start : Every n (Within n) t → Held n a b i k t 0 t
   unfolding hold
   start h = record { within = h; rest = till-start (givenUp a b i k) (holdTurn a b i k) n t }
@@ -54,7 +53,7 @@ module _ (by : Thresholds) (n : ℕ) (a b : Segment) (i k : ℕ) (x : i < n) (y 
   unfolding holdTurn givenUp
   step j u v h p q =
       record {
-        within = rw (q .table) (hold-within n by a b i k j u x y (h .within));
+        within = rw (q .table) (hold-within n a b i k j u x y (h .within));
         rest = till-on (givenUp a b i k) (holdTurn a b i k) n j u v (hold a b i k n t) p (q .ends) (q .table) (h .rest);
       }
 

@@ -47,7 +47,7 @@ pub record Inside (n i : ℕ) (s : Segment) : Type 0 where
   pub serif : Below n (s .serif)
 
 -- ---- one property
-module _ (n : ℕ) (by : Thresholds) (P : ℕ → Segment → Type 0)
+module _ (n : ℕ) (P : ℕ → Segment → Type 0)
     (inside : (i : ℕ) (s : Segment) → i < n → P i s → Inside n i s)
     (loosed : (i : ℕ) (s : Segment) (l : Link) → i < n → Below n l → P i s → P i (serifOf s l)) where
   pub put : (i : ℕ) (t : Segments) (s : Segment) → Every n P t → P i s → Every n P (putSegment t i s)
@@ -100,79 +100,80 @@ module _ (n : ℕ) (by : Thresholds) (P : ℕ → Segment → Type 0)
   unfolding hold
   holds seg1 link1 i l t p q h = till-keeps (givenUp seg1 link1 i l) (holdTurn seg1 link1 i l) (Every n P) n n 0 t (λ j u x g. hold-kept seg1 link1 i l j u p q g) (omega arith) h
 
-  serif-to : (i : ℕ) (to : Link) (t : Segments) → Below n to → i < n → Every n P t → Every n P (serifTo by n i to t)
-  unfolding serifTo
-  serif-to i Links.None t b p h = h
-  serif-to i (Links.To l) t b p h =
-      either-way (Every n P) (nearStem by (segmentAt t i) (segmentAt t l) i) (hold (segmentAt t i) (segmentAt t l) i l n t) t
-      (holds (segmentAt t i) (segmentAt t l) i l t p (b .at l refl) h) h
+  module _ (by : Thresholds) where
+    serif-to : (i : ℕ) (to : Link) (t : Segments) → Below n to → i < n → Every n P t → Every n P (serifTo by n i to t)
+    unfolding serifTo
+    serif-to i Links.None t b p h = h
+    serif-to i (Links.To l) t b p h =
+        either-way (Every n P) (nearStem by (segmentAt t i) (segmentAt t l) i) (hold (segmentAt t i) (segmentAt t l) i l n t) t
+        (holds (segmentAt t i) (segmentAt t l) i l t p (b .at l refl) h) h
 
-  pub serif-kept : (i : ℕ) (t : Segments) → i < n → Every n P t → Every n P (serifTurn by n i t)
-  unfolding serifTurn
-  serif-kept i t p h = serif-to i (segmentAt t i .link) t (inside i (segmentAt t i) p (h .each i p) .link) p h
+    pub serif-kept : (i : ℕ) (t : Segments) → i < n → Every n P t → Every n P (serifTurn by n i t)
+    unfolding serifTurn
+    serif-kept i t p h = serif-to i (segmentAt t i .link) t (inside i (segmentAt t i) p (h .each i p) .link) p h
 
-  pub serifs-kept : (t : Segments) → Every n P t → Every n P (serifRound by t)
-  unfolding serifRound
-  serifs-kept t h = subst (λ (m : ℕ). Every n P (turns (serifTurn by m) m t)) (sym (h .size)) (keeps (Every n P) (serifTurn by n) n n t serif-kept (omega arith) h)
+    pub serifs-kept : (t : Segments) → Every n P t → Every n P (serifRound by t)
+    unfolding serifRound
+    serifs-kept t h = subst (λ (m : ℕ). Every n P (turns (serifTurn by m) m t)) (sym (h .size)) (keeps (Every n P) (serifTurn by n) n n t serif-kept (omega arith) h)
 
-  -- ---- the last round
-  last-to : (i : ℕ) (to : Link) (t : Segments) → Below n to → i < n → Every n P t → Every n P (lastTo by i to t)
-  unfolding lastTo settled
-  last-to i Links.None t b p h = h
-  last-to i (Links.To m) t b p h =
-      let seg1 = segmentAt t i in
-      let seg2 = segmentAt t m in
-      let x = b .at m refl in
-      let k = h .each i p in
-      put i t (cond (linksTo (seg2 .link) i) seg1 (cond (staysSerif by seg1 seg2) (serifOf seg1 (seg2 .link)) (unlinked seg1))) h
-      (either-way (P i) (linksTo (seg2 .link) i) seg1 (cond (staysSerif by seg1 seg2) (serifOf seg1 (seg2 .link)) (unlinked seg1)) k
-      (either-way (P i) (staysSerif by seg1 seg2) (serifOf seg1 (seg2 .link)) (unlinked seg1)
-      (loosed i seg1 (seg2 .link) p (inside m seg2 x (h .each m x) .link) k)
-      (loosed i seg1 (seg1 .serif) p (inside i seg1 p k .serif) k)))
-
-  pub last-kept : (i : ℕ) (t : Segments) → i < n → Every n P t → Every n P (lastTurn by i t)
-  unfolding lastTurn
-  last-kept i t p h = last-to i (segmentAt t i .link) t (inside i (segmentAt t i) p (h .each i p) .link) p h
-
-  pub lasts-kept : (t : Segments) → Every n P t → Every n P (lastRound by t)
-  unfolding lastRound
-  lasts-kept t h = subst (λ (m : ℕ). Every n P (turns (lastTurn by) m t)) (sym (h .size)) (keeps (Every n P) (lastTurn by) n n t last-kept (omega arith) h)
-
-  -- ---- a property that a better stem keeps too
-  module _ (joined : (before seg1 seg2 : Segment) (i j : ℕ) → i < n → j < n → P i before → P i seg1 → P j seg2 → facing by seg1 seg2 i j (gapOf before seg1 seg2) ≡ true
-      → P i (linkedBy seg1 (gapOf before seg1 seg2) j) × P j (linkedBy seg2 (gapOf before seg1 seg2) i)) where
-    -- ---- the pair round
-    improved : (before seg1 seg2 : Segment) (i j : ℕ) → i < n → j < n → P i before → P i seg1 → P j seg2 → facing by seg1 seg2 i j (gapOf before seg1 seg2) ≡ true
-        → P i (improvedBy seg1 (gapOf before seg1 seg2) j) × P j (improvedBy seg2 (gapOf before seg1 seg2) i)
-    unfolding improvedBy
-    improved before seg1 seg2 i j x y p q r e =
-        let g = gapOf before seg1 seg2 in
-        let z = joined before seg1 seg2 i j x y p q r e in
-        (either-way (P i) (checkSeg seg1 g) (linkedBy seg1 g j) seg1 (z .0) q, either-way (P j) (checkSeg seg2 g) (linkedBy seg2 g i) seg2 (z .1) r)
-
-    pair : (before : Segment) (i j : ℕ) (t : Segments) → i < n → j < n → P i before → Every n P t → Every n P (pairTurn by before i j t)
-    unfolding pairTurn improvePair
-    pair before i j t x y p h =
+    -- ---- the last round
+    last-to : (i : ℕ) (to : Link) (t : Segments) → Below n to → i < n → Every n P t → Every n P (lastTo by i to t)
+    unfolding lastTo settled
+    last-to i Links.None t b p h = h
+    last-to i (Links.To m) t b p h =
         let seg1 = segmentAt t i in
-        let seg2 = segmentAt t j in
-        let g = gapOf before seg1 seg2 in
-        cond-cases (Every n P) (facing by seg1 seg2 i j g) (putSegment (putSegment t i (improvedBy seg1 g j)) j (improvedBy seg2 g i)) t
-        (λ (e : facing by seg1 seg2 i j g ≡ true).
-        let z = improved before seg1 seg2 i j x y p (h .each i x) (h .each j y) e in
-        put j (putSegment t i (improvedBy seg1 g j)) (improvedBy seg2 g i) (put i t (improvedBy seg1 g j) h (z .0)) (z .1))
-        (λ (e : facing by seg1 seg2 i j g ≡ false). h)
+        let seg2 = segmentAt t m in
+        let x = b .at m refl in
+        let k = h .each i p in
+        put i t (cond (linksTo (seg2 .link) i) seg1 (cond (staysSerif by seg1 seg2) (serifOf seg1 (seg2 .link)) (unlinked seg1))) h
+        (either-way (P i) (linksTo (seg2 .link) i) seg1 (cond (staysSerif by seg1 seg2) (serifOf seg1 (seg2 .link)) (unlinked seg1)) k
+        (either-way (P i) (staysSerif by seg1 seg2) (serifOf seg1 (seg2 .link)) (unlinked seg1)
+        (loosed i seg1 (seg2 .link) p (inside m seg2 x (h .each m x) .link) k)
+        (loosed i seg1 (seg1 .serif) p (inside i seg1 p k .serif) k)))
 
-    major : (dir : Direction) (i : ℕ) (t : Segments) → i < n → Every n P t → Every n P (majorTurn dir by n i t)
-    unfolding majorTurn
-    major dir i t x h =
-        either-way (Every n P) (same (segmentAt t i .dir) dir) (turns (pairTurn by (segmentAt t i) i) n t) t
-        (keeps (Every n P) (pairTurn by (segmentAt t i) i) n n t (λ j u y g. pair (segmentAt t i) i j u x y (h .each i x) g) (omega arith) h) h
+    pub last-kept : (i : ℕ) (t : Segments) → i < n → Every n P t → Every n P (lastTurn by i t)
+    unfolding lastTurn
+    last-kept i t p h = last-to i (segmentAt t i .link) t (inside i (segmentAt t i) p (h .each i p) .link) p h
 
-    pub pairs-kept : (dir : Direction) (t : Segments) → Every n P t → Every n P (pairRound dir by t)
-    unfolding pairRound
-    pairs-kept dir t h = subst (λ (m : ℕ). Every n P (turns (majorTurn dir by m) m t)) (sym (h .size)) (keeps (Every n P) (majorTurn dir by n) n n t (major dir) (omega arith) h)
+    pub lasts-kept : (t : Segments) → Every n P t → Every n P (lastRound by t)
+    unfolding lastRound
+    lasts-kept t h = subst (λ (m : ℕ). Every n P (turns (lastTurn by) m t)) (sym (h .size)) (keeps (Every n P) (lastTurn by) n n t last-kept (omega arith) h)
 
-    -- ---- the whole
-    pub linked-kept : (dir : Direction) (t : Segments) → Every n P t → Every n P (linked dir by t)
-    unfolding linked
-    linked-kept dir t h = lasts-kept (serifRound by (pairRound dir by t)) (serifs-kept (pairRound dir by t) (pairs-kept dir t h))
+    -- ---- a property that a better stem keeps too
+    module _ (joined : (before seg1 seg2 : Segment) (i j : ℕ) → i < n → j < n → P i before → P i seg1 → P j seg2 → facing by seg1 seg2 i j (gapOf before seg1 seg2) ≡ true
+        → P i (linkedBy seg1 (gapOf before seg1 seg2) j) × P j (linkedBy seg2 (gapOf before seg1 seg2) i)) where
+      -- ---- the pair round
+      improved : (before seg1 seg2 : Segment) (i j : ℕ) → i < n → j < n → P i before → P i seg1 → P j seg2 → facing by seg1 seg2 i j (gapOf before seg1 seg2) ≡ true
+          → P i (improvedBy seg1 (gapOf before seg1 seg2) j) × P j (improvedBy seg2 (gapOf before seg1 seg2) i)
+      unfolding improvedBy
+      improved before seg1 seg2 i j x y p q r e =
+          let g = gapOf before seg1 seg2 in
+          let z = joined before seg1 seg2 i j x y p q r e in
+          (either-way (P i) (checkSeg seg1 g) (linkedBy seg1 g j) seg1 (z .0) q, either-way (P j) (checkSeg seg2 g) (linkedBy seg2 g i) seg2 (z .1) r)
+
+      pair : (before : Segment) (i j : ℕ) (t : Segments) → i < n → j < n → P i before → Every n P t → Every n P (pairTurn by before i j t)
+      unfolding pairTurn improvePair
+      pair before i j t x y p h =
+          let seg1 = segmentAt t i in
+          let seg2 = segmentAt t j in
+          let g = gapOf before seg1 seg2 in
+          cond-cases (Every n P) (facing by seg1 seg2 i j g) (putSegment (putSegment t i (improvedBy seg1 g j)) j (improvedBy seg2 g i)) t
+          (λ (e : facing by seg1 seg2 i j g ≡ true).
+          let z = improved before seg1 seg2 i j x y p (h .each i x) (h .each j y) e in
+          put j (putSegment t i (improvedBy seg1 g j)) (improvedBy seg2 g i) (put i t (improvedBy seg1 g j) h (z .0)) (z .1))
+          (λ (e : facing by seg1 seg2 i j g ≡ false). h)
+
+      major : (dir : Direction) (i : ℕ) (t : Segments) → i < n → Every n P t → Every n P (majorTurn dir by n i t)
+      unfolding majorTurn
+      major dir i t x h =
+          either-way (Every n P) (same (segmentAt t i .dir) dir) (turns (pairTurn by (segmentAt t i) i) n t) t
+          (keeps (Every n P) (pairTurn by (segmentAt t i) i) n n t (λ j u y g. pair (segmentAt t i) i j u x y (h .each i x) g) (omega arith) h) h
+
+      pub pairs-kept : (dir : Direction) (t : Segments) → Every n P t → Every n P (pairRound dir by t)
+      unfolding pairRound
+      pairs-kept dir t h = subst (λ (m : ℕ). Every n P (turns (majorTurn dir by m) m t)) (sym (h .size)) (keeps (Every n P) (majorTurn dir by n) n n t (major dir) (omega arith) h)
+
+      -- ---- the whole
+      pub linked-kept : (dir : Direction) (t : Segments) → Every n P t → Every n P (linked dir by t)
+      unfolding linked
+      linked-kept dir t h = lasts-kept (serifRound by (pairRound dir by t)) (serifs-kept (pairRound dir by t) (pairs-kept dir t h))

@@ -82,7 +82,7 @@ pub linked-within : (dir : Direction) (by : Thresholds) (t : Segments) → pos 0
 linked-within dir by t o c w =
     let n = t .len in
     let start = Within.every-within t w in
-    let e = linked-kept n by (Sized n) (inside n) (loosed n)
+    let e = linked-kept n (Sized n) (inside n) (loosed n) by
     (λ before seg1 seg2 i j x y p a b f.
     let g = gapOf before seg1 seg2 in
     let r = gap-reach before seg1 seg2 (p .typed) (a .typed) (b .typed) in

@@ -43,7 +43,7 @@ pub record OnlyLinked (t u : Segments) : Type 0 where
 pub linked-only : (dir : Direction) (by : Thresholds) (t : Segments) → SegmentsWithin t → OnlyLinked t (linked dir by t)
 linked-only dir by t w =
     let n = t .len in
-    let e = linked-kept n by (Kept t n) (λ i s x h. h .inside) (loosed t n)
+    let e = linked-kept n (Kept t n) (λ i s x h. h .inside) (loosed t n) by
     (λ before seg1 seg2 i j x y p a b f. (joined t n i j seg1 (gapOf before seg1 seg2) y a, joined t n j i seg2 (gapOf before seg1 seg2) x b))
     dir t (record { size = refl; each = λ i x. record { rest = record { same = refl }; inside = record { link = w .segment i x .link; serif = w .segment i x .serif } } }) in
     record { size = e .size; rest = λ (i : ℕ) (x : i < n). e .each i x .rest }

@@ -63,6 +63,9 @@ module _ (n : ℕ) where
   joined i k s g y d l h = record { score = d; len = l; link = below-to n k y; serif = h .serif }
 
   -- ---- the turns of the rounds
+  pub hold-within : (seg1 link1 : Segment) (i l j : ℕ) (t : Segments) → i < n → l < n → Every n (Within n) t → Every n (Within n) (holdTurn seg1 link1 i l j t)
+  hold-within = Kept.hold-kept n (Within n) inside loosed
+
   module _ (by : Thresholds) where
     -- a pair that takes a stem where it is better
     pub pair-within : (i j : ℕ) (t : Segments) (g : Gap) (a b : Segment) → i < n → j < n → pos 0 ≤ℤ by .len → Every n (Within n) t → Reach g → facing by (segmentAt t i) (segmentAt t j) i j g ≡ true
@@ -78,21 +81,18 @@ module _ (n : ℕ) where
         put j (putSegment t i a) b (put i t a h (subst (Within n i) (sym p) u)) (subst (Within n j) (sym q) v)
       where
         put : (i : ℕ) (t : Segments) (s : Segment) → Every n (Within n) t → Within n i s → Every n (Within n) (putSegment t i s)
-        put = Kept.put n by (Within n) inside loosed
-
-    pub hold-within : (seg1 link1 : Segment) (i l j : ℕ) (t : Segments) → i < n → l < n → Every n (Within n) t → Every n (Within n) (holdTurn seg1 link1 i l j t)
-    hold-within = Kept.hold-kept n by (Within n) inside loosed
+        put = Kept.put n (Within n) inside loosed
 
     pub serifs-within : (t : Segments) → Every n (Within n) t → Every n (Within n) (serifRound by t)
-    serifs-within = Kept.serifs-kept n by (Within n) inside loosed
+    serifs-within = Kept.serifs-kept n (Within n) inside loosed by
 
     -- the table in the middle of the serif round
     pub serif-within : (i : ℕ) (t u : Segments) → Every n (Within n) t → u ≡ turns (serifTurn by n) i t → i ≤ n → Every n (Within n) u
-    serif-within i t u h e p = rw e (keeps (Every n (Within n)) (serifTurn by n) n i t (Kept.serif-kept n by (Within n) inside loosed) p h)
+    serif-within i t u h e p = rw e (keeps (Every n (Within n)) (serifTurn by n) n i t (Kept.serif-kept n (Within n) inside loosed by) p h)
 
     -- the table in the middle of the last round
     pub last-within : (i : ℕ) (t u : Segments) → Every n (Within n) t → u ≡ turns (lastTurn by) i t → i ≤ n → Every n (Within n) u
-    last-within i t u h e p = rw e (keeps (Every n (Within n)) (lastTurn by) n i t (Kept.last-kept n by (Within n) inside loosed) p h)
+    last-within i t u h e p = rw e (keeps (Every n (Within n)) (lastTurn by) n i t (Kept.last-kept n (Within n) inside loosed by) p h)
 
   -- where a link leads
   pub to-below : (i k : ℕ) (t : Segments) → Every n (Within n) t → i < n → segmentAt t i .link ≡ Links.To k → k < n

@@ -46,9 +46,13 @@ relinked s score len link serif = record {
 unfoldable pub gapOf : Segment → Segment → Segment → Gap
 gapOf before seg1 seg2 = record { dist = seg2 .pos -ℤ before .pos; len = minZ (seg1 .«max_coord») (seg2 .«max_coord») -ℤ maxZ (seg1 .«min_coord») (seg2 .«min_coord») }
 
--- the segments ix1 and ix2 can be a stem: different ones, in opposite directions, the second not before the first, with an overlap of the threshold or more
+-- a gap can be that of a stem: the second segment not before the first, with an overlap of the threshold or more
+abbrev pub stemGap : Thresholds → Gap → Bool
+stemGap by gap = leZ (pos 0) (gap .dist) && leZ (by .len) (gap .len)
+
+-- the segments ix1 and ix2 can be a stem: different ones, in opposite directions, with such a gap
 unfoldable pub facing : Thresholds → Segment → Segment → ℕ → ℕ → Gap → Bool
-facing by seg1 seg2 ix1 ix2 gap = not (eqb ix1 ix2) && (opposite (seg1 .dir) (seg2 .dir) && (leZ (pos 0) (gap .dist) && leZ (by .len) (gap .len)))
+facing by seg1 seg2 ix1 ix2 gap = not (eqb ix1 ix2) && (opposite (seg1 .dir) (seg2 .dir) && stemGap by gap)
 
 -- a stem of this gap is better than the one that the segment has: dist * 8 < score * 9, and dist * 8 < score * 7 or the overlap is longer
 unfoldable pub checkSeg : Segment → Gap → Bool

@@ -49,7 +49,7 @@ pub fn is_near_stem(thresholds: Thresholds, seg1: Segment, link1: Segment, ix1: 
 }
 
 // Whether segment ix2 is another one than segment ix1, and not behind it.
-fn starts_outside(seg1: Segment, seg2: Segment, ix1: u16, ix2: u16) -> bool
+pub fn starts_outside(seg1: Segment, seg2: Segment, ix1: u16, ix2: u16) -> bool
     ensures { λ r. ⌜ r ≡ leZ (seg2 .pos) (seg1 .pos) && not (eqb ix1 ix2) ⌝ }
 {
     if seg1.pos < seg2.pos {
@@ -137,7 +137,7 @@ pub fn rewritten(seg: Segment, ix2: u16, link1_ix: u16, link2_ix: u16, ix1: u16)
 }
 
 // Whether seg1, whose link to seg2 is lost, is a serif of what seg2 is linked to.
-fn stays_serif(thresholds: Thresholds, seg1: Segment, seg2: Segment) -> bool
+pub fn stays_serif(thresholds: Thresholds, seg1: Segment, seg2: Segment) -> bool
     requires { ⌜ Between 0 mostScore (seg2 .score) ⌝ }
     ensures { λ r. ⌜ r ≡ staysSerif thresholds seg1 seg2 ⌝ }
 {

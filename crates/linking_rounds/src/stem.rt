@@ -10,7 +10,17 @@ ghost use lib.IntN.{pos, _*ℤ_};
 ghost use lib.Signed.{ltZ};
 ghost use Rattle.signed.specs.Range.{Between};
 ghost use Rattle.axis.specs.Limits.{mostScore};
-ghost use Rattle.linking_rounds.specs.Pairs.{facing, checkSeg, linkedBy, improvedBy};
+ghost use Rattle.linking_rounds.specs.Pairs.{stemGap, facing, checkSeg, linkedBy, improvedBy};
+
+// Whether a gap can be that of a stem: the second segment not before the first, with enough overlap.
+pub fn is_stem_gap(thresholds: Thresholds, gap: Gap) -> bool
+    ensures { λ r. ⌜ r ≡ stemGap thresholds gap ⌝ }
+{
+    if gap.dist < 0 {
+        return false;
+    }
+    thresholds.len <= gap.len
+}
 
 // Whether segments ix1 and ix2 can be a stem: different ones, in opposite directions, the second not before the first, with enough overlap.
 pub fn can_be_stem(
@@ -31,10 +41,7 @@ pub fn can_be_stem(
     if !opposite(dir1, dir2) {
         return false;
     }
-    if gap.dist < 0 {
-        return false;
-    }
-    thresholds.len <= gap.len
+    is_stem_gap(thresholds, gap)
 }
 
 // Whether dist times 8 is below score times k.
@@ -48,7 +55,7 @@ fn is_below(dist: i32, score: i32, k: i32) -> bool
 }
 
 // Whether a stem of this gap is better than the one that the segment has.
-fn check_seg(seg: Segment, gap: Gap) -> bool
+pub fn check_seg(seg: Segment, gap: Gap) -> bool
     requires { ⌜ Between 0 mostScore (seg .score) ⌝ }
     requires { ⌜ Between 0 mostScore (gap .dist) ⌝ }
     ensures { λ r. ⌜ r ≡ checkSeg seg gap ⌝ }

@@ -88,6 +88,10 @@ module _ (m : ℕ) (t : Segments) (whole : t .len ≤ length (t .segments)) wher
   unfolding turnedSegments
   segments-all i h g = λ j. record { segments = front-all (segmentsFirst m t) (t .segments) (t .len) i firsts-length h g j; len = t .len }
 
+  -- those that are not turned over yet
+  pub segments-left : (i k : ℕ) → i ≤ t .len → i ≤ k → segmentAt (segmentsTo m t i) k ≡ segmentAt t k
+  segments-left i k h g = behind-at (take i (segmentsFirst m t)) (t .segments) i k emptySegment (length-take-le i (segmentsFirst m t) (omega (arith, firsts-length))) g
+
   pub turned-segment-at : (i : ℕ) → i < t .len → segmentAt (turnedSegments m t) i ≡ turnedSegment m (segmentAt t i)
   unfolding turnedSegments
   turned-segment-at i h = front-at (segmentsFirst m t) (t .segments) (t .len) i emptySegment firsts-length h ∙ firsts-at i h

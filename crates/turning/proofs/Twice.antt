@@ -39,7 +39,7 @@ unfolding linkHolds
 link-turned m Links.None b = refl
 link-turned m (Links.To k) b = lt-ltb (turnedIndex m k) m (let h = b .at k refl in omega arith)
 
-turned-below : (m : ℕ) (l : Link) → Below m l → Below m (turnedLink m l)
+pub turned-below : (m : ℕ) (l : Link) → Below m l → Below m (turnedLink m l)
 turned-below m l b = link-below m (turnedLink m l) (link-turned m l b)
 
 module _ (axis : Axis) (t : Segments) (w : TypedAxis axis) (v : Typed t) (a : Taken axis t) where

@@ -19,7 +19,7 @@ fn segment_edge(segment: Segment, count: usize) -> bool
 }
 
 // Whether an edge's first and last are segments.
-fn edge_segments(edge: Edge, count: usize) -> bool
+pub fn edge_segments(edge: Edge, count: usize) -> bool
     ensures { λ r. ⌜ r ≡ edgeSegments count edge ⌝ }
 {
     if (edge.first as usize) < count {

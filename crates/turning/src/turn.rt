@@ -34,7 +34,7 @@ pub struct Turned {
 }
 
 // The index of an edge, where there is one, renumbered.
-fn turned_link(link: Link, count: usize) -> Link
+pub fn turned_link(link: Link, count: usize) -> Link
     requires { ⌜ (count ≤ mostEdges) × (linkHolds count link ≡ true) ⌝ }
     ensures { λ r. ⌜ r ≡ turnedLink count link ⌝ }
 {
@@ -45,7 +45,7 @@ fn turned_link(link: Link, count: usize) -> Link
 }
 
 // The edge with link and serif renumbered.
-fn turned_edge(edge: Edge, count: usize) -> Edge
+pub fn turned_edge(edge: Edge, count: usize) -> Edge
     requires { ⌜ (count ≤ mostEdges) × (edgeIndices count edge ≡ true) ⌝ }
     ensures { λ r. ⌜ r ≡ turnedEdge count edge ⌝ }
 {

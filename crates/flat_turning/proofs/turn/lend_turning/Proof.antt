@@ -1,23 +1,16 @@
 -- `flat_turning::turn::lend_turning` meets its contract. Assumes nothing.
 use borrow.Author.Needs.{needs}
-use mathlib.Core.Path.{_≡_}
-use Rattle.signed.proofs.By.{by₂}
-use Rattle.turning.specs.declared.turn.Turned.{Turned}
-use Rattle.turning.specs.Turning.{turnOver}
-use Rattle.lent.proofs.Lents.{refused-before, passed-by, lent-pair}
-use Rattle.flat_turning.specs.Turn.{turned, turnedWords}
+use Rattle.lent.proofs.Lents.{refused-before}
+use Rattle.flat_turning.proofs.Lending.{refuses, segments-ready, edges-ready, turns}
 use Rattle.flat_turning.proofs.turn.lend_turning.Statement.{statement}
 use Rattle.flat_turning.proofs.turn.lend_turning.Tie as tie
 
-abbrev tested : tie.After-turn-over → tie.Else1
-tested c = c .before .before .before .before .before
+-- where the tests in front have passed, and where the call starts
+abbrev passed : tie.After-refusal-in → tie.Else1
+passed c = c .before .before .before
 
-abbrev from : tie.After-turn-over → tie.Start
-from c = tested c .before .before .before .before
-
--- what the call hands back
-handed : (c : tie.After-turn-over) → c .turn-over .result ≡ turned (from c .args .segments .now) (from c .args .edges .now)
-handed c = by₂ turnOver (c .turn-over .ensures) (c .before .axis-of .ensures) (c .before .before .before .flat-segments .ensures)
+abbrev from : tie.After-refusal-in → tie.Start
+from c = passed c .before .before .before .before
 
 turning-front-requires : tie.Need-turning-front-requires
 turning-front-requires c κs = search needs
@@ -31,20 +24,8 @@ same-length-2 c = search needs
 returns : tie.Need-returns
 returns c = refused-before (c .before .turning-front .ensures) (c .if1 .taken)
 
-flat-segments-requires : tie.Need-flat-segments-requires
-flat-segments-requires c κs = search needs
-
-axis-of-requires : tie.Need-axis-of-requires
-axis-of-requires c κs = search needs
-
-turn-over-requires : tie.Need-turn-over-requires
-turn-over-requires c κs = search needs
-
-give-edges-requires : tie.Need-give-edges-requires
-give-edges-requires c κs = search needs
-
-give-segments-requires : tie.Need-give-segments-requires
-give-segments-requires c κs = search needs
+refusal-in-requires : tie.Need-refusal-in-requires
+refusal-in-requires c κs = search needs
 
 same-length-3 : tie.Need-same-length-3
 same-length-3 c = search needs
@@ -54,11 +35,43 @@ same-length-4 c = search needs
 
 returns-2 : tie.Need-returns-2
 returns-2 c =
-    let edges = c .before .before .before .before in
-    let h = edges .before .before .before .before in
-    let e = tested h in
-    passed-by (λ (x : Turned). x .answer) (λ (x : Turned). turnedWords (from h .args .segments .now) (from h .args .edges .now) x) (e .before .turning-front .ensures) (e .if1 .left)
-    (handed h) (lent-pair (c .before .give-segments .ensures) (edges .give-edges .ensures))
+    let r = c .before in
+    let p = passed r in
+    let a = from r .args in
+    refuses (a .segments .now) (a .edges .now) (p .before .turning-front .ensures) (p .if1 .left) (r .refusal-in .ensures) (c .if2 .taken)
+
+turn-segments-in-requires : tie.Need-turn-segments-in-requires
+turn-segments-in-requires c κs =
+    let l = c .before in
+    let r = l .before in
+    let p = passed r in
+    let a = from r .args in
+    segments-ready (a .segments .now) (a .edges .now) (p .before .turning-front .ensures) (p .if1 .left) (r .refusal-in .ensures) (l .if2 .left)
+
+turn-edges-in-requires : tie.Need-turn-edges-in-requires
+turn-edges-in-requires c κs =
+    let l = c .before .before .before .before in
+    let r = l .before in
+    let p = passed r in
+    let a = from r .args in
+    edges-ready (a .segments .now) (a .edges .now) (p .before .turning-front .ensures) (p .if1 .left) (r .refusal-in .ensures) (l .if2 .left)
+
+same-length-5 : tie.Need-same-length-5
+same-length-5 c = search needs
+
+same-length-6 : tie.Need-same-length-6
+same-length-6 c = search needs
+
+returns-3 : tie.Need-returns-3
+returns-3 c =
+    let e = c .before in
+    let s = e .before .before .before in
+    let l = s .before .before in
+    let r = l .before in
+    let p = passed r in
+    let a = from r .args in
+    turns (a .segments .now) (a .edges .now) (p .before .turning-front .ensures) (p .if1 .left) (r .refusal-in .ensures) (l .if2 .left) (s .turn-segments-in .ensures)
+    (e .turn-edges-in .ensures)
 
 pub lend-turning-spec : {M : Type 1} → statement M
 lend-turning-spec =
@@ -68,11 +81,12 @@ lend-turning-spec =
     same-length
     same-length-2
     returns
-    flat-segments-requires
-    axis-of-requires
-    turn-over-requires
-    give-edges-requires
-    give-segments-requires
+    refusal-in-requires
     same-length-3
     same-length-4
-    returns-2)
+    returns-2
+    turn-segments-in-requires
+    turn-edges-in-requires
+    same-length-5
+    same-length-6
+    returns-3)

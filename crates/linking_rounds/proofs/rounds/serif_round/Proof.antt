@@ -64,10 +64,9 @@ made : (c : tie.Left-loop2 Inv-loop2 μ-loop2 Inv-loop μ-loop)
     let link = c .before .before .before .before .before .before .first .given .0 .0 in
     c .loop2-test .table ≡ R.hold (segmentAt t ix) (segmentAt t link) ix link (outer .before .args .segments .len) t
 made c =
-    let start = c .before .before .before .before .before .before .before .before .before .before .before in
     ⊎-elim
-    (λ w. w .1 ∙ H.held-end (start .args .thresholds) _ _ _ _ _ (c .before .loop2 .inv .2) (c .before .loop2 .inv .3) _ _ _ (c .before .loop2 .inv .4) (w .0 .left))
-    (λ w. w .14 ∙ H.last-turn (start .args .thresholds) _ _ _ _ _ (c .before .loop2 .inv .2) (c .before .loop2 .inv .3) _ _ _ _ (c .before .loop2 .inv .4) (w .0 .taken)
+    (λ w. w .1 ∙ H.held-end _ _ _ _ _ (c .before .loop2 .inv .2) (c .before .loop2 .inv .3) _ _ _ (c .before .loop2 .inv .4) (w .0 .left))
+    (λ w. w .14 ∙ H.last-turn _ _ _ _ _ (c .before .loop2 .inv .2) (c .before .loop2 .inv .3) _ _ _ _ (c .before .loop2 .inv .4) (w .0 .taken)
     (w .3 .given .1) _ _ (sym (w .6 .ensures) ∙ not-false _ (w .7 .left)) (sym (w .8 .ensures) ∙ w .9 .left) (w .11 .ensures) (w .13 .ensures))
     (c .loop2-test .came)
 
@@ -140,13 +139,12 @@ loop2-holds : tie.Need-loop2-holds Inv-loop2 μ-loop2 Inv-loop μ-loop
 loop2-holds c =
     let known-told = c .before .before .before in
     let in-outer = known-told .before .before .before .before in
-    let outer = in-outer .before in
-    let start = outer .before in (
+    let outer = in-outer .before in (
       omega arith,
       outer .loop .inv .1,
       in-outer .loop-test .taken,
       target known-told,
-      H.start (start .args .thresholds) _ _ _ _ _ (in-outer .loop-test .taken) (target known-told) _ (whole known-told),
+      H.start _ _ _ _ _ (in-outer .loop-test .taken) (target known-told) _ (whole known-told),
     )
 
 mul-seg2 : tie.Need-mul-seg2 Inv-loop2 μ-loop2 Inv-loop μ-loop
@@ -170,13 +168,12 @@ loop2-less c = omega arith
 loop2-again : tie.Need-loop2-again Inv-loop2 μ-loop2 Inv-loop μ-loop
 loop2-again c =
     let in-inner = c .before .before .before in
-    let inner = in-inner .before in
-    let start = inner .before .before .before .before .before .before .before .before .before .before in (
+    let inner = in-inner .before in (
       omega arith,
       inner .loop2 .inv .1,
       inner .loop2 .inv .2,
       inner .loop2 .inv .3,
-      H.step-none (start .args .thresholds) _ _ _ _ _ (inner .loop2 .inv .2) (inner .loop2 .inv .3) _ _ _ (inner .loop2 .inv .4) (in-inner .loop2-test .taken) (c .enum-told2 .given .1),
+      H.step-none _ _ _ _ _ (inner .loop2 .inv .2) (inner .loop2 .inv .3) _ _ _ (inner .loop2 .inv .4) (in-inner .loop2-test .taken) (c .enum-told2 .given .1),
     )
 
 cast-at2 : tie.Need-cast-at2 Inv-loop2 μ-loop2 Inv-loop μ-loop
@@ -211,13 +208,12 @@ loop2-again-2 : tie.Need-loop2-again-2 Inv-loop2 μ-loop2 Inv-loop μ-loop
 loop2-again-2 c =
     let second = c .before .before .before .before in
     let in-inner = second .before .before .before in
-    let inner = in-inner .before in
-    let start = inner .before .before .before .before .before .before .before .before .before .before in (
+    let inner = in-inner .before in (
       omega arith,
       inner .loop2 .inv .1,
       inner .loop2 .inv .2,
       inner .loop2 .inv .3,
-      H.step-skip (start .args .thresholds) _ _ _ _ _ (inner .loop2 .inv .2) (inner .loop2 .inv .3) _ _ _ _ (inner .loop2 .inv .4) (in-inner .loop2-test .taken)
+      H.step-skip _ _ _ _ _ (inner .loop2 .inv .2) (inner .loop2 .inv .3) _ _ _ _ (inner .loop2 .inv .4) (in-inner .loop2-test .taken)
           (second .second .given .1) (sym (c .before .encloses .ensures) ∙ not-true _ (c .if2 .taken)),
     )
 
@@ -250,13 +246,12 @@ loop2-again-3 c =
     let encloses = else2 .before in
     let second = encloses .before .before .before in
     let in-inner = second .before .before .before in
-    let inner = in-inner .before in
-    let start = inner .before .before .before .before .before .before .before .before .before .before in (
+    let inner = in-inner .before in (
       omega arith,
       inner .loop2 .inv .1,
       inner .loop2 .inv .2,
       inner .loop2 .inv .3,
-      H.step-serifs (start .args .thresholds) _ _ _ _ _ (inner .loop2 .inv .2) (inner .loop2 .inv .3) _ _ _ _ (inner .loop2 .inv .4) (in-inner .loop2-test .taken)
+      H.step-serifs _ _ _ _ _ (inner .loop2 .inv .2) (inner .loop2 .inv .3) _ _ _ _ (inner .loop2 .inv .4) (in-inner .loop2-test .taken)
           (second .second .given .1) _ (sym (encloses .encloses .ensures) ∙ not-false _ (else2 .if2 .left)) (sym (is-much-longer .is-much-longer .ensures) ∙ c .before .if3 .taken)
           (c .rewrite-links .ensures),
     )

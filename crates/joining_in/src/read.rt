@@ -1,0 +1,116 @@
+// What joining reads of segments, where their words stand.
+use axis::edge::EMPTY_EDGE;
+use axis::edge::Edge;
+use axis::flags::NORMAL;
+use axis::kinds::Link;
+use axis::limits::MOST_SEGMENTS;
+use axis::segment::Segment;
+use joining::ring::NO_STEM;
+use joining::ring::stem_near;
+use words::field::direction_at;
+use words::field::link_at;
+use words::field::short_at;
+use words::segment::SEGMENT_WORDS;
+ghost use mathlib.Core.Path.{_≡_};
+ghost use mathlib.Core.Bool.{true, _||_};
+ghost use Prim.Native.Nat.{_<_};
+ghost use lib.Signed.{leZ};
+ghost use Rattle.axis.specs.Limits.{mostSegments};
+ghost use Rattle.axis.specs.Ring.{walk, ends};
+ghost use Rattle.joining.specs.Walks.{nextIn, noStem, stemsAgree};
+ghost use Rattle.joining_in.specs.Reading.{segmentIn, edgeIn, edgeAtPlace, stemIn, ownStem, stemsIn};
+
+// What joining asks of a segment by itself, its other fields empty.
+pub fn segment_in(words: &[i32], i: u16) -> Segment
+    ensures { λ r. ⌜ r ≡ segmentIn (now (words .entry)) i ⌝ }
+{
+    let at = SEGMENT_WORDS * (i as usize);
+    Segment {
+        flags: NORMAL,
+        dir: direction_at(words, at + 1),
+        pos: short_at(words, at + 2),
+        delta: short_at(words, at + 3),
+        min_coord: 0,
+        max_coord: 0,
+        height: short_at(words, at + 6),
+        score: 0,
+        len: 0,
+        link: Link::None,
+        serif: link_at(words, at + 10),
+        first: 0,
+        last: 0,
+        edge: Link::None,
+        next: Link::None,
+    }
+}
+
+// What joining asks of an edge by its first segment and its last one, its other fields empty.
+pub fn edge_in(words: &[i32], first: u16, last: u16) -> Edge
+    ensures { λ r. ⌜ r ≡ edgeIn (now (words .entry)) first last ⌝ }
+{
+    let at = SEGMENT_WORDS * (first as usize);
+    let dir = direction_at(words, at + 1);
+    let fpos = short_at(words, at + 2);
+    Edge {
+        fpos,
+        dir,
+        first,
+        last,
+        ..EMPTY_EDGE
+    }
+}
+
+// An edge at a position, as far as nothing else is asked of it.
+pub fn edge_at(fpos: i16) -> Edge
+    ensures { λ r. ⌜ r ≡ edgeAtPlace fpos ⌝ }
+{
+    Edge { fpos, ..EMPTY_EDGE }
+}
+
+// The position of a segment's link, or the number that stands for none.
+fn stem_in(words: &[i32], i: u16) -> i32
+    ensures { λ r. ⌜ r ≡ stemIn (now (words .entry)) i ⌝ }
+{
+    let link = link_at(words, SEGMENT_WORDS * (i as usize) + 9);
+    match link {
+        Link::None => NO_STEM,
+        Link::To(ix) => short_at(words, SEGMENT_WORDS * (ix as usize) + 2) as i32,
+    }
+}
+
+// The same for CJK; Latin asks for none.
+pub fn own_stem(words: &[i32], i: u16, cjk: bool) -> i32
+    ensures { λ r. ⌜ r ≡ ownStem (now (words .entry)) cjk i ⌝ }
+{
+    if cjk {
+        return stem_in(words, i);
+    }
+    NO_STEM
+}
+
+// Whether every linked segment of a ring has its link near a stem, where there is one: then all of them can make a single edge.
+pub fn ring_in(
+    words: &[i32],
+    next: &[u16; MOST_SEGMENTS],
+    first: u16,
+    last: u16,
+    stem: i32,
+    near: u64,
+) -> bool
+    requires { ⌜ (first < mostSegments) × (ends (nextIn (now next)) mostSegments last mostSegments first ≡ true) ⌝ }
+    ensures { λ r. ⌜ r ≡ (leZ noStem stem || stemsAgree (stemsIn (now (words .entry))) near stem (walk (nextIn (now (next .entry))) last mostSegments first)) ⌝ }
+{
+    if NO_STEM <= stem {
+        return true;
+    }
+    let mut ix = first;
+    loop {
+        if !stem_near(stem, stem_in(words, ix), near) {
+            return false;
+        }
+        if ix == last {
+            return true;
+        }
+        ix = next[ix as usize];
+    }
+}

@@ -1,0 +1,2 @@
+-- What the contracts of `linking_in` cite.
+pub mod Linking

@@ -1,0 +1,4 @@
+-- Laws on segments in place.
+pub mod Wholes
+pub mod Writes
+pub mod Became

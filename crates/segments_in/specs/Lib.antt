@@ -1,0 +1,2 @@
+-- What the contracts of `segments_in` cite.
+pub mod Whole

@@ -1,0 +1,129 @@
+// One segment of a lent list: what linking reads of it, and its score, length, link, serif and edge written.
+use axis::flags::NORMAL;
+use axis::kinds::Link;
+use axis::segment::Segment;
+use words::field::direction_at;
+use words::field::index_word;
+use words::field::link_word;
+use words::segment::SEGMENT_WORDS;
+use words::word::size_of;
+ghost use mathlib.Core.Path.{_≡_};
+ghost use Prim.Native.Nat.{_<_, _≤_, _+_, _*_};
+ghost use lib.ListN.{length, set};
+ghost use Rattle.signed.specs.Equality.{eqZ};
+ghost use Rattle.signed.specs.Parts.{up};
+ghost use Rattle.axis.specs.Accepted.{Below};
+ghost use Rattle.axis.specs.Handed.{Short};
+ghost use Rattle.axis.specs.Limits.{mostEdges, mostSegments};
+ghost use Rattle.axis.specs.Segment.{segmentAt};
+ghost use Rattle.linking_rounds.specs.Rounds.{unlink};
+ghost use Rattle.words.specs.Word.{wordAt};
+ghost use Rattle.words.specs.Field.{linkOf, directionWord};
+ghost use Rattle.words.specs.Segment.{segmentSize, wordOfSegment, segmentsIn, flatSegments};
+ghost use Rattle.segments_in.specs.Whole.{Whole, reduced, Became, joining, loosing, leading};
+
+// A word.
+fn word_in(words: &[i32], at: usize) -> i32
+    requires { ⌜ at < length (now words) ⌝ }
+    ensures { λ r. ⌜ r ≡ wordAt (now (words .entry)) at ⌝ }
+{
+    words[at]
+}
+
+// A word that is a 16-bit number.
+fn short_in(words: &[i32], at: usize) -> i16
+    requires { ⌜ (at < length (now words)) × Short (wordAt (now words) at) ⌝ }
+    ensures { λ r. ⌜ r ≡ wordAt (now (words .entry)) at ⌝ }
+{
+    let word = words[at];
+    word as i16
+}
+
+// A word that is an index or none.
+fn link_in(words: &[i32], at: usize) -> Link
+    requires { ⌜ (at < length (now words)) × (up (wordAt (now words) at) < 65536) ⌝ }
+    ensures { λ r. ⌜ r ≡ linkOf (wordAt (now (words .entry)) at) ⌝ }
+{
+    let word = words[at];
+    if word < 0 {
+        return Link::None;
+    }
+    let index = size_of(word) as u16;
+    Link::To(index)
+}
+
+// Whether the direction of a segment has this word.
+pub fn points_in(words: &[i32], i: usize, dir: i32) -> bool
+    requires { ⌜ Whole (now words) × (i < segmentsIn (now words)) ⌝ }
+    ensures { λ r. ⌜ r ≡ eqZ (directionWord (segmentAt (flatSegments (now (words .entry))) i .dir)) dir ⌝ }
+{
+    word_in(words, SEGMENT_WORDS * i + 1) == dir
+}
+
+// What linking reads of a segment, its other fields empty.
+pub fn seg_in(words: &[i32], i: usize) -> Segment
+    requires { ⌜ Whole (now words) × (i < segmentsIn (now words)) ⌝ }
+    ensures { λ r. ⌜ r ≡ reduced (segmentAt (flatSegments (now (words .entry))) i) ⌝ }
+{
+    let at = SEGMENT_WORDS * i;
+    Segment {
+        flags: NORMAL,
+        dir: direction_at(words, at + 1),
+        pos: short_in(words, at + 2),
+        delta: 0,
+        min_coord: short_in(words, at + 4),
+        max_coord: short_in(words, at + 5),
+        height: 0,
+        score: word_in(words, at + 7),
+        len: word_in(words, at + 8),
+        link: link_in(words, at + 9),
+        serif: link_in(words, at + 10),
+        first: 0,
+        last: 0,
+        edge: Link::None,
+        next: Link::None,
+    }
+}
+
+// Writes the word of a segment in a field's place.
+fn put_word(words: &mut [i32], i: usize, place: usize, word: i32)
+    requires { ⌜ (i < mostSegments) × (place < segmentSize) × (segmentSize * i + segmentSize ≤ length (now words)) ⌝ }
+    ensures { λ _. ⌜ now (words .exit) ≡ set (now (words .entry)) (wordOfSegment i place) word ⌝ }
+{
+    words[SEGMENT_WORDS * i + place] = word;
+}
+
+// Links a segment to another one by a stem of this score and length.
+pub fn join_in(words: &mut [i32], i: usize, score: i32, len: i32, ix: u16)
+    requires { ⌜ Whole (now words) × (i < segmentsIn (now words)) ⌝ }
+    ensures { λ _. ⌜ Became (joining i score len ix) (now (words .entry)) (now (words .exit)) ⌝ }
+{
+    put_word(words, i, 7, score);
+    put_word(words, i, 8, len);
+    put_word(words, i, 9, index_word(ix));
+}
+
+// Takes the link of a segment.
+pub fn unlink_in(words: &mut [i32], i: usize)
+    requires { ⌜ Whole (now words) × (i < segmentsIn (now words)) ⌝ }
+    ensures { λ _. ⌜ Became (unlink i) (now (words .entry)) (now (words .exit)) ⌝ }
+{
+    put_word(words, i, 9, -1);
+}
+
+// Takes the link of a segment, and makes it a serif of what `serif` names.
+pub fn serif_in(words: &mut [i32], i: usize, serif: Link)
+    requires { ⌜ Whole (now words) × (i < segmentsIn (now words)) × Below mostSegments serif ⌝ }
+    ensures { λ _. ⌜ Became (loosing i serif) (now (words .entry)) (now (words .exit)) ⌝ }
+{
+    put_word(words, i, 9, -1);
+    put_word(words, i, 10, link_word(serif));
+}
+
+// Gives a segment the edge that `edge` names.
+pub fn edge_in(words: &mut [i32], i: usize, edge: Link)
+    requires { ⌜ Whole (now words) × (i < segmentsIn (now words)) × Below mostEdges edge ⌝ }
+    ensures { λ _. ⌜ Became (leading i edge) (now (words .entry)) (now (words .exit)) ⌝ }
+{
+    put_word(words, i, 13, link_word(edge));
+}

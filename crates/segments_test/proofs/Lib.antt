@@ -1,0 +1,5 @@
+-- Laws on the tests of lent segments: on words, in the one loop, and what the answer tells of a call.
+pub mod Refusals
+pub mod Holding
+pub mod Answers
+pub mod Calls

@@ -1,0 +1,103 @@
+-- `segments_test::hold::segments_hold` meets its contract. Assumes nothing.
+use borrow.Author.Tests.{not-false}
+use mathlib.Core.Path.{_≡_, refl, _∙_}
+use Prim.Native.Nat.{_-_}
+use native.Mathlib.Omega.{arith}
+use lib.IntN.{pos, _-ℤ_}
+use mir.Syntax.{w32}
+use mir.Val.{toZ}
+use Rattle.signed.proofs.Signed.{is, got}
+use Rattle.edges_test.proofs.Holding.{clash}
+use Rattle.segments_test.specs.Held.{topOf}
+use Rattle.segments_test.proofs.Holding.{Passed, passed-none, passed-more, passed-all}
+use Rattle.segments_test.proofs.hold.segments_hold.Statement.{statement}
+use Rattle.segments_test.proofs.hold.segments_hold.Tie as tie
+
+abbrev Inv-loop : tie.InvT-loop
+Inv-loop words nexts n last top i₀ i = (toZ w32 last ≡ pos n -ℤ pos 1) × (toZ w32 top ≡ topOf n nexts) × Passed words nexts n i
+
+abbrev μ-loop : tie.MeasureT-loop
+μ-loop words nexts n last top i₀ i = n - i
+
+returns : tie.Need-returns Inv-loop μ-loop
+returns c = λ h. absurd (clash h)
+
+mul-if2 : tie.Need-mul-if2 Inv-loop μ-loop
+mul-if2 c = omega arith
+
+returns-2 : tie.Need-returns-2 Inv-loop μ-loop
+returns-2 c = λ h. absurd (clash h)
+
+last-of-requires : tie.Need-last-of-requires Inv-loop μ-loop
+last-of-requires c κs = c .before .if1 .left
+
+top-of-requires : tie.Need-top-of-requires Inv-loop μ-loop
+top-of-requires c κs = c .before .before .if1 .left
+
+loop-holds : tie.Need-loop-holds Inv-loop μ-loop
+loop-holds c =
+    let l = c .before in
+    let e = l .before in (
+      is (got w32 (l .last-of .result) (l .last-of .ok)) ∙ l .last-of .ensures,
+      is (got w32 (c .top-of .result) (c .top-of .ok)) ∙ c .top-of .ensures,
+      passed-none _ _ _ (e .before .if1 .left) refl (e .if2 .left),
+    )
+
+mul-front-holds : tie.Need-mul-front-holds Inv-loop μ-loop
+mul-front-holds c = let p = c .before .loop .inv .2 in let h = c .loop-test .taken in omega (arith, p .few, h)
+
+front-holds-requires : tie.Need-front-holds-requires Inv-loop μ-loop
+front-holds-requires c κs = let p = c .before .loop .inv .2 in let h = c .loop-test .taken in omega (arith, p .count, h)
+
+returns-3 : tie.Need-returns-3 Inv-loop μ-loop
+returns-3 c = λ h. absurd (clash h)
+
+mul-back-holds : tie.Need-mul-back-holds Inv-loop μ-loop
+mul-back-holds c = let l = c .before .before in let p = l .before .loop .inv .2 in let h = l .loop-test .taken in omega (arith, p .few, h)
+
+back-holds-requires : tie.Need-back-holds-requires Inv-loop μ-loop
+back-holds-requires c κs = let l = c .before .before in let p = l .before .loop .inv .2 in let h = l .loop-test .taken in omega (arith, p .count, h)
+
+returns-4 : tie.Need-returns-4 Inv-loop μ-loop
+returns-4 c = λ h. absurd (clash h)
+
+add-i : tie.Need-add-i Inv-loop μ-loop
+add-i c = let l = c .before .before .before .before in let p = l .before .loop .inv .2 in let h = l .loop-test .taken in omega (arith, p .few, h)
+
+loop-less : tie.Need-loop-less Inv-loop μ-loop
+loop-less c = let h = c .before .before .before .before .loop-test .taken in omega (arith, h)
+
+loop-again : tie.Need-loop-again Inv-loop μ-loop
+loop-again c =
+    let b = c .before in
+    let e = b .before in
+    let f = e .before in
+    let l = f .before in
+    let v = l .before .loop .inv in
+    (v .0, v .1, passed-more _ _ _ _ _ _ (v .2) (l .loop-test .taken) (f .front-holds .ensures (not-false _ (e .if3 .left))) (b .back-holds .ensures (not-false _ (c .if4 .left))) (v .0) (v .1))
+
+returns-5 : tie.Need-returns-5 Inv-loop μ-loop
+returns-5 c = λ h. passed-all _ _ _ _ (c .before .loop .inv .2) (c .loop-test .left)
+
+pub segments-hold-spec : {M : Type 1} → statement M
+segments-hold-spec =
+    tie.close
+    (tie.spec
+    Inv-loop
+    μ-loop
+    returns
+    mul-if2
+    returns-2
+    last-of-requires
+    top-of-requires
+    loop-holds
+    mul-front-holds
+    front-holds-requires
+    returns-3
+    mul-back-holds
+    back-holds-requires
+    returns-4
+    add-i
+    loop-less
+    loop-again
+    returns-5)

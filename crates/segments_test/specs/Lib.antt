@@ -1,0 +1,2 @@
+-- What the contracts of `segments_test` cite.
+pub mod Held

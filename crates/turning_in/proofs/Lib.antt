@@ -1,0 +1,2 @@
+-- Laws on segments and edges that are turned over where their words stand.
+pub mod Turns
