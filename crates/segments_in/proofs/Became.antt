@@ -4,6 +4,7 @@ use mathlib.Core.List.{List}
 use Prim.Native.Nat.{ℕ, _*_, _/_, _<_}
 use native.Mathlib.Omega.{arith}
 use lib.ListN.{length, set}
+use lib.Seq.{set-set}
 use lib.IntN.{ℤ, pos}
 use Rattle.axis.specs.declared.kinds.Link.{Link}
 use Rattle.axis.specs.declared.kinds.Link.the-variants as Links
@@ -18,10 +19,10 @@ use Rattle.linking_rounds.specs.Rounds.{unlink}
 use Rattle.marking.specs.Marks.{ringed}
 use Rattle.words.specs.Word.{joined}
 use Rattle.words.specs.Field.{linkWord}
-use Rattle.words.specs.Segment.{segmentSize, scorePlace, lenPlace, linkPlace, serifPlace, edgePlace, wordOfSegment, segmentFrom, segmentsIn, flatSegments, segmentWordsAt, segmentsOver}
-use Rattle.segments_in.specs.Whole.{Whole, Became, joining, loosing, leading}
+use Rattle.words.specs.Segment.{segmentSize, scorePlace, lenPlace, linkPlace, serifPlace, edgePlace, nextPlace, wordOfSegment, segmentFrom, segmentsIn, flatSegments, segmentWordsAt, segmentsOver}
+use Rattle.segments_in.specs.Whole.{Whole, Became, joining, loosing, leading, ringing}
 use Rattle.segments_in.proofs.Wholes.{segment-in, segments-over, words-joined}
-use Rattle.segments_in.proofs.Writes.{Wrote, wrote-again, wrote-as, score-wrote, len-wrote, link-wrote, serif-wrote, edge-wrote}
+use Rattle.segments_in.proofs.Writes.{Wrote, wrote-again, wrote-as, score-wrote, len-wrote, link-wrote, serif-wrote, edge-wrote, next-wrote}
 
 -- as many segments as before
 as-many : (ws ws′ : List ℤ) → length ws′ ≡ length ws → segmentsIn ws′ ≡ segmentsIn ws
@@ -122,3 +123,32 @@ pub edge-law : (ws ws′ : List ℤ) (i : ℕ) (z : ℤ) (edge : Link) → Whole
 edge-law ws ws′ i z edge w h l e q =
     became (λ (s : Segment). ringed s edge (s .next)) i w h
     (as-written (e ∙ ap (λ (x : ℤ). set ws (wordOfSegment i edgePlace) x) q) (edge-wrote ws i w h edge (record { at = λ (k : ℕ) (r : edge ≡ Links.To k). omega (arith, l .at k r) })))
+
+-- its next
+next-written : (ws ws′ : List ℤ) (i : ℕ) (z : ℤ) (next : Link) → Whole ws → i < segmentsIn ws → Below 65536 next → ws′ ≡ set ws (wordOfSegment i nextPlace) z → z ≡ linkWord next
+    → Wrote ws ws′ i (ringed (held ws i) (held ws i .edge) next)
+next-written ws ws′ i z next w h l e q = as-written (e ∙ ap (λ (x : ℤ). set ws (wordOfSegment i nextPlace) x) q) (next-wrote ws i w h next l)
+
+-- the words stay the words of their segments, as many
+pub next-law : (ws ws′ : List ℤ) (i : ℕ) (z : ℤ) (next : Link) → Whole ws → i < segmentsIn ws → Below 65536 next → ws′ ≡ set ws (wordOfSegment i nextPlace) z → z ≡ linkWord next
+    → Whole ws′ × (i < segmentsIn ws′)
+next-law ws ws′ i z next w h l e q = let a = next-written ws ws′ i z next w h l e q in (a .whole, still-below ws ws′ i (a .long) h)
+
+-- behind that, its edge
+pub ring-law : (ws w1 w2 : List ℤ) (i : ℕ) (z : ℤ) (edge next : Link) → Whole ws → i < segmentsIn ws → Below 65536 next → w1 ≡ set ws (wordOfSegment i nextPlace) z → z ≡ linkWord next
+    → Became (leading i edge) w1 w2 → Became (ringing i edge next) ws w2
+ring-law ws w1 w2 i z edge next w h l e q b = record {
+  whole = b .whole;
+  long = b .long ∙ a .long;
+  table =
+      b .table ∙ (λ k. putSegment (a .table k) i (ringed (own k) edge (own k .next)))
+      ∙ ap (λ (ss : List Segment). record { segments = ss; len = flatSegments ws .len }) (set-set (flatSegments ws .segments) i _ _)
+      ∙ ap (λ (s : Segment). putSegment (flatSegments ws) i (ringed s edge next)) (sym (segment-in ws i w h));
+}
+  where
+    a : Wrote ws w1 i (ringed (held ws i) (held ws i .edge) next)
+    a = next-written ws w1 i z next w h l e q
+
+    -- the segment as the edge finds it
+    own : segmentAt (flatSegments w1) i ≡ ringed (held ws i) (held ws i .edge) next
+    own = segment-in w1 i (a .whole) (still-below ws w1 i (a .long) h) ∙ a .read

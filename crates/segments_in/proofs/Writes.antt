@@ -18,7 +18,7 @@ use Rattle.linking_rounds.specs.Pairs.{relinked}
 use Rattle.marking.specs.Marks.{ringed}
 use Rattle.words.specs.Word.{wordAt, table}
 use Rattle.words.specs.Field.{linkOf, linkWord}
-use Rattle.words.specs.Segment.{segmentSize, scorePlace, lenPlace, linkPlace, serifPlace, edgePlace, wordOfSegment, segmentFrom, segmentsIn, segmentInRun, segmentsRun, flatSegments, segmentWords}
+use Rattle.words.specs.Segment.{segmentSize, scorePlace, lenPlace, linkPlace, serifPlace, edgePlace, nextPlace, wordOfSegment, segmentFrom, segmentsIn, segmentInRun, segmentsRun, flatSegments, segmentWords}
 use Rattle.words.proofs.Segments.{segment-length}
 use Rattle.edges_in.proofs.Tables.{table-set}
 use Rattle.edges_in.proofs.Writes.{same-or-not}
@@ -175,6 +175,28 @@ module _ (ws : List ℤ) (at : ℕ) (v : ℤ) (space : at + segmentSize ≤ leng
         other 13 14 (λ q. omega arith),
       )
 
+  next-read : (l : Link) → linkOf v ≡ l → segmentFrom (written nextPlace) at ≡ ringed S (S .edge) l
+  unfolding segmentFrom
+  next-read l e =
+      rw (
+        here 14 (omega arith),
+        e,
+        first 14 (omega arith),
+        other 14 1 (λ q. omega arith),
+        other 14 2 (λ q. omega arith),
+        other 14 3 (λ q. omega arith),
+        other 14 4 (λ q. omega arith),
+        other 14 5 (λ q. omega arith),
+        other 14 6 (λ q. omega arith),
+        other 14 7 (λ q. omega arith),
+        other 14 8 (λ q. omega arith),
+        other 14 9 (λ q. omega arith),
+        other 14 10 (λ q. omega arith),
+        other 14 11 (λ q. omega arith),
+        other 14 12 (λ q. omega arith),
+        other 14 13 (λ q. omega arith),
+      )
+
 -- ---- a segment of the table
 -- the words of one segment are others
 pub record Wrote (ws ws′ : List ℤ) (i : ℕ) (s : Segment) : Type 0 where
@@ -289,3 +311,8 @@ module _ (ws : List ℤ) (i : ℕ) (w : Whole ws) (h : i < segmentsIn ws) where
   pub edge-wrote : (l : Link) → Below 65536 l → Wrote ws (set ws (wordOfSegment i edgePlace) (linkWord l)) i (ringed R l (R .next))
   unfolding segmentWords
   edge-wrote l b = word-wrote ws i edgePlace (linkWord l) _ w h (omega arith) (edge-read ws (segmentSize * i) (linkWord l) (room ws i w h) l (link-back l b)) refl
+
+  -- its next
+  pub next-wrote : (l : Link) → Below 65536 l → Wrote ws (set ws (wordOfSegment i nextPlace) (linkWord l)) i (ringed R (R .edge) l)
+  unfolding segmentWords
+  next-wrote l b = word-wrote ws i nextPlace (linkWord l) _ w h (omega arith) (next-read ws (segmentSize * i) (linkWord l) (room ws i w h) l (link-back l b)) refl

@@ -39,6 +39,10 @@ loosing i serif t = putSegment t i (serifOf (segmentAt t i) serif)
 abbrev pub leading : ℕ → Link → Segments → Segments
 leading i edge t = putSegment t i (ringed (segmentAt t i) edge (segmentAt t i .next))
 
+-- and with the next that `next` names
+abbrev pub ringing : ℕ → Link → Link → Segments → Segments
+ringing i edge next t = putSegment t i (ringed (segmentAt t i) edge next)
+
 -- what linking reads of a segment, its other fields empty
 abbrev pub reduced : Segment → Segment
 reduced s = record {

@@ -1,4 +1,4 @@
-// One segment of a lent list: what linking reads of it, and its score, length, link, serif and edge written.
+// One segment of a lent list: what linking reads of it, and its score, length, link, serif, edge and next written.
 use axis::flags::NORMAL;
 use axis::kinds::Link;
 use axis::segment::Segment;
@@ -20,7 +20,7 @@ ghost use Rattle.linking_rounds.specs.Rounds.{unlink};
 ghost use Rattle.words.specs.Word.{wordAt};
 ghost use Rattle.words.specs.Field.{linkOf, directionWord};
 ghost use Rattle.words.specs.Segment.{segmentSize, wordOfSegment, segmentsIn, flatSegments};
-ghost use Rattle.segments_in.specs.Whole.{Whole, reduced, Became, joining, loosing, leading};
+ghost use Rattle.segments_in.specs.Whole.{Whole, reduced, Became, joining, loosing, leading, ringing};
 
 // A word.
 fn word_in(words: &[i32], at: usize) -> i32
@@ -126,4 +126,13 @@ pub fn edge_in(words: &mut [i32], i: usize, edge: Link)
     ensures { λ _. ⌜ Became (leading i edge) (now (words .entry)) (now (words .exit)) ⌝ }
 {
     put_word(words, i, 13, link_word(edge));
+}
+
+// Gives a segment the edge that `edge` names, and the next that `next` names.
+pub fn ring_in(words: &mut [i32], i: usize, edge: Link, next: Link)
+    requires { ⌜ Whole (now words) × (i < segmentsIn (now words)) × Below mostEdges edge × Below 65536 next ⌝ }
+    ensures { λ _. ⌜ Became (ringing i edge next) (now (words .entry)) (now (words .exit)) ⌝ }
+{
+    put_word(words, i, 14, link_word(next));
+    edge_in(words, i, edge);
 }

@@ -1,0 +1,2 @@
+-- Laws on segments that learn their edges where their words stand.
+pub mod Marking

@@ -1,0 +1,2 @@
+-- What the contracts of `marking_in` cite.
+pub mod Marking
