@@ -9,17 +9,21 @@ use lib.IntN.{ℤ, pos}
 use Rattle.axis.specs.declared.flags.Flags.{Flags}
 use Rattle.axis.specs.declared.kinds.Blue.the-variants as Blues
 use Rattle.axis.specs.declared.kinds.Dimension.{Dimension}
+use Rattle.axis.specs.declared.kinds.Link.{Link}
 use Rattle.axis.specs.declared.kinds.Mark.{Mark}
 use Rattle.axis.specs.declared.edge.Edge.{Edge}
 use Rattle.axis.specs.declared.edge.Axis.{Axis}
+use Rattle.axis.specs.Accepted.{Below}
 use Rattle.axis.specs.Flags.{asDone}
-use Rattle.axis.specs.Edge.{emptyEdge, edgeAt, putEdge, placed, flagged, finished}
+use Rattle.axis.specs.Edge.{emptyEdge, edgeAt, putEdge, placed, flagged, finished, joinedTo}
+use Rattle.axis.specs.Limits.{mostEdges}
 use Rattle.words.specs.Word.{wordAt, joined}
-use Rattle.words.specs.Field.{blueOf, flagsOf, flagsWord, markOf, markWord}
-use Rattle.words.specs.Edge.{edgeSize, posPlace, flagsPlace, bluePlace, fittedPlace, markPlace, wordOfEdge, edgeFrom, edgesIn, edgeWordsAt, edgesOver}
-use Rattle.edges_in.specs.Whole.{Whole, axisIn, Became, placing, flagging, fixing, zoned, unzoning}
+use Rattle.words.specs.Field.{blueOf, flagsOf, flagsWord, linkOf, linkWord, markOf, markWord}
+use Rattle.words.specs.Edge.{edgeSize, posPlace, flagsPlace, bluePlace, fittedPlace, linkPlace, serifPlace, markPlace}
+use Rattle.words.specs.Edge.{wordOfEdge, edgeFrom, edgesIn, edgeWordsAt, edgesOver}
+use Rattle.edges_in.specs.Whole.{Whole, axisIn, Became, placing, flagging, fixing, zoned, unzoning, linking, serifing}
 use Rattle.edges_in.proofs.Wholes.{axis-long, edge-in, edges-over, words-joined}
-use Rattle.edges_in.proofs.Writes.{Wrote, wrote-again, wrote-as, pos-wrote, flags-wrote, mark-wrote, fitted-wrote, present-wrote}
+use Rattle.edges_in.proofs.Writes.{Wrote, wrote-again, wrote-as, pos-wrote, flags-wrote, link-wrote, serif-wrote, mark-wrote, fitted-wrote, present-wrote}
 
 -- as many edges as before
 pub as-many : (ws ws′ : List ℤ) → length ws′ ≡ length ws → edgesIn ws′ ≡ edgesIn ws
@@ -78,6 +82,22 @@ flag-law ws ws′ i v f w h r e =
     became (λ (x : Edge). flagged x f) i w h
     (subst (λ (x : List ℤ). Wrote ws x i (flagged (edgeFrom ws (edgeSize * i)) f)) (sym (r ∙ ap (λ (z : ℤ). set ws (wordOfEdge i flagsPlace) z) e)) (flags-wrote ws i w h f))
 
+-- another link, and another serif
+few-below : (l : Link) → Below mostEdges l → Below 65536 l
+few-below l b = record { at = λ k e. omega (arith, b .at k e) }
+
+pub link-law : (ws ws′ : List ℤ) (i : ℕ) (v : ℤ) (l : Link) → Whole ws → i < edgesIn ws → Below mostEdges l → ws′ ≡ set ws (wordOfEdge i linkPlace) v → v ≡ linkWord l → Became (linking i l) ws ws′
+link-law ws ws′ i v l w h b r e =
+    became (λ (x : Edge). joinedTo x l (x .serif)) i w h
+    (subst (λ (x : List ℤ). Wrote ws x i (joinedTo (edgeFrom ws (edgeSize * i)) l (edgeFrom ws (edgeSize * i) .serif)))
+    (sym (r ∙ ap (λ (z : ℤ). set ws (wordOfEdge i linkPlace) z) e)) (link-wrote ws i w h l (few-below l b)))
+
+pub serif-law : (ws ws′ : List ℤ) (i : ℕ) (v : ℤ) (l : Link) → Whole ws → i < edgesIn ws → Below mostEdges l → ws′ ≡ set ws (wordOfEdge i serifPlace) v → v ≡ linkWord l → Became (serifing i l) ws ws′
+serif-law ws ws′ i v l w h b r e =
+    became (λ (x : Edge). joinedTo x (x .link) l) i w h
+    (subst (λ (x : List ℤ). Wrote ws x i (joinedTo (edgeFrom ws (edgeSize * i)) (edgeFrom ws (edgeSize * i) .link) l))
+    (sym (r ∙ ap (λ (z : ℤ). set ws (wordOfEdge i serifPlace) z) e)) (serif-wrote ws i w h l (few-below l b)))
+
 -- no zone
 pub unzone-law : (ws w1 w2 : List ℤ) (i : ℕ) → Whole ws → i < edgesIn ws → w1 ≡ set ws (wordOfEdge i fittedPlace) (pos 0) → w2 ≡ set w1 (wordOfEdge i bluePlace) (pos 0) → Became (unzoning i) ws w2
 unzone-law ws w1 w2 i w h q r =
@@ -92,13 +112,27 @@ unzone-law ws w1 w2 i w h q r =
         (present-wrote w1 i (a .whole) (still-below ws w1 i (a .long) h) (wordAt ws (wordOfEdge i bluePlace)) (ap (λ (x : Edge). x .blue) (a .read)))
 
 -- ---- fields read alone
--- the flags and the mark that its words are read as
+-- the flags, the link, the serif and the mark that its words are read as
 flags-from : (ws : List ℤ) (at : ℕ) → edgeFrom ws at .flags ≡ flagsOf (wordAt ws (at + flagsPlace))
 unfolding edgeFrom
 flags-from ws at = refl
 
 pub flags-in : (ws : List ℤ) (d : Dimension) (i : ℕ) → Whole ws → i < edgesIn ws → edgeAt (axisIn ws d) i .flags ≡ flagsOf (wordAt ws (wordOfEdge i flagsPlace))
 flags-in ws d i w h = ap (λ (e : Edge). e .flags) (edge-in ws d i w h) ∙ flags-from ws (edgeSize * i)
+
+link-from : (ws : List ℤ) (at : ℕ) → edgeFrom ws at .link ≡ linkOf (wordAt ws (at + linkPlace))
+unfolding edgeFrom
+link-from ws at = refl
+
+pub link-in : (ws : List ℤ) (d : Dimension) (i : ℕ) → Whole ws → i < edgesIn ws → edgeAt (axisIn ws d) i .link ≡ linkOf (wordAt ws (wordOfEdge i linkPlace))
+link-in ws d i w h = ap (λ (e : Edge). e .link) (edge-in ws d i w h) ∙ link-from ws (edgeSize * i)
+
+serif-from : (ws : List ℤ) (at : ℕ) → edgeFrom ws at .serif ≡ linkOf (wordAt ws (at + serifPlace))
+unfolding edgeFrom
+serif-from ws at = refl
+
+pub serif-in : (ws : List ℤ) (d : Dimension) (i : ℕ) → Whole ws → i < edgesIn ws → edgeAt (axisIn ws d) i .serif ≡ linkOf (wordAt ws (wordOfEdge i serifPlace))
+serif-in ws d i w h = ap (λ (e : Edge). e .serif) (edge-in ws d i w h) ∙ serif-from ws (edgeSize * i)
 
 mark-from : (ws : List ℤ) (at : ℕ) → edgeFrom ws at .mark ≡ markOf (wordAt ws (at + markPlace))
 unfolding edgeFrom

@@ -4,7 +4,7 @@ use mathlib.Core.Bool.{Bool, true, false, cond}
 use mathlib.Core.List.{List}
 use mathlib.Core.Logic.{⊎-elim}
 use Prim.Native.Nat.{ℕ, _+_, _*_, _/_, _≤_, _<_, min}
-use native.Mathlib.Nat.{eq-or-lt-of-le}
+use native.Mathlib.Nat.{eq-or-lt-of-le, mod-eq-of-lt}
 use native.Mathlib.Omega.{arith}
 use lib.ListN.{length, set, length-set}
 use lib.Seq.{getD-set-same, getD-set-other, set-set}
@@ -15,15 +15,19 @@ use Rattle.axis.specs.declared.kinds.Blue.{Blue}
 use Rattle.axis.specs.declared.kinds.Blue.the-variants as Blues
 use Rattle.axis.specs.declared.kinds.Dimension.{Dimension}
 use Rattle.axis.specs.declared.kinds.Direction.the-variants as Directions
+use Rattle.axis.specs.declared.kinds.Link.{Link}
+use Rattle.axis.specs.declared.kinds.Link.the-variants as Links
 use Rattle.axis.specs.declared.kinds.Mark.{Mark}
 use Rattle.axis.specs.declared.kinds.Mark.the-variants as Marks
 use Rattle.axis.specs.declared.edge.Edge.{Edge}
 use Rattle.axis.specs.declared.edge.Axis.{Axis}
-use Rattle.axis.specs.Edge.{emptyEdge, putEdge, placed, flagged}
+use Rattle.axis.specs.Accepted.{Below}
+use Rattle.axis.specs.Edge.{emptyEdge, putEdge, placed, flagged, joinedTo}
 use Rattle.axis.specs.Limits.{mostEdges}
 use Rattle.words.specs.Word.{wordAt, table}
-use Rattle.words.specs.Field.{choiceOf, blueOf, flagsOf, presentWord, fittedWord, flagsWord, markOf, markWord}
-use Rattle.words.specs.Edge.{edgeSize, posPlace, flagsPlace, bluePlace, fittedPlace, markPlace, wordOfEdge, edgeFrom, edgesIn, edgeInRun, axisRun, flatAxis, edgeWords}
+use Rattle.words.specs.Field.{choiceOf, blueOf, flagsOf, linkOf, presentWord, fittedWord, flagsWord, linkWord, markOf, markWord}
+use Rattle.words.specs.Edge.{edgeSize, posPlace, flagsPlace, bluePlace, fittedPlace, linkPlace, serifPlace, markPlace}
+use Rattle.words.specs.Edge.{wordOfEdge, edgeFrom, edgesIn, edgeInRun, axisRun, flatAxis, edgeWords}
 use Rattle.words.proofs.Edges.{edge-length}
 use Rattle.edges_in.specs.Whole.{Whole, axisIn, zoned}
 use Rattle.edges_in.proofs.Tables.{table-set}
@@ -141,6 +145,44 @@ module _ (ws : List ℤ) (at : ℕ) (v : ℤ) (room : at + edgeSize ≤ length w
         other 6 9 (λ q. omega arith),
         other 6 10 (λ q. omega arith),
         other 6 11 (λ q. omega arith),
+      )
+
+  link-read : (l : Link) → linkOf v ≡ l → edgeFrom (written linkPlace) at ≡ joinedTo (edgeFrom ws at) l (edgeFrom ws at .serif)
+  unfolding edgeFrom
+  link-read l e =
+      rw (
+        here 7 (omega arith),
+        e,
+        first 7 (omega arith),
+        other 7 1 (λ q. omega arith),
+        other 7 2 (λ q. omega arith),
+        other 7 3 (λ q. omega arith),
+        other 7 4 (λ q. omega arith),
+        other 7 5 (λ q. omega arith),
+        other 7 6 (λ q. omega arith),
+        other 7 8 (λ q. omega arith),
+        other 7 9 (λ q. omega arith),
+        other 7 10 (λ q. omega arith),
+        other 7 11 (λ q. omega arith),
+      )
+
+  serif-read : (l : Link) → linkOf v ≡ l → edgeFrom (written serifPlace) at ≡ joinedTo (edgeFrom ws at) (edgeFrom ws at .link) l
+  unfolding edgeFrom
+  serif-read l e =
+      rw (
+        here 8 (omega arith),
+        e,
+        first 8 (omega arith),
+        other 8 1 (λ q. omega arith),
+        other 8 2 (λ q. omega arith),
+        other 8 3 (λ q. omega arith),
+        other 8 4 (λ q. omega arith),
+        other 8 5 (λ q. omega arith),
+        other 8 6 (λ q. omega arith),
+        other 8 7 (λ q. omega arith),
+        other 8 9 (λ q. omega arith),
+        other 8 10 (λ q. omega arith),
+        other 8 11 (λ q. omega arith),
       )
 
   mark-read : (m : Mark) → markOf v ≡ m → edgeFrom (written markPlace) at ≡ placed (edgeFrom ws at) (edgeFrom ws at .pos) m
@@ -278,6 +320,11 @@ flags-back f = by (f .round) (f .serif) (f .done) (f .neutral)
     by false false false true = refl
     by false false false false = refl
 
+pub link-back : (l : Link) → Below 65536 l → linkOf (linkWord l) ≡ l
+unfolding linkOf
+link-back Links.None b = refl
+link-back (Links.To k) b = ap Links.To (mod-eq-of-lt (b .at k refl))
+
 module _ (ws : List ℤ) (i : ℕ) (w : Whole ws) (h : i < edgesIn ws) where
   pub room : edgeSize * i + edgeSize ≤ length ws
   room = omega (arith, w .long)
@@ -291,6 +338,16 @@ module _ (ws : List ℤ) (i : ℕ) (w : Whole ws) (h : i < edgesIn ws) where
   pub flags-wrote : (f : Flags) → Wrote ws (set ws (wordOfEdge i flagsPlace) (flagsWord f)) i (flagged (edgeFrom ws (edgeSize * i)) f)
   unfolding edgeWords
   flags-wrote f = word-wrote ws i flagsPlace (flagsWord f) _ w h (omega arith) (flags-read ws (edgeSize * i) (flagsWord f) room f (flags-back f)) refl
+
+  -- its link
+  pub link-wrote : (l : Link) → Below 65536 l → Wrote ws (set ws (wordOfEdge i linkPlace) (linkWord l)) i (joinedTo (edgeFrom ws (edgeSize * i)) l (edgeFrom ws (edgeSize * i) .serif))
+  unfolding edgeWords
+  link-wrote l b = word-wrote ws i linkPlace (linkWord l) _ w h (omega arith) (link-read ws (edgeSize * i) (linkWord l) room l (link-back l b)) refl
+
+  -- its serif
+  pub serif-wrote : (l : Link) → Below 65536 l → Wrote ws (set ws (wordOfEdge i serifPlace) (linkWord l)) i (joinedTo (edgeFrom ws (edgeSize * i)) (edgeFrom ws (edgeSize * i) .link) l)
+  unfolding edgeWords
+  serif-wrote l b = word-wrote ws i serifPlace (linkWord l) _ w h (omega arith) (serif-read ws (edgeSize * i) (linkWord l) room l (link-back l b)) refl
 
   -- its mark
   pub mark-wrote : (m : Mark) → Wrote ws (set ws (wordOfEdge i markPlace) (markWord m)) i (placed (edgeFrom ws (edgeSize * i)) (edgeFrom ws (edgeSize * i) .pos) m)

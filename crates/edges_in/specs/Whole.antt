@@ -11,10 +11,11 @@ use Rattle.axis.specs.declared.kinds.Blue.{Blue}
 use Rattle.axis.specs.declared.kinds.Blue.the-variants as Blues
 use Rattle.axis.specs.declared.kinds.Dimension.{Dimension}
 use Rattle.axis.specs.declared.kinds.Direction.the-variants as Directions
+use Rattle.axis.specs.declared.kinds.Link.{Link}
 use Rattle.axis.specs.declared.kinds.Link.the-variants as Links
 use Rattle.axis.specs.declared.kinds.Mark.{Mark}
 use Rattle.axis.specs.declared.kinds.Mark.the-variants as Marks
-use Rattle.axis.specs.Edge.{edgeAt, putEdge, changed, placed, flagged, fixedAt}
+use Rattle.axis.specs.Edge.{edgeAt, putEdge, changed, placed, flagged, fixedAt, joinedTo}
 use Rattle.axis.specs.Limits.{mostEdges}
 use Rattle.words.specs.Word.{wordAt}
 use Rattle.words.specs.Edge.{edgeSize, wordOfEdge, edgesIn, edgeFrom, flatAxis, edgeWords}
@@ -52,6 +53,13 @@ zoned e b = changed e (e .pos) (e .mark) (e .flags) b (e .link) (e .serif) (e .l
 
 abbrev pub unzoning : ℕ → Axis → Axis
 unzoning i axis = putEdge axis i (zoned (edgeAt axis i) Blues.None)
+
+-- with this link, and with this serif
+abbrev pub linking : ℕ → Link → Axis → Axis
+linking i link axis = putEdge axis i (joinedTo (edgeAt axis i) link (edgeAt axis i .serif))
+
+abbrev pub serifing : ℕ → Link → Axis → Axis
+serifing i serif axis = putEdge axis i (joinedTo (edgeAt axis i) (edgeAt axis i .link) serif)
 
 -- what fitting reads of an edge, its other fields empty
 abbrev pub reduced : Edge → Edge

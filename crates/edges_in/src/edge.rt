@@ -1,4 +1,4 @@
-// One edge of a lent list: what fitting reads of it, and its position, its mark, its flags and its zone written.
+// One edge of a lent list: what fitting reads of it, and its position, its mark, its flags, its zone, its link and its serif written.
 use axis::edge::Edge;
 use axis::flags::Flags;
 use axis::kinds::Direction;
@@ -9,16 +9,18 @@ use words::field::blue_at;
 use words::field::flags_at;
 use words::field::flags_word;
 use words::field::link_at;
+use words::field::link_word;
 use words::field::mark_word;
 use words::word::word_at;
 ghost use mathlib.Core.Path.{_≡_};
 ghost use Prim.Native.Nat.{_<_, _≤_, _+_, _*_};
 ghost use lib.ListN.{length, set};
+ghost use Rattle.axis.specs.Accepted.{Below};
 ghost use Rattle.axis.specs.Limits.{mostEdges};
 ghost use Rattle.axis.specs.Edge.{edgeAt};
 ghost use Rattle.words.specs.Edge.{edgeSize, edgesIn, wordOfEdge};
 ghost use Rattle.lent.specs.Lent.{edgesOf};
-ghost use Rattle.edges_in.specs.Whole.{Whole, reduced, Became, placing, flagging, fixing, unzoning};
+ghost use Rattle.edges_in.specs.Whole.{Whole, reduced, Became, placing, flagging, fixing, unzoning, linking, serifing};
 
 // What fitting reads of an edge, its other fields empty: read whole, the function is too long to be inlined.
 pub fn fit_in(words: &[i32], i: usize) -> Edge
@@ -84,4 +86,20 @@ pub fn unzone_in(words: &mut [i32], i: usize)
 {
     put_word(words, i, 6, 0);
     put_word(words, i, 5, 0);
+}
+
+// Links an edge to what `link` names.
+pub fn link_in(words: &mut [i32], i: usize, link: Link)
+    requires { ⌜ Whole (now words) × (i < edgesIn (now words)) × Below mostEdges link ⌝ }
+    ensures { λ _. ⌜ Became (linking i link) (now (words .entry)) (now (words .exit)) ⌝ }
+{
+    put_word(words, i, 7, link_word(link));
+}
+
+// Makes an edge a serif of what `serif` names.
+pub fn serif_in(words: &mut [i32], i: usize, serif: Link)
+    requires { ⌜ Whole (now words) × (i < edgesIn (now words)) × Below mostEdges serif ⌝ }
+    ensures { λ _. ⌜ Became (serifing i serif) (now (words .entry)) (now (words .exit)) ⌝ }
+{
+    put_word(words, i, 8, link_word(serif));
 }

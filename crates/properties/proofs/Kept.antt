@@ -53,7 +53,7 @@ use Rattle.properties.specs.Outcomes.{heldBy, nearer, joinedBy}
 use Rattle.properties.specs.Steps.{Ready}
 
 -- ---- indices
-index-below : (n other : ℕ) (l : Link) → other < n → Below n l → indexOr other l < n
+pub index-below : (n other : ℕ) (l : Link) → other < n → Below n l → indexOr other l < n
 index-below n other Links.None h b = h
 index-below n other (Links.To k) h b = b .at k refl
 
@@ -143,7 +143,7 @@ module _ (axis₀ : Axis) (t : Segments) (r : Ready axis₀ t) where
   edge-below ix (Links.To i) b = r .segment i (b .at i refl) .edge
 
   -- an edge that a segment asks for
-  asked-below : (k ix : ℕ) → ix < t .len → Below (axis₀ .len) (joinAt t k ix .edge)
+  pub asked-below : (k ix : ℕ) → ix < t .len → Below (axis₀ .len) (joinAt t k ix .edge)
   unfolding joinAt joinOf
   asked-below k ix h =
       let s = segmentAt t ix in

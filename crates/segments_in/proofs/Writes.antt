@@ -2,13 +2,11 @@
 use mathlib.Core.Path.{_≡_, refl, sym, ap, subst, _∙_}
 use mathlib.Core.List.{List}
 use Prim.Native.Nat.{ℕ, _+_, _*_, _/_, _≤_, _<_, min}
-use native.Mathlib.Nat.{mod-eq-of-lt}
 use native.Mathlib.Omega.{arith}
 use lib.ListN.{length, set, length-set}
 use lib.Seq.{getD-set-same, getD-set-other, set-set}
 use lib.IntN.{ℤ, pos}
 use Rattle.axis.specs.declared.kinds.Link.{Link}
-use Rattle.axis.specs.declared.kinds.Link.the-variants as Links
 use Rattle.axis.specs.declared.segment.Segment.{Segment}
 use Rattle.axis.specs.declared.segment.Segments.{Segments}
 use Rattle.axis.specs.Accepted.{Below}
@@ -21,7 +19,7 @@ use Rattle.words.specs.Field.{linkOf, linkWord}
 use Rattle.words.specs.Segment.{segmentSize, scorePlace, lenPlace, linkPlace, serifPlace, edgePlace, nextPlace, wordOfSegment, segmentFrom, segmentsIn, segmentInRun, segmentsRun, flatSegments, segmentWords}
 use Rattle.words.proofs.Segments.{segment-length}
 use Rattle.edges_in.proofs.Tables.{table-set}
-use Rattle.edges_in.proofs.Writes.{same-or-not}
+use Rattle.edges_in.proofs.Writes.{same-or-not, link-back}
 use Rattle.segments_in.specs.Whole.{Whole}
 use Rattle.segments_in.proofs.Wholes.{room}
 
@@ -278,11 +276,6 @@ pub wrote-as : {ws w1 : List ℤ} {i : ℕ} {s g : Segment} → s ≡ g → Wrot
 wrote-as {ws} {w1} {i} {s} {g} q a = record { whole = a .whole; long = a .long; table = a .table ∙ ap (putSegment (flatSegments ws) i) q; read = a .read ∙ q }
 
 -- ---- the words of a segment
-link-back : (l : Link) → Below 65536 l → linkOf (linkWord l) ≡ l
-unfolding linkOf
-link-back Links.None b = refl
-link-back (Links.To k) b = ap Links.To (mod-eq-of-lt (b .at k refl))
-
 module _ (ws : List ℤ) (i : ℕ) (w : Whole ws) (h : i < segmentsIn ws) where
   abbrev R : Segment
   R = segmentFrom ws (segmentSize * i)

@@ -1,0 +1,35 @@
+-- `properties_in::read::join_in` meets its contract. Assumes nothing.
+use Rattle.properties_in.proofs.Readings.{join-law}
+use borrow.Author.Needs.{needs}
+use Rattle.properties_in.proofs.read.join_in.Statement.{statement}
+use Rattle.properties_in.proofs.read.join_in.Tie as tie
+
+segment-in-requires : tie.Need-segment-in-requires
+segment-in-requires c κs = search needs
+
+named-in-requires : tie.Need-named-in-requires
+named-in-requires c κs = search needs
+
+named-in-requires-2 : tie.Need-named-in-requires-2
+named-in-requires-2 c κs = search needs
+
+join-of-requires : tie.Need-join-of-requires
+join-of-requires c κs = search needs
+
+returns : tie.Need-returns
+returns c =
+    let link = c .before in
+    let serif = link .before in
+    let segment = serif .before in
+    let s = segment .before in
+    join-law (s .args .words .now) (s .args .k) (s .args .ix) (segment .segment-in .ensures) (serif .named-in .ensures) (link .named-in2 .ensures) (c .join-of .ensures)
+
+pub join-in-spec : {M : Type 1} → statement M
+join-in-spec =
+    tie.close
+    (tie.spec
+    segment-in-requires
+    named-in-requires
+    named-in-requires-2
+    join-of-requires
+    returns)

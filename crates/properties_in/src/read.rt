@@ -1,0 +1,79 @@
+// What the properties of edges read of segments, where their words stand.
+use axis::flags::NORMAL;
+use axis::kinds::Direction;
+use axis::kinds::Link;
+use axis::segment::Segment;
+use properties::join::Join;
+use properties::join::join_of;
+use words::field::flags_at;
+use words::field::link_at;
+use words::field::short_at;
+use words::segment::SEGMENT_WORDS;
+ghost use mathlib.Core.Path.{_≡_};
+ghost use Rattle.axis.specs.Link.{indexOr};
+ghost use Rattle.properties_in.specs.Reading.{asked, wordsOf, namedIn, joinIn};
+
+// What a join asks of a segment, its other fields empty.
+fn segment_in(words: &[i32], i: u16) -> Segment
+    ensures { λ r. ⌜ r ≡ asked (wordsOf (now (words .entry)) i) ⌝ }
+{
+    let at = SEGMENT_WORDS * (i as usize);
+    Segment {
+        flags: NORMAL,
+        dir: Direction::None,
+        pos: short_at(words, at + 2),
+        delta: 0,
+        min_coord: 0,
+        max_coord: 0,
+        height: 0,
+        score: 0,
+        len: 0,
+        link: link_at(words, at + 9),
+        serif: link_at(words, at + 10),
+        first: 0,
+        last: 0,
+        edge: link_at(words, at + 13),
+        next: Link::None,
+    }
+}
+
+// The same of the segment that an index names; without an index it is the segment's own.
+fn named_in(words: &[i32], ix: Link, own: Segment) -> Segment
+    ensures { λ r. ⌜ r ≡ namedIn (now (words .entry)) own ix ⌝ }
+{
+    match ix {
+        Link::None => own,
+        Link::To(i) => segment_in(words, i),
+    }
+}
+
+// What segment ix of edge k asks for.
+pub fn join_in(words: &[i32], k: usize, ix: u16) -> Join
+    ensures { λ r. ⌜ r ≡ joinIn (now (words .entry)) k ix ⌝ }
+{
+    let segment = segment_in(words, ix);
+    let serif_ix = segment.serif;
+    let link_ix = segment.link;
+    let serif = named_in(words, serif_ix, segment);
+    let link = named_in(words, link_ix, segment);
+    join_of(segment, serif, link, k)
+}
+
+// Whether a segment is round.
+pub fn round_in(words: &[i32], ix: u16) -> bool
+    ensures { λ r. ⌜ r ≡ wordsOf (now (words .entry)) ix .flags .round ⌝ }
+{
+    let flags = flags_at(words, SEGMENT_WORDS * (ix as usize));
+    flags.round
+}
+
+// The segment behind another, or the last one where there is none.
+pub fn next_in(words: &[i32], ix: u16, last: u16) -> u16
+    ensures { λ r. ⌜ r ≡ indexOr last (wordsOf (now (words .entry)) ix .next) ⌝ }
+{
+    let next = link_at(words, SEGMENT_WORDS * (ix as usize) + 14);
+    match next {
+        Link::None => last,
+        Link::To(i) => i,
+    }
+}
