@@ -1,0 +1,245 @@
+//! A glyph through the library's chain, as a gateway calls it: everything that is drawn or judged comes from these answers.
+
+use crate::{
+    label::{Axis, Glyph},
+    size::PIXEL,
+};
+use khsaemudol::{
+    align_blues_and_stems, align_weak_points, compute_edges, hint_lowercase_m, link_segments_cjk,
+    lost_gaps, path, BluesAndStems, Dimension, Edge, Flags, LostGaps, Mark, Outline, PathStep,
+    Refusal, Segment, MOST_EDGES,
+};
+use std::ops::RangeInclusive;
+
+/// The least gap that may not be lost, for the guard: half a pixel.
+pub const LEAST_GAP: i32 = PIXEL / 2;
+
+/// The edge counts that the rule of the lowercase m is for.
+const M_EDGES: [usize; 2] = [6, 12];
+
+/// A glyph before and after fitting.
+pub struct Fitted {
+    pub heights: FittedAxis,
+    pub widths: FittedAxis,
+    /// The path of the scaled points.
+    pub before: Vec<PathStep>,
+    /// The path of the fitted points.
+    pub after: Vec<PathStep>,
+}
+
+impl Fitted {
+    /// Each axis with the other one, heights first.
+    pub fn axes(&self) -> [(&FittedAxis, &FittedAxis); 2] {
+        [(&self.heights, &self.widths), (&self.widths, &self.heights)]
+    }
+}
+
+/// A refused call: its step, on which axis, and why.
+#[derive(Debug)]
+pub struct Refused {
+    pub step: String,
+    pub refusal: Refusal,
+}
+
+/// An axis as the library left it.
+pub struct FittedAxis {
+    pub dimension: Dimension,
+    pub segments: Vec<Segment>,
+    pub edges: Vec<Edge>,
+    /// The gaps that the guard found lost.
+    pub guard: Option<LostGaps>,
+    /// Where the points were, in units.
+    pub before: Vec<i32>,
+    /// Where they came to.
+    pub after: Vec<i32>,
+    /// What placed each of them.
+    pub placing: Vec<Placing>,
+    /// The segment that each is on.
+    pub segment_of: Vec<Option<usize>>,
+}
+
+/// What placed a point on an axis.
+#[derive(Clone, Copy, Debug, PartialEq, Eq)]
+pub enum Placing {
+    /// Its edge.
+    Touched,
+    /// The touched points of its contour.
+    Weak,
+    /// Nothing: its contour has no touched point, or it has none.
+    Nothing,
+}
+
+/// The name of an axis.
+pub fn name(dimension: Dimension) -> &'static str {
+    match dimension {
+        Dimension::Horizontal => "widths",
+        Dimension::Vertical => "heights",
+    }
+}
+
+impl FittedAxis {
+    /// Whether an edge was placed, so that it moves its points.
+    pub fn is_placed(&self, edge: usize) -> bool {
+        self.edges[edge].flags().contains(Flags::DONE)
+    }
+
+    /// What placed an edge: its mark, or nothing where it was not placed.
+    pub fn placed_by(&self, edge: usize) -> Mark {
+        if self.is_placed(edge) {
+            self.edges[edge].mark()
+        } else {
+            Mark::Nothing
+        }
+    }
+
+    /// The edges that nothing placed.
+    pub fn unplaced(&self) -> Vec<usize> {
+        (0..self.edges.len())
+            .filter(|edge| !self.is_placed(*edge))
+            .collect()
+    }
+
+    /// The edge of a point's segment, where there is one.
+    pub fn edge_of(&self, point: usize) -> Option<usize> {
+        self.segments[self.segment_of[point]?]
+            .edge()
+            .map(usize::from)
+    }
+
+    /// The points of an edge.
+    pub fn points_of(&self, edge: usize) -> Vec<usize> {
+        (0..self.before.len())
+            .filter(|point| self.edge_of(*point) == Some(edge))
+            .collect()
+    }
+}
+
+/// The extent of some points' coordinates.
+pub fn extent(points: &[usize], coordinates: &[i32]) -> Option<RangeInclusive<i32>> {
+    let of = || points.iter().map(|point| coordinates[*point]);
+    Some(of().min()?..=of().max()?)
+}
+
+/// Fits a glyph on both axes.
+pub fn fit(glyph: &Glyph) -> Result<Fitted, Refused> {
+    let heights = fit_axis(&glyph.heights)?;
+    let widths = fit_axis(&glyph.widths)?;
+    let before = steps(glyph, &widths.before, &heights.before).map_err(at("path before"))?;
+    let after = steps(glyph, &widths.after, &heights.after).map_err(at("path"))?;
+    Ok(Fitted {
+        heights,
+        widths,
+        before,
+        after,
+    })
+}
+
+/// The path of a glyph that is not fitted.
+pub fn unfitted(glyph: &Glyph) -> Result<Vec<PathStep>, Refusal> {
+    steps(glyph, &glyph.widths.originals, &glyph.heights.originals)
+}
+
+/// A refusal with its step.
+fn at(step: &str) -> impl Fn(Refusal) -> Refused + '_ {
+    move |refusal| Refused {
+        step: step.into(),
+        refusal,
+    }
+}
+
+/// Fits an axis, from its segments to its points.
+fn fit_axis(axis: &Axis) -> Result<FittedAxis, Refused> {
+    let building = &axis.building;
+    let step = |step: &str| format!("{step}, {}", name(building.dimension));
+    let mut segments = axis.segments.clone();
+    if let Some(units_per_em) = axis.linked_by {
+        link_segments_cjk(&mut segments, building.major, units_per_em, building.scale)
+            .map_err(at(&step("linking")))?;
+    }
+    let mut room = [Edge::default(); MOST_EDGES];
+    let edges = compute_edges(&mut segments, &mut room, building).map_err(at(&step("building")))?;
+    give_zones(axis, edges);
+    let given = BluesAndStems {
+        dimension: building.dimension,
+        group: building.group,
+        stem_adjust: axis.stem_adjust,
+        order: building.order,
+        rule: axis.rule(),
+    };
+    align_blues_and_stems(edges, &given).map_err(at(&step("blues and stems")))?;
+    if axis.is_m && M_EDGES.contains(&edges.len()) {
+        hint_lowercase_m(edges, building.group).map_err(at(&step("lowercase m")))?;
+    }
+    let guard = lost_gaps(edges, LEAST_GAP).map_err(at(&step("guard")))?;
+    let (after, placing) =
+        align_points(axis, &segments, edges).map_err(at(&step("weak points")))?;
+    Ok(FittedAxis {
+        dimension: building.dimension,
+        edges: edges.to_vec(),
+        segments,
+        guard,
+        before: axis.originals.clone(),
+        after,
+        placing,
+        segment_of: axis.segment_of.clone(),
+    })
+}
+
+/// Gives the edges at the positions of zones their zones.
+fn give_zones(axis: &Axis, edges: &mut [Edge]) {
+    for edge in edges {
+        let zone = axis.zones.iter().find(|zone| zone.position == edge.fpos());
+        edge.set_blue(zone.map(|zone| zone.fitted));
+    }
+}
+
+/// Moves the points of segments whose edges are placed with these, and the others behind them; tells what placed each.
+fn align_points(
+    axis: &Axis,
+    segments: &[Segment],
+    edges: &[Edge],
+) -> Result<(Vec<i32>, Vec<Placing>), Refusal> {
+    let mut currents = axis.originals.clone();
+    let mut touched = vec![0; currents.len()];
+    for (point, segment) in axis.segment_of.iter().enumerate() {
+        let edge = segment.and_then(|segment| segments[segment].edge());
+        let edge = edge.map(|edge| edges[usize::from(edge)]);
+        if let Some(edge) = edge.filter(|edge| edge.flags().contains(Flags::DONE)) {
+            currents[point] = edge.pos();
+            touched[point] = 1;
+        }
+    }
+    align_weak_points(&axis.originals, &mut currents, &touched, &axis.ends)?;
+    Ok((currents, placings(&touched, &axis.ends)))
+}
+
+/// What placed each point, by the touch marks of its contour.
+fn placings(touched: &[u8], ends: &[u16]) -> Vec<Placing> {
+    let mut placings = vec![Placing::Nothing; touched.len()];
+    let mut first = 0;
+    for end in ends.iter().map(|end| usize::from(*end)) {
+        let any = touched[first..=end].contains(&1);
+        for point in first..=end {
+            placings[point] = match (touched[point], any) {
+                (1, _) => Placing::Touched,
+                (_, true) => Placing::Weak,
+                _ => Placing::Nothing,
+            };
+        }
+        first = end + 1;
+    }
+    placings
+}
+
+/// The path of a glyph's points at these coordinates.
+fn steps(glyph: &Glyph, xs: &[i32], ys: &[i32]) -> Result<Vec<PathStep>, Refusal> {
+    let outline = Outline {
+        xs,
+        ys,
+        marks: &glyph.on_curve,
+        ends: &glyph.ends,
+    };
+    let mut kinds = vec![0; outline.most_steps()];
+    let mut places = vec![0.0; 4 * outline.most_steps()];
+    Ok(path(&outline, &mut kinds, &mut places)?.collect())
+}
