@@ -78,9 +78,10 @@
  * khs_read_frame tests KHS_NOT_WORDS, a room of another length, and then KHS_NOT_FRAME.
  *
  * A refused call writes nothing: every list and every place holds what it held, marks too. With KHS_DONE a list of edges or segments that is not const holds what
- * the call made of it, every word within its field's values, and every place for a result holds the result. Results may leave the limits of what is accepted, and
- * are then refused if they are passed again. But the edges that khs_compute_edges and khs_align_edges_to_blues leave are accepted by every call over edges, but for
- * khs_turn_over, which holds first and last against the segments too.
+ * the call made of it, every word within its field's values, and every place for a result holds the result; of the room for built edges that is so of the edges
+ * that were built, and what stands behind them stays. Results may leave the limits of what is accepted, and are then refused if they are passed again. But the edges
+ * that khs_compute_edges and khs_align_edges_to_blues leave are accepted by every call over edges, but for khs_turn_over, which holds first and last against the
+ * segments too.
  *
  * No call allocates, keeps a pointer, prints or fails otherwise. Each may be called from any thread, and on other lists at the same time. Working tables stand on
  * the stack, of which the x86-64 library was measured to use up to 160 KiB in linking and building, 149 KiB in khs_turn_over, 45 KiB in the other calls over
@@ -236,7 +237,7 @@ uint8_t khs_link_segments_cjk(int32_t *segments, khs_length segments_len, int32_
  * height is below length, or below one and a half of it where it has a serif, or if its delta is above width. As width pass half a pixel, (32 * 65,536 + scale / 2) /
  * scale in whole numbers; as length 0 on the vertical axis and on the horizontal one a pixel, (64 * 65,536 + s / 2) / s, where s is the scale of the vertical axis.
  * The Rust code of which this is a port, skrifa 0.49.0, takes the same.
- * Writes edge and next of segments; edges, the built ones first, in their order, and empty ones (0, links KHS_NONE) behind; count, how many were built. A built edge
+ * Writes edge and next of segments; edges, the built ones from the front on, in their order, what stands behind them stays; count, how many were built. A built edge
  * has fpos and dir of its first segment, opos and pos at the scaled position, no zone, KHS_MARK_NOTHING, and of the flags at most round, where some of its segments
  * are and not fewer than are not, and serif. Each of its segments names an edge, if any: that of its serif, where it is another one, as the edge's serif, or else
  * that of its link as the edge's link. The first stays, until a segment is nearer to the one that it names than the edge is to the one that it has. An edge with a

@@ -42,7 +42,7 @@ pub struct Built {
 }
 
 // Whether CJK's rules apply.
-fn is_cjk(group: Group) -> bool
+pub fn is_cjk(group: Group) -> bool
     ensures { λ r. ⌜ r ≡ isCjk group ⌝ }
 {
     match group {
@@ -52,7 +52,7 @@ fn is_cjk(group: Group) -> bool
 }
 
 // What joining is told.
-fn rules_of(
+pub fn rules_of(
     dim: Dimension,
     major_dir: Direction,
     cjk: bool,

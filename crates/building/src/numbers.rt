@@ -62,7 +62,7 @@ pub fn near_of(distance: i32, scale: i32, cjk: bool) -> u64
 }
 
 // Whether a segment's position at the scale is accepted.
-fn scaled_holds(segment: Segment, scale: i32) -> bool
+pub fn scaled_holds(segment: Segment, scale: i32) -> bool
     ensures { λ r. ⌜ r ≡ scaledHolds scale segment ⌝ }
 {
     let scaled = wide_mul(segment.pos as i32, scale);

@@ -3,6 +3,7 @@ use mathlib.Core.Path.{_≡_, refl, sym, ap, subst, _∙_}
 use mathlib.Core.Bool.{Bool, true, false, _&&_}
 use mathlib.Core.List.{List, [], _∷_}
 use Prim.Native.Nat.{ℕ, _<_, _≤_}
+use borrow.Author.Tests.{leb-true}
 use lib.Dec.{leb}
 use lib.IntN.{ℤ, pos}
 use Rattle.refusals.specs.Refusal.{Test, _unless_, badParameter, refusal, answered}
@@ -54,7 +55,7 @@ pub record TestedJoined (ws : List ℤ) (dim group adjust ttb rule : ℤ) (xs : 
   pub dim-is : d ≡ dimensionOf dim
   pub group-is : g ≡ groupOf group
   pub width-is : width ≡ ruleOf rule
-  pub own-is : Tested own (ownTests (axisIn ws d) g (choiceOf ttb) width xs)
+  pub own-is : edgesIn ws ≤ mostEdges → Tested own (ownTests (axisIn ws d) g (choiceOf ttb) width xs)
   pub others-are : others ≡ (choices dim group adjust && bothIn choice ttb rule)
   pub answer : r ≡ refusedOr (edgesFront ws others) (tested (edgesOf ws) own true true)
 
@@ -69,7 +70,8 @@ module _ (ws : List ℤ) (dim group adjust ttb rule : ℤ) (xs : List ℤ) {d : 
   joined-same : leb (edgesOf ws .len) mostEdges ≡ true → refusal tests ≡ tested (edgesOf ws) (t .own) true true
   unfolding refusal edgesIndices edgesNumbers flatAxis axisRun
   joined-same h =
-      call-tests (edgesOf ws) true true h (ownTests A g (choiceOf ttb) width xs) refl ∙ ap (λ (k : ℕ). tested (edgesOf ws) k true true) (sym (t .own-is .refused))
+      let few : edgesIn ws ≤ mostEdges = leb-true (edgesIn ws) mostEdges h in
+      call-tests (edgesOf ws) true true h (ownTests A g (choiceOf ttb) width xs) refl ∙ ap (λ (k : ℕ). tested (edgesOf ws) k true true) (sym (t .own-is few .refused))
 
   -- ---- what the passes may use
   tests-hold : r ≤ 0 → AllHold tests

@@ -1,5 +1,4 @@
 // Whether lent edges have zones where the group has none.
-use axis::accept::least;
 use axis::kinds::Blue;
 use axis::kinds::Dimension;
 use axis::kinds::Group;
@@ -10,7 +9,8 @@ use words::field::blue_at;
 ghost use mathlib.Core.Path.{_≡_};
 ghost use Prim.Native.Nat.{_≤_};
 ghost use Rattle.axis.specs.Refusals.{everyEdge};
-ghost use Rattle.words.specs.Edge.{edgeFrom};
+ghost use Rattle.axis.specs.Limits.{mostEdges};
+ghost use Rattle.words.specs.Edge.{edgesIn, edgeFrom};
 ghost use Rattle.joined.specs.Joined.{isBare, zonesHold};
 ghost use Rattle.lent.specs.Lent.{edgesOf};
 ghost use Rattle.edges_in.specs.Whole.{axisIn};
@@ -27,11 +27,14 @@ fn is_bare(words: &[i32], at: usize) -> bool
     }
 }
 
-// Whether no edge has one.
+// Whether no edge has one. Of more edges than the limit none is read.
 fn none_zoned_in(words: &[i32]) -> bool
-    ensures { λ r. ⌜ r ≡ everyEdge isBare (edgesOf (now (words .entry))) ⌝ }
+    ensures { λ r. ⌜ (edgesIn (now (words .entry)) ≤ mostEdges → r ≡ everyEdge isBare (edgesOf (now (words .entry)))) ⌝ }
 {
-    let n = least(words.len() / EDGE_WORDS, MOST_EDGES);
+    let n = words.len() / EDGE_WORDS;
+    if MOST_EDGES < n {
+        return true;
+    }
     for i in 0..n {
         if !is_bare(words, EDGE_WORDS * i) {
             return false;
@@ -40,9 +43,9 @@ fn none_zoned_in(words: &[i32]) -> bool
     true
 }
 
-// Whether the group has zones on the dimension, or no edge has one.
+// Whether the group has zones on the dimension, or no edge has one. Of more edges than the limit none is read.
 pub fn zones_hold_in(words: &[i32], dim: Dimension, group: Group) -> bool
-    ensures { λ r. ⌜ r ≡ zonesHold group (axisIn (now (words .entry)) dim) ⌝ }
+    ensures { λ r. ⌜ (edgesIn (now (words .entry)) ≤ mostEdges → r ≡ zonesHold group (axisIn (now (words .entry)) dim)) ⌝ }
 {
     if has_blues(group, dim) {
         return true;

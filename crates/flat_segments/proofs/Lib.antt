@@ -1,5 +1,6 @@
--- Laws on what the words of a call read as.
-pub mod Readings
+-- The laws of the calls over lent segments.
 pub mod Counts
 pub mod Lending
+pub mod Building
 pub mod Kept
+pub mod Room

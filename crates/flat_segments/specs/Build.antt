@@ -6,12 +6,14 @@ use Prim.Native.Nat.{ℕ}
 use lib.Dec.{eqb}
 use lib.ListN.{length}
 use lib.IntN.{ℤ, pos}
+use Rattle.axis.specs.declared.edge.Axis.{Axis}
 use Rattle.axis.specs.Edge.{emptyAxis}
 use Rattle.building.specs.declared.build.Built.{Built}
 use Rattle.building.specs.declared.numbers.Thresholds.{Thresholds}
 use Rattle.building.specs.Building.{computeEdges}
+use Rattle.words.specs.Word.{written, joined}
 use Rattle.words.specs.Field.{choiceOf, dimensionOf, directionOf, groupOf}
-use Rattle.words.specs.Edge.{tableSize, edgesOver}
+use Rattle.words.specs.Edge.{tableSize, edgeWordsAt}
 use Rattle.words.specs.Segment.{flatSegments, segmentsOver}
 use Rattle.shape.specs.Shape.{isIn, direction}
 use Rattle.refusals.specs.Refusal.{Test}
@@ -29,11 +31,15 @@ thresholdsOf distance len width = record { distance = distance; length = len; wi
 abbrev pub built : List ℤ → ℤ → ℤ → ℤ → ℤ → ℤ → Thresholds → Built
 built ws dim major group ttb scale t = computeEdges (flatSegments ws) (emptyAxis (dimensionOf dim) (directionOf major)) (groupOf group) (choiceOf ttb) scale t
 
--- the segments, the whole table of edges, and how many there are
-abbrev pub builtWords : List ℤ → List ℤ → Built → List ℤ × (List ℤ × ℤ)
-builtWords ws room b = (segmentsOver ws (b .segments), (edgesOver room (b .axis), pos (b .axis .len)))
+-- the edges in the front of the room for them; what stands behind them stays
+abbrev pub edgesInto : List ℤ → Axis → List ℤ
+edgesInto room axis = written room 0 (joined (edgeWordsAt axis) (axis .len))
+
+-- the segments, the edges, and how many there are
+abbrev pub builtLists : List ℤ → List ℤ → Built → List ℤ × (List ℤ × ℤ)
+builtLists ws room b = (segmentsOver ws (b .segments), (edgesInto room (b .axis), pos (b .axis .len)))
 
 abbrev pub BuiltLent : List ℤ → List ℤ → ℤ → ℤ → ℤ → ℤ → ℤ → Thresholds → ℤ → ℕ → List ℤ × (List ℤ × ℤ) → Type 0
 BuiltLent ws room dim major group ttb scale t count =
-    Lent (buildFront ws room dim major group ttb) (built ws dim major group ttb scale t .answer) (builtWords ws room (built ws dim major group ttb scale t))
+    Lent (buildFront ws room dim major group ttb) (built ws dim major group ttb scale t .answer) (builtLists ws room (built ws dim major group ttb scale t))
     (ws, (room, count))

@@ -1,13 +1,17 @@
-// Edge building over lent segments and room for edges.
-use axis::edge::empty_axis;
-use building::build::compute_edges;
+// Edge building over lent segments and room for edges: the segments are tested where their words stand, and the edges are built there.
+use building::build::is_cjk;
+use building::build::rules_of;
 use building::numbers::Thresholds;
-use lent::edges::give_edges;
-use lent::segments::give_segments;
-use lent::segments::segments_refusal;
+use building::numbers::numbers_hold;
+use building_in::build::build_in;
+use building_in::products::products_in;
 use lent::shown::are_choices;
 use lent::shown::both;
-use lent::word::give_word;
+use refusals::order::BAD_PARAMETER;
+use refusals::order::NO_ROOM;
+use refusals::order::RETIRED;
+use refusals::order::or_refused;
+use segments_test::test::segments_test;
 use shape::field::DIRECTION;
 use shape::field::is_in;
 use words::edge::TABLE_WORDS;
@@ -15,7 +19,6 @@ use words::field::choice_of;
 use words::field::dimension_of;
 use words::field::direction_of;
 use words::field::group_of;
-use words::segment::flat_segments;
 use words::word::count_word;
 ghost use Rattle.flat_segments.specs.Build.{BuiltLent};
 
@@ -39,23 +42,24 @@ pub fn lend_building(
         is_in(major_dir, DIRECTION),
         are_choices(dim, group, top_to_bottom),
     );
-    let refusal = segments_refusal(segments, room, others);
-    if 0 < refusal {
-        return refusal;
+    let order = or_refused(0, !choice_of(top_to_bottom), RETIRED);
+    let own = or_refused(order, numbers_hold(scale, thresholds), BAD_PARAMETER);
+    let products = products_in(segments, scale);
+    let answer = segments_test(segments, room, others, own, false, products);
+    if 0 < answer {
+        return answer;
     }
-    let table = flat_segments(segments);
-    let old = empty_axis(dimension_of(dim), direction_of(major_dir));
-    let built = compute_edges(
-        table,
-        old,
-        group_of(group),
-        choice_of(top_to_bottom),
+    let rules = rules_of(
+        dimension_of(dim),
+        direction_of(major_dir),
+        is_cjk(group_of(group)),
         scale,
         thresholds,
     );
-    let table = built.segments;
-    let axis = built.axis;
-    give_word(count, built.answer, count_word(axis.len));
-    give_edges(edges, built.answer, axis);
-    give_segments(segments, built.answer, table)
+    let joined = build_in(segments, edges, rules);
+    if joined.full {
+        return NO_ROOM;
+    }
+    *count = count_word(joined.count);
+    0
 }

@@ -2,13 +2,12 @@
 use mathlib.Core.Path.{_≡_, refl, sym, ap, _∙_}
 use mathlib.Core.Bool.{Bool, true, false, cond}
 use mathlib.Core.List.{List, []}
-use Prim.Native.Nat.{ℕ, zero, suc, _<_, _≤_}
+use Prim.Native.Nat.{ℕ, zero, suc, _<_}
 use native.Mathlib.Omega.{arith}
 use borrow.Author.Tests.{ne-eqb}
 use lib.Dec.{eqb}
-use lib.IntN.{ℤ}
 use Rattle.refusals.specs.Refusal.{Test, tooLong, refusal, answered}
-use Rattle.lent.specs.Lent.{Lent, refusedOr, front, notWords, edgesFront, segmentsFront}
+use Rattle.lent.specs.Lent.{Lent, refusedOr, front, notWords}
 
 -- ---- the tests in front, as the code comes to their refusal
 module _ (whole short shown : Bool) where
@@ -31,13 +30,6 @@ module _ (whole short shown : Bool) where
   unfolding refusal
   all-shown e f g = rw (e, f, g)
 
--- the refusal in front of a call over edges, and over segments, by what it depends on
-abbrev pub edgesRefusal : List ℤ → Bool → ℕ
-edgesRefusal ws others = refusal (edgesFront ws others)
-
-abbrev pub segmentsRefusal : List ℤ → Bool → Bool → ℕ
-segmentsRefusal ws room others = refusal (segmentsFront ws room others)
-
 -- ---- a part of what is lent, behind the tests
 -- no test is left
 none-left : (answer : ℕ) → answer ≡ refusedOr [] answer
@@ -47,10 +39,6 @@ none-left answer = refl
 -- the call refuses
 pub refused : {A : Type 0} {answer : ℕ} {new old : A} → 0 < answer → Lent [] answer new old answer old
 refused {A} {answer} {new} {old} h = record { number = none-left answer; held = rw (ne-eqb answer 0 (λ e. omega arith)) }
-
--- what is handed back, by another name
-pub lent-as : {A : Type 0} {tests : List Test} {answer : ℕ} {new new′ old now : A} {r : ℕ} → new ≡ new′ → Lent tests answer new old r now → Lent tests answer new′ old r now
-lent-as {A} {tests} {answer} {new} {new′} {old} {now} {r} e l = record { number = l .number; held = l .held ∙ ap (λ (x : A). cond (eqb r 0) x old) e }
 
 -- two things are lent
 pub lent-pair :
@@ -72,17 +60,3 @@ refused-before {A} {tests} {answer} {k} {new} {old} e h = record { number = by (
     by : (j : ℕ) → k ≡ j → k ≡ answered j (λ (i : ℕ). i) answer
     by zero q = absurd (omega arith)
     by (suc j) q = q
-
--- none of them does, and what is handed back is what the call hands back
-pub passed-by :
-    {A B : Type 0} (answer : B → ℕ) (new : B → A) {tests : List Test} {old now : A} {x y : B} {k r : ℕ} → k ≡ refusal tests → k ≤ 0 → x ≡ y → Lent [] (answer x) (new x) old r now
-    → Lent tests (answer y) (new y) old r now
-unfolding refusedOr refusal
-passed-by {A} {B} answer new {tests} {old} {now} {x} {y} {k} {r} e h q l = record {
-  number = l .number ∙ ap answer q ∙ by (refusal tests) e;
-  held = l .held ∙ ap (λ (b : B). cond (eqb r 0) (new b) old) q;
-}
-  where
-    by : (j : ℕ) → k ≡ j → answer y ≡ answered j (λ (i : ℕ). i) (answer y)
-    by zero z = refl
-    by (suc j) z = absurd (omega arith)

@@ -31,7 +31,7 @@ unfolding segmentsShown
 segments-long ws h = run-length Elements.Segment segmentSize ws (segment-place ws) (segmentsIn ws) h
 
 -- words over a list of their length
-over-whole : (ws xs : List ℤ) → length ws ≡ length xs → written ws 0 xs ≡ xs
+pub over-whole : (ws xs : List ℤ) → length ws ≡ length xs → written ws 0 xs ≡ xs
 over-whole ws xs e = written-front ws xs ∙ ap (λ (rest : List ℤ). xs ++ rest) (drop-of-length-le ws {i = length xs} (omega arith)) ∙ append-nil xs
 
 pub edges-whole : (ws : List ℤ) (axis : Axis) → edgesShown ws ≡ true → edgesIn ws ≤ mostEdges → edgesOver ws axis ≡ joined (edgeWordsAt axis) (edgesIn ws)

@@ -1,4 +1,4 @@
-// What the calls over lent words share: tests of their words, reading, and handing back.
+// What the calls over lent words share: tests of their words, and the edges that words name.
 pub mod edges;
 pub mod segments;
 pub mod shown;

@@ -2,16 +2,12 @@
 use super::shown::NOT_WORDS;
 use super::shown::both;
 use axis::accept::few_segments;
-use axis::segment::Segments;
 use refusals::order::TOO_LONG;
 use shape::element::is_segments;
 use words::segment::SEGMENT_WORDS;
-use words::segment::write_flat_segments;
 ghost use mathlib.Core.Path.{_≡_};
-ghost use mathlib.Core.List.{[]};
 ghost use Rattle.refusals.specs.Refusal.{refusal};
-ghost use Rattle.words.specs.Segment.{segmentsOver};
-ghost use Rattle.lent.specs.Lent.{Lent, segmentsFront};
+ghost use Rattle.lent.specs.Lent.{segmentsFront};
 
 // The refusal in front of a call over lent segments, room for edges and other words: the lengths, how many segments they are, and only then their words.
 pub fn segments_refusal(segments: &[i32], room: bool, others: bool) -> u8
@@ -27,15 +23,4 @@ pub fn segments_refusal(segments: &[i32], room: bool, others: bool) -> u8
         return 0;
     }
     NOT_WORDS
-}
-
-// Hands segments back with answer 0, and tells the answer.
-pub fn give_segments(segments: &mut [i32], answer: u8, table: Segments) -> u8
-    ensures { λ r. ⌜ Lent [] answer (segmentsOver (now (segments .entry)) table) (now (segments .entry)) r (now (segments .exit)) ⌝ }
-{
-    if 0 < answer {
-        return answer;
-    }
-    write_flat_segments(segments, table);
-    0
 }

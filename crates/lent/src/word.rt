@@ -1,11 +1,10 @@
-// A lent word, and words that name an edge.
+// Words that name an edge.
 use axis::accept::least;
 use axis::kinds::Link;
 use axis::limits::MOST_EDGES;
 use words::word::size_of;
 ghost use mathlib.Core.Path.{_≡_};
-ghost use mathlib.Core.List.{[]};
-ghost use Rattle.lent.specs.Lent.{Lent, namedEdge, namedAnchor};
+ghost use Rattle.lent.specs.Lent.{namedEdge, namedAnchor};
 
 // The edge that a word names; a word that names none reads as the place behind the longest list.
 pub fn named_edge(word: i32) -> usize
@@ -25,15 +24,4 @@ pub fn named_anchor(word: i32) -> Link
         return Link::None;
     }
     Link::To(named_edge(word) as u16)
-}
-
-// Hands a word back with answer 0, and tells the answer.
-pub fn give_word(word: &mut i32, answer: u8, value: i32) -> u8
-    ensures { λ r. ⌜ Lent [] answer value (now (word .entry)) r (now (word .exit)) ⌝ }
-{
-    if 0 < answer {
-        return answer;
-    }
-    *word = value;
-    0
 }

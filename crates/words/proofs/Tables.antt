@@ -1,37 +1,19 @@
--- Loops that fill a table, and loops that write one.
-use mathlib.Core.Path.{_≡_, refl, sym, ap, _∙_}
+-- The first of a sequence, and loops that write them.
+use mathlib.Core.Path.{_≡_, refl, ap, _∙_}
 use mathlib.Core.List.{List, [], _∷_, _++_}
-use Prim.Native.Nat.{ℕ, zero, suc, _+_, _-_, _*_, _≤_, _<_}
+use Prim.Native.Nat.{ℕ, zero, suc, _+_, _*_, _≤_, _<_}
 use native.Mathlib.Numerals.{add-one}
 use native.Mathlib.Nat.{mul-le-mul-left}
 use native.Mathlib.Omega.{arith}
-use lib.ListN.{length, set, replicate, length-append}
-use lib.Seq.{append-snoc, set-at}
+use lib.ListN.{length, length-append}
 use lib.IntN.{ℤ}
-use Rattle.words.specs.Word.{written, firsts, joined, table}
+use Rattle.words.specs.Word.{written, firsts, joined}
 use Rattle.words.proofs.Writing.{written-length, written-none, written-more}
 
--- ---- filling
 pub firsts-length : {A : Type 0} (f : ℕ → A) (n : ℕ) → length (firsts f n) ≡ n
 unfolding firsts
 firsts-length f zero = refl
 firsts-length f (suc n) = length-append (firsts f n) (f n ∷ []) ∙ omega (arith, firsts-length f n)
-
--- nothing yet
-pub table-none : {A : Type 0} (size : ℕ) (e : A) (f : ℕ → A) → table size e f 0 ≡ replicate size e
-unfolding table firsts
-table-none size e f = let q : size - 0 ≡ size = omega arith in rw q
-
--- one element more
-pub table-more : {A : Type 0} (size : ℕ) (e : A) (f : ℕ → A) (i : ℕ) (v : A) → i < size → v ≡ f i → set (table size e f i) i v ≡ table size e f (i + 1)
-unfolding table firsts
-table-more {A} size e f i v h p =
-    let q : size - i ≡ suc (size - (i + 1)) = omega arith in
-    ap (λ (n : ℕ). set (firsts f i ++ replicate n e) i v) q ∙ set-at (firsts f i) e rest v i (firsts-length f i)
-    ∙ ap (λ (x : A). firsts f i ++ x ∷ rest) p ∙ sym (append-snoc (firsts f i) (f i) rest) ∙ ap (λ (n : ℕ). firsts f n ++ rest) (sym (add-one i))
-  where
-    rest : List A
-    rest = replicate (size - (i + 1)) e
 
 -- ---- writing
 -- what is written so far: the first i of n

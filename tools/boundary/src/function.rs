@@ -61,7 +61,7 @@ pub static SEGMENT: Record = Record {
 pub const BLUE: usize = 5;
 pub const FITTED: usize = 6;
 
-/// The words of an edge behind those that were built.
+/// The words of an edge of which every number is 0 and every link none.
 pub const EMPTY_EDGE: [i32; 12] = [0, 0, 0, 0, 0, 0, 0, -1, -1, 0, 0, 0];
 
 /// What a number of a call is.

@@ -8,7 +8,7 @@
 //! A refused call writes nothing.
 
 use crate::function::{
-    Function, Given, Kind, Lent, Outcome, Record, BLUE, BOUNDS, BUILDING, EDGE, EMPTY_EDGE, FITTED,
+    Function, Given, Kind, Lent, Outcome, Record, BLUE, BOUNDS, BUILDING, EDGE, FITTED,
     GUARD, TURNING,
 };
 use oracle::{answer, decode::decode};
@@ -127,10 +127,8 @@ fn changed(function: &Function, lent: &Lent, words: &[i32]) -> Lent {
     let mut lent = lent.clone();
     if function.call == BUILDING {
         let (segments, edges) = words.split_at(1 + lent.table.len());
-        let count = edges[0] as usize;
         lent.table = segments[1..].to_vec();
-        lent.room = edges[1..].to_vec();
-        lent.room.extend(EMPTY_EDGE.repeat(EDGE.most - count));
+        lent.room[..edges.len() - 1].copy_from_slice(&edges[1..]);
         lent.places = vec![edges[0]];
         return lent;
     }

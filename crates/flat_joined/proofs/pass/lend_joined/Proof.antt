@@ -1,6 +1,7 @@
 -- `flat_joined::pass::lend_joined` meets its contract. Assumes nothing.
 use mathlib.Core.Path.{_≡_, refl, ap, _∙_}
 use mathlib.Core.Bool.{not, _&&_}
+use Prim.Native.Nat.{_≤_}
 use mir.Syntax.{w32}
 use mir.Val.{toZ, ofZ}
 use lib.IntN.{pos}
@@ -8,6 +9,8 @@ use Rattle.signed.proofs.Signed.{is}
 use Rattle.signed.proofs.By.{by₂, by₃}
 use Rattle.refusals.specs.Refusal.{badParameter, retired}
 use Rattle.refusals.proofs.Tests.{none-tested, then-tested}
+use Rattle.axis.specs.Limits.{mostEdges}
+use Rattle.words.specs.Edge.{edgesIn}
 use Rattle.words.specs.Field.{choiceOf, dimensionOf, groupOf, ruleOf}
 use Rattle.words.proofs.Fields.{kept}
 use Rattle.shape.specs.Shape.{choice}
@@ -58,7 +61,7 @@ found c =
       dim-is = dim .dimension-of .ensures ∙ ap dimensionOf (is (s .fits .dim));
       group-is = group .group-of .ensures ∙ ap groupOf (is (s .fits .group));
       width-is = k .rule-of .ensures ∙ ap ruleOf (is (s .fits .rule));
-      own-is = then-tested badParameter ruled refl (own .or-refused3 .ensures) (zones .zones-hold-in .ensures);
+      own-is = λ (few : edgesIn (s .args .edges .now) ≤ mostEdges). then-tested badParameter ruled refl (own .or-refused3 .ensures) (zones .zones-hold-in .ensures few);
       others-are =
           by₂ _&&_ (both .both .ensures)
           (by₃ choices (both .before .before .are-choices .ensures) (is (s .fits .dim)) (is (s .fits .group)) (is (s .fits .stem-adjust)))

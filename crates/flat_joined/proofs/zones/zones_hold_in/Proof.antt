@@ -8,17 +8,17 @@ has-blues-requires : tie.Need-has-blues-requires
 has-blues-requires c κs = search needs
 
 returns : tie.Need-returns
-returns c = let h = c .before in let a = h .before .args in zones-there (a .words .now) (a .dim) (a .group) (h .has-blues .ensures) (c .if1 .taken)
+returns c few = let h = c .before in let a = h .before .args in zones-there (a .words .now) (a .dim) (a .group) (h .has-blues .ensures) (c .if1 .taken)
 
 none-zoned-in-requires : tie.Need-none-zoned-in-requires
 none-zoned-in-requires c κs = search needs
 
 returns-2 : tie.Need-returns-2
-returns-2 c =
+returns-2 c few =
     let o = c .before in
     let h = o .before in
     let a = h .before .args in
-    zones-absent (a .words .now) (a .dim) (a .group) (h .has-blues .ensures) (o .if1 .left) (c .none-zoned-in .ensures)
+    zones-absent (a .words .now) (a .dim) (a .group) (h .has-blues .ensures) (o .if1 .left) (c .none-zoned-in .ensures few)
 
 pub zones-hold-in-spec : {M : Type 1} → statement M
 zones-hold-in-spec = tie.close (tie.spec has-blues-requires returns none-zoned-in-requires returns-2)

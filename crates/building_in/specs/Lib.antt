@@ -1,0 +1,3 @@
+-- What the contracts of `building_in` cite.
+pub mod Edges
+pub mod Building

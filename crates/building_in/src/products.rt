@@ -1,0 +1,26 @@
+// The positions of segments at the scale.
+use axis::limits::MOST_SEGMENTS;
+use building::numbers::scaled_holds;
+use joining_in::read::segment_in;
+use words::segment::SEGMENT_WORDS;
+ghost use mathlib.Core.Path.{_≡_};
+ghost use Prim.Native.Nat.{_≤_};
+ghost use Rattle.axis.specs.Limits.{mostSegments};
+ghost use Rattle.building.specs.Building.{productsHold};
+ghost use Rattle.words.specs.Segment.{segmentsIn, flatSegments};
+
+// Whether the position of every segment at the scale is accepted. Of more segments than the limit none is read.
+pub fn products_in(words: &[i32], scale: i32) -> bool
+    ensures { λ r. ⌜ (segmentsIn (now (words .entry)) ≤ mostSegments → r ≡ productsHold (flatSegments (now (words .entry))) scale) ⌝ }
+{
+    let n = words.len() / SEGMENT_WORDS;
+    if MOST_SEGMENTS < n {
+        return false;
+    }
+    for i in 0..n {
+        if !scaled_holds(segment_in(words, i as u16), scale) {
+            return false;
+        }
+    }
+    true
+}
