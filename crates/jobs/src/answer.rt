@@ -1,8 +1,6 @@
 // The answer to a job, from the call that it names.
 use super::call::job_of;
-use super::gaps::answer_gaps;
 use super::lent::answer_lent;
-use super::table::answer_table;
 use jobs_log::answer_read;
 use jobs_log::answer_write;
 use jobs_points::catalogue::answer_catalogue;
@@ -11,6 +9,8 @@ use jobs_points::list::put;
 use jobs_points::path::answer_path;
 use jobs_points::path::answer_step;
 use jobs_points::weak::answer_weak;
+use jobs_tables::gaps::answer_gaps;
+use jobs_tables::table::answer_table;
 use khsaemudol::khs_compute_mid_delta;
 use khsaemudol::khs_compute_mid_pos;
 use words::field::short_word;
@@ -37,8 +37,9 @@ fn answer_middle(call: usize, words: &[i32], out: &mut [i32]) -> usize
     )
 }
 
-// Writes the answer to a word list into a buffer, and tells how many words it has; 0 in a buffer that is too short for some answer.
-pub fn answer(words: &[i32], out: &mut [i32]) -> usize
+// Writes the answer to a word list into a buffer, with the calls on tables by value or by the library, and tells how many words it has; 0 in a buffer that is too short
+// for some answer.
+fn answer_to(by_value: bool, words: &[i32], out: &mut [i32]) -> usize
     ensures { λ r. ⌜ r ≤ length (now (out .entry)) ⌝ }
 {
     if out.len() < LONGEST {
@@ -55,7 +56,52 @@ pub fn answer(words: &[i32], out: &mut [i32]) -> usize
         25 => answer_write(words, out),
         26 => answer_read(words, out),
         114 => answer_lent(words, out),
-        127 => answer_gaps(words, out),
-        _ => answer_table(call, words, out),
+        127 => answer_gaps(by_value, words, out),
+        _ => answer_table(by_value, call, words, out),
     }
+}
+
+// Writes the library's answer to a word list into a buffer, and tells how many words it has; 0 in a buffer that is too short for some answer.
+pub fn answer(words: &[i32], out: &mut [i32]) -> usize
+    ensures { λ r. ⌜ r ≤ length (now (out .entry)) ⌝ }
+{
+    answer_to(false, words, out)
+}
+
+// The same with the calls on tables by value.
+pub fn answer_by_value(words: &[i32], out: &mut [i32]) -> usize
+    ensures { λ r. ⌜ r ≤ length (now (out .entry)) ⌝ }
+{
+    answer_to(true, words, out)
+}
+
+// Stands for an answer that the library and the calls by value give differently: no answer begins with it.
+const DIFFERS: i32 = -2;
+
+// Whether the first n words of a list are the first m of another.
+fn same_words(one: &[i32], n: usize, two: &[i32], m: usize) -> bool {
+    if n != m {
+        return false;
+    }
+    let mut i = 0;
+    while i < n {
+        if word_at(one, i) != word_at(two, i) {
+            return false;
+        }
+        i += 1;
+    }
+    true
+}
+
+// Writes the library's answer to a word list where the calls by value give the same, and else the word that begins no answer.
+pub fn answer_both(words: &[i32], out: &mut [i32]) -> usize
+    ensures { λ r. ⌜ r ≤ length (now (out .entry)) ⌝ }
+{
+    let mut other = [0i32; LONGEST];
+    let count = answer(words, out);
+    let by_value = answer_by_value(words, &mut other);
+    if same_words(out, count, &other, by_value) {
+        return count;
+    }
+    put(out, 0, &[DIFFERS])
 }

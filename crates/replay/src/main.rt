@@ -1,7 +1,7 @@
-// Answers job lines: reads them from standard input, and writes an answer line for each to standard output.
+// Answers job lines: reads them from standard input, and writes an answer line for each to standard output, the library's where the calls by value answer the same.
 mod spell;
 
-use jobs::answer::answer;
+use jobs::answer::answer_both;
 use jobs_points::limits::LONGEST;
 use libc::STDIN_FILENO;
 use libc::STDOUT_FILENO;
@@ -16,12 +16,12 @@ ghost use lib.ListN.{length};
 ghost use Rattle.lines.specs.Limits.{mostWords};
 ghost use Rattle.replay.specs.Limits.{mostText};
 
-// Writes the answer to the words that a line has.
+// Writes the answer to the words that a line has, by the library and by value.
 fn reply(words: &[i32], line: Line, out: &mut [i32], text: &mut [u8])
     requires { ⌜ (mostWords ≤ length (now words)) × (mostText ≤ length (now text)) ⌝ }
 {
     let n = words_of(line);
-    let count = answer(&words[..n], out);
+    let count = answer_both(&words[..n], out);
     let size = spell(out, count, text);
     io::write_all(STDOUT_FILENO, &text[..size]);
 }

@@ -1,7 +1,7 @@
 //! What is timed: for each call some kinds of inputs, at several sizes, as jobs.
 
 use crate::{
-    edges,
+    chain, edges,
     outlines::{self, Outlines},
     port,
     segments::{self, Kind},
@@ -27,6 +27,33 @@ pub struct Case {
     pub role: Role,
 }
 
+/// Damages a job of a size so that its last test refuses it.
+pub type Damage = fn(&mut [i32], usize);
+
+impl Case {
+    /// A case of the call itself.
+    pub fn own(
+        name: &'static str,
+        kind: String,
+        size: usize,
+        jobs: Vec<Vec<i32>>,
+        damage: Damage,
+    ) -> Self {
+        let mut refused = jobs.clone();
+        for job in &mut refused {
+            damage(job, size);
+        }
+        Self {
+            name,
+            kind,
+            size,
+            jobs,
+            refused,
+            role: Role::Own,
+        }
+    }
+}
+
 /// What a case is in the table of its call.
 #[derive(Copy, Clone, PartialEq)]
 pub enum Role {
@@ -39,13 +66,21 @@ pub enum Role {
 }
 
 /// The groups of scripts by their words.
-const GROUPS: [(i32, &str); 2] = [(0, "default group"), (1, "CJK")];
+pub const GROUPS: [(i32, &str); 2] = [(0, "default group"), (1, "CJK")];
 
-/// Jobs over edges in a round.
-const ROUND: usize = 16;
+/// Jobs over edges in a round, and glyphs.
+pub const ROUND: usize = 16;
 
-/// The cases of a call.
+/// Whether a name is that of a call, or of a group, whose cases are the steps of its chain.
+pub fn is_name(name: &str) -> bool {
+    NAMES.contains(&name) || GROUPS.iter().any(|(_, title)| *title == name)
+}
+
+/// The cases of a name.
 pub fn cases(name: &str) -> Vec<Case> {
+    if let Some((group, title)) = GROUPS.into_iter().find(|(_, title)| *title == name) {
+        return chain::cases(group, title);
+    }
     match name {
         "mid" => middles(),
         "weak" => weak(),
@@ -93,22 +128,16 @@ fn weak() -> Vec<Case> {
         for size in [4, 16, 64, 256, 1_024, 4_096] {
             let mut random = Random::new(size as u64);
             let outline = |_| outlines::job(&outlines::outline(kind, size, &mut random));
-            let jobs: Vec<_> = (0..4_096_usize.div_ceil(size)).map(outline).collect();
-            let far = |mut job: Vec<i32>| {
-                job[1 + size] = 16_384;
-                job
-            };
-            cases.push(Case {
-                name: "weak",
-                kind: kind.title(),
-                size,
-                refused: jobs.iter().cloned().map(far).collect(),
-                jobs,
-                role: Role::Own,
-            });
+            let jobs = (0..4_096_usize.div_ceil(size)).map(outline).collect();
+            cases.push(Case::own("weak", kind.title(), size, jobs, far_point));
         }
     }
     cases
+}
+
+/// Sets the last original out of range.
+pub fn far_point(job: &mut [i32], size: usize) {
+    job[1 + size] = 16_384;
 }
 
 /// Outlines whose points are on the curve once in so many, each with what a job of a path has behind its lists.
@@ -129,25 +158,20 @@ fn paths(
                 words.extend(behind(size));
                 words
             };
-            let jobs: Vec<_> = (0..4_096_usize.div_ceil(size)).map(&mut job).collect();
-            let far = |mut job: Vec<i32>| {
-                job[2 * size + 2] = 49_150;
-                job
+            let jobs = (0..4_096_usize.div_ceil(size)).map(&mut job).collect();
+            let kind = match times {
+                1 => "all points on the curve".to_string(),
+                _ => format!("one point in {times} on the curve"),
             };
-            cases.push(Case {
-                name,
-                kind: match times {
-                    1 => "all points on the curve".to_string(),
-                    _ => format!("one point in {times} on the curve"),
-                },
-                size,
-                refused: jobs.iter().cloned().map(far).collect(),
-                jobs,
-                role: Role::Own,
-            });
+            cases.push(Case::own(name, kind, size, jobs, far_place));
         }
     }
     cases
+}
+
+/// Sets the last y of a path out of range.
+pub fn far_place(job: &mut [i32], size: usize) {
+    job[2 * size + 2] = 49_150;
 }
 
 /// Whole paths.
@@ -165,19 +189,9 @@ fn step() -> Vec<Case> {
 /// The sizes of tables of segments.
 const SEGMENTS: [usize; 4] = [10, 50, 150, 512];
 
-/// Where the words of the last segment's score stand in a job.
-fn last_score(size: usize) -> usize {
-    2 + SEGMENT_WORDS * (size - 1) + 7
-}
-
-/// The same jobs with a score below 0 in the last segment.
-fn with_bad_score(jobs: &[Vec<i32>], size: usize) -> Vec<Vec<i32>> {
-    let bad = |job: &Vec<i32>| {
-        let mut job = job.clone();
-        job[last_score(size)] = -1;
-        job
-    };
-    jobs.iter().map(bad).collect()
+/// Sets the score of the last segment below 0.
+pub fn bad_score(job: &mut [i32], size: usize) {
+    job[2 + SEGMENT_WORDS * (size - 1) + 7] = -1;
 }
 
 /// Segments to link.
@@ -187,15 +201,9 @@ fn link() -> Vec<Case> {
         for size in SEGMENTS {
             let mut random = Random::new(size as u64);
             let job = |_| segments::linking(kind, size, &mut random);
-            let jobs: Vec<_> = (0..20_000_usize.div_ceil(size * size)).map(job).collect();
-            cases.push(Case {
-                name: "link",
-                kind: kind.title().to_string(),
-                size,
-                refused: with_bad_score(&jobs, size),
-                jobs,
-                role: Role::Own,
-            });
+            let jobs = (0..20_000_usize.div_ceil(size * size)).map(job).collect();
+            let kind = kind.title().to_string();
+            cases.push(Case::own("link", kind, size, jobs, bad_score));
         }
     }
     cases
@@ -223,15 +231,9 @@ fn build() -> Vec<Case> {
                 words.extend([0, 1, 3, group, 0, 65_536, 10, 0, 65_535]);
                 words
             };
-            let jobs: Vec<_> = (0..2_000_usize.div_ceil(size)).map(job).collect();
-            cases.push(Case {
-                name: "build",
-                kind: title.to_string(),
-                size,
-                refused: with_bad_score(&jobs, size),
-                jobs,
-                role: Role::Own,
-            });
+            let jobs = (0..2_000_usize.div_ceil(size)).map(job).collect();
+            let kind = title.to_string();
+            cases.push(Case::own("build", kind, size, jobs, bad_score));
         }
     }
     cases
@@ -247,25 +249,13 @@ fn over_edges(
     behind: &[i32],
 ) -> Case {
     let job = |_| [&[call, size as i32], &edges()[..], behind].concat();
-    let jobs: Vec<Vec<i32>> = (0..ROUND).map(job).collect();
-    Case {
-        name,
-        kind,
-        size,
-        refused: far_edges(&jobs, size),
-        jobs,
-        role: Role::Own,
-    }
+    let jobs = (0..ROUND).map(job).collect();
+    Case::own(name, kind, size, jobs, far_edge)
 }
 
-/// The same jobs with a position out of range in the last edge.
-fn far_edges(jobs: &[Vec<i32>], size: usize) -> Vec<Vec<i32>> {
-    let far = |job: &Vec<i32>| {
-        let mut job = job.clone();
-        job[2 + EDGE_WORDS * (size - 1) + 1] = 16_384;
-        job
-    };
-    jobs.iter().map(far).collect()
+/// Sets the position of the last edge out of range.
+pub fn far_edge(job: &mut [i32], size: usize) {
+    job[2 + EDGE_WORDS * (size - 1) + 1] = 16_384;
 }
 
 /// A pass over edges, for each group.
@@ -313,15 +303,8 @@ fn guard() -> Vec<Case> {
     let asked = |case: &Case| {
         // answer, count and anchor stand in front of the edges that are left
         let ask = |job: &Vec<i32>| [&[127], &port::answer(job)[3..], &[32]].concat();
-        let jobs: Vec<Vec<i32>> = case.jobs.iter().map(ask).collect();
-        Case {
-            name: case.name,
-            kind: case.kind.clone(),
-            size: case.size,
-            refused: far_edges(&jobs, case.size),
-            jobs,
-            role: Role::Own,
-        }
+        let jobs = case.jobs.iter().map(ask).collect();
+        Case::own(case.name, case.kind.clone(), case.size, jobs, far_edge)
     };
     let mut cases: Vec<Case> = fitting.iter().map(asked).collect();
     let fitting = fitting.into_iter();

@@ -1,12 +1,17 @@
 //! The port, compiled for this machine, as tools use it. `bench all` or `bench CALL..` times it and the given Rust side by side on the same inputs and counts
-//! instructions; `bench answer` answers job lines by `jobs`, which asks the library's functions, and `bench library` by the library as its Rust wrapper calls it;
-//! `bench catalogue` times catalogues of outlines in one call.
+//! instructions; `bench answer` answers job lines by `jobs`, which asks the library's functions, `bench values` with the calls on tables by value, and `bench library` by
+//! the library as its Rust wrapper calls it; `bench catalogue` times catalogues of outlines in one call, `bench chain` the chain of a glyph step by step, and
+//! `bench freetype`, built with the feature of that name, FreeType's own routines beside both.
 
 mod answer;
 mod cases;
 mod catalogue;
+mod chain;
 mod count;
 mod edges;
+#[cfg(feature = "freetype")]
+mod freetype;
+mod glyph;
 mod library;
 mod outlines;
 mod plot;
@@ -23,22 +28,31 @@ fn main() -> ExitCode {
     let words: Vec<String> = std::env::args().skip(1).collect();
     match words.iter().map(String::as_str).collect::<Vec<_>>()[..] {
         ["answer"] => return told(answer::run(port::answer)),
+        ["values"] => return told(answer::run(port::answer_by_value)),
         ["library"] => return told(answer::run(library::answer)),
-        ["counted", name, ix, side, copies] if cases::NAMES.contains(&name) => {
+        ["counted", name, ix, side, copies] if cases::is_name(name) => {
             count::run(name, ix, side, copies);
         }
         ["all"] => {
             plot::write(&table::run(&cases::NAMES));
             println!();
             catalogue::run();
+            println!();
+            chain::run();
         }
         ["catalogue"] => catalogue::run(),
+        ["chain"] => {
+            table::explain();
+            chain::run();
+        }
+        #[cfg(feature = "freetype")]
+        ["freetype"] => freetype::run(),
         ref names if !names.is_empty() && names.iter().all(|name| cases::NAMES.contains(name)) => {
             table::run(names);
         }
         _ => {
             eprintln!(
-                "usage: bench answer | library | all | catalogue | {}",
+                "usage: bench answer | values | library | all | catalogue | chain | freetype | {}",
                 cases::NAMES.join(" | ")
             );
             return ExitCode::from(2);

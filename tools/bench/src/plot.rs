@@ -93,7 +93,7 @@ fn curve(ix: usize, rows: &[Row]) -> String {
     let dashes = ["none", "6 3", "2 2", "8 3 2 3"][ix / COLOURS.len() % 4];
     let points: Vec<String> = rows
         .iter()
-        .map(|row| place(row.size as f64, row.ratio))
+        .map(|row| place(row.size as f64, row.ratio()))
         .map(|(x, y)| format!("{x:.1},{y:.1}"))
         .collect();
     let mut svg = format!(

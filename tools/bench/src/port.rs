@@ -12,26 +12,46 @@ use oracle::{
 };
 use std::hint::black_box;
 
+/// A function of `jobs`: writes the answer to a word list, and tells how many words it has.
+type Answering = unsafe extern "C" fn(*const i32, usize, *mut i32, usize) -> usize;
+
 extern "C" {
-    /// Writes the answer to a word list, and tells how many words it has.
+    /// Answers by the library's functions.
     fn jobs_answer(words: *const i32, words_len: usize, out: *mut i32, out_len: usize) -> usize;
+    /// The same with the calls on tables by value.
+    fn jobs_answer_by_value(
+        words: *const i32,
+        words_len: usize,
+        out: *mut i32,
+        out_len: usize,
+    ) -> usize;
 }
 
 /// The words of the longest answer.
-const LONGEST: usize = 36_866;
+pub const LONGEST: usize = 36_866;
 
-/// The answer to a word list.
+/// The library's answer to a word list.
 pub fn answer(words: &[i32]) -> Vec<i32> {
+    answered(jobs_answer, words)
+}
+
+/// The same with the calls on tables by value.
+pub fn answer_by_value(words: &[i32]) -> Vec<i32> {
+    answered(jobs_answer_by_value, words)
+}
+
+/// The answer that a function of `jobs` gives to a word list.
+fn answered(answering: Answering, words: &[i32]) -> Vec<i32> {
     let mut out = vec![0; LONGEST];
-    let count = answer_into(words, &mut out);
+    let count = answer_into(answering, words, &mut out);
     out.truncate(count);
     out
 }
 
-/// Writes the answer to a word list, and tells how many words it has.
-fn answer_into(words: &[i32], out: &mut [i32]) -> usize {
+/// Writes that answer, and tells how many words it has.
+fn answer_into(answering: Answering, words: &[i32], out: &mut [i32]) -> usize {
     // SAFETY: each pointer and length is of one live slice, and `out` is lent to this call alone.
-    unsafe { jobs_answer(words.as_ptr(), words.len(), out.as_mut_ptr(), out.len()) }
+    unsafe { answering(words.as_ptr(), words.len(), out.as_mut_ptr(), out.len()) }
 }
 
 /// A job of the library: what it is given, what its call changes, and the call.
@@ -309,7 +329,7 @@ impl Prepared {
                 Ok(one(found.map_or(*cursor, |(_, next)| next) as i32))
             }
             Self::Job(words, out) => {
-                black_box(answer_into(words, out));
+                black_box(answer_into(jobs_answer, words, out));
                 Ok(NOTHING)
             }
         }

@@ -8,11 +8,11 @@ use Rattle.replay.proofs.reply.Tie as tie
 words-of-requires : tie.Need-words-of-requires
 words-of-requires c κs = search needs
 
-slice-aggregate-answer : tie.Need-slice-aggregate-answer
-slice-aggregate-answer c = simp length-take (omega arith)
+slice-aggregate-answer-both : tie.Need-slice-aggregate-answer-both
+slice-aggregate-answer-both c = simp length-take (omega arith)
 
-answer-requires : tie.Need-answer-requires
-answer-requires c κs = search needs
+answer-both-requires : tie.Need-answer-both-requires
+answer-both-requires c κs = search needs
 
 spell-requires : tie.Need-spell-requires
 spell-requires c κs = search needs
@@ -40,8 +40,8 @@ reply-spec =
     tie.close
     (tie.spec
     words-of-requires
-    slice-aggregate-answer
-    answer-requires
+    slice-aggregate-answer-both
+    answer-both-requires
     spell-requires
     slice-reshare-prefix-write-all
     slice-aggregate-write-all

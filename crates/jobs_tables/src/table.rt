@@ -1,4 +1,5 @@
 // The calls on a table, of segments (4, 105 and 124) or of edges (106 to 113 and 122): from the words of their jobs to those of their answers.
+use super::by_value::ask_by_value;
 use axis::accept::least;
 use axis::limits::MOST_EDGES;
 use axis::limits::MOST_SEGMENTS;
@@ -171,8 +172,8 @@ fn ask_joined(edges: &mut [i32], rest: &[i32], count: &mut i32, found: &mut i32)
     )
 }
 
-// The answer of a call on a table, whose other words are the rest, and what it hands back beside: a delta or a count first, else an index; edges that are built or turned over.
-fn ask(
+// The answer of the library to a call on a table, whose other words are the rest, and what it hands back beside: a delta or a count first, else an index; edges that are built or turned over.
+fn ask_library(
     call: usize,
     table: &mut [i32],
     rest: &[i32],
@@ -205,6 +206,22 @@ fn ask(
     }
 }
 
+// The same by value, or by the library.
+fn ask(
+    by_value: bool,
+    call: usize,
+    table: &mut [i32],
+    rest: &[i32],
+    edges: &mut [i32],
+    first: &mut i32,
+    second: &mut i32,
+) -> u8 {
+    if by_value {
+        return ask_by_value(call, table, rest, edges, first, second);
+    }
+    ask_library(call, table, rest, edges, first, second)
+}
+
 // Writes what a call handed back: the first words of the head in front of its table, which ends at a place, and behind that the edges that it built or turned over.
 fn put_result(
     call: usize,
@@ -235,6 +252,7 @@ fn put_result(
 
 // Makes a call on the table of an answer, which stands behind the words in front of it and its count.
 fn answer_call(
+    by_value: bool,
     call: usize,
     rest: &[i32],
     out: &mut [i32],
@@ -251,6 +269,7 @@ fn answer_call(
     let mut first = 0;
     let mut second = -1;
     let answer = ask(
+        by_value,
         call,
         &mut out[from..to],
         rest,
@@ -263,7 +282,7 @@ fn answer_call(
 }
 
 // The answer to a job of a call on a table; the call is lent the answer's table. Of more records than its limit it is lent one more than that, which is empty.
-pub fn answer_table(call: usize, words: &[i32], out: &mut [i32]) -> usize
+pub fn answer_table(by_value: bool, call: usize, words: &[i32], out: &mut [i32]) -> usize
     requires { ⌜ longest ≤ length (now out) ⌝ }
     ensures { λ r. ⌜ r ≤ length (now (out .entry)) ⌝ }
 {
@@ -273,5 +292,5 @@ pub fn answer_table(call: usize, words: &[i32], out: &mut [i32]) -> usize
     let before = words_before(call);
     let end = put_list(out, before, count, part(words, 2, n));
     put(out, end, &[0; SEGMENT_WORDS]);
-    answer_call(call, tail(words, 2 + n), out, before, lent, end)
+    answer_call(by_value, call, tail(words, 2 + n), out, before, lent, end)
 }

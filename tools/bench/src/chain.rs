@@ -1,0 +1,195 @@
+//! The chain of a glyph, step by step: for each axis linking, building, blue zones and stems in one call, and weak points, and behind both the path.
+
+use crate::{
+    cases::{self, Case, Damage, GROUPS, ROUND},
+    glyph::{Glyph, EDGES, POINTS, SEGMENTS},
+    outlines, port, records,
+    table::{self, Row},
+};
+use khsaemudol::{Dimension, Direction, Edge, Flags, Group, Segment, SEGMENT_WORDS};
+use oracle::{generate::Random, given::metrics, job::Points, limits};
+
+/// Units of a pixel.
+const PIXEL: i32 = 64;
+/// From design units to units at 16 pixels to the em, in 16.16.
+const SCALE: i32 = 16 * PIXEL * 65_536 / 1_000;
+
+/// An axis: its name, dimension and major direction, and how long a segment has to be for an edge.
+struct Axis {
+    name: &'static str,
+    dimension: Dimension,
+    major: Direction,
+    length: i32,
+}
+
+/// The axes, in the order of the chain.
+const AXES: [Axis; 2] = [
+    Axis {
+        name: "heights",
+        dimension: Dimension::Vertical,
+        major: Direction::Left,
+        length: 0,
+    },
+    Axis {
+        name: "widths",
+        dimension: Dimension::Horizontal,
+        major: Direction::Up,
+        length: design(PIXEL),
+    },
+];
+
+/// Units in design units, to the nearest.
+const fn design(units: i32) -> i32 {
+    (units * 65_536 + SCALE / 2) / SCALE
+}
+
+/// A step of a chain: what it is, its size and its job, and how that is damaged.
+struct Step {
+    kind: String,
+    size: usize,
+    job: Vec<i32>,
+    damage: Damage,
+}
+
+/// Prints the steps of each group's chain, and their sum.
+pub fn run() {
+    println!("The chain of a glyph of {POINTS} points with {SEGMENTS} segments and {EDGES} edges on each axis: every step on what the step before left. Not timed is what the caller does on");
+    println!("both sides: linking the default group's segments, giving zones, to two of the heights, and moving the points of edges. The Rust's path is the oracle's plain loop.");
+    for (_, title) in GROUPS {
+        let rows = table::table(title);
+        Row::sum(&rows, title, "the chain".to_string(), POINTS).print();
+    }
+}
+
+/// The cases of a group's chain: its steps, each on a round of glyphs.
+pub fn cases(group: i32, title: &'static str) -> Vec<Case> {
+    let glyph = |seed| steps(&Glyph::new(&mut Random::new(seed)), group);
+    let glyphs: Vec<Vec<Step>> = (0..ROUND as u64).map(glyph).collect();
+    let case = |(ix, step): (usize, &Step)| {
+        let jobs = glyphs.iter().map(|steps| steps[ix].job.clone()).collect();
+        Case::own(title, step.kind.clone(), step.size, jobs, step.damage)
+    };
+    glyphs[0].iter().enumerate().map(case).collect()
+}
+
+/// The steps of a glyph.
+fn steps(glyph: &Glyph, group: i32) -> Vec<Step> {
+    let mut steps = Vec::new();
+    let [ys, xs] = AXES.map(|axis| fit(glyph, &axis, group, &mut steps));
+    let mut job = outlines::job(&Points {
+        originals: xs,
+        currents: ys,
+        touches: glyph.on_curve.clone(),
+        ends: glyph.ends.clone(),
+    });
+    job[0] = 15;
+    steps.push(Step {
+        kind: "path".to_string(),
+        size: POINTS,
+        job,
+        damage: cases::far_place,
+    });
+    steps
+}
+
+/// Adds the steps of an axis, and hands back where its points come to.
+fn fit(glyph: &Glyph, axis: &Axis, group: i32, steps: &mut Vec<Step>) -> Vec<i32> {
+    let mut answered = |what: &str, size: usize, job: Vec<i32>, damage: Damage| {
+        let answer = port::answer(&job);
+        let kind = format!("{}, {what}", axis.name);
+        steps.push(Step {
+            kind,
+            size,
+            job,
+            damage,
+        });
+        answer
+    };
+    let mut segments = glyph.segments[axis.dimension as usize].clone();
+    if group == Group::Cjk as i32 {
+        let job = linking(&segments, axis);
+        let answer = answered("linking", SEGMENTS, job, cases::bad_score);
+        segments = records::given(&answer, SEGMENTS);
+    } else {
+        link(&mut segments);
+    }
+    let job = building(&segments, axis, group);
+    let answer = answered("building", SEGMENTS, job, cases::bad_score);
+    segments = records::given(&answer, SEGMENTS);
+    let mut edges = records::given(&answer[1 + SEGMENT_WORDS * SEGMENTS..], limits::EDGES);
+    give_zones(&mut edges, axis);
+    let job = fitting(&edges, axis, group);
+    let answer = answered("blue zones and stems", EDGES, job, cases::far_edge);
+    // answer, count and anchor stand in front of the edges
+    edges = records::given(&answer[2..], EDGES);
+    let job = outlines::job(&moved(glyph, axis, &segments, &edges));
+    answered("weak points", POINTS, job, cases::far_point)[2..].to_vec()
+}
+
+/// A job that links segments.
+fn linking(segments: &[Segment], axis: &Axis) -> Vec<i32> {
+    let mut words = vec![4];
+    words.extend(records::words(SEGMENTS, segments));
+    words.extend([axis.major as i32, 1_000, SCALE]);
+    words
+}
+
+/// Links segments as the caller does those of the default group: the sides of a ring's two contours to each other, and so those of the dot.
+fn link(segments: &mut [Segment]) {
+    let dot = SEGMENTS - 2;
+    for (ix, segment) in segments.iter_mut().enumerate() {
+        let across = if ix < dot { ix ^ 2 } else { ix ^ 1 };
+        segment.set_link(Some(across as u16));
+    }
+}
+
+/// A job that builds edges of segments, with an edge distance of 16 and a width of half a pixel.
+fn building(segments: &[Segment], axis: &Axis, group: i32) -> Vec<i32> {
+    let (dim, major) = (axis.dimension as i32, axis.major as i32);
+    let (length, width) = (axis.length, design(PIXEL / 2));
+    let mut words = vec![105];
+    words.extend(records::words(SEGMENTS, segments));
+    words.extend([0, dim, major, group, 0, SCALE, 16, length, width]);
+    words
+}
+
+/// Gives the lowest and the highest edge of the heights zones, at their nearest pixels.
+fn give_zones(edges: &mut [Edge], axis: &Axis) {
+    assert_eq!(edges.len(), EDGES, "other edges are built");
+    if axis.dimension == Dimension::Vertical {
+        for ix in [0, EDGES - 1] {
+            let nearest = (edges[ix].pos() + PIXEL / 2) & -PIXEL;
+            edges[ix].set_blue(Some(nearest));
+        }
+    }
+}
+
+/// A job of blue zones and stems, whose widths snap to one pixel and two.
+fn fitting(edges: &[Edge], axis: &Axis, group: i32) -> Vec<i32> {
+    let mut words = vec![122];
+    words.extend(records::words(EDGES, edges));
+    words.extend([axis.dimension as i32, group, 0, 0, 1, 2, PIXEL, 2 * PIXEL]);
+    words
+}
+
+/// The points of an axis: those of segments stand at their edges, which are all done, and are touched.
+fn moved(glyph: &Glyph, axis: &Axis, segments: &[Segment], edges: &[Edge]) -> Points {
+    let scaled = |place: &[i32; 2]| metrics::fixed_mul(place[axis.dimension as usize], SCALE);
+    let originals: Vec<i32> = glyph.places.iter().map(scaled).collect();
+    let mut points = Points {
+        currents: originals.clone(),
+        touches: vec![0; POINTS],
+        originals,
+        ends: glyph.ends.clone(),
+    };
+    for segment in segments {
+        let edge = segment.edge().expect("every segment has an edge");
+        let edge = &edges[usize::from(edge)];
+        assert!(edge.flags().contains(Flags::DONE), "an edge is passed over");
+        for ix in segment.first()..=segment.last() {
+            points.currents[usize::from(ix)] = edge.pos();
+            points.touches[usize::from(ix)] = 1;
+        }
+    }
+    points
+}
