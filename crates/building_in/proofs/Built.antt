@@ -42,14 +42,14 @@ use Rattle.marking_in.proofs.Marking.{marked-is}
 use Rattle.properties_in.specs.Steps.{propertiesOf}
 use Rattle.properties_in.proofs.Unread.{faced, properties-unread}
 use Rattle.building_in.specs.Edges.{listedWords, Room}
-use Rattle.building_in.specs.Building.{stateOf, propertiesWords, Ready, BuiltIn, BuildsIn}
+use Rattle.building_in.specs.Building.{stateOf, propertiesWords, Filling, BuiltIn, BuildsIn}
 use Rattle.building_in.proofs.Listed.{few-listed, listed-room, listed-words, listed-count, listed-whole, listed-axis, listed-walk, listed-starts, listed-stops}
 
 -- an axis of another dimension and another major direction is as ready for the properties of its edges
 ready-faced : (axis : Axis) (t : Segments) (d : Dimension) (m : Direction) → Steps.Ready axis t → Steps.Ready (faced d m axis) t
 ready-faced axis t d m R = record { few-edges = R .few-edges; few-segments = R .few-segments; edge = R .edge; segment = R .segment; rings = record { ring = R .rings .ring } }
 
-module _ {ws : List ℤ} {r : Rules} {first last next : List ℕ} {room : List ℤ} (R : Ready ws r first last next room) where
+module _ {ws : List ℤ} {r : Rules} {first last next : List ℕ} {room : List ℤ} (R : Filling ws r first last next room) where
   abbrev t : Segments
   t = flatSegments ws
 
@@ -153,7 +153,7 @@ module _ {ws : List ℤ} {r : Rules} (w : Whole ws) (W : SegmentsWithin (flatSeg
     front-many : count ≡ edgesIn front
     front-many = let q : count ≡ edgeSize * count / edgeSize = omega arith in q ∙ ap (λ (k : ℕ). k / edgeSize) (sym front-long)
 
-    pub front-ready : Ready ws r first last next front
+    pub front-ready : Filling ws r first last next front
     front-ready = record {
       whole = w;
       within = W;

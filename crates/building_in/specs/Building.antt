@@ -23,7 +23,7 @@ abbrev pub stateOf : List ℤ → Rules → State
 stateOf ws r = lastState (flatSegments ws) r
 
 -- the lists are those of that state, and the edges that it has fill their room
-pub record Ready (ws : List ℤ) (r : Rules) (first last next : List ℕ) (room : List ℤ) : Type 0 where
+pub record Filling (ws : List ℤ) (r : Rules) (first last next : List ℕ) (room : List ℤ) : Type 0 where
   pub whole : Whole ws
   pub within : SegmentsWithin (flatSegments ws)
   pub joinable : Joinable (flatSegments ws) r

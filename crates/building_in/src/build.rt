@@ -15,7 +15,7 @@ ghost use Rattle.joining.specs.Walks.{Joinable};
 ghost use Rattle.words.specs.Edge.{tableSize};
 ghost use Rattle.words.specs.Segment.{flatSegments};
 ghost use Rattle.segments_in.specs.Whole.{Whole};
-ghost use Rattle.building_in.specs.Building.{Ready, BuiltIn, BuildsIn};
+ghost use Rattle.building_in.specs.Building.{Filling, BuiltIn, BuildsIn};
 
 // Writes the edges of the lists into their room, which they fill, tells the segments, and gives the edges their properties.
 fn build_listed(
@@ -26,7 +26,7 @@ fn build_listed(
     next: &[u16; MOST_SEGMENTS],
     rules: Rules,
 )
-    requires { ⌜ Ready (now segments) rules (now first) (now last) (now next) (now room) ⌝ }
+    requires { ⌜ Filling (now segments) rules (now first) (now last) (now next) (now room) ⌝ }
     ensures { λ _. ⌜ BuiltIn (now (segments .entry)) rules (now (segments .exit)) (now (room .exit)) ⌝ }
 {
     write_edges(segments, room, first, last, rules.scale);

@@ -2,20 +2,21 @@
 use mathlib.Core.Path.{_≡_, refl, sym, ap, subst, _∙_}
 use mathlib.Core.Bool.{true}
 use mathlib.Core.List.{List, _++_, append-nil}
-use Prim.Native.Nat.{ℕ, _-_, _*_, _/_, _%_, _≤_, _<_, min}
+use Prim.Native.Nat.{ℕ, _*_, _/_, _%_, _≤_, _<_, min}
 use native.Mathlib.Omega.{arith}
-use lib.ListN.{length, length-append, length-replicate, drop-of-length-le}
+use lib.ListN.{length, drop-of-length-le}
 use lib.Seq.{ext-getD}
 use lib.IntN.{ℤ, pos}
 use Rattle.axis.specs.declared.kinds.Dimension.{Dimension}
 use Rattle.axis.specs.declared.edge.Edge.{Edge}
 use Rattle.axis.specs.declared.edge.Axis.{Axis}
-use Rattle.axis.specs.Edge.{emptyEdge, edgeAt}
+use Rattle.axis.specs.Edge.{edgeAt}
 use Rattle.axis.specs.Limits.{mostEdges}
-use Rattle.words.specs.Word.{wordAt, written, firsts, joined, table}
-use Rattle.words.specs.Edge.{edgeSize, wordOfEdge, edgesIn, edgeFrom, edgeInRun, axisRun, flatAxis, edgeWords, edgeWordsAt, edgesOver}
+use Rattle.words.specs.Word.{wordAt, written, joined}
+use Rattle.words.specs.Edge.{edgeSize, wordOfEdge, edgesIn, edgeFrom, axisRun, flatAxis, edgeWords, edgeWordsAt, edgesOver}
 use Rattle.words.proofs.Writing.{written-front}
-use Rattle.words.proofs.Tables.{firsts-length, joined-length}
+use Rattle.words.proofs.Tables.{joined-length}
+use Rattle.words.proofs.Typed.{axis-typed}
 use Rattle.words.proofs.Edges.{edge-lengths}
 use Rattle.words.proofs.Places.{joined-at, edge-read}
 use Rattle.shape.specs.Shape.{edgesShown}
@@ -46,13 +47,8 @@ pub read-in : (ws : List ℤ) (i : ℕ) {e : Edge} → e ≡ reduced (edgeAt (ed
 read-in ws i q d = q ∙ ap reduced (sym (same-edges ws d i))
 
 -- its table has all its places
-table-length : (f : ℕ → Edge) (n : ℕ) → n ≤ mostEdges → length (table mostEdges emptyEdge f n) ≡ mostEdges
-unfolding table
-table-length f n h = length-append (firsts f n) _ ∙ omega (arith, firsts-length f n, length-replicate (mostEdges - n) emptyEdge)
-
 pub axis-long : (ws : List ℤ) (d : Dimension) → length (axisIn ws d .edges) ≡ mostEdges
-unfolding flatAxis axisRun
-axis-long ws d = table-length (edgeInRun ws 0) (min (edgesIn ws) mostEdges) (omega arith)
+axis-long ws d = axis-typed ws d _ .places
 
 -- its edge in a place is the one whose words stand there
 pub edge-in : (ws : List ℤ) (d : Dimension) (i : ℕ) → Whole ws → i < edgesIn ws → edgeAt (axisIn ws d) i ≡ edgeFrom ws (edgeSize * i)

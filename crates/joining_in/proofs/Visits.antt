@@ -1,5 +1,5 @@
 -- The visit of one segment, on the words and the lists.
-use mathlib.Core.Path.{_≡_, sym, ap, _∙_}
+use mathlib.Core.Path.{_≡_, refl, sym, ap, _∙_}
 use mathlib.Core.Bool.{Bool, true, false, not, _&&_, _||_}
 use mathlib.Core.List.{List, [], _∷_}
 use Prim.Native.Nat.{ℕ, _+_, _-_, _≤_, _<_}
@@ -10,9 +10,12 @@ use lib.ListN.{getD, set}
 use lib.Signed.{leZ}
 use Rattle.signed.specs.Distance.{distance}
 use Rattle.signed.proofs.By.{by₂}
+use Rattle.signed.proofs.Choices.{clash}
+use Rattle.axis.specs.declared.kinds.Direction.the-variants as Directions
 use Rattle.axis.specs.declared.segment.Segment.{Segment}
 use Rattle.axis.specs.declared.segment.Segments.{Segments}
 use Rattle.axis.specs.Accepted.{SegmentsWithin}
+use Rattle.axis.specs.Direction.{same}
 use Rattle.axis.specs.Limits.{mostEdges, mostSegments}
 use Rattle.axis.specs.Ring.{walk, ends}
 use Rattle.axis.specs.Segment.{segmentAt}
@@ -30,6 +33,12 @@ use Rattle.joining_in.specs.Lists.{Placed, Before, stopsAt, stopAt, Made
 use Rattle.joining_in.proofs.Readings.{segments-len, skips-asked, fits-asked, place-by, fits-by, stops-by, segment-of, links-said}
 use Rattle.joining_in.proofs.Inserting.{stop-alike}
 use Rattle.joining_in.proofs.Listings.{first-at, last-at, placed-as, place-at, placed-join, placed-full, placed-made}
+
+-- a loop leaves out what it leaves out by its direction
+left-out : (r : Rules) (second : Bool) (x : Segment) → (second && not (same (x .dir) Directions.None)) ≡ true → skips r second x ≡ true
+unfolding skips
+left-out r true x e = e
+left-out r false x e = absurd (clash false refl e)
 
 module _ {ws : List ℤ} {r : Rules} {second : Bool} {i : ℕ} {places : List ℤ} {first last next : List ℕ} {count : ℕ} (B : Before ws r second i places first last next count) where
   abbrev t : Segments
@@ -71,6 +80,10 @@ module _ {ws : List ℤ} {r : Rules} {second : Bool} {i : ℕ} {places : List �
 
   pub visit-skips : skips r second (segmentIn ws i) ≡ true → Placed t r (stateAt t r second (i + 1)) places first last next false count
   visit-skips h = placed-as (B .placed) (sym (visit-skip t r second s i going (sym skips-is ∙ h)) ∙ one)
+
+  -- the second loop leaves out what has a direction
+  pub visit-left-out : (second && not (same (segmentIn ws i .dir) Directions.None)) ≡ true → Placed t r (stateAt t r second (i + 1)) places first last next false count
+  visit-left-out h = visit-skips (left-out r second (segmentIn ws i) h)
 
   -- ---- an edge that it may join
   module _ (k : ℕ) (hk : k < count) where

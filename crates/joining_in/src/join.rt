@@ -1,6 +1,7 @@
 // Segments join edges.
 use super::place::place_of;
 use super::read::edge_in;
+use super::read::is_left_out;
 use super::read::segment_in;
 use super::settle::insert_at;
 use super::settle::stop_at;
@@ -117,6 +118,9 @@ fn join_loop(
     let n = words.len() / SEGMENT_WORDS;
     let mut count = given;
     for i in 0..n {
+        if is_left_out(words, i as u16, second) {
+            continue;
+        }
         let joined = visit_in(
             words,
             places,

@@ -1,7 +1,9 @@
 // What joining reads of segments, where their words stand.
+use axis::direction::same;
 use axis::edge::EMPTY_EDGE;
 use axis::edge::Edge;
 use axis::flags::NORMAL;
+use axis::kinds::Direction;
 use axis::kinds::Link;
 use axis::limits::MOST_SEGMENTS;
 use axis::segment::Segment;
@@ -12,9 +14,10 @@ use words::field::link_at;
 use words::field::short_at;
 use words::segment::SEGMENT_WORDS;
 ghost use mathlib.Core.Path.{_≡_};
-ghost use mathlib.Core.Bool.{true, _||_};
+ghost use mathlib.Core.Bool.{true, not, _&&_, _||_};
 ghost use Prim.Native.Nat.{_<_};
 ghost use lib.Signed.{leZ};
+ghost use Rattle.axis.specs.Direction.{same as sameAs};
 ghost use Rattle.axis.specs.Limits.{mostSegments};
 ghost use Rattle.axis.specs.Ring.{walk, ends};
 ghost use Rattle.joining.specs.Walks.{nextIn, noStem, stemsAgree};
@@ -42,6 +45,17 @@ pub fn segment_in(words: &[i32], i: u16) -> Segment
         edge: Link::None,
         next: Link::None,
     }
+}
+
+// Whether a loop leaves segment i out by its direction alone: the second one does where there is any.
+pub fn is_left_out(words: &[i32], i: u16, second: bool) -> bool
+    ensures { λ r. ⌜ r ≡ (second && not (sameAs (segmentIn (now (words .entry)) i .dir) Direction.None)) ⌝ }
+{
+    if !second {
+        return false;
+    }
+    let dir = direction_at(words, SEGMENT_WORDS * (i as usize) + 1);
+    !same(dir, Direction::None)
 }
 
 // What joining asks of an edge by its first segment and its last one, its other fields empty.

@@ -7,7 +7,6 @@ use Rattle.signed.proofs.Reading.{back}
 use Rattle.words.specs.Word.{written, joined}
 use Rattle.words.specs.Edge.{edgesIn}
 use Rattle.building_in.specs.Edges.{listedWords, Room}
-use Rattle.building_in.specs.Building.{Ready}
 use Rattle.building_in.proofs.Built.{room-there, made-long, made-whole, rings-there, properties-ready, built-in}
 use Rattle.building_in.proofs.build.build_listed.Statement.{statement}
 use Rattle.building_in.proofs.build.build_listed.Tie as tie

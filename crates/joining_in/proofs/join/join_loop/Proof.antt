@@ -1,15 +1,17 @@
 -- `joining_in::join::join_loop` meets its contract: the lists are those of the state before each segment. Assumes nothing.
 use native.Mathlib.Omega.{arith}
-use mathlib.Core.Path.{_≡_, ap}
+use mathlib.Core.Path.{_≡_, sym, ap, _∙_}
 use mathlib.Core.Bool.{false}
 use Prim.Native.Nat.{_-_, _≤_, _<_}
 use Rattle.axis.specs.Limits.{mostSegments}
 use Rattle.joining.specs.Joining.{after, stateAt}
 use Rattle.words.specs.Segment.{segmentsIn, flatSegments}
-use Rattle.joining_in.specs.Lists.{Placed}
+use Rattle.joining_in.specs.Lists.{Placed, Before}
 use Rattle.joining_in.proofs.Readings.{segments-len}
 use Rattle.joining_in.proofs.Listings.{placed-as, placed-if}
+use Rattle.joining_in.proofs.Visits.{visit-left-out}
 use Rattle.joining_in.proofs.Loops.{full-stays}
+use borrow.Author.Needs.{needs}
 use Rattle.joining_in.proofs.join.join_loop.Statement.{statement}
 use Rattle.joining_in.proofs.join.join_loop.Tie as tie
 
@@ -19,6 +21,10 @@ Inv-loop words places₀ first₀ last₀ next₀ given rules second n count₀ 
 
 abbrev μ-loop : tie.MeasureT-loop
 μ-loop words places₀ first₀ last₀ next₀ given rules second n count₀ i₀ places first last next count i = n - i
+
+-- a turn, from where the visit is called
+abbrev in-loop-of : tie.After-visit-in-arg4 Inv-loop μ-loop → tie.In-loop Inv-loop μ-loop
+in-loop-of c = c .before .before .before .before .before .before
 
 -- the segment is one of the table's
 low : (c : tie.In-loop Inv-loop μ-loop) → c .before .loop .i < mostSegments
@@ -30,20 +36,18 @@ loop-holds : tie.Need-loop-holds Inv-loop μ-loop
 unfolding after
 loop-holds c = (omega arith, c .pre .1)
 
-cast-visit-in : tie.Need-cast-visit-in Inv-loop μ-loop
-cast-visit-in c = omega (arith, low (c .before .before .before .before))
+-- the lists are those of the state before the segment
+before : (c : tie.In-loop Inv-loop μ-loop)
+    → let g = c .before .before .args in
+    let o = c .before .loop in
+    Before (g .words .now) (g .rules) (g .second) (o .i) (o .places) (o .first) (o .last) (o .next) (o .count)
+before c = let loop = c .before in record { ready = loop .before .pre .0; inside = c .loop-test .taken; placed = loop .loop .inv .1 }
 
-visit-in-requires : tie.Need-visit-in-requires Inv-loop μ-loop
-visit-in-requires c κs =
-    let in-loop = c .before .before .before .before in
-    let loop = in-loop .before in
-    record { ready = loop .before .pre .0; inside = in-loop .loop-test .taken; placed = loop .loop .inv .1 }
+cast-is-left-out : tie.Need-cast-is-left-out Inv-loop μ-loop
+cast-is-left-out c = omega (arith, low c)
 
-returns : tie.Need-returns Inv-loop μ-loop
-returns c =
-    let visit-in = c .before in
-    let in-loop = visit-in .before .before .before .before .before in
-    full-stays _ _ _ _ _ (in-loop .loop-test .taken) (c .if1 .taken) (visit-in .visit-in .ensures)
+is-left-out-requires : tie.Need-is-left-out-requires Inv-loop μ-loop
+is-left-out-requires c κs = search needs
 
 add-i : tie.Need-add-i Inv-loop μ-loop
 add-i c = omega arith
@@ -52,7 +56,27 @@ loop-less : tie.Need-loop-less Inv-loop μ-loop
 loop-less c = omega arith
 
 loop-again : tie.Need-loop-again Inv-loop μ-loop
-loop-again c = (omega arith, placed-if (c .before .visit-in .ensures) (c .if1 .left))
+loop-again c = let l = c .before in (omega arith, visit-left-out (before (l .before)) (sym (l .is-left-out .ensures) ∙ c .if1 .taken))
+
+cast-visit-in : tie.Need-cast-visit-in Inv-loop μ-loop
+cast-visit-in c = omega (arith, low (in-loop-of c))
+
+visit-in-requires : tie.Need-visit-in-requires Inv-loop μ-loop
+visit-in-requires c κs = before (in-loop-of c)
+
+returns : tie.Need-returns Inv-loop μ-loop
+returns c =
+    let visit-in = c .before in
+    full-stays _ _ _ _ _ (in-loop-of (visit-in .before) .loop-test .taken) (c .if2 .taken) (visit-in .visit-in .ensures)
+
+add-i-2 : tie.Need-add-i-2 Inv-loop μ-loop
+add-i-2 c = omega arith
+
+loop-less-2 : tie.Need-loop-less-2 Inv-loop μ-loop
+loop-less-2 c = omega arith
+
+loop-again-2 : tie.Need-loop-again-2 Inv-loop μ-loop
+loop-again-2 c = (omega arith, placed-if (c .before .visit-in .ensures) (c .if2 .left))
 
 returns-2 : tie.Need-returns-2 Inv-loop μ-loop
 returns-2 c =
@@ -68,10 +92,15 @@ join-loop-spec =
     Inv-loop
     μ-loop
     loop-holds
-    cast-visit-in
-    visit-in-requires
-    returns
+    cast-is-left-out
+    is-left-out-requires
     add-i
     loop-less
     loop-again
+    cast-visit-in
+    visit-in-requires
+    returns
+    add-i-2
+    loop-less-2
+    loop-again-2
     returns-2)
