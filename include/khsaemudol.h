@@ -84,9 +84,8 @@
  * segments too.
  *
  * No call allocates, keeps a pointer, prints or fails otherwise. Each may be called from any thread, and on other lists at the same time. Working tables stand on
- * the stack, of which the x86-64 library was measured to use up to 160 KiB in linking and building, 149 KiB in khs_turn_over, 45 KiB in the other calls over
- * edges but for those below, and less than 1 KiB in the rest and in khs_align_linked_edge, khs_align_serif_edge, khs_adjust_link and khs_latin_remaining_bounds; the same
- * code on aarch64 166 KiB, 149 KiB, 45 KiB and 1 KiB. */
+ * the stack: on x86-64 and aarch64 khs_turn_over was measured to use 7 KiB of it, khs_compute_edges 3 KiB and every other call at most 2 KiB, and 4 KiB more where a
+ * dynamic linker looks up memcpy or memset in the call. A thread with a stack of 24 KiB is enough for every call. */
 #ifndef KHSAEMUDOL_H
 #define KHSAEMUDOL_H
 

@@ -161,7 +161,7 @@ pub struct Building {
     pub width: i32,
 }
 
-/// Builds the edges of linked segments in a room, and hands back those that were built. The segments learn their edges.
+/// Builds the edges of linked segments in the front of a room, and hands back those that were built; what stands behind them stays. The segments learn their edges.
 ///
 /// ```
 /// use khsaemudol::{compute_edges, Building, Dimension, Direction, Edge, Group, Order, Segment, MOST_EDGES};

@@ -324,7 +324,8 @@ fn building() {
     let mut segments = [side(Direction::Right, 80), side(Direction::Left, 0)];
     segments[0].set_link(Some(1));
     segments[1].set_link(Some(0));
-    let mut room = [at(5).with_mark(Mark::Stem); MOST_EDGES];
+    let full = at(5).with_mark(Mark::Stem);
+    let mut room = [full; MOST_EDGES];
     let edges =
         compute_edges(&mut segments, &mut room, &BUILDING).expect("the segments are accepted");
     assert_eq!(edges.iter().map(Edge::fpos).collect::<Vec<_>>(), [0, 80]);
@@ -332,7 +333,8 @@ fn building() {
         edges.iter().map(Edge::link).collect::<Vec<_>>(),
         [Some(1), Some(0)]
     );
-    assert_eq!(marks(room), [Mark::Nothing; MOST_EDGES]);
+    assert_eq!(marks([room[0], room[1]]), [Mark::Nothing; 2]);
+    assert_eq!(room[2..], [full; MOST_EDGES - 2]);
     assert_eq!(segments.map(|segment| segment.edge()), [Some(1), Some(0)]);
     assert_eq!(segments.map(|segment| segment.next()), [Some(0), Some(1)]);
 }
