@@ -5,12 +5,11 @@ use axis::kinds::Mark;
 use edges_in::edge::fit_in;
 use edges_in::edge::fix_in;
 use edges_in::edge::flag_in;
+use edges_in::edge::flags_in;
+use edges_in::edge::mark_in;
 use edges_in::edge::unzone_in;
 use fixed::width::WidthRule;
 use placing::place::linked_edge;
-use words::edge::EDGE_WORDS;
-use words::field::flags_at;
-use words::field::mark_at;
 use zone::zone::has_blue;
 use zone::zone::loses_link;
 use zone::zone::loses_own;
@@ -32,7 +31,7 @@ fn thin_in(words: &mut [i32], i: usize, skipped: bool)
     ensures { λ _. ⌜ Became (thinning i skipped) (now (words .entry)) (now (words .exit)) ⌝ }
 {
     if skipped {
-        let mut flags = flags_at(words, EDGE_WORDS * i + 3);
+        let mut flags = flags_in(words, i);
         flags.neutral = false;
         flag_in(words, i, flags);
         unzone_in(words, i);
@@ -58,7 +57,7 @@ pub fn zone_in(words: &mut [i32], anchor: Link, i: usize, fitted: i32)
     ensures { λ _. ⌜ Became (zoning anchor i fitted) (now (words .entry)) (now (words .exit)) ⌝ }
 {
     let edge = fit_in(words, i);
-    let mark = mark_at(words, EDGE_WORDS * i + 11);
+    let mark = mark_in(words, i);
     let marked = Edge { mark, ..edge };
     let zoned = put_on_zone(anchor, marked, fitted);
     let mark = zoned.mark;

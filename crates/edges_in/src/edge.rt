@@ -5,20 +5,23 @@ use axis::kinds::Direction;
 use axis::kinds::Link;
 use axis::kinds::Mark;
 use words::edge::EDGE_WORDS;
-use words::field::blue_at;
-use words::field::flags_at;
+use words::field::blue_of;
+use words::field::flags_of;
 use words::field::flags_word;
-use words::field::link_at;
+use words::field::link_of;
 use words::field::link_word;
+use words::field::mark_of;
 use words::field::mark_word;
-use words::word::word_at;
+use words::word::word_in;
 ghost use mathlib.Core.Path.{_≡_};
 ghost use Prim.Native.Nat.{_<_, _≤_, _+_, _*_};
 ghost use lib.ListN.{length, set};
 ghost use Rattle.axis.specs.Accepted.{Below};
 ghost use Rattle.axis.specs.Limits.{mostEdges};
 ghost use Rattle.axis.specs.Edge.{edgeAt};
-ghost use Rattle.words.specs.Edge.{edgeSize, edgesIn, wordOfEdge};
+ghost use Rattle.words.specs.Word.{wordAt};
+ghost use Rattle.words.specs.Field.{flagsOf, markOf};
+ghost use Rattle.words.specs.Edge.{edgeSize, flagsPlace, markPlace, edgesIn, wordOfEdge};
 ghost use Rattle.lent.specs.Lent.{edgesOf};
 ghost use Rattle.edges_in.specs.Whole.{Whole, reduced, Became, placing, flagging, fixing, unzoning, linking, serifing};
 
@@ -30,17 +33,33 @@ pub fn fit_in(words: &[i32], i: usize) -> Edge
     let at = EDGE_WORDS * i;
     Edge {
         fpos: 0,
-        opos: word_at(words, at + 1),
-        pos: word_at(words, at + 2),
-        flags: flags_at(words, at + 3),
+        opos: word_in(words, at + 1),
+        pos: word_in(words, at + 2),
+        flags: flags_of(word_in(words, at + 3)),
         dir: Direction::None,
-        blue: blue_at(words, at + 5),
-        link: link_at(words, at + 7),
+        blue: blue_of(word_in(words, at + 5), word_in(words, at + 6)),
+        link: link_of(word_in(words, at + 7)),
         serif: Link::None,
         first: 0,
         last: 0,
         mark: Mark::Nothing,
     }
+}
+
+// The flags of an edge.
+pub fn flags_in(words: &[i32], i: usize) -> Flags
+    requires { ⌜ Whole (now words) × (i < edgesIn (now words)) ⌝ }
+    ensures { λ r. ⌜ r ≡ flagsOf (wordAt (now (words .entry)) (wordOfEdge i flagsPlace)) ⌝ }
+{
+    flags_of(word_in(words, EDGE_WORDS * i + 3))
+}
+
+// The mark of an edge.
+pub fn mark_in(words: &[i32], i: usize) -> Mark
+    requires { ⌜ Whole (now words) × (i < edgesIn (now words)) ⌝ }
+    ensures { λ r. ⌜ r ≡ markOf (wordAt (now (words .entry)) (wordOfEdge i markPlace)) ⌝ }
+{
+    mark_of(word_in(words, EDGE_WORDS * i + 11))
 }
 
 // Writes the word of an edge in a field's place.
@@ -74,7 +93,7 @@ pub fn fix_in(words: &mut [i32], i: usize, pos: i32, mark: Mark)
     ensures { λ _. ⌜ Became (fixing i pos mark) (now (words .entry)) (now (words .exit)) ⌝ }
 {
     place_in(words, i, pos, mark);
-    let mut flags = flags_at(words, EDGE_WORDS * i + 3);
+    let mut flags = flags_in(words, i);
     flags.done = true;
     flag_in(words, i, flags);
 }

@@ -127,7 +127,7 @@ module _ (ws : List ℤ) (at n : ℕ) (few : n ≤ mostEdges) (room : at + edgeS
   words-hold (suc zero) h = inside-more (negsuc 16382) (pos 16383) (negsuc 2147483647) (pos 2147483647) (wordAt ws (at + 1)) refl refl (f .w1)
   words-hold (suc (suc zero)) h = inside-more (negsuc 16777215) (pos 16777216) (negsuc 2147483647) (pos 2147483647) (wordAt ws (at + 2)) refl refl (f .w2)
   words-hold (suc (suc (suc zero))) h = f .w3
-  words-hold (suc (suc (suc (suc zero)))) h = f .w4
+  words-hold (suc (suc (suc (suc zero)))) h = b .w4
   words-hold (suc (suc (suc (suc (suc zero))))) h = b .w5
   words-hold (suc (suc (suc (suc (suc (suc zero)))))) h = zone-word (wordAt ws (at + 5)) (wordAt ws (at + 6)) (b .w6)
   words-hold (suc (suc (suc (suc (suc (suc (suc zero))))))) h = link-word n (wordAt ws (at + 7)) (omega (arith, few)) (b .w7)

@@ -26,9 +26,9 @@ pub record FrontHeld (ws : List ℤ) (at : ℕ) : Type 0 where
   pub w1 : within mostUnits (wordAt ws (at + 1)) ≡ true
   pub w2 : within mostPos (wordAt ws (at + 2)) ≡ true
   pub w3 : inside (pos 0) (pos 15) (wordAt ws (at + 3)) ≡ true
-  pub w4 : inside (pos 0) (pos 4) (wordAt ws (at + 4)) ≡ true
 
 pub record BackHeld (ws : List ℤ) (at n : ℕ) : Type 0 where
+  pub w4 : inside (pos 0) (pos 4) (wordAt ws (at + 4)) ≡ true
   pub w5 : inside (pos 0) (pos 1) (wordAt ws (at + 5)) ≡ true
   pub w6 : zoneTest (wordAt ws (at + 5)) (wordAt ws (at + 6)) ≡ true
   pub w7 : inside (negsuc 0) (pos n -ℤ pos 1) (wordAt ws (at + 7)) ≡ true

@@ -5,6 +5,7 @@ use axis::limits::LEAST_UNITS;
 use axis::limits::MOST_EDGES;
 use axis::limits::MOST_POS;
 use axis::limits::MOST_UNITS;
+use lent::shown::both;
 use words::edge::EDGE_WORDS;
 use words::field::choice_of;
 ghost use mathlib.Core.Path.{_≡_};
@@ -57,31 +58,26 @@ fn zone_in(words: &[i32], at: usize) -> bool
     is_zero(fitted)
 }
 
-// Whether the first five words of an edge are accepted.
+// Whether the first four words of an edge are accepted: tested side by side, and not one behind the other.
 fn front_holds(words: &[i32], at: usize) -> bool
     requires { ⌜ at + edgeSize ≤ length (now words) ⌝ }
     ensures { λ r. ⌜ (r ≡ true → FrontHeld (now (words .entry)) at) ⌝ }
 {
-    if !in_at(words, at, -32768, 32767) {
-        return false;
-    }
-    if !in_at(words, at + 1, LEAST_UNITS, MOST_UNITS) {
-        return false;
-    }
-    if !in_at(words, at + 2, LEAST_POS, MOST_POS) {
-        return false;
-    }
-    if !in_at(words, at + 3, 0, 15) {
-        return false;
-    }
-    in_at(words, at + 4, 0, 4)
+    let fpos = in_at(words, at, -32768, 32767);
+    let opos = in_at(words, at + 1, LEAST_UNITS, MOST_UNITS);
+    let pos = in_at(words, at + 2, LEAST_POS, MOST_POS);
+    let flags = in_at(words, at + 3, 0, 15);
+    both(both(fpos, opos), both(pos, flags))
 }
 
-// Whether the other seven are, among so many edges.
+// Whether the other eight are, among so many edges.
 fn back_holds(words: &[i32], at: usize, n: usize) -> bool
     requires { ⌜ (at + edgeSize ≤ length (now words)) × (n ≤ mostEdges) ⌝ }
     ensures { λ r. ⌜ (r ≡ true → BackHeld (now (words .entry)) at n) ⌝ }
 {
+    if !in_at(words, at + 4, 0, 4) {
+        return false;
+    }
     if !in_at(words, at + 5, 0, 1) {
         return false;
     }

@@ -6,15 +6,16 @@ use super::kinds::Trail;
 use super::latin::latin_plan;
 use super::linked::linked_plan;
 use axis::edge::Edge;
-use axis::kinds::Blue;
 use axis::kinds::Group;
 use axis::kinds::Link;
+use zone::zone::has_blue;
 ghost use mathlib.Core.Path.{_≡_};
-ghost use mathlib.Core.Bool.{true};
+ghost use mathlib.Core.Bool.{true, _&&_};
 ghost use Rattle.signed.specs.Range.{Between};
 ghost use Rattle.axis.specs.Limits.{mostUnits};
 ghost use Rattle.fixed.specs.Width.{ruleHolds};
 ghost use Rattle.placing.specs.Steps.{InReach};
+ghost use Rattle.zone.specs.Zones.{hasBlue};
 ghost use Rattle.stems_plan.specs.Plan.{groupPlan, planOf};
 ghost use Rattle.stems_plan.specs.Steps.{BareWithout};
 
@@ -40,26 +41,14 @@ fn group_plan(
     }
 }
 
-// The plan for an edge and its link: an edge whose link has a blue zone is placed by that one alone.
-fn plan_of(
-    mode: Mode,
-    standards: &[i32],
-    edge: Edge,
-    edge2: Edge,
-    base: Edge,
-    anchor: Link,
-    is_before: bool,
-    trail: Trail,
-) -> Plan
-    requires { ⌜ ruleHolds (mode .rule) (now standards) ≡ true ⌝ }
-    requires { ⌜ InReach edge × InReach edge2 × InReach base × Between mostUnits mostUnits (trail .delta) ⌝ }
-    ensures { λ r. ⌜ r ≡ planOf mode (now (standards .entry)) edge edge2 base anchor «is_before» trail ⌝ }
+// Whether an edge is placed by its link alone: the fallback is not left out, and the link has a zone.
+fn falls_back(fallback: bool, edge2: Edge) -> bool
+    ensures { λ r. ⌜ r ≡ (fallback && hasBlue (edge2 .blue)) ⌝ }
 {
-    let blue = edge2.blue;
-    match blue {
-        Blue::None => group_plan(mode, standards, edge, edge2, base, anchor, is_before, trail),
-        Blue::Fitted(z) => linked_plan(mode, standards, edge, edge2, trail),
+    if fallback {
+        return has_blue(edge2);
     }
+    false
 }
 
 // The plan for an edge and its link, with the fallback for a link that has a blue zone, or without it where no link has one.
@@ -79,8 +68,8 @@ pub fn plan_for(
     requires { ⌜ BareWithout fallback edge2 ⌝ }
     ensures { λ r. ⌜ r ≡ planOf mode (now (standards .entry)) edge edge2 base anchor «is_before» trail ⌝ }
 {
-    if fallback {
-        return plan_of(mode, standards, edge, edge2, base, anchor, is_before, trail);
+    if falls_back(fallback, edge2) {
+        return linked_plan(mode, standards, edge, edge2, trail);
     }
     group_plan(mode, standards, edge, edge2, base, anchor, is_before, trail)
 }

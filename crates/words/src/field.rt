@@ -69,7 +69,7 @@ pub fn index_at(words: &[i32], i: usize) -> u16
 }
 
 // An index or none.
-fn link_of(word: i32) -> Link
+pub fn link_of(word: i32) -> Link
     ensures { λ r. ⌜ r ≡ linkOf word ⌝ }
 {
     if word < 0 {
@@ -92,13 +92,6 @@ pub fn choice_of(word: i32) -> bool
     word == 1
 }
 
-// The choice at a place.
-fn choice_at(words: &[i32], i: usize) -> bool
-    ensures { λ r. ⌜ r ≡ choiceOf (wordAt (now (words .entry)) i) ⌝ }
-{
-    choice_of(word_at(words, i))
-}
-
 // A direction.
 pub fn direction_of(word: i32) -> Direction
     ensures { λ r. ⌜ r ≡ directionOf word ⌝ }
@@ -118,7 +111,7 @@ pub fn direction_at(words: &[i32], i: usize) -> Direction
 }
 
 // A mark.
-fn mark_of(word: i32) -> Mark
+pub fn mark_of(word: i32) -> Mark
     ensures { λ r. ⌜ r ≡ markOf word ⌝ }
 {
     let number = size_of(word);
@@ -176,14 +169,21 @@ pub fn link_dir_of(word: i32) -> LinkDir
 }
 
 // A blue by two words, whether it is there and its fitted position.
+pub fn blue_of(present: i32, fitted: i32) -> Blue
+    ensures { λ r. ⌜ r ≡ blueOf present fitted ⌝ }
+{
+    if choice_of(present) {
+        return Blue::Fitted(fitted);
+    }
+    Blue::None
+}
+
+// The blue at a place.
 pub fn blue_at(words: &[i32], i: usize) -> Blue
     requires { ⌜ i ≤ 262144 ⌝ }
     ensures { λ r. ⌜ r ≡ blueOf (wordAt (now (words .entry)) i) (wordAt (now (words .entry)) (i + 1)) ⌝ }
 {
-    if choice_at(words, i) {
-        return Blue::Fitted(word_at(words, i + 1));
-    }
-    Blue::None
+    blue_of(word_at(words, i), word_at(words, i + 1))
 }
 
 // Whether a number is odd.
@@ -194,16 +194,23 @@ fn odd(n: usize) -> bool
 }
 
 // Flags.
-pub fn flags_at(words: &[i32], i: usize) -> Flags
-    ensures { λ r. ⌜ r ≡ flagsOf (wordAt (now (words .entry)) i) ⌝ }
+pub fn flags_of(word: i32) -> Flags
+    ensures { λ r. ⌜ r ≡ flagsOf word ⌝ }
 {
-    let n = size_of(word_at(words, i));
+    let n = size_of(word);
     Flags {
         round: odd(n),
         serif: odd(n / 2),
         done: odd(n / 4),
         neutral: odd(n / 8),
     }
+}
+
+// The flags at a place.
+pub fn flags_at(words: &[i32], i: usize) -> Flags
+    ensures { λ r. ⌜ r ≡ flagsOf (wordAt (now (words .entry)) i) ⌝ }
+{
+    flags_of(word_at(words, i))
 }
 
 // A 16-bit number as a word.

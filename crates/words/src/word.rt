@@ -1,6 +1,6 @@
 // The words of a list, read as numbers and counts, and written.
 ghost use mathlib.Core.Path.{_≡_};
-ghost use Prim.Native.Nat.{_+_, _%_, _≤_};
+ghost use Prim.Native.Nat.{_+_, _%_, _≤_, _<_};
 ghost use lib.ListN.{length};
 ghost use lib.IntN.{pos};
 ghost use Rattle.signed.specs.Parts.{up};
@@ -14,6 +14,14 @@ pub fn word_at(words: &[i32], i: usize) -> i32
         return words[i];
     }
     0
+}
+
+// A word that is there.
+pub fn word_in(words: &[i32], i: usize) -> i32
+    requires { ⌜ i < length (now words) ⌝ }
+    ensures { λ r. ⌜ r ≡ wordAt (now (words .entry)) i ⌝ }
+{
+    words[i]
 }
 
 // A word as a count, and 0 where it is below zero.

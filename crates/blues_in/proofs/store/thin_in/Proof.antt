@@ -4,14 +4,8 @@ use borrow.Author.Needs.{needs}
 use Rattle.blues_in.proofs.store.thin_in.Statement.{statement}
 use Rattle.blues_in.proofs.store.thin_in.Tie as tie
 
-mul-flags-at : tie.Need-mul-flags-at
-mul-flags-at c = search needs
-
-add-flags-at : tie.Need-add-flags-at
-add-flags-at c = search needs
-
-flags-at-requires : tie.Need-flags-at-requires
-flags-at-requires c κs = search needs
+flags-in-requires : tie.Need-flags-in-requires
+flags-in-requires c κs = search needs
 
 flag-in-requires : tie.Need-flag-in-requires
 flag-in-requires c κs = search needs
@@ -29,7 +23,7 @@ returns c =
     let f = a .before .before in
     let t = f .before .before in
     let s = t .before in
-    thin-law (s .args .words .now) _ _ (s .args .i) (s .args .skipped) (f .flags-at .result) (s .pre .0) (s .pre .1) (t .if1 .taken) (f .flags-at .ensures) (a .flag-in .ensures)
+    thin-law (s .args .words .now) _ _ (s .args .i) (s .args .skipped) (f .flags-in .result) (s .pre .0) (s .pre .1) (t .if1 .taken) (f .flags-in .ensures) (a .flag-in .ensures)
     (b .unzone-in .ensures)
 
 returns-2 : tie.Need-returns-2
@@ -39,9 +33,7 @@ pub thin-in-spec : {M : Type 1} → statement M
 thin-in-spec =
     tie.close
     (tie.spec
-    mul-flags-at
-    add-flags-at
-    flags-at-requires
+    flags-in-requires
     flag-in-requires
     unzone-in-requires
     same-length

@@ -10,14 +10,8 @@ use Rattle.blues_in.proofs.store.zone_in.Tie as tie
 fit-in-requires : tie.Need-fit-in-requires
 fit-in-requires c κs = search needs
 
-mul-mark-at : tie.Need-mul-mark-at
-mul-mark-at c = search needs
-
-add-mark-at : tie.Need-add-mark-at
-add-mark-at c = search needs
-
-mark-at-requires : tie.Need-mark-at-requires
-mark-at-requires c κs = search needs
+mark-in-requires : tie.Need-mark-in-requires
+mark-in-requires c κs = search needs
 
 put-on-zone-requires : tie.Need-put-on-zone-requires
 put-on-zone-requires c κs = search needs
@@ -35,7 +29,7 @@ returns c =
     let m = z .before .before .before .before .before in
     let e = m .before .before in
     let s = e .before .before in
-    zone-law (s .args .words .now) _ (s .args .anchor) (s .args .i) (s .args .fitted) (s .pre .0) (s .pre .1) (e .fit-in .ensures) (m .mark-at .ensures)
+    zone-law (s .args .words .now) _ (s .args .anchor) (s .args .i) (s .args .fitted) (s .pre .0) (s .pre .1) (e .fit-in .ensures) (m .mark-in .ensures)
     (ap (λ (x : Edge). x .mark) (z .put-on-zone .ensures)) (is (s .fits .fitted)) (f .fix-in .ensures)
 
 pub zone-in-spec : {M : Type 1} → statement M
@@ -43,9 +37,7 @@ zone-in-spec =
     tie.close
     (tie.spec
     fit-in-requires
-    mul-mark-at
-    add-mark-at
-    mark-at-requires
+    mark-in-requires
     put-on-zone-requires
     fix-in-requires
     same-length

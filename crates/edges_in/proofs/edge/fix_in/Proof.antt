@@ -8,14 +8,8 @@ use Rattle.edges_in.proofs.edge.fix_in.Tie as tie
 place-in-requires : tie.Need-place-in-requires
 place-in-requires c κs = search needs
 
-mul-flags-at : tie.Need-mul-flags-at
-mul-flags-at c = search needs
-
-add-flags-at : tie.Need-add-flags-at
-add-flags-at c = search needs
-
-flags-at-requires : tie.Need-flags-at-requires
-flags-at-requires c κs = search needs
+flags-in-requires : tie.Need-flags-in-requires
+flags-in-requires c κs = search needs
 
 flag-in-requires : tie.Need-flag-in-requires
 flag-in-requires c κs = search needs
@@ -29,17 +23,15 @@ returns c =
     let flags = put .before .before in
     let one = flags .before .before .before in
     let s = one .before .before in
-    fix-law (s .args .words .now) _ _ (s .args .i) (s .args .pos) _ (s .args .mark) (flags .flags-at .result) (s .pre .1) (s .pre .0) (is (s .fits .pos)) (one .place-in .ensures)
-    (flags .flags-at .ensures) (put .flag-in .ensures)
+    fix-law (s .args .words .now) _ _ (s .args .i) (s .args .pos) _ (s .args .mark) (flags .flags-in .result) (s .pre .1) (s .pre .0) (is (s .fits .pos)) (one .place-in .ensures)
+    (flags .flags-in .ensures) (put .flag-in .ensures)
 
 pub fix-in-spec : {M : Type 1} → statement M
 fix-in-spec =
     tie.close
     (tie.spec
     place-in-requires
-    mul-flags-at
-    add-flags-at
-    flags-at-requires
+    flags-in-requires
     flag-in-requires
     same-length
     returns)

@@ -15,14 +15,23 @@ in-at-requires c κs = search needs
 returns : tie.Need-returns
 returns c = λ h. absurd (clash h)
 
+add-in-at-2 : tie.Need-add-in-at-2
+add-in-at-2 c = search needs
+
+in-at-requires-2 : tie.Need-in-at-requires-2
+in-at-requires-2 c κs = search needs
+
+returns-2 : tie.Need-returns-2
+returns-2 c = λ h. absurd (clash h)
+
 add-zone-in : tie.Need-add-zone-in
 add-zone-in c = search needs
 
 zone-in-requires : tie.Need-zone-in-requires
 zone-in-requires c κs = search needs
 
-returns-2 : tie.Need-returns-2
-returns-2 c = λ h. absurd (clash h)
+returns-3 : tie.Need-returns-3
+returns-3 c = λ h. absurd (clash h)
 
 add-link-in : tie.Need-add-link-in
 add-link-in c = search needs
@@ -30,23 +39,14 @@ add-link-in c = search needs
 link-in-requires : tie.Need-link-in-requires
 link-in-requires c κs = search needs
 
-returns-3 : tie.Need-returns-3
-returns-3 c = λ h. absurd (clash h)
+returns-4 : tie.Need-returns-4
+returns-4 c = λ h. absurd (clash h)
 
 add-link-in-2 : tie.Need-add-link-in-2
 add-link-in-2 c = search needs
 
 link-in-requires-2 : tie.Need-link-in-requires-2
 link-in-requires-2 c κs = search needs
-
-returns-4 : tie.Need-returns-4
-returns-4 c = λ h. absurd (clash h)
-
-add-in-at-2 : tie.Need-add-in-at-2
-add-in-at-2 c = search needs
-
-in-at-requires-2 : tie.Need-in-at-requires-2
-in-at-requires-2 c κs = search needs
 
 returns-5 : tie.Need-returns-5
 returns-5 c = λ h. absurd (clash h)
@@ -67,8 +67,19 @@ in-at-requires-4 : tie.Need-in-at-requires-4
 in-at-requires-4 c κs = search needs
 
 returns-7 : tie.Need-returns-7
-returns-7 c =
-    let e6 = c .before in
+returns-7 c = λ h. absurd (clash h)
+
+add-in-at-5 : tie.Need-add-in-at-5
+add-in-at-5 c = search needs
+
+in-at-requires-5 : tie.Need-in-at-requires-5
+in-at-requires-5 c κs = search needs
+
+returns-8 : tie.Need-returns-8
+returns-8 c =
+    let e7 = c .before in
+    let a7 = e7 .before in
+    let e6 = a7 .before in
     let a6 = e6 .before in
     let e5 = a6 .before in
     let a5 = e5 .before in
@@ -82,13 +93,14 @@ returns-7 c =
     let a1 = e1 .before in
     let s = a1 .before in
     λ h. record {
-      w5 = sym (a1 .in-at .ensures) ∙ not-false _ (e1 .if1 .left);
-      w6 = sym (a2 .zone-in .ensures ∙ zone-at (s .args .words .now) (s .args .at)) ∙ not-false _ (e2 .if2 .left);
-      w7 = sym (a3 .link-in .ensures) ∙ not-false _ (e3 .if3 .left);
-      w8 = sym (a4 .link-in2 .ensures) ∙ not-false _ (e4 .if4 .left);
-      w9 = sym (a5 .in-at2 .ensures) ∙ not-false _ (e5 .if5 .left);
-      w10 = sym (a6 .in-at3 .ensures) ∙ not-false _ (e6 .if6 .left);
-      w11 = sym (c .in-at4 .ensures) ∙ h;
+      w4 = sym (a1 .in-at .ensures) ∙ not-false _ (e1 .if1 .left);
+      w5 = sym (a2 .in-at2 .ensures) ∙ not-false _ (e2 .if2 .left);
+      w6 = sym (a3 .zone-in .ensures ∙ zone-at (s .args .words .now) (s .args .at)) ∙ not-false _ (e3 .if3 .left);
+      w7 = sym (a4 .link-in .ensures) ∙ not-false _ (e4 .if4 .left);
+      w8 = sym (a5 .link-in2 .ensures) ∙ not-false _ (e5 .if5 .left);
+      w9 = sym (a6 .in-at3 .ensures) ∙ not-false _ (e6 .if6 .left);
+      w10 = sym (a7 .in-at4 .ensures) ∙ not-false _ (e7 .if7 .left);
+      w11 = sym (c .in-at5 .ensures) ∙ h;
     }
 
 pub back-holds-spec : {M : Type 1} → statement M
@@ -98,21 +110,24 @@ back-holds-spec =
     add-in-at
     in-at-requires
     returns
-    add-zone-in
-    zone-in-requires
-    returns-2
-    add-link-in
-    link-in-requires
-    returns-3
-    add-link-in-2
-    link-in-requires-2
-    returns-4
     add-in-at-2
     in-at-requires-2
+    returns-2
+    add-zone-in
+    zone-in-requires
+    returns-3
+    add-link-in
+    link-in-requires
+    returns-4
+    add-link-in-2
+    link-in-requires-2
     returns-5
     add-in-at-3
     in-at-requires-3
     returns-6
     add-in-at-4
     in-at-requires-4
-    returns-7)
+    returns-7
+    add-in-at-5
+    in-at-requires-5
+    returns-8)

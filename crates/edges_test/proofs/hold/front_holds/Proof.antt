@@ -1,7 +1,6 @@
 -- `edges_test::hold::front_holds` meets its contract. Assumes nothing.
-use borrow.Author.Tests.{not-false}
 use mathlib.Core.Path.{sym, _∙_}
-use Rattle.edges_test.proofs.Holding.{clash}
+use Rattle.refusals.proofs.Tests.{and-first, and-second}
 use borrow.Author.Needs.{needs}
 use Rattle.edges_test.proofs.hold.front_holds.Statement.{statement}
 use Rattle.edges_test.proofs.hold.front_holds.Tie as tie
@@ -9,17 +8,11 @@ use Rattle.edges_test.proofs.hold.front_holds.Tie as tie
 in-at-requires : tie.Need-in-at-requires
 in-at-requires c κs = search needs
 
-returns : tie.Need-returns
-returns c = λ h. absurd (clash h)
-
 add-in-at : tie.Need-add-in-at
 add-in-at c = search needs
 
 in-at-requires-2 : tie.Need-in-at-requires-2
 in-at-requires-2 c κs = search needs
-
-returns-2 : tie.Need-returns-2
-returns-2 c = λ h. absurd (clash h)
 
 add-in-at-2 : tie.Need-add-in-at-2
 add-in-at-2 c = search needs
@@ -27,57 +20,52 @@ add-in-at-2 c = search needs
 in-at-requires-3 : tie.Need-in-at-requires-3
 in-at-requires-3 c κs = search needs
 
-returns-3 : tie.Need-returns-3
-returns-3 c = λ h. absurd (clash h)
-
 add-in-at-3 : tie.Need-add-in-at-3
 add-in-at-3 c = search needs
 
 in-at-requires-4 : tie.Need-in-at-requires-4
 in-at-requires-4 c κs = search needs
 
-returns-4 : tie.Need-returns-4
-returns-4 c = λ h. absurd (clash h)
+both-requires : tie.Need-both-requires
+both-requires c κs = search needs
 
-add-in-at-4 : tie.Need-add-in-at-4
-add-in-at-4 c = search needs
+both-requires-2 : tie.Need-both-requires-2
+both-requires-2 c κs = search needs
 
-in-at-requires-5 : tie.Need-in-at-requires-5
-in-at-requires-5 c κs = search needs
+both-requires-3 : tie.Need-both-requires-3
+both-requires-3 c κs = search needs
 
-returns-5 : tie.Need-returns-5
-returns-5 c =
-    let e4 = c .before in
-    let a4 = e4 .before in
-    let e3 = a4 .before in
-    let a3 = e3 .before in
-    let e2 = a3 .before in
-    let a2 = e2 .before in
-    let e1 = a2 .before in
-    let a1 = e1 .before in
-    λ h. record {
-      w0 = sym (a1 .in-at .ensures) ∙ not-false _ (e1 .if1 .left);
-      w1 = sym (a2 .in-at2 .ensures) ∙ not-false _ (e2 .if2 .left);
-      w2 = sym (a3 .in-at3 .ensures) ∙ not-false _ (e3 .if3 .left);
-      w3 = sym (a4 .in-at4 .ensures) ∙ not-false _ (e4 .if4 .left);
-      w4 = sym (c .in-at5 .ensures) ∙ h;
-    }
+returns : tie.Need-returns
+returns c =
+    let b2 = c .before in
+    let b1 = b2 .before in
+    let a4 = b1 .before in
+    let a3 = a4 .before in
+    let a2 = a3 .before in
+    let a1 = a2 .before in
+    λ h.
+        let all = sym (c .both3 .ensures) ∙ h in
+        let low = sym (b1 .both .ensures) ∙ and-first (b1 .both .result) (b2 .both2 .result) all in
+        let high = sym (b2 .both2 .ensures) ∙ and-second (b1 .both .result) (b2 .both2 .result) all in
+        record {
+          w0 = sym (a1 .in-at .ensures) ∙ and-first (a1 .in-at .result) (a2 .in-at2 .result) low;
+          w1 = sym (a2 .in-at2 .ensures) ∙ and-second (a1 .in-at .result) (a2 .in-at2 .result) low;
+          w2 = sym (a3 .in-at3 .ensures) ∙ and-first (a3 .in-at3 .result) (a4 .in-at4 .result) high;
+          w3 = sym (a4 .in-at4 .ensures) ∙ and-second (a3 .in-at3 .result) (a4 .in-at4 .result) high;
+        }
 
 pub front-holds-spec : {M : Type 1} → statement M
 front-holds-spec =
     tie.close
     (tie.spec
     in-at-requires
-    returns
     add-in-at
     in-at-requires-2
-    returns-2
     add-in-at-2
     in-at-requires-3
-    returns-3
     add-in-at-3
     in-at-requires-4
-    returns-4
-    add-in-at-4
-    in-at-requires-5
-    returns-5)
+    both-requires
+    both-requires-2
+    both-requires-3
+    returns)
