@@ -1,5 +1,6 @@
 -- The laws by subject, each over plain variables: `Tests`, tests of numbers and of every place; `Acceptance`, from tests that hold to facts; `Accepting`, and back; `Rings`,
--- walks along rings; `Visits`, the visits of a pass; `Only`, changes of edges; `Alike`, edges that are alike but for their marks.
+-- walks along rings; `Visits`, the visits of a pass; `Only`, changes of edges; `Alike`, edges that are alike but for their marks; `Declared`, what every value of the
+-- declared types meets.
 pub mod Tests
 pub mod Acceptance
 pub mod Accepting
@@ -7,3 +8,4 @@ pub mod Rings
 pub mod Visits
 pub mod Only
 pub mod Alike
+pub mod Declared

@@ -1,13 +1,15 @@
 -- What one call hands to the next: a table that no call over it refuses on its account, and what every value of the declared types is.
 use mathlib.Core.Path.{_≡_}
 use mathlib.Core.Bool.{true}
-use Prim.Native.Nat.{ℕ}
+use Prim.Native.Nat.{ℕ, _<_}
 use lib.IntN.{ℤ}
 use lib.ListN.{length}
 use Rattle.signed.specs.Range.{Between}
 use Rattle.axis.specs.declared.edge.Axis.{Axis}
+use Rattle.axis.specs.declared.edge.Edge.{Edge}
 use Rattle.axis.specs.declared.segment.Segment.{Segment}
 use Rattle.axis.specs.declared.segment.Segments.{Segments}
+use Rattle.axis.specs.Accepted.{Below}
 use Rattle.axis.specs.Limits.{mostEdges, mostSegments}
 use Rattle.axis.specs.Refusals.{edgesShort, edgesIndexed, edgesInRange, segmentsShort, segmentsIndexed, segmentsInRange}
 use Rattle.axis.specs.Segment.{segmentAt}
@@ -27,7 +29,7 @@ pub record SegmentsAccepted (t : Segments) : Type 0 where
 
 -- ---- values of the declared types
 -- Definitions have numbers of no width and lists of any length. What a call receives has the widths and lengths of its types, and this is all that a theorem here
--- uses of them.
+-- uses of them. That every value of these types is so: proofs/Declared.antt.
 -- a number of 16 bits
 abbrev pub Short : ℤ → Type 0
 Short z = Between 32768 32767 z
@@ -42,6 +44,14 @@ pub record TypedSegment (s : Segment) : Type 0 where
 pub record Typed (t : Segments) : Type 0 where
   pub places : length (t .segments) ≡ mostSegments
   pub segment : (i : ℕ) → TypedSegment (segmentAt t i)
+
+-- the font position of an edge is such, and its indices are of 16 bits too
+pub record TypedEdge (e : Edge) : Type 0 where
+  pub fpos : Short (e .fpos)
+  pub link : Below 65536 (e .link)
+  pub serif : Below 65536 (e .serif)
+  pub first : e .first < 65536
+  pub last : e .last < 65536
 
 -- an axis has all its places
 pub record TypedAxis (axis : Axis) : Type 0 where

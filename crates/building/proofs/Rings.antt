@@ -76,10 +76,10 @@ marks-in next k (m ∷ ms) u i h l = ⊎-elim
     here e = let q = getD-set-same (u .segments) m (memberOf (segmentAt u m) k (getD next m 0)) emptySegment (rw e at l) in rw e (record { edge = rw q refl; behind = rw q refl })
 
 -- ---- all edges
-module _ (t : Segments) (s : State) (whole : length (t .segments) ≡ mostSegments) where
+module _ (t : Segments) (s : State) (T : Typed t) where
   clear-length : (n : ℕ) → length (clear n t .segments) ≡ mostSegments
   unfolding clear
-  clear-length zero = whole
+  clear-length zero = T .places
   clear-length (suc n) = length-set (clear n t .segments) n (forgotten (segmentAt (clear n t) n)) ∙ clear-length n
 
   groups-length : (n : ℕ) → length (groupMarks s n (cleared t) .segments) ≡ mostSegments
@@ -143,7 +143,7 @@ module _ (t : Segments) (r : Rules) (W : SegmentsWithin t) (T : Typed t) where
   below k h = members-below t r (not (r .cjk)) s (t .len) k (W .few) G h
 
   member : (k : ℕ) → k < s .count → (x : ℕ) → 0 < times x (group s k) → Member (s .next) k x (groupMarks s (s .count) (cleared t))
-  member k h x p = groups-in t s (T .places) (G .once) k x (lt-of-lt-of-le (below k h x p) (W .few)) p (s .count) h
+  member k h x p = groups-in t s T (G .once) k x (lt-of-lt-of-le (below k h x p) (W .few)) p (s .count) h
 
   first-is : (k : ℕ) → edgeAt (builtEdges t r s) k .first ≡ headOr 0 (group s k)
   first-is k = of-first t r s (shown t r s .full) (shown t r s .axis) (shown t r s .next) refl k
@@ -184,7 +184,7 @@ module _ (t : Segments) (r : Rules) (W : SegmentsWithin t) (T : Typed t) where
   -- and no others have
   every-one : (k i : ℕ) → i < builtSegments t s .len → segmentAt (builtSegments t s) i .edge ≡ Links.To k → 0 < times i (group s k)
   unfolding builtSegments
-  every-one k i l e = let size = rows t s (λ k x h p. below k h x p) .size in groups-own t s (T .places) k i (lt-of-lt-of-le (rw size at l) (W .few)) (rw size at l) (s .count) e
+  every-one k i l e = let size = rows t s (λ k x h p. below k h x p) .size in groups-own t s T k i (lt-of-lt-of-le (rw size at l) (W .few)) (rw size at l) (s .count) e
 
   -- every ring is sound
   pub sound : (k : ℕ) → k < s .count → Sound (builtEdges t r s) (builtSegments t s) k

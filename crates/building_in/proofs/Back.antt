@@ -13,13 +13,14 @@ use Rattle.axis.specs.declared.edge.Axis.{Axis}
 use Rattle.axis.specs.declared.kinds.Dimension.{Dimension}
 use Rattle.axis.specs.declared.kinds.Direction.the-variants as Directions
 use Rattle.axis.specs.Edge.{emptyEdge, edgeAt}
+use Rattle.axis.specs.Handed.{TypedEdge, TypedAxis}
 use Rattle.axis.specs.Limits.{mostEdges}
 use Rattle.words.specs.Word.{wordAt, firsts, joined, table}
 use Rattle.words.specs.Edge.{edgeSize, wordOfEdge, edgesIn, edgeFrom, edgeInRun, axisRun, flatAxis, edgeWords, edgeWordsAt}
 use Rattle.words.proofs.Tables.{firsts-length, joined-length}
 use Rattle.words.proofs.Edges.{edge-lengths}
 use Rattle.words.proofs.Places.{firsts-at, joined-at}
-use Rattle.words.proofs.RoundTrip.{EdgeFits, edge-back}
+use Rattle.words.proofs.RoundTrip.{edge-back}
 use Rattle.edges_in.specs.Whole.{Whole, axisIn}
 use Rattle.edges_in.proofs.Wholes.{axis-long}
 
@@ -59,8 +60,8 @@ edge-moved ws vs at h =
       h 11 (omega arith),
     )
 
--- ---- the words of the first n edges of an axis, whose numbers fit their types
-module _ (axis : Axis) (n : ℕ) (few : n ≤ mostEdges) (fits : (k : ℕ) → k < n → EdgeFits (edgeAt axis k)) where
+-- ---- the words of the first n edges of an axis, whose numbers are of their types
+module _ (axis : Axis) (n : ℕ) (few : n ≤ mostEdges) (typed : (k : ℕ) → k < n → TypedEdge (edgeAt axis k)) where
   abbrev words : List ℤ
   words = joined (edgeWordsAt axis) n
 
@@ -74,7 +75,7 @@ module _ (axis : Axis) (n : ℕ) (few : n ≤ mostEdges) (fits : (k : ℕ) → k
   word-is i j h b = joined-at (edgeWordsAt axis) edgeSize (edge-lengths axis) n i j h b
 
   read : (i : ℕ) → i < n → edgeFrom words (edgeSize * i) ≡ edgeAt axis i
-  read i h = edge-moved words (edgeWordsAt axis i) (edgeSize * i) (λ (k : ℕ) (l : k < edgeSize). word-is i k h l) ∙ edge-back (edgeAt axis i) (fits i h)
+  read i h = edge-moved words (edgeWordsAt axis i) (edgeSize * i) (λ (k : ℕ) (l : k < edgeSize). word-is i k h l) ∙ edge-back (edgeAt axis i) (typed i h)
 
   below : (i : ℕ) → i < edgesIn words → i < n
   below i h = omega (arith, count-back)
@@ -87,7 +88,7 @@ module _ (axis : Axis) (n : ℕ) (few : n ≤ mostEdges) (fits : (k : ℕ) → k
   }
 
   -- the axis that they are read as has its edges
-  module _ (places : length (axis .edges) ≡ mostEdges) (empty : (k : ℕ) → n ≤ k → k < mostEdges → edgeAt axis k ≡ emptyEdge) where
+  module _ (whole : TypedAxis axis) (empty : (k : ℕ) → n ≤ k → k < mostEdges → edgeAt axis k ≡ emptyEdge) where
     abbrev run : List Edge
     run = table mostEdges emptyEdge (edgeInRun words 0) n
 
@@ -111,4 +112,4 @@ module _ (axis : Axis) (n : ℕ) (few : n ≤ mostEdges) (fits : (k : ℕ) → k
         ap (λ (k : ℕ). record { dim = d; «major_dir» = Directions.None; edges = table mostEdges emptyEdge (edgeInRun words 0) (min k mostEdges); len = k }) count-back
         ∙ ap (λ (k : ℕ). record { dim = d; «major_dir» = Directions.None; edges = table mostEdges emptyEdge (edgeInRun words 0) k; len = n }) q
         ∙ ap (λ (es : List Edge). record { dim = d; «major_dir» = Directions.None; edges = es; len = n })
-        (ext-getD emptyEdge run (axis .edges) (long d ∙ sym places) (λ (k : ℕ) (h : k < length run). run-at k (omega (arith, long d))))
+        (ext-getD emptyEdge run (axis .edges) (long d ∙ sym (whole .places)) (λ (k : ℕ) (h : k < length run). run-at k (omega (arith, long d))))

@@ -9,7 +9,7 @@ use borrow.Author.Tests.{lt-ltb}
 use lib.Dec.{eqb, ltb}
 use lib.IntN.{ℤ, pos}
 use lib.ListN.{length, getD, length-map}
-use mir.Syntax.{w16, w32}
+use mir.Syntax.{w32}
 use mir.Val.{SFits}
 use Rattle.signed.proofs.Choices.{either-way}
 use Rattle.signed.proofs.Signed.{fits-in, lt-or-le}
@@ -23,6 +23,7 @@ use Rattle.axis.specs.declared.segment.Segment.{Segment}
 use Rattle.axis.specs.declared.segment.Segments.{Segments}
 use Rattle.axis.specs.Accepted.{SegmentsWithin}
 use Rattle.axis.specs.Edge.{emptyEdge, edgeAt, withLast}
+use Rattle.axis.specs.Handed.{Typed, TypedEdge, TypedAxis}
 use Rattle.axis.specs.Limits.{mostEdges, mostSegments}
 use Rattle.axis.specs.Ring.{walk, ends, times}
 use Rattle.axis.specs.Segment.{segmentAt}
@@ -38,7 +39,6 @@ use Rattle.building.proofs.Joins.{last-good}
 use Rattle.words.specs.Edge.{edgesIn, edgeWords, edgeWordsAt}
 use Rattle.words.specs.Segment.{segmentsIn, flatSegments}
 use Rattle.words.specs.Word.{joined}
-use Rattle.words.proofs.RoundTrip.{EdgeFits}
 use Rattle.words.proofs.Typed.{flat-typed}
 use Rattle.edges_in.specs.Whole.{Whole, axisIn}
 use Rattle.joining_in.specs.Reading.{wordsOf}
@@ -78,10 +78,10 @@ module _ (t : Segments) (scale : ℤ) where
   between-is ws [] a b h p q e = absurd (omega arith)
   between-is ws (m ∷ ms) a b h p q e = λ i. withLast (newEdge (e i) scale (p i)) (q i)
 
-  group-fits : (g : List ℕ) → ((x : ℕ) → 0 < times x g → x < 65536) → ((x : ℕ) → SFits w16 (segmentAt t x .pos)) → 0 < length g → EdgeFits (edgeOf t scale g)
-  group-fits [] b f h = absurd (omega arith)
-  group-fits (m ∷ ms) b f h =
-      record { fpos = f m; link = below-none 65536; serif = below-none 65536; first = b m (times-head m ms); last = b (lastOf m ms) (last-in (m ∷ ms) h) }
+  group-typed : (g : List ℕ) → ((x : ℕ) → 0 < times x g → x < 65536) → Typed t → 0 < length g → TypedEdge (edgeOf t scale g)
+  group-typed [] b T h = absurd (omega arith)
+  group-typed (m ∷ ms) b T h =
+      record { fpos = T .segment m .pos; link = below-none 65536; serif = below-none 65536; first = b m (times-head m ms); last = b (lastOf m ms) (last-in (m ∷ ms) h) }
 
 module _ (ws : List ℤ) (r : Rules) (W : SegmentsWithin (flatSegments ws)) (J : Joinable (flatSegments ws) r) {first last next : List ℕ} {full : Bool} {count : ℕ}
     (L : Listed (lastState (flatSegments ws) r) first last next full count) where
@@ -133,26 +133,26 @@ module _ (ws : List ℤ) (r : Rules) (W : SegmentsWithin (flatSegments ws)) (J :
   pub listed-words : joined (listedWords ws (r .scale) first last) count ≡ joined (edgeWordsAt edges) count
   listed-words = joined-alike _ _ count (λ (k : ℕ) (h : k < count). ap edgeWords (listed-edge k h))
 
-  edge-fits : (k : ℕ) → k < count → EdgeFits (edgeAt edges k)
-  edge-fits k h =
-      subst EdgeFits (sym (edge-at k))
-      (group-fits t (r .scale) (group s k) (λ (x : ℕ) (p : 0 < times x (group s k)). omega (arith, members k h x p, W .few)) (λ (x : ℕ). fits-in w16 (flat-typed ws .segment x .pos) tt tt) (some k h))
+  edge-typed : (k : ℕ) → k < count → TypedEdge (edgeAt edges k)
+  edge-typed k h =
+      subst TypedEdge (sym (edge-at k))
+      (group-typed t (r .scale) (group s k) (λ (x : ℕ) (p : 0 < times x (group s k)). omega (arith, members k h x p, W .few)) (flat-typed ws) (some k h))
 
-  places : length (edges .edges) ≡ mostEdges
+  typed : TypedAxis edges
   unfolding shown
-  places = rw length-map (G .places)
+  typed = record { places = rw length-map (G .places) }
 
   empty : (k : ℕ) → count ≤ k → k < mostEdges → edgeAt edges k ≡ emptyEdge
   empty k h b = edge-at k ∙ ap (edgeOf t (r .scale)) (G .unused k (omega (arith, L .counts)) b)
 
   pub listed-count : edgesIn (joined (edgeWordsAt edges) count) ≡ count
-  listed-count = count-back edges count few-listed edge-fits
+  listed-count = count-back edges count few-listed edge-typed
 
   pub listed-whole : Whole (joined (edgeWordsAt edges) count)
-  listed-whole = whole-back edges count few-listed edge-fits
+  listed-whole = whole-back edges count few-listed edge-typed
 
   pub listed-axis : (d : Dimension) → axisIn (joined (edgeWordsAt edges) count) d ≡ record { dim = d; «major_dir» = Directions.None; edges = edges .edges; len = count }
-  listed-axis = axis-back edges count few-listed edge-fits places empty
+  listed-axis = axis-back edges count few-listed edge-typed typed empty
 
   -- ---- their rings
   pub listed-walk : (k : ℕ) → k < count → walk (nextIn next) (getD last k 0) mostSegments (getD first k 0) ≡ group s k

@@ -1,6 +1,5 @@
--- `Declared`: what every value of the declared types is. `Handed`: what each call hands back with answer 0 is accepted by the calls that come behind it.
+-- `Handed`: what each call hands back with answer 0 is accepted by the calls that come behind it.
 -- `Guard`: built edges keep their order where the guard finds nothing. `Pairs`: which stems it can find lost.
-pub mod Declared
 pub mod Handed
 pub mod Guard
 pub mod Pairs

@@ -1,16 +1,15 @@
 -- The numbers that the rounds form of segments: gaps of coordinates of 16 bits are within document 01's table, products of scores, lens and distances fit 32
 -- bits, and the whole hands on segments within the table.
 use mathlib.Core.Path.{_≡_, sym, subst}
-use Prim.Native.Nat.{ℕ, _^_, _<_}
+use Prim.Native.Nat.{ℕ, _<_}
 use native.Mathlib.Omega.{arith}
 use lib.IntN.{ℤ, pos, _-ℤ_, _*ℤ_}
-use lib.Signed.{mag, ltZ, _≤ℤ_}
-use mir.Syntax.{w16, w32}
-use mir.Val.{SFits, hbits}
+use lib.Signed.{ltZ, _≤ℤ_}
+use mir.Syntax.{w32}
+use mir.Val.{SFits}
 use Rattle.signed.specs.Range.{Between}
 use Rattle.signed.proofs.Signed.{signed, sub-law, fits-prod}
 use Rattle.signed.proofs.Choices.{either-way}
-use Rattle.signed.proofs.Reading.{short}
 use Rattle.axis.specs.declared.kinds.Direction.{Direction}
 use Rattle.axis.specs.declared.kinds.Link.{Link}
 use Rattle.axis.specs.declared.segment.Segment.{Segment}
@@ -27,9 +26,6 @@ use Rattle.linking_rounds.proofs.Kept.{Inside, linked-kept}
 use Rattle.linking_rounds.proofs.Within as Within
 
 -- ---- coordinates of 16 bits
-pub typed-segment : (s : Segment) → mag (s .pos) < 2 ^ hbits w16 → mag (s .«min_coord») < 2 ^ hbits w16 → mag (s .«max_coord») < 2 ^ hbits w16 → TypedSegment s
-typed-segment s p l h = record { pos = short (s .pos) p; low = short (s .«min_coord») l; high = short (s .«max_coord») h }
-
 larger-short : (x y : ℤ) → Short x → Short y → Short (maxZ x y)
 unfolding maxZ
 larger-short x y f g = either-way Short (ltZ x y) y x g f

@@ -1,13 +1,9 @@
--- Reading the words of an edge or of a segment gives it back.
+-- Reading the words of an edge gives it back.
 use mathlib.Core.Path.{_≡_, refl, sym, ap}
 use mathlib.Core.Bool.{Bool, true, false}
 use Prim.Native.Nat.{ℕ, _<_}
 use native.Mathlib.Nat.{mod-eq-of-lt}
-use native.Mathlib.Omega.{arith}
 use lib.IntN.{ℤ, pos}
-use mir.Syntax.{w16}
-use mir.Val.{SFits}
-use Rattle.signed.proofs.Signed.{range}
 use Rattle.axis.specs.declared.flags.Flags.{Flags}
 use Rattle.axis.specs.declared.kinds.Blue.{Blue}
 use Rattle.axis.specs.declared.kinds.Blue.the-variants as Blues
@@ -18,16 +14,15 @@ use Rattle.axis.specs.declared.kinds.Link.the-variants as Links
 use Rattle.axis.specs.declared.kinds.Mark.{Mark}
 use Rattle.axis.specs.declared.kinds.Mark.the-variants as Marks
 use Rattle.axis.specs.declared.edge.Edge.{Edge}
-use Rattle.axis.specs.declared.segment.Segment.{Segment}
 use Rattle.axis.specs.Accepted.{Below}
+use Rattle.axis.specs.Handed.{Short, TypedEdge}
 use Rattle.words.specs.Field.{shortOf, indexOf, linkOf, choiceOf, directionOf, blueOf, flagsOf, markOf, linkWord, directionWord, presentWord, fittedWord, flagsWord, markWord}
 use Rattle.words.specs.Edge.{edgeFrom, edgeWords}
-use Rattle.words.specs.Segment.{segmentFrom, segmentWords}
 use Rattle.words.proofs.Fields.{short-is}
 
 -- ---- fields
-short-back : (z : ℤ) → SFits w16 z → shortOf z ≡ z
-short-back z h = sym (short-is z (omega (arith, range h)) (omega (arith, range h)))
+short-back : (z : ℤ) → Short z → shortOf z ≡ z
+short-back z h = sym (short-is z (h .low) (h .high))
 
 index-back : (k : ℕ) → k < 65536 → indexOf (pos k) ≡ k
 index-back k h = mod-eq-of-lt h
@@ -85,15 +80,8 @@ flags-back f = by (f .round) (f .serif) (f .done) (f .neutral)
     by false false false true = refl
     by false false false false = refl
 
--- ---- records whose numbers fit their types
-pub record EdgeFits (e : Edge) : Type 0 where
-  pub fpos : SFits w16 (e .fpos)
-  pub link : Below 65536 (e .link)
-  pub serif : Below 65536 (e .serif)
-  pub first : e .first < 65536
-  pub last : e .last < 65536
-
-pub edge-back : (e : Edge) → EdgeFits e → edgeFrom (edgeWords e) 0 ≡ e
+-- ---- edges
+pub edge-back : (e : Edge) → TypedEdge e → edgeFrom (edgeWords e) 0 ≡ e
 unfolding edgeFrom edgeWords
 edge-back e h =
     rw (
@@ -106,36 +94,4 @@ edge-back e h =
       index-back (e .first) (h .first),
       index-back (e .last) (h .last),
       mark-back (e .mark),
-    )
-
-pub record SegmentFits (s : Segment) : Type 0 where
-  pub pos : SFits w16 (s .pos)
-  pub delta : SFits w16 (s .delta)
-  pub min : SFits w16 (s .«min_coord»)
-  pub max : SFits w16 (s .«max_coord»)
-  pub height : SFits w16 (s .height)
-  pub link : Below 65536 (s .link)
-  pub serif : Below 65536 (s .serif)
-  pub first : s .first < 65536
-  pub last : s .last < 65536
-  pub edge : Below 65536 (s .edge)
-  pub next : Below 65536 (s .next)
-
-pub segment-back : (s : Segment) → SegmentFits s → segmentFrom (segmentWords s) 0 ≡ s
-unfolding segmentFrom segmentWords
-segment-back s h =
-    rw (
-      flags-back (s .flags),
-      direction-back (s .dir),
-      short-back (s .pos) (h .pos),
-      short-back (s .delta) (h .delta),
-      short-back (s .«min_coord») (h .min),
-      short-back (s .«max_coord») (h .max),
-      short-back (s .height) (h .height),
-      link-back (s .link) (h .link),
-      link-back (s .serif) (h .serif),
-      index-back (s .first) (h .first),
-      index-back (s .last) (h .last),
-      link-back (s .edge) (h .edge),
-      link-back (s .next) (h .next),
     )

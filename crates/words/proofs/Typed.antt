@@ -14,6 +14,7 @@ use Rattle.axis.specs.Edge.{emptyEdge}
 use Rattle.axis.specs.Handed.{Short, TypedSegment, Typed, TypedAxis}
 use Rattle.axis.specs.Limits.{mostEdges, mostSegments}
 use Rattle.axis.specs.Segment.{emptySegment}
+use Rattle.axis.proofs.Declared.{empty-typed}
 use Rattle.words.specs.Edge.{edgeInRun, axisRun, edgesIn, flatAxis}
 use Rattle.words.specs.Field.{shortOf}
 use Rattle.words.specs.Segment.{segmentFrom, segmentInRun, segmentsRun, segmentsIn, flatSegments}
@@ -37,9 +38,6 @@ short w = ⊎-elim
 read : (ws : List ℤ) (at : ℕ) → TypedSegment (segmentFrom ws at)
 unfolding segmentFrom
 read ws at = record { pos = short _; low = short _; high = short _ }
-
-empty : TypedSegment emptySegment
-empty = record { pos = zero-short; low = zero-short; high = zero-short }
 
 -- ---- a table
 -- what holds of every element and of the empty place holds in every place
@@ -76,7 +74,7 @@ pub typed : (ws : List ℤ) (first len : ℕ) → Typed (segmentsRun ws first le
 unfolding segmentsRun
 typed ws first len = record {
   places = table-length mostSegments emptySegment (segmentInRun ws first) (min len mostSegments) (omega arith);
-  segment = all-table TypedSegment emptySegment empty mostSegments (segmentInRun ws first) (λ i. read ws _) (min len mostSegments);
+  segment = all-table TypedSegment emptySegment empty-typed mostSegments (segmentInRun ws first) (λ i. read ws _) (min len mostSegments);
 }
 
 -- a list without a count among them

@@ -4,7 +4,8 @@ use mathlib.Core.Path.{_≡_}
 use mir.Syntax.{w16}
 use Rattle.linking_rounds.specs.Pairs as P
 use Rattle.signed.proofs.Reading.{back, cast-16, sub-fits, sub-is}
-use Rattle.linking_rounds.proofs.Ranges.{typed-segment, gap-reach, reached}
+use Rattle.axis.proofs.Declared.{typed-segment}
+use Rattle.linking_rounds.proofs.Ranges.{gap-reach, reached}
 use Rattle.linking_rounds.proofs.gap.gap_between.Statement.{statement}
 use Rattle.linking_rounds.proofs.gap.gap_between.Tie as tie
 
@@ -75,9 +76,9 @@ returns c =
     let larger = smaller .before .before .before in
     let told = larger .before .before in
     let start = told .before in
-    let seg1 = typed-segment (start .args .seg1) (told .struct-told .given .1 .1 .0 .1) (told .struct-told .given .1 .1 .1 .1 .0 .1) (told .struct-told .given .1 .1 .1 .1 .1 .0 .1) in
-    let seg2 = typed-segment (start .args .seg2) (told5 .struct-told5 .given .1 .1 .0 .1) (told5 .struct-told5 .given .1 .1 .1 .1 .0 .1) (told5 .struct-told5 .given .1 .1 .1 .1 .1 .0 .1) in
-    let before = typed-segment (start .args .before) (c .struct-told6 .given .1 .1 .0 .1) (c .struct-told6 .given .1 .1 .1 .1 .0 .1) (c .struct-told6 .given .1 .1 .1 .1 .1 .0 .1) in
+    let before = typed-segment (start .args .before) _ (start .good .0) in
+    let seg1 = typed-segment (start .args .seg1) _ (start .good .1 .0) in
+    let seg2 = typed-segment (start .args .seg2) _ (start .good .1 .1 .0) in
     reached
     (rw (
       sub-is (start .args .seg2 .pos) (start .args .before .pos) (told5 .struct-told5 .given .1 .1 .0 .1) (c .struct-told6 .given .1 .1 .0 .1),

@@ -1,10 +1,11 @@
 -- `turning::turn::turn_edges` meets its contract: each turn fills one place. Assumes nothing.
 use native.Mathlib.Omega.{arith}
-use mathlib.Core.Path.{_≡_, refl, sym, _∙_}
+use mathlib.Core.Path.{_≡_, refl, _∙_}
 use Prim.Native.Nat.{_≤_, _-_, min}
-use lib.ListN.{length, length-map}
+use lib.ListN.{length}
 use Rattle.axis.specs.Limits.{mostEdges}
 use Rattle.axis.specs.Refusals.{edgesIndices}
+use Rattle.axis.proofs.Declared.{typed-axis}
 use Rattle.axis.proofs.Tests.{every-at}
 use Rattle.turning.proofs.Places.{edgesTo, edges-more, edges-all}
 use Rattle.turning.proofs.turn.turn_edges.Statement.{statement}
@@ -18,9 +19,7 @@ abbrev μ-loop : tie.MeasureT-loop
 
 -- the table has all its places
 whole : (c : tie.Start Inv-loop μ-loop) → c .args .t1 .len ≤ length (c .args .t1 .edges)
-whole c =
-    let places : length (c .args .t1 .edges) ≡ mostEdges = sym (length-map (c .args .t1 .edges) _) ∙ c .good .0 .1 .1 .1 .1 .0 .1 .0 .1 in
-    omega (arith, places, c .pre .0)
+whole c = omega (arith, typed-axis (c .args .t1) _ (c .good .0) .places, c .pre .0)
 
 loop-holds : tie.Need-loop-holds Inv-loop μ-loop
 loop-holds c = (omega arith, c .pre .0, refl)

@@ -1,9 +1,10 @@
 -- `turning::turn::turn_segments` meets its contract: each turn fills one place. Assumes nothing.
 use native.Mathlib.Omega.{arith}
-use mathlib.Core.Path.{_≡_, refl, sym, _∙_}
+use mathlib.Core.Path.{_≡_, refl, _∙_}
 use Prim.Native.Nat.{_≤_, _-_, min}
-use lib.ListN.{length, length-map}
+use lib.ListN.{length}
 use Rattle.axis.specs.Limits.{mostSegments}
+use Rattle.axis.proofs.Declared.{typed}
 use Rattle.axis.proofs.Tests.{every-at}
 use Rattle.turning.specs.Indices.{segmentsEdges}
 use Rattle.turning.proofs.Places.{segmentsTo, segments-more, segments-all}
@@ -18,9 +19,7 @@ abbrev μ-loop : tie.MeasureT-loop
 
 -- the table has all its places
 whole : (c : tie.Start Inv-loop μ-loop) → c .args .t1 .len ≤ length (c .args .t1 .segments)
-whole c =
-    let places : length (c .args .t1 .segments) ≡ mostSegments = sym (length-map (c .args .t1 .segments) _) ∙ c .good .0 .1 .1 .0 .1 .0 .1 in
-    omega (arith, places, c .pre .0)
+whole c = omega (arith, typed (c .args .t1) _ (c .good .0) .places, c .pre .0)
 
 loop-holds : tie.Need-loop-holds Inv-loop μ-loop
 loop-holds c = (omega arith, c .pre .0, refl)
