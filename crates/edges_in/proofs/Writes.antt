@@ -4,7 +4,7 @@ use mathlib.Core.Bool.{Bool, true, false, cond}
 use mathlib.Core.List.{List}
 use mathlib.Core.Logic.{⊎-elim}
 use Prim.Native.Nat.{ℕ, _+_, _*_, _/_, _≤_, _<_, min}
-use native.Mathlib.Nat.{eq-or-lt-of-le, mod-eq-of-lt}
+use native.Mathlib.Nat.{eq-or-lt-of-le}
 use native.Mathlib.Omega.{arith}
 use lib.ListN.{length, set, length-set}
 use lib.Seq.{getD-set-same, getD-set-other, set-set}
@@ -16,9 +16,7 @@ use Rattle.axis.specs.declared.kinds.Blue.the-variants as Blues
 use Rattle.axis.specs.declared.kinds.Dimension.{Dimension}
 use Rattle.axis.specs.declared.kinds.Direction.the-variants as Directions
 use Rattle.axis.specs.declared.kinds.Link.{Link}
-use Rattle.axis.specs.declared.kinds.Link.the-variants as Links
 use Rattle.axis.specs.declared.kinds.Mark.{Mark}
-use Rattle.axis.specs.declared.kinds.Mark.the-variants as Marks
 use Rattle.axis.specs.declared.edge.Edge.{Edge}
 use Rattle.axis.specs.declared.edge.Axis.{Axis}
 use Rattle.axis.specs.Accepted.{Below}
@@ -29,6 +27,7 @@ use Rattle.words.specs.Field.{choiceOf, blueOf, flagsOf, linkOf, presentWord, f
 use Rattle.words.specs.Edge.{edgeSize, posPlace, flagsPlace, bluePlace, fittedPlace, linkPlace, serifPlace, markPlace}
 use Rattle.words.specs.Edge.{wordOfEdge, edgeFrom, edgesIn, edgeInRun, axisRun, flatAxis, edgeWords}
 use Rattle.words.proofs.Edges.{edge-length}
+use Rattle.words.proofs.RoundTrip.{flags-back, link-back, mark-back}
 use Rattle.edges_in.specs.Whole.{Whole, axisIn, zoned}
 use Rattle.edges_in.proofs.Tables.{table-set}
 
@@ -285,46 +284,6 @@ pub wrote-as : {ws w1 : List ℤ} {i : ℕ} {e g : Edge} → e ≡ g → Wrote w
 wrote-as {ws} {w1} {i} {e} {g} q a = record { whole = a .whole; long = a .long; axis = λ (d : Dimension). a .axis d ∙ ap (putEdge (axisIn ws d) i) q; read = a .read ∙ q }
 
 -- ---- the words of an edge
-mark-back : (m : Mark) → markOf (markWord m) ≡ m
-unfolding markOf
-mark-back Marks.Nothing = refl
-mark-back Marks.BlueAnchor = refl
-mark-back Marks.Blue = refl
-mark-back Marks.Linked = refl
-mark-back Marks.Anchor = refl
-mark-back Marks.Stem = refl
-mark-back Marks.Adjusted = refl
-mark-back Marks.Bound = refl
-mark-back Marks.Serif = refl
-mark-back Marks.LowercaseM = refl
-
-flags-back : (f : Flags) → flagsOf (flagsWord f) ≡ f
-unfolding flagsOf flagsWord
-flags-back f = by (f .round) (f .serif) (f .done) (f .neutral)
-  where
-    by : (r s d n : Bool) → flagsOf (flagsWord (record { round = r; serif = s; done = d; neutral = n })) ≡ record { round = r; serif = s; done = d; neutral = n }
-    by true true true true = refl
-    by true true true false = refl
-    by true true false true = refl
-    by true true false false = refl
-    by true false true true = refl
-    by true false true false = refl
-    by true false false true = refl
-    by true false false false = refl
-    by false true true true = refl
-    by false true true false = refl
-    by false true false true = refl
-    by false true false false = refl
-    by false false true true = refl
-    by false false true false = refl
-    by false false false true = refl
-    by false false false false = refl
-
-pub link-back : (l : Link) → Below 65536 l → linkOf (linkWord l) ≡ l
-unfolding linkOf
-link-back Links.None b = refl
-link-back (Links.To k) b = ap Links.To (mod-eq-of-lt (b .at k refl))
-
 module _ (ws : List ℤ) (i : ℕ) (w : Whole ws) (h : i < edgesIn ws) where
   pub room : edgeSize * i + edgeSize ≤ length ws
   room = omega (arith, w .long)

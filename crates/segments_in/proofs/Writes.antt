@@ -19,7 +19,8 @@ use Rattle.words.specs.Field.{linkOf, linkWord}
 use Rattle.words.specs.Segment.{segmentSize, scorePlace, lenPlace, linkPlace, serifPlace, edgePlace, nextPlace, wordOfSegment, segmentFrom, segmentsIn, segmentInRun, segmentsRun, flatSegments, segmentWords}
 use Rattle.words.proofs.Segments.{segment-length}
 use Rattle.edges_in.proofs.Tables.{table-set}
-use Rattle.edges_in.proofs.Writes.{same-or-not, link-back}
+use Rattle.words.proofs.RoundTrip.{link-back}
+use Rattle.edges_in.proofs.Writes.{same-or-not}
 use Rattle.segments_in.specs.Whole.{Whole}
 use Rattle.segments_in.proofs.Wholes.{room}
 

@@ -7,6 +7,7 @@ use words::field::index_word;
 use words::field::link_word;
 use words::segment::SEGMENT_WORDS;
 use words::word::size_of;
+use words::word::word_in;
 ghost use mathlib.Core.Path.{_≡_};
 ghost use Prim.Native.Nat.{_<_, _≤_, _+_, _*_};
 ghost use lib.ListN.{length, set};
@@ -21,14 +22,6 @@ ghost use Rattle.words.specs.Word.{wordAt};
 ghost use Rattle.words.specs.Field.{linkOf, directionWord};
 ghost use Rattle.words.specs.Segment.{segmentSize, wordOfSegment, segmentsIn, flatSegments};
 ghost use Rattle.segments_in.specs.Whole.{Whole, reduced, Became, joining, loosing, leading, ringing};
-
-// A word.
-fn word_in(words: &[i32], at: usize) -> i32
-    requires { ⌜ at < length (now words) ⌝ }
-    ensures { λ r. ⌜ r ≡ wordAt (now (words .entry)) at ⌝ }
-{
-    words[at]
-}
 
 // A word that is a 16-bit number.
 fn short_in(words: &[i32], at: usize) -> i16

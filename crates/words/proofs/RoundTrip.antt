@@ -27,7 +27,7 @@ short-back z h = sym (short-is z (h .low) (h .high))
 index-back : (k : ℕ) → k < 65536 → indexOf (pos k) ≡ k
 index-back k h = mod-eq-of-lt h
 
-link-back : (l : Link) → Below 65536 l → linkOf (linkWord l) ≡ l
+pub link-back : (l : Link) → Below 65536 l → linkOf (linkWord l) ≡ l
 unfolding linkOf
 link-back Links.None h = refl
 link-back (Links.To k) h = ap Links.To (index-back k (h .at k refl))
@@ -40,7 +40,7 @@ direction-back Directions.Left = refl
 direction-back Directions.Up = refl
 direction-back Directions.Down = refl
 
-mark-back : (m : Mark) → markOf (markWord m) ≡ m
+pub mark-back : (m : Mark) → markOf (markWord m) ≡ m
 unfolding markOf
 mark-back Marks.Nothing = refl
 mark-back Marks.BlueAnchor = refl
@@ -58,7 +58,7 @@ unfolding blueOf choiceOf
 blue-back Blues.None = refl
 blue-back (Blues.Fitted z) = refl
 
-flags-back : (f : Flags) → flagsOf (flagsWord f) ≡ f
+pub flags-back : (f : Flags) → flagsOf (flagsWord f) ≡ f
 unfolding flagsOf flagsWord
 flags-back f = by (f .round) (f .serif) (f .done) (f .neutral)
   where

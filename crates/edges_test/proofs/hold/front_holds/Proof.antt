@@ -44,15 +44,15 @@ returns c =
     let a2 = a3 .before in
     let a1 = a2 .before in
     λ h.
-        let all = sym (c .both3 .ensures) ∙ h in
-        let low = sym (b1 .both .ensures) ∙ and-first (b1 .both .result) (b2 .both2 .result) all in
-        let high = sym (b2 .both2 .ensures) ∙ and-second (b1 .both .result) (b2 .both2 .result) all in
-        record {
-          w0 = sym (a1 .in-at .ensures) ∙ and-first (a1 .in-at .result) (a2 .in-at2 .result) low;
-          w1 = sym (a2 .in-at2 .ensures) ∙ and-second (a1 .in-at .result) (a2 .in-at2 .result) low;
-          w2 = sym (a3 .in-at3 .ensures) ∙ and-first (a3 .in-at3 .result) (a4 .in-at4 .result) high;
-          w3 = sym (a4 .in-at4 .ensures) ∙ and-second (a3 .in-at3 .result) (a4 .in-at4 .result) high;
-        }
+    let all = sym (c .both3 .ensures) ∙ h in
+    let low = sym (b1 .both .ensures) ∙ and-first (b1 .both .result) (b2 .both2 .result) all in
+    let high = sym (b2 .both2 .ensures) ∙ and-second (b1 .both .result) (b2 .both2 .result) all in
+    record {
+      w0 = sym (a1 .in-at .ensures) ∙ and-first (a1 .in-at .result) (a2 .in-at2 .result) low;
+      w1 = sym (a2 .in-at2 .ensures) ∙ and-second (a1 .in-at .result) (a2 .in-at2 .result) low;
+      w2 = sym (a3 .in-at3 .ensures) ∙ and-first (a3 .in-at3 .result) (a4 .in-at4 .result) high;
+      w3 = sym (a4 .in-at4 .ensures) ∙ and-second (a3 .in-at3 .result) (a4 .in-at4 .result) high;
+    }
 
 pub front-holds-spec : {M : Type 1} → statement M
 front-holds-spec =
