@@ -267,7 +267,7 @@ fn by_group(
 ) -> Vec<Case> {
     let mut cases = Vec::new();
     for (group, title) in GROUPS {
-        for size in [6, 20, 60, 128] {
+        for size in [6, 8, 20, 60, 128] {
             let mut random = Random::new(size as u64);
             let edges = || edges(size, &mut random);
             let kind = title.to_string();

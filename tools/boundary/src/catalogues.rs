@@ -10,7 +10,6 @@ use oracle::{
     decode::decode,
     generate::{self, Profile, Random},
     job::{Catalogue, Job, Points},
-    refusals::Refusal,
     text,
 };
 
@@ -65,17 +64,7 @@ pub fn catalogues(count: usize, random: &mut Random) -> Tally {
     let mut memories = Memories([(); 7].map(|()| Memory::new()));
     let mut tally = Tally::new("khs_align_catalogue");
     let mut compare = |given: &Catalogue, side: Side| {
-        let mut expected = given.clone();
-        let answer = match calls::align_catalogue(&mut expected) {
-            Ok(()) => 0,
-            Err(Refusal(number)) => number as u8,
-        };
-        tally.begin();
-        let outcome = memories.run(given, side);
-        let same = outcome.as_ref() == Some(&(answer, expected.clone()));
-        tally.count(answer, same, || {
-            format!("{given:?}: {outcome:?}, and the oracle {answer}, {expected:?}")
-        });
+        tally.compare(given, calls::align_catalogue, || memories.run(given, side));
     };
     small(|given| compare(given, Side::Back));
     for _ in 0..count {

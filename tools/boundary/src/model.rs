@@ -8,8 +8,8 @@
 //! A refused call writes nothing.
 
 use crate::function::{
-    Function, Given, Kind, Lent, Outcome, Record, BLUE, BOUNDS, BUILDING, EDGE, FITTED,
-    GUARD, TURNING,
+    Function, Given, Kind, Lent, Outcome, Record, BLUE, BOUNDS, BUILDING, EDGE, FITTED, GUARD,
+    TURNING,
 };
 use oracle::{answer, decode::decode};
 

@@ -10,7 +10,6 @@ use oracle::{
     decode::decode,
     generate::{self, Profile, Random},
     job::{Job, Points},
-    refusals::Refusal,
     text,
 };
 
@@ -118,16 +117,8 @@ pub fn weak(count: usize, random: &mut Random) -> Tally {
     let mut memories = Memories::new();
     let mut tally = Tally::new("khs_align_weak_points");
     let mut compare = |points: &Points, side: Side| {
-        let mut expected = points.clone();
-        let answer = match calls::align_weak_points(&mut expected) {
-            Ok(()) => 0,
-            Err(Refusal(number)) => number as u8,
-        };
-        tally.begin();
-        let outcome = memories.run(points, side);
-        let same = outcome.as_ref() == Some(&(answer, expected.clone()));
-        tally.count(answer, same, || {
-            format!("{points:?}: {outcome:?}, and the oracle {answer}, {expected:?}")
+        tally.compare(points, calls::align_weak_points, || {
+            memories.run(points, side)
         });
     };
     small(|points| compare(points, Side::Back));

@@ -1,7 +1,11 @@
 //! How many cases of a function agreed, by their answers.
 
 use crate::ffi;
-use std::sync::atomic::{AtomicUsize, Ordering};
+use oracle::refusals::Refusal;
+use std::{
+    fmt::Debug,
+    sync::atomic::{AtomicUsize, Ordering},
+};
 
 /// The answers that are counted.
 pub const ANSWERS: [u8; 9] = [0, 1, 2, 3, 4, 5, 6, 10, 255];
@@ -35,6 +39,26 @@ impl Tally {
     /// A case is run now.
     pub fn begin(&self) {
         CASE.store(self.cases + 1, Ordering::Relaxed);
+    }
+
+    /// Runs a case, and holds its answer and what its lists then hold to the oracle's.
+    pub fn compare<G: Clone + Debug + PartialEq>(
+        &mut self,
+        given: &G,
+        oracle: impl FnOnce(&mut G) -> Result<(), Refusal>,
+        run: impl FnOnce() -> Option<(u8, G)>,
+    ) {
+        let mut expected = given.clone();
+        let answer = match oracle(&mut expected) {
+            Ok(()) => 0,
+            Err(Refusal(number)) => number as u8,
+        };
+        self.begin();
+        let outcome = run();
+        let same = outcome.as_ref() == Some(&(answer, expected.clone()));
+        self.count(answer, same, || {
+            format!("{given:?}: {outcome:?}, and the oracle {answer}, {expected:?}")
+        });
     }
 
     /// Counts a case under the expected answer, and shows the first that differ.
