@@ -1,5 +1,5 @@
 -- What is read of the words of segments decides what the segments of their table decide.
-use mathlib.Core.Path.{_≡_, refl, sym, ap, _∙_}
+use mathlib.Core.Path.{_≡_, refl, sym, ap, subst, _∙_}
 use mathlib.Core.Bool.{Bool, true, false, cond}
 use mathlib.Core.List.{List}
 use Prim.Native.Nat.{ℕ, _<_}
@@ -21,7 +21,7 @@ use Rattle.properties.specs.Steps.{Ready}
 use Rattle.properties.proofs.Kept.{index-below}
 use Rattle.words.specs.Segment.{segmentsIn, segmentsRun, flatSegments}
 use Rattle.words.proofs.Places.{segment-read}
-use Rattle.properties_in.specs.Reading.{asked, wordsOf, namedIn, joinIn}
+use Rattle.properties_in.specs.Reading.{asked, wordsOf, namedIn, Naming, joinIn}
 
 -- ---- the other fields do not matter
 edge-asked : (l : Link) (s : Segment) → namedEdge l (asked s) ≡ namedEdge l s
@@ -63,6 +63,17 @@ module _ (ws : List ℤ) {axis : Axis} (r : Ready axis (flatSegments ws)) where
     -- a segment that it names
     named-of : (l : Link) → Below (t .len) l → segmentAt t (indexOr ix l) ≡ wordsOf ws (indexOr ix l)
     named-of l b = segment-of (indexOr ix l) (index-below (t .len) ix l h b)
+
+    -- its link and its serif, as they are read, are segments of the words
+    below-of : (l : Segment → Link) → Below (t .len) (l S) → Below (segmentsIn ws) (l (wordsOf ws ix))
+    below-of l b = subst (λ (s : Segment). Below (segmentsIn ws) (l s)) (segment-of ix h) (subst (λ (n : ℕ). Below n (l S)) (segments-len ws) b)
+
+    pub naming : Naming ws ix
+    naming = record {
+      inside = omega (arith, segments-len ws);
+      link = below-of (λ (s : Segment). s .link) (r .segment ix h .link);
+      serif = below-of (λ (s : Segment). s .serif) (r .segment ix h .serif);
+    }
 
     -- what it asks for
     pub join-read : (k : ℕ) → joinIn ws k ix ≡ joinAt t k ix

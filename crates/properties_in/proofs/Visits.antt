@@ -19,9 +19,9 @@ use Rattle.lent.specs.Lent.{edgesOf}
 use Rattle.edges_in.specs.Whole.{Whole, axisIn, Became}
 use Rattle.edges_in.proofs.Wholes.{edges-len}
 use Rattle.edges_in.proofs.Became.{stays, became-as}
-use Rattle.properties_in.specs.Reading.{joinIn}
+use Rattle.properties_in.specs.Reading.{Naming, joinIn}
 use Rattle.properties_in.specs.Steps.{Joined, takingSerif, takingLink}
-use Rattle.properties_in.proofs.Readings.{segments-len, join-read}
+use Rattle.properties_in.proofs.Readings.{segments-len, naming, join-read}
 
 module _ (sw ws : List ℤ) (k : ℕ) (w : Whole ws) (r : Ready (edgesOf ws) (flatSegments sw)) (h : k < edgesIn ws) where
   abbrev t : Segments
@@ -34,6 +34,10 @@ module _ (sw ws : List ℤ) (k : ℕ) (w : Whole ws) (r : Ready (edgesOf ws) (fl
   module _ (ix : ℕ) (i : ix < segmentsIn sw) where
     inside : ix < t .len
     inside = omega (arith, segments-len sw)
+
+    -- it names segments
+    pub named-in : Naming sw ix
+    named-in = naming sw r ix inside
 
     -- it leaves what it was ready for
     pub member-ready : {ws′ : List ℤ} → Became (member t k ix) ws ws′ → Ready (edgesOf ws′) t

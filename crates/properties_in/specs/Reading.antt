@@ -1,15 +1,16 @@
 -- What the properties of edges read of segments, where their words stand; whatever the words are, they are read as some.
 use mathlib.Core.List.{List}
-use Prim.Native.Nat.{ℕ, _*_}
+use Prim.Native.Nat.{ℕ, _*_, _<_}
 use lib.IntN.{ℤ, pos}
 use Rattle.axis.specs.declared.kinds.Direction.the-variants as Directions
 use Rattle.axis.specs.declared.kinds.Link.{Link}
 use Rattle.axis.specs.declared.kinds.Link.the-variants as Links
 use Rattle.axis.specs.declared.segment.Segment.{Segment}
+use Rattle.axis.specs.Accepted.{Below}
 use Rattle.axis.specs.Flags.{normal}
 use Rattle.properties.specs.declared.join.Join.{Join}
 use Rattle.properties.specs.Properties.{joinOf}
-use Rattle.words.specs.Segment.{segmentSize, segmentFrom}
+use Rattle.words.specs.Segment.{segmentSize, segmentsIn, segmentFrom}
 
 -- what a join asks of a segment, its other fields empty
 abbrev pub asked : Segment → Segment
@@ -39,6 +40,12 @@ wordsOf ws i = segmentFrom ws (segmentSize * i)
 abbrev pub namedIn : List ℤ → Segment → Link → Segment
 namedIn ws own Links.None = own
 namedIn ws own (Links.To i) = asked (wordsOf ws i)
+
+-- a segment of the words, whose link and serif are segments of them
+pub record Naming (ws : List ℤ) (ix : ℕ) : Type 0 where
+  pub inside : ix < segmentsIn ws
+  pub link : Below (segmentsIn ws) (wordsOf ws ix .link)
+  pub serif : Below (segmentsIn ws) (wordsOf ws ix .serif)
 
 -- what segment ix of edge k asks for
 abbrev pub joinIn : List ℤ → ℕ → ℕ → Join

@@ -5,40 +5,46 @@ use axis::kinds::Link;
 use axis::segment::Segment;
 use properties::join::Join;
 use properties::join::join_of;
-use words::field::flags_at;
-use words::field::link_at;
-use words::field::short_at;
+use words::field::flags_of;
+use words::field::link_of;
+use words::field::short_of;
 use words::segment::SEGMENT_WORDS;
+use words::word::word_in;
 ghost use mathlib.Core.Path.{_≡_};
+ghost use Prim.Native.Nat.{_<_};
+ghost use Rattle.axis.specs.Accepted.{Below};
 ghost use Rattle.axis.specs.Link.{indexOr};
-ghost use Rattle.properties_in.specs.Reading.{asked, wordsOf, namedIn, joinIn};
+ghost use Rattle.words.specs.Segment.{segmentsIn};
+ghost use Rattle.properties_in.specs.Reading.{asked, wordsOf, namedIn, Naming, joinIn};
 
 // What a join asks of a segment, its other fields empty.
 fn segment_in(words: &[i32], i: u16) -> Segment
+    requires { ⌜ i < segmentsIn (now words) ⌝ }
     ensures { λ r. ⌜ r ≡ asked (wordsOf (now (words .entry)) i) ⌝ }
 {
     let at = SEGMENT_WORDS * (i as usize);
     Segment {
         flags: NORMAL,
         dir: Direction::None,
-        pos: short_at(words, at + 2),
+        pos: short_of(word_in(words, at + 2)),
         delta: 0,
         min_coord: 0,
         max_coord: 0,
         height: 0,
         score: 0,
         len: 0,
-        link: link_at(words, at + 9),
-        serif: link_at(words, at + 10),
+        link: link_of(word_in(words, at + 9)),
+        serif: link_of(word_in(words, at + 10)),
         first: 0,
         last: 0,
-        edge: link_at(words, at + 13),
+        edge: link_of(word_in(words, at + 13)),
         next: Link::None,
     }
 }
 
 // The same of the segment that an index names; without an index it is the segment's own.
 fn named_in(words: &[i32], ix: Link, own: Segment) -> Segment
+    requires { ⌜ Below (segmentsIn (now words)) ix ⌝ }
     ensures { λ r. ⌜ r ≡ namedIn (now (words .entry)) own ix ⌝ }
 {
     match ix {
@@ -49,6 +55,7 @@ fn named_in(words: &[i32], ix: Link, own: Segment) -> Segment
 
 // What segment ix of edge k asks for.
 pub fn join_in(words: &[i32], k: usize, ix: u16) -> Join
+    requires { ⌜ Naming (now words) ix ⌝ }
     ensures { λ r. ⌜ r ≡ joinIn (now (words .entry)) k ix ⌝ }
 {
     let segment = segment_in(words, ix);
@@ -61,17 +68,19 @@ pub fn join_in(words: &[i32], k: usize, ix: u16) -> Join
 
 // Whether a segment is round.
 pub fn round_in(words: &[i32], ix: u16) -> bool
+    requires { ⌜ ix < segmentsIn (now words) ⌝ }
     ensures { λ r. ⌜ r ≡ wordsOf (now (words .entry)) ix .flags .round ⌝ }
 {
-    let flags = flags_at(words, SEGMENT_WORDS * (ix as usize));
+    let flags = flags_of(word_in(words, SEGMENT_WORDS * (ix as usize)));
     flags.round
 }
 
 // The segment behind another, or the last one where there is none.
 pub fn next_in(words: &[i32], ix: u16, last: u16) -> u16
+    requires { ⌜ ix < segmentsIn (now words) ⌝ }
     ensures { λ r. ⌜ r ≡ indexOr last (wordsOf (now (words .entry)) ix .next) ⌝ }
 {
-    let next = link_at(words, SEGMENT_WORDS * (ix as usize) + 14);
+    let next = link_of(word_in(words, SEGMENT_WORDS * (ix as usize) + 14));
     match next {
         Link::None => last,
         Link::To(i) => i,

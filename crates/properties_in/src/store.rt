@@ -3,14 +3,15 @@ use axis::edge::EMPTY_EDGE;
 use axis::edge::Edge;
 use axis::kinds::Link;
 use edges_in::edge::flag_in;
+use edges_in::edge::flags_in;
 use edges_in::edge::link_in;
 use edges_in::edge::serif_in;
 use properties::join::distance;
 use properties::outcome::with_properties;
 use words::edge::EDGE_WORDS;
-use words::field::flags_at;
-use words::field::link_at;
-use words::field::short_at;
+use words::field::link_of;
+use words::field::short_of;
+use words::word::word_in;
 ghost use mathlib.Core.Path.{_≡_};
 ghost use Prim.Native.Nat.{_<_};
 ghost use Rattle.axis.specs.Accepted.{Below};
@@ -29,8 +30,8 @@ fn chosen_in(edges: &[i32], k: usize, delta: i32, asked: u16, held: Link) -> u16
     let Link::To(other) = held else {
         return asked;
     };
-    let here = short_at(edges, EDGE_WORDS * k);
-    let there = short_at(edges, EDGE_WORDS * (other as usize));
+    let here = short_of(word_in(edges, EDGE_WORDS * k));
+    let there = short_of(word_in(edges, EDGE_WORDS * (other as usize)));
     if delta < distance(here, there) {
         return asked;
     }
@@ -42,7 +43,7 @@ fn mark_in(edges: &mut [i32], k: usize)
     requires { ⌜ Whole (now edges) × (k < edgesIn (now edges)) ⌝ }
     ensures { λ _. ⌜ Became (setSerif k) (now (edges .entry)) (now (edges .exit)) ⌝ }
 {
-    let mut flags = flags_at(edges, EDGE_WORDS * k + 3);
+    let mut flags = flags_in(edges, k);
     flags.serif = true;
     flag_in(edges, k, flags);
 }
@@ -52,7 +53,7 @@ pub fn take_serif(edges: &mut [i32], k: usize, delta: i32, asked: u16)
     requires { ⌜ Joined (now edges) k × (asked < edgesIn (now edges)) ⌝ }
     ensures { λ _. ⌜ Became (takingSerif k delta asked) (now (edges .entry)) (now (edges .exit)) ⌝ }
 {
-    let held = link_at(edges, EDGE_WORDS * k + 8);
+    let held = link_of(word_in(edges, EDGE_WORDS * k + 8));
     let chosen = chosen_in(edges, k, delta, asked, held);
     serif_in(edges, k, Link::To(chosen));
     mark_in(edges, chosen as usize);
@@ -63,7 +64,7 @@ pub fn take_link(edges: &mut [i32], k: usize, delta: i32, asked: u16)
     requires { ⌜ Joined (now edges) k × (asked < edgesIn (now edges)) ⌝ }
     ensures { λ _. ⌜ Became (takingLink k delta asked) (now (edges .entry)) (now (edges .exit)) ⌝ }
 {
-    let held = link_at(edges, EDGE_WORDS * k + 7);
+    let held = link_of(word_in(edges, EDGE_WORDS * k + 7));
     let chosen = chosen_in(edges, k, delta, asked, held);
     link_in(edges, k, Link::To(chosen));
 }
@@ -73,8 +74,8 @@ pub fn end_in(edges: &mut [i32], k: usize, roundness: usize, straightness: usize
     requires { ⌜ Joined (now edges) k ⌝ }
     ensures { λ _. ⌜ Became (ending k roundness straightness) (now (edges .entry)) (now (edges .exit)) ⌝ }
 {
-    let link = link_at(edges, EDGE_WORDS * k + 7);
-    let serif = link_at(edges, EDGE_WORDS * k + 8);
+    let link = link_of(word_in(edges, EDGE_WORDS * k + 7));
+    let serif = link_of(word_in(edges, EDGE_WORDS * k + 8));
     let edge = Edge {
         link,
         serif,

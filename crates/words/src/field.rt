@@ -41,10 +41,9 @@ const MARKS: [Mark; 10] = [
 ];
 
 // A 16-bit number.
-pub fn short_at(words: &[i32], i: usize) -> i16
-    ensures { λ r. ⌜ r ≡ shortOf (wordAt (now (words .entry)) i) ⌝ }
+pub fn short_of(word: i32) -> i16
+    ensures { λ r. ⌜ r ≡ shortOf word ⌝ }
 {
-    let word = word_at(words, i);
     if word < -32768 {
         return 0;
     }
@@ -52,6 +51,13 @@ pub fn short_at(words: &[i32], i: usize) -> i16
         return 0;
     }
     word as i16
+}
+
+// The 16-bit number at a place.
+pub fn short_at(words: &[i32], i: usize) -> i16
+    ensures { λ r. ⌜ r ≡ shortOf (wordAt (now (words .entry)) i) ⌝ }
+{
+    short_of(word_at(words, i))
 }
 
 // An index.

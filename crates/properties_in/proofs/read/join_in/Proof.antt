@@ -1,17 +1,26 @@
 -- `properties_in::read::join_in` meets its contract. Assumes nothing.
+use mathlib.Core.Path.{sym, subst}
+use Rattle.axis.specs.declared.segment.Segment.{Segment}
+use Rattle.axis.specs.Accepted.{Below}
+use Rattle.words.specs.Segment.{segmentsIn}
 use Rattle.properties_in.proofs.Readings.{join-law}
 use borrow.Author.Needs.{needs}
 use Rattle.properties_in.proofs.read.join_in.Statement.{statement}
 use Rattle.properties_in.proofs.read.join_in.Tie as tie
 
 segment-in-requires : tie.Need-segment-in-requires
-segment-in-requires c κs = search needs
+segment-in-requires c κs = c .pre .inside
 
 named-in-requires : tie.Need-named-in-requires
-named-in-requires c κs = search needs
+named-in-requires c κs =
+    let s = c .before in
+    subst (λ (x : Segment). Below (segmentsIn (s .args .words .now)) (x .serif)) (sym (c .segment-in .ensures)) (s .pre .serif)
 
 named-in-requires-2 : tie.Need-named-in-requires-2
-named-in-requires-2 c κs = search needs
+named-in-requires-2 c κs =
+    let segment = c .before in
+    let s = segment .before in
+    subst (λ (x : Segment). Below (segmentsIn (s .args .words .now)) (x .link)) (sym (segment .segment-in .ensures)) (s .pre .link)
 
 join-of-requires : tie.Need-join-of-requires
 join-of-requires c κs = search needs

@@ -12,7 +12,9 @@ enum-known-ix : tie.Need-enum-known-ix
 enum-known-ix c = search needs
 
 segment-in-requires : tie.Need-segment-in-requires
-segment-in-requires c κs = search needs
+segment-in-requires c κs =
+    let ix = c .before in
+    ix .before .before .pre .at _ (ix .ix .given .1)
 
 returns : tie.Need-returns
 returns c =

@@ -1,10 +1,11 @@
 -- `properties_in::read::segment_in` meets its contract. Assumes nothing.
-use mathlib.Core.Path.{_∙_}
+use mathlib.Core.Path.{ap, _∙_}
 use lib.IntN.{pos}
-use mir.Syntax.{w16}
+use mir.Syntax.{w16, w32}
 use Rattle.axis.specs.declared.kinds.Direction.the-variants as Directions
 use Rattle.axis.specs.declared.kinds.Link.the-variants as Links
 use Rattle.axis.specs.Flags.{normal}
+use Rattle.words.specs.Field.{shortOf, linkOf}
 use Rattle.words.specs.Segment.{segmentFrom}
 use Rattle.words.proofs.Fields.{kept}
 use borrow.Author.Needs.{needs}
@@ -14,51 +15,67 @@ use Rattle.properties_in.proofs.read.segment_in.Tie as tie
 mul-at : tie.Need-mul-at
 mul-at c = search needs
 
-add-short-at : tie.Need-add-short-at
-add-short-at c = search needs
+add-word-in : tie.Need-add-word-in
+add-word-in c = search needs
 
-short-at-requires : tie.Need-short-at-requires
-short-at-requires c κs = search needs
+word-in-requires : tie.Need-word-in-requires
+word-in-requires c κs = search needs
 
-add-link-at : tie.Need-add-link-at
-add-link-at c = search needs
+short-of-requires : tie.Need-short-of-requires
+short-of-requires c κs = search needs
 
-link-at-requires : tie.Need-link-at-requires
-link-at-requires c κs = search needs
+add-word-in-2 : tie.Need-add-word-in-2
+add-word-in-2 c = search needs
 
-add-link-at-2 : tie.Need-add-link-at-2
-add-link-at-2 c = search needs
+word-in-requires-2 : tie.Need-word-in-requires-2
+word-in-requires-2 c κs = search needs
 
-link-at-requires-2 : tie.Need-link-at-requires-2
-link-at-requires-2 c κs = search needs
+link-of-requires : tie.Need-link-of-requires
+link-of-requires c κs = search needs
 
-add-link-at-3 : tie.Need-add-link-at-3
-add-link-at-3 c = search needs
+add-word-in-3 : tie.Need-add-word-in-3
+add-word-in-3 c = search needs
 
-link-at-requires-3 : tie.Need-link-at-requires-3
-link-at-requires-3 c κs = search needs
+word-in-requires-3 : tie.Need-word-in-requires-3
+word-in-requires-3 c κs = search needs
+
+link-of-requires-2 : tie.Need-link-of-requires-2
+link-of-requires-2 c κs = search needs
+
+add-word-in-4 : tie.Need-add-word-in-4
+add-word-in-4 c = search needs
+
+word-in-requires-4 : tie.Need-word-in-requires-4
+word-in-requires-4 c κs = search needs
+
+link-of-requires-3 : tie.Need-link-of-requires-3
+link-of-requires-3 c κs = search needs
 
 returns : tie.Need-returns
 unfolding segmentFrom
 returns c =
-    let serif = c .before in
-    let link = serif .before in
-    let place = link .before in
+    let e = c .before in
+    let serif = e .before in
+    let w3 = serif .before in
+    let link = w3 .before in
+    let w2 = link .before in
+    let place = w2 .before in
+    let w1 = place .before in
     λ n. record {
       flags = normal;
       dir = Directions.None;
-      pos = (kept w16 (place .short-at .result) (place .short-at .ok) ∙ place .short-at .ensures) n;
+      pos = (kept w16 (place .short-of .result) (place .short-of .ok) ∙ place .short-of .ensures ∙ ap shortOf (kept w32 (w1 .word-in .result) (w1 .word-in .ok) ∙ w1 .word-in .ensures)) n;
       delta = pos 0;
       «min_coord» = pos 0;
       «max_coord» = pos 0;
       height = pos 0;
       score = pos 0;
       len = pos 0;
-      link = link .link-at .ensures n;
-      serif = serif .link-at2 .ensures n;
+      link = (link .link-of .ensures ∙ ap linkOf (kept w32 (w2 .word-in2 .result) (w2 .word-in2 .ok) ∙ w2 .word-in2 .ensures)) n;
+      serif = (serif .link-of2 .ensures ∙ ap linkOf (kept w32 (w3 .word-in3 .result) (w3 .word-in3 .ok) ∙ w3 .word-in3 .ensures)) n;
       first = 0;
       last = 0;
-      edge = c .link-at3 .ensures n;
+      edge = (c .link-of3 .ensures ∙ ap linkOf (kept w32 (e .word-in4 .result) (e .word-in4 .ok) ∙ e .word-in4 .ensures)) n;
       next = Links.None;
     }
 
@@ -67,12 +84,16 @@ segment-in-spec =
     tie.close
     (tie.spec
     mul-at
-    add-short-at
-    short-at-requires
-    add-link-at
-    link-at-requires
-    add-link-at-2
-    link-at-requires-2
-    add-link-at-3
-    link-at-requires-3
+    add-word-in
+    word-in-requires
+    short-of-requires
+    add-word-in-2
+    word-in-requires-2
+    link-of-requires
+    add-word-in-3
+    word-in-requires-3
+    link-of-requires-2
+    add-word-in-4
+    word-in-requires-4
+    link-of-requires-3
     returns)

@@ -1,8 +1,14 @@
 -- `properties_in::store::chosen_in` meets its contract: by whether an edge is held, and by the two distances. Assumes nothing.
-use mathlib.Core.Path.{_∙_}
+use mathlib.Core.Path.{_≡_, ap, _∙_}
 use mathlib.Core.Bool.{true, false}
+use Prim.Native.Nat.{_*_}
+use native.Mathlib.Omega.{arith}
 use mir.Syntax.{w16, w32}
+use mir.Val.{toZ, ofZ}
 use Rattle.signed.proofs.Signed.{is}
+use Rattle.words.specs.Word.{wordAt}
+use Rattle.words.specs.Field.{shortOf}
+use Rattle.words.specs.Edge.{edgeSize}
 use Rattle.words.proofs.Fields.{kept}
 use Rattle.properties_in.proofs.Stores.{chosen-none, chosen-held}
 use borrow.Author.Needs.{needs}
@@ -20,43 +26,63 @@ returns c =
     let s = c .before .before in
     chosen-none (s .args .edges .now) (s .args .k) (s .args .delta) (s .args .asked) (c .enum-told .given .1)
 
-mul-short-at : tie.Need-mul-short-at
-mul-short-at c = search needs
+mul-word-in : tie.Need-mul-word-in
+mul-word-in c = search needs
 
-short-at-requires : tie.Need-short-at-requires
-short-at-requires c κs = search needs
+word-in-requires : tie.Need-word-in-requires
+word-in-requires c κs = search needs
 
-cast-short-at : tie.Need-cast-short-at
-cast-short-at c = search needs
+short-of-requires : tie.Need-short-of-requires
+short-of-requires c κs = search needs
 
-mul-short-at-2 : tie.Need-mul-short-at-2
-mul-short-at-2 c = search needs
+cast-word-in : tie.Need-cast-word-in
+cast-word-in c = search needs
 
-short-at-requires-2 : tie.Need-short-at-requires-2
-short-at-requires-2 c κs = search needs
+mul-word-in-2 : tie.Need-mul-word-in-2
+mul-word-in-2 c = search needs
+
+word-in-requires-2 : tie.Need-word-in-requires-2
+word-in-requires-2 c κs =
+    let known = c .before .before .before in
+    let s = known .before .before in
+    omega (arith, s .pre .2 .at _ (known .held .given .1))
+
+short-of-requires-2 : tie.Need-short-of-requires-2
+short-of-requires-2 c κs = search needs
 
 distance-requires : tie.Need-distance-requires
 distance-requires c κs = search needs
 
 -- ---- an edge is held
-abbrev there : tie.After-distance → tie.After-short-at2
+abbrev there : tie.After-distance → tie.After-short-of2
 there c = c .before
 
-abbrev here : tie.After-distance → tie.After-short-at
-here c = there c .before
+abbrev here : tie.After-distance → tie.After-short-of
+here c = there c .before .before
 
 abbrev known : tie.After-distance → tie.After-held
-known c = here c .before .before
+known c = here c .before .before .before
 
 abbrev start : tie.After-distance → tie.Start
 start c = known c .before .before
+
+-- where edge k stands, and where the other one does
+here-is : (c : tie.After-distance) → toZ w16 (ofZ w16 (here c .short-of .result)) ≡ shortOf (wordAt (start c .args .edges .now) (edgeSize * start c .args .k))
+here-is c =
+    let w = here c .before .word-in in
+    kept w16 (here c .short-of .result) (here c .short-of .ok) ∙ here c .short-of .ensures ∙ ap shortOf (kept w32 (w .result) (w .ok) ∙ w .ensures)
+
+there-is : (c : tie.After-distance) → toZ w16 (ofZ w16 (there c .short-of2 .result)) ≡ shortOf (wordAt (start c .args .edges .now) (edgeSize * known c .held .given .0 .0))
+there-is c =
+    let w = there c .before .word-in2 in
+    kept w16 (there c .short-of2 .result) (there c .short-of2 .ok) ∙ there c .short-of2 .ensures ∙ ap shortOf (kept w32 (w .result) (w .ok) ∙ w .ensures)
 
 returns-2 : tie.Need-returns-2
 returns-2 c =
     let z = c .before in
     let s = start z in
     chosen-held (s .args .edges .now) (s .args .k) (s .args .delta) (s .args .asked) true (s .pre .0) (s .pre .1) (s .pre .2) (known z .held .given .1)
-    (kept w16 (here z .short-at .result) (here z .short-at .ok) ∙ here z .short-at .ensures) (kept w16 (there z .short-at2 .result) (there z .short-at2 .ok) ∙ there z .short-at2 .ensures)
+    (here-is z) (there-is z)
     (kept w32 (z .distance .result) (z .distance .ok) ∙ z .distance .ensures) (is (s .fits .delta)) (c .if1 .taken)
 
 returns-3 : tie.Need-returns-3
@@ -64,7 +90,7 @@ returns-3 c =
     let z = c .before in
     let s = start z in
     chosen-held (s .args .edges .now) (s .args .k) (s .args .delta) (s .args .asked) false (s .pre .0) (s .pre .1) (s .pre .2) (known z .held .given .1)
-    (kept w16 (here z .short-at .result) (here z .short-at .ok) ∙ here z .short-at .ensures) (kept w16 (there z .short-at2 .result) (there z .short-at2 .ok) ∙ there z .short-at2 .ensures)
+    (here-is z) (there-is z)
     (kept w32 (z .distance .result) (z .distance .ok) ∙ z .distance .ensures) (is (s .fits .delta)) (c .if1 .left)
 
 pub chosen-in-spec : {M : Type 1} → statement M
@@ -74,11 +100,13 @@ chosen-in-spec =
     enum-known-held
     enum-told
     returns
-    mul-short-at
-    short-at-requires
-    cast-short-at
-    mul-short-at-2
-    short-at-requires-2
+    mul-word-in
+    word-in-requires
+    short-of-requires
+    cast-word-in
+    mul-word-in-2
+    word-in-requires-2
+    short-of-requires-2
     distance-requires
     returns-2
     returns-3)

@@ -4,14 +4,8 @@ use borrow.Author.Needs.{needs}
 use Rattle.properties_in.proofs.store.mark_in.Statement.{statement}
 use Rattle.properties_in.proofs.store.mark_in.Tie as tie
 
-mul-flags-at : tie.Need-mul-flags-at
-mul-flags-at c = search needs
-
-add-flags-at : tie.Need-add-flags-at
-add-flags-at c = search needs
-
-flags-at-requires : tie.Need-flags-at-requires
-flags-at-requires c κs = search needs
+flags-in-requires : tie.Need-flags-in-requires
+flags-in-requires c κs = search needs
 
 flag-in-requires : tie.Need-flag-in-requires
 flag-in-requires c κs = search needs
@@ -24,15 +18,13 @@ returns c =
     let put = c .before in
     let flags = put .before .before in
     let s = flags .before .before in
-    mark-law (s .args .edges .now) (s .args .k) (s .pre .0) (s .pre .1) (flags .flags-at .ensures) (put .flag-in .ensures)
+    mark-law (s .args .edges .now) (s .args .k) (s .pre .0) (s .pre .1) (flags .flags-in .ensures) (put .flag-in .ensures)
 
 pub mark-in-spec : {M : Type 1} → statement M
 mark-in-spec =
     tie.close
     (tie.spec
-    mul-flags-at
-    add-flags-at
-    flags-at-requires
+    flags-in-requires
     flag-in-requires
     same-length
     returns)

@@ -4,13 +4,13 @@ use mir.Syntax.{w32}
 use Rattle.signed.proofs.Signed.{is, got}
 use Rattle.words.specs.Edge.{edgesIn}
 use Rattle.properties_in.specs.Steps.{Joined}
-use Rattle.properties_in.proofs.Visits.{joined-in, asked-inside, member-none, member-serif, member-link}
+use Rattle.properties_in.proofs.Visits.{joined-in, named-in, asked-inside, member-none, member-serif, member-link}
 use borrow.Author.Needs.{needs}
 use Rattle.properties_in.proofs.visit.member_in.Statement.{statement}
 use Rattle.properties_in.proofs.visit.member_in.Tie as tie
 
 join-in-requires : tie.Need-join-in-requires
-join-in-requires c κs = search needs
+join-in-requires c κs = named-in (c .args .segments .now) (c .args .edges .now) (c .args .k) (c .pre .0) (c .pre .1) (c .pre .2) (c .args .ix) (c .pre .3)
 
 enum-known-edge : tie.Need-enum-known-edge
 enum-known-edge c = search needs

@@ -1,12 +1,15 @@
 -- `properties_in::visit::visit_in` meets its contract: each turn is the visit of one segment. Assumes nothing.
-use mathlib.Core.Path.{_∙_}
+use mathlib.Core.Path.{ap, _∙_}
 use mathlib.Core.Logic.{⊎-elim}
 use native.Mathlib.Omega.{arith}
 use lib.ListN.{length}
+use mir.Syntax.{w32}
 use Rattle.axis.specs.Limits.{mostSegments}
 use Rattle.axis.specs.Ring.{nextOf, walk}
 use Rattle.properties.proofs.Turns.{Counted}
+use Rattle.words.specs.Field.{indexOf}
 use Rattle.words.specs.Segment.{flatSegments}
+use Rattle.words.proofs.Fields.{kept}
 use Rattle.properties_in.proofs.Rings.{counted-round, counted-straight, Going, going-starts, going-inside, going-short, going-round, going-less, going-on, going-joined, going-ends}
 use borrow.Author.Needs.{needs}
 use Rattle.properties_in.proofs.visit.visit_in.Statement.{statement}
@@ -28,7 +31,7 @@ at-loop c = visited c .before .before
 -- the segment is counted
 counted : (c : tie.Joined1 Inv-loop μ-loop)
     → let l = at-loop (c .before) in
-    let s = l .before .before .before .before .before in
+    let s = l .before .before .before .before .before .before .before in
     Counted (flatSegments (s .args .segments .now)) (l .loop .ix) (l .loop .roundness) (l .loop .straightness) (c .if1 .roundness) (c .if1 .straightness)
 counted c =
     let e = going-round (at-loop (c .before) .loop .inv) (c .before .round-in .ensures) in
@@ -37,36 +40,45 @@ counted c =
     (λ w. counted-straight (e ∙ w .0 .left) (w .1) (w .2))
     (c .if1 .came)
 
-mul-index-at : tie.Need-mul-index-at Inv-loop μ-loop
-mul-index-at c = search needs
+mul-word-in : tie.Need-mul-word-in Inv-loop μ-loop
+mul-word-in c = search needs
 
-add-index-at : tie.Need-add-index-at Inv-loop μ-loop
-add-index-at c = search needs
+add-word-in : tie.Need-add-word-in Inv-loop μ-loop
+add-word-in c = search needs
 
-index-at-requires : tie.Need-index-at-requires Inv-loop μ-loop
-index-at-requires c κs = search needs
+word-in-requires : tie.Need-word-in-requires Inv-loop μ-loop
+word-in-requires c κs = search needs
 
-mul-index-at-2 : tie.Need-mul-index-at-2 Inv-loop μ-loop
-mul-index-at-2 c = search needs
+index-of-requires : tie.Need-index-of-requires Inv-loop μ-loop
+index-of-requires c κs = search needs
 
-add-index-at-2 : tie.Need-add-index-at-2 Inv-loop μ-loop
-add-index-at-2 c = search needs
+mul-word-in-2 : tie.Need-mul-word-in-2 Inv-loop μ-loop
+mul-word-in-2 c = search needs
 
-index-at-requires-2 : tie.Need-index-at-requires-2 Inv-loop μ-loop
-index-at-requires-2 c κs = search needs
+add-word-in-2 : tie.Need-add-word-in-2 Inv-loop μ-loop
+add-word-in-2 c = search needs
+
+word-in-requires-2 : tie.Need-word-in-requires-2 Inv-loop μ-loop
+word-in-requires-2 c κs = search needs
+
+index-of-requires-2 : tie.Need-index-of-requires-2 Inv-loop μ-loop
+index-of-requires-2 c κs = search needs
 
 loop-holds : tie.Need-loop-holds Inv-loop μ-loop
 loop-holds c =
     let first = c in
-    let last = first .before .before in
-    let s = last .before .before in
-    going-starts (s .args .segments .now) (s .args .edges .now) (s .args .k) (s .pre .0) (s .pre .1) (s .pre .2) (first .index-at2 .ensures) (last .index-at .ensures)
+    let last = first .before .before .before in
+    let s = last .before .before .before in
+    let f = first .before .word-in2 in
+    let l = last .before .word-in in
+    going-starts (s .args .segments .now) (s .args .edges .now) (s .args .k) (s .pre .0) (s .pre .1) (s .pre .2) (first .index-of2 .ensures ∙ ap indexOf (kept w32 (f .result) (f .ok) ∙ f .ensures))
+    (last .index-of .ensures ∙ ap indexOf (kept w32 (l .result) (l .ok) ∙ l .ensures))
 
 member-in-requires : tie.Need-member-in-requires Inv-loop μ-loop
 member-in-requires c κs = let g = c .before .loop .inv in (g .whole, g .ready, g .edge, going-inside g)
 
 round-in-requires : tie.Need-round-in-requires Inv-loop μ-loop
-round-in-requires c κs = search needs
+round-in-requires c κs = going-inside (c .before .before .before .loop .inv)
 
 add-roundness : tie.Need-add-roundness Inv-loop μ-loop
 add-roundness c = let g = at-loop (c .before) .loop .inv in omega (arith, going-short g)
@@ -90,7 +102,7 @@ returns c =
     going-ends (at-loop (joined .before) .loop .inv) (visited (joined .before) .member-in .ensures) (counted joined) (last .if2 .taken) (put .end-in .ensures)
 
 next-in-requires : tie.Need-next-in-requires Inv-loop μ-loop
-next-in-requires c κs = search needs
+next-in-requires c κs = going-inside (at-loop (c .before .before) .loop .inv)
 
 loop-less : tie.Need-loop-less Inv-loop μ-loop
 loop-less c = let on = c .before in going-less (at-loop (on .before .before) .loop .inv) (on .if2 .left) (c .next-in .ensures)
@@ -107,12 +119,14 @@ visit-in-spec =
     (tie.spec
     Inv-loop
     μ-loop
-    mul-index-at
-    add-index-at
-    index-at-requires
-    mul-index-at-2
-    add-index-at-2
-    index-at-requires-2
+    mul-word-in
+    add-word-in
+    word-in-requires
+    index-of-requires
+    mul-word-in-2
+    add-word-in-2
+    word-in-requires-2
+    index-of-requires-2
     loop-holds
     member-in-requires
     round-in-requires
