@@ -113,6 +113,9 @@ module _ (ws : List ℤ) (r : Rules) (W : SegmentsWithin (flatSegments ws)) (J :
   head-below : (k : ℕ) → k < count → headOr 0 (group s k) < t .len
   head-below k h = members k h _ (first-in (group s k) (some k h))
 
+  pub listed-starts : (k : ℕ) → k < count → getD first k 0 < segmentsIn ws
+  listed-starts k h = omega (arith, first-at L k, head-below k h, segments-len ws)
+
   first-of : (k : ℕ) → k < count → wordsOf ws (getD first k 0) ≡ segmentAt t (headOr 0 (group s k))
   first-of k h = ap (wordsOf ws) (first-at L k) ∙ sym (segment-of ws W (headOr 0 (group s k)) (head-below k h))
 
@@ -126,6 +129,7 @@ module _ (ws : List ℤ) (r : Rules) (W : SegmentsWithin (flatSegments ws)) (J :
   pub listed-room : Room ws (r .scale) first count
   listed-room = record {
     few = few-listed;
+    starts = listed-starts;
     fits = λ (k : ℕ) (h : k < count). subst (λ (x : Segment). SFits w32 (mulFix (x .pos) (r .scale))) (sym (first-of k h)) (fits-in w32 (J .opos (headOr 0 (group s k)) (head-below k h)) tt tt);
   }
 
@@ -157,9 +161,6 @@ module _ (ws : List ℤ) (r : Rules) (W : SegmentsWithin (flatSegments ws)) (J :
   -- ---- their rings
   pub listed-walk : (k : ℕ) → k < count → walk (nextIn next) (getD last k 0) mostSegments (getD first k 0) ≡ group s k
   listed-walk k h = rw (first-at L k, last-at L k, L .nexts) (ring-walk t r (not (r .cjk)) s (t .len) k (W .few) G (used k h) .0)
-
-  pub listed-starts : (k : ℕ) → k < count → getD first k 0 < segmentsIn ws
-  listed-starts k h = omega (arith, first-at L k, head-below k h, segments-len ws)
 
   pub listed-stops : (k : ℕ) → k < count → ends (nextIn next) (segmentsIn ws) (getD last k 0) mostSegments (getD first k 0) ≡ true
   listed-stops k h =

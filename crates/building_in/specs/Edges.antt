@@ -12,6 +12,7 @@ use Rattle.axis.specs.Limits.{mostEdges}
 use Rattle.joining.specs.Joining.{newEdge}
 use Rattle.joining_in.specs.Reading.{wordsOf}
 use Rattle.words.specs.Edge.{edgeWords}
+use Rattle.words.specs.Segment.{segmentsIn}
 
 -- the edge from its first segment to its last
 abbrev pub edgeBetween : List ℤ → ℤ → ℕ → ℕ → Edge
@@ -21,7 +22,8 @@ edgeBetween ws scale first last = withLast (newEdge (wordsOf ws first) scale fir
 abbrev pub listedWords : List ℤ → ℤ → List ℕ → List ℕ → ℕ → List ℤ
 listedWords ws scale first last k = edgeWords (edgeBetween ws scale (getD first k 0) (getD last k 0))
 
--- no more edges than the lists have places, each at a position that fits
+-- no more edges than the lists have places, each of a segment that is there, at a position that fits
 pub record Room (ws : List ℤ) (scale : ℤ) (first : List ℕ) (count : ℕ) : Type 0 where
   pub few : count ≤ mostEdges
+  pub starts : (k : ℕ) → k < count → getD first k 0 < segmentsIn ws
   pub fits : (k : ℕ) → k < count → SFits w32 (mulFix (wordsOf ws (getD first k 0) .pos) scale)

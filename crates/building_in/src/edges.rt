@@ -8,17 +8,19 @@ use words::edge::EDGE_WORDS;
 use words::edge::edge_words;
 use words::word::write_words;
 ghost use mathlib.Core.Path.{_≡_};
+ghost use Prim.Native.Nat.{_<_};
 ghost use mir.Syntax.{w32};
 ghost use mir.Val.{SFits};
 ghost use Rattle.fixed.specs.Point.{mulFix};
 ghost use Rattle.words.specs.Edge.{edgesIn};
+ghost use Rattle.words.specs.Segment.{segmentsIn};
 ghost use Rattle.words.specs.Word.{written, joined};
 ghost use Rattle.joining_in.specs.Reading.{wordsOf};
 ghost use Rattle.building_in.specs.Edges.{edgeBetween, listedWords, Room};
 
 // The edge from its first segment to its last.
 fn edge_between(words: &[i32], first: u16, last: u16, scale: i32) -> Edge
-    requires { ⌜ SFits w32 (mulFix (wordsOf (now words) first .pos) scale) ⌝ }
+    requires { ⌜ SFits w32 (mulFix (wordsOf (now words) first .pos) scale) × (first < segmentsIn (now words)) ⌝ }
     ensures { λ r. ⌜ r ≡ edgeBetween (now (words .entry)) scale first last ⌝ }
 {
     with_last(new_edge(segment_in(words, first), scale, first), last)

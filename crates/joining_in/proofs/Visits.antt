@@ -27,7 +27,7 @@ use Rattle.joining.proofs.Good.{Good, good, last-below, members-below, ring-wal
 use Rattle.joining.proofs.Steps.{visit-skip, visit-join, visit-none, visit-full, visit-made, after-next}
 use Rattle.joining.proofs.Searching.{fits-far, seek-no, seek-yes, seek-end, seek-stop}
 use Rattle.joining.proofs.Turns.{place, left, never-0}
-use Rattle.words.specs.Segment.{flatSegments}
+use Rattle.words.specs.Segment.{segmentsIn, flatSegments}
 use Rattle.joining_in.specs.Reading.{wordsOf, segmentIn, edgeBy, edgeIn, edgeAtPlace, stemsIn, ownStem}
 use Rattle.joining_in.specs.Lists.{Placed, Before, stopsAt, stopAt, Made}
 use Rattle.joining_in.proofs.Readings.{segments-len, skips-asked, fits-asked, place-by, fits-by, stops-by, segment-of, links-said}
@@ -91,9 +91,15 @@ module _ {ws : List ℤ} {r : Rules} {second : Bool} {i : ℕ} {places : List �
     used = omega (arith, count-is)
 
     -- its first segment
+    head-below : headOr 0 (group s k) < t .len
+    head-below = members-below t r second s i k (W .few) G used _ (first-in (group s k) (G .used k used))
+
     first-of : wordsOf ws (getD first k 0) ≡ segmentAt t (headOr 0 (group s k))
     first-of =
-        ap (wordsOf ws) (first-at (B .placed .listed) k) ∙ sym (segment-of ws W (headOr 0 (group s k)) (members-below t r second s i k (W .few) G used _ (first-in (group s k) (G .used k used))))
+        ap (wordsOf ws) (first-at (B .placed .listed) k) ∙ sym (segment-of ws W (headOr 0 (group s k)) head-below)
+
+    pub first-inside : getD first k 0 < segmentsIn ws
+    first-inside = omega (arith, first-at (B .placed .listed) k, head-below, segments-len ws)
 
     pub last-inside : getD last k 0 < mostSegments
     last-inside = omega (arith, last-below t r second s i (W .few) hi G k used, last-at (B .placed .listed) k, W .few)
@@ -101,7 +107,7 @@ module _ {ws : List ℤ} {r : Rules} {second : Bool} {i : ℕ} {places : List �
     -- its ring
     pub edge-ring : (getD first k 0 < mostSegments) × (ends (nextIn next) mostSegments (getD last k 0) mostSegments (getD first k 0) ≡ true)
     edge-ring = (
-      omega (arith, first-at (B .placed .listed) k, members-below t r second s i k (W .few) G used _ (first-in (group s k) (G .used k used)), W .few),
+      omega (arith, first-at (B .placed .listed) k, head-below, W .few),
       rw (first-at (B .placed .listed) k, last-at (B .placed .listed) k, B .placed .listed .nexts) (ring-walk t r second s i k (W .few) G used .1),
     )
 

@@ -39,7 +39,7 @@ fn make_edge(
     i: u16,
     rules: Rules,
 )
-    requires { ⌜ (count < mostEdges) × (i < mostSegments) ⌝ }
+    requires { ⌜ (count < mostEdges) × (i < mostSegments) × (i < segmentsIn (now words)) ⌝ }
     ensures { λ _. ⌜ Made (now (words .entry)) rules i count (now (places .entry)) (now (first .entry)) (now (last .entry)) (now (next .entry))
         (now (places .exit)) (now (first .exit)) (now (last .exit)) (now (next .exit)) ⌝ }
 {

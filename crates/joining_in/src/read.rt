@@ -9,10 +9,13 @@ use axis::limits::MOST_SEGMENTS;
 use axis::segment::Segment;
 use joining::ring::NO_STEM;
 use joining::ring::stem_near;
-use words::field::direction_at;
+use words::field::direction_of;
 use words::field::link_at;
+use words::field::link_of;
 use words::field::short_at;
+use words::field::short_of;
 use words::segment::SEGMENT_WORDS;
+use words::word::word_in;
 ghost use mathlib.Core.Path.{_≡_};
 ghost use mathlib.Core.Bool.{true, not, _&&_, _||_};
 ghost use Prim.Native.Nat.{_<_};
@@ -21,25 +24,27 @@ ghost use Rattle.axis.specs.Direction.{same as sameAs};
 ghost use Rattle.axis.specs.Limits.{mostSegments};
 ghost use Rattle.axis.specs.Ring.{walk, ends};
 ghost use Rattle.joining.specs.Walks.{nextIn, noStem, stemsAgree};
+ghost use Rattle.words.specs.Segment.{segmentsIn};
 ghost use Rattle.joining_in.specs.Reading.{segmentIn, edgeIn, edgeAtPlace, stemIn, ownStem, stemsIn};
 
 // What joining asks of a segment by itself, its other fields empty.
 pub fn segment_in(words: &[i32], i: u16) -> Segment
+    requires { ⌜ i < segmentsIn (now words) ⌝ }
     ensures { λ r. ⌜ r ≡ segmentIn (now (words .entry)) i ⌝ }
 {
     let at = SEGMENT_WORDS * (i as usize);
     Segment {
         flags: NORMAL,
-        dir: direction_at(words, at + 1),
-        pos: short_at(words, at + 2),
-        delta: short_at(words, at + 3),
+        dir: direction_of(word_in(words, at + 1)),
+        pos: short_of(word_in(words, at + 2)),
+        delta: short_of(word_in(words, at + 3)),
         min_coord: 0,
         max_coord: 0,
-        height: short_at(words, at + 6),
+        height: short_of(word_in(words, at + 6)),
         score: 0,
         len: 0,
         link: Link::None,
-        serif: link_at(words, at + 10),
+        serif: link_of(word_in(words, at + 10)),
         first: 0,
         last: 0,
         edge: Link::None,
@@ -49,22 +54,24 @@ pub fn segment_in(words: &[i32], i: u16) -> Segment
 
 // Whether a loop leaves segment i out by its direction alone: the second one does where there is any.
 pub fn is_left_out(words: &[i32], i: u16, second: bool) -> bool
+    requires { ⌜ i < segmentsIn (now words) ⌝ }
     ensures { λ r. ⌜ r ≡ (second && not (sameAs (segmentIn (now (words .entry)) i .dir) Direction.None)) ⌝ }
 {
     if !second {
         return false;
     }
-    let dir = direction_at(words, SEGMENT_WORDS * (i as usize) + 1);
+    let dir = direction_of(word_in(words, SEGMENT_WORDS * (i as usize) + 1));
     !same(dir, Direction::None)
 }
 
 // What joining asks of an edge by its first segment and its last one, its other fields empty.
 pub fn edge_in(words: &[i32], first: u16, last: u16) -> Edge
+    requires { ⌜ first < segmentsIn (now words) ⌝ }
     ensures { λ r. ⌜ r ≡ edgeIn (now (words .entry)) first last ⌝ }
 {
     let at = SEGMENT_WORDS * (first as usize);
-    let dir = direction_at(words, at + 1);
-    let fpos = short_at(words, at + 2);
+    let dir = direction_of(word_in(words, at + 1));
+    let fpos = short_of(word_in(words, at + 2));
     Edge {
         fpos,
         dir,

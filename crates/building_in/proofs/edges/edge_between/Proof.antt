@@ -15,7 +15,7 @@ segment-in-requires : tie.Need-segment-in-requires
 segment-in-requires c κs = search needs
 
 new-edge-requires : tie.Need-new-edge-requires
-new-edge-requires c κs = let s = c .before in rw (c .segment-in .ensures, is (s .fits .scale)) (s .pre)
+new-edge-requires c κs = let s = c .before in rw (c .segment-in .ensures, is (s .fits .scale)) (s .pre .0)
 
 with-last-requires : tie.Need-with-last-requires
 with-last-requires c κs = search needs

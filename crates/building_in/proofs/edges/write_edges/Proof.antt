@@ -39,7 +39,10 @@ element-copy-out-edge-between-2 : tie.Need-element-copy-out-edge-between-2 Inv-l
 element-copy-out-edge-between-2 c = let s = c .before .before .before in omega (arith, s .pre .few)
 
 edge-between-requires : tie.Need-edge-between-requires Inv-loop μ-loop
-edge-between-requires c κs = let s = c .before .before .before .before in rw (is (s .fits .scale)) (s .pre .fits (c .before .before .before .loop .k) (omega arith))
+edge-between-requires c κs =
+    let l = c .before .before .before in
+    let s = l .before in
+    (rw (is (s .fits .scale)) (s .pre .fits (l .loop .k) (omega arith)), s .pre .starts (l .loop .k) (omega arith))
 
 -- the edge's words
 long : (c : tie.After-edge-words Inv-loop μ-loop) → length (c .edge-words .result) ≡ edgeSize

@@ -47,7 +47,7 @@ cast-is-left-out : tie.Need-cast-is-left-out Inv-loop μ-loop
 cast-is-left-out c = omega (arith, low c)
 
 is-left-out-requires : tie.Need-is-left-out-requires Inv-loop μ-loop
-is-left-out-requires c κs = search needs
+is-left-out-requires c κs = c .loop-test .taken
 
 add-i : tie.Need-add-i Inv-loop μ-loop
 add-i c = omega arith

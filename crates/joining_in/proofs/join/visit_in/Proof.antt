@@ -39,7 +39,7 @@ room : (c : tie.Else4) → start-of (c .before .before .before) .args .count < m
 room c = omega (arith, c .if4 .left, visit-room (start-of (c .before .before .before) .pre))
 
 segment-in-requires : tie.Need-segment-in-requires
-segment-in-requires c κs = search needs
+segment-in-requires c κs = c .pre .inside
 
 skips-requires : tie.Need-skips-requires
 skips-requires c κs = search needs
@@ -95,7 +95,10 @@ returns-4 c =
     visit-fills (start-of place-of .pre) (asks (else-of place-of)) _ (place-of .place-of .ensures .0) (else2 .if2 .left) (else3 .if3 .left) (c .if4 .taken)
 
 make-edge-requires : tie.Need-make-edge-requires
-make-edge-requires c κs = let else4 = c .before .before .before .before in (room else4, visit-inside (start-of (else4 .before .before .before) .pre))
+make-edge-requires c κs =
+    let else4 = c .before .before .before .before in
+    let start = start-of (else4 .before .before .before) in
+    (room else4, visit-inside (start .pre), start .pre .inside)
 
 add-more : tie.Need-add-more
 add-more c = omega (arith, room (c .before .before .before .before .before))

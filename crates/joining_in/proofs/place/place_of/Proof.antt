@@ -21,7 +21,7 @@ use Rattle.joining.specs.Walks.{nextIn, noStem, stemsAgree}
 use Rattle.joining.proofs.Turns.{place, left}
 use Rattle.words.specs.Segment.{flatSegments}
 use Rattle.joining_in.specs.Reading.{edgeAtPlace, stemsIn}
-use Rattle.joining_in.proofs.Visits.{visit-room, edge-ring, may-said, may-far, search-start, search-no, search-yes, search-end, search-stop}
+use Rattle.joining_in.proofs.Visits.{visit-room, first-inside, edge-ring, may-said, may-far, search-start, search-no, search-yes, search-end, search-stop}
 use Rattle.joining_in.proofs.place.place_of.Statement.{statement}
 use Rattle.joining_in.proofs.place.place_of.Tie as tie
 
@@ -102,7 +102,10 @@ element-copy-out-edge-in-2 : tie.Need-element-copy-out-edge-in-2 Inv-loop μ-loo
 element-copy-out-edge-in-2 c = omega arith
 
 edge-in-requires : tie.Need-edge-in-requires Inv-loop μ-loop
-edge-in-requires c κs = search needs
+edge-in-requires c κs =
+    let in-loop = c .before .before .before .before .before .before .before in
+    let start = in-loop .before .before .before in
+    first-inside (start .pre .0) _ (in-loop .loop-test .taken)
 
 may-join-in-requires : tie.Need-may-join-in-requires Inv-loop μ-loop
 may-join-in-requires c κs =

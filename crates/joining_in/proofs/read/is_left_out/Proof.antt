@@ -1,12 +1,15 @@
 -- `joining_in::read::is_left_out` meets its contract. Assumes nothing.
 use mathlib.Core.Path.{_≡_, refl, sym, ap, _∙_}
 use mathlib.Core.Bool.{Bool, not, _&&_}
+use mir.Syntax.{w32}
 use borrow.Author.Needs.{needs}
 use borrow.Author.Tests.{not-true, not-false}
 use Rattle.axis.specs.declared.kinds.Direction.{Direction}
 use Rattle.axis.specs.declared.kinds.Direction.the-variants as Directions
 use Rattle.axis.specs.Direction.{same}
+use Rattle.words.specs.Field.{directionOf}
 use Rattle.words.specs.Segment.{segmentFrom}
+use Rattle.words.proofs.Fields.{kept}
 use Rattle.joining_in.specs.Reading.{segmentIn}
 use Rattle.joining_in.proofs.read.is_left_out.Statement.{statement}
 use Rattle.joining_in.proofs.read.is_left_out.Tie as tie
@@ -14,14 +17,17 @@ use Rattle.joining_in.proofs.read.is_left_out.Tie as tie
 returns : tie.Need-returns
 returns c = let a = c .before .args in ap (λ (b : Bool). b && not (same (segmentIn (a .words .now) (a .i) .dir) Directions.None)) (sym (not-true (a .second) (c .if1 .taken)))
 
-mul-direction-at : tie.Need-mul-direction-at
-mul-direction-at c = search needs
+mul-word-in : tie.Need-mul-word-in
+mul-word-in c = search needs
 
-add-direction-at : tie.Need-add-direction-at
-add-direction-at c = search needs
+add-word-in : tie.Need-add-word-in
+add-word-in c = search needs
 
-direction-at-requires : tie.Need-direction-at-requires
-direction-at-requires c κs = search needs
+word-in-requires : tie.Need-word-in-requires
+word-in-requires c κs = search needs
+
+direction-of-requires : tie.Need-direction-of-requires
+direction-of-requires c κs = search needs
 
 same-requires : tie.Need-same-requires
 same-requires c κs = search needs
@@ -30,10 +36,11 @@ returns-2 : tie.Need-returns-2
 unfolding segmentFrom
 returns-2 c =
     let d = c .before in
-    let e = d .before in
+    let w = d .before in
+    let e = w .before in
     let a = e .before .args in
-    ap not (c .same .ensures ∙ ap (λ (x : Direction). same x Directions.None) (d .direction-at .ensures))
+    ap not (c .same .ensures ∙ ap (λ (x : Direction). same x Directions.None) (d .direction-of .ensures ∙ ap directionOf (kept w32 (w .word-in .result) (w .word-in .ok) ∙ w .word-in .ensures)))
     ∙ ap (λ (b : Bool). b && not (same (segmentIn (a .words .now) (a .i) .dir) Directions.None)) (sym (not-false (a .second) (e .if1 .left)))
 
 pub is-left-out-spec : {M : Type 1} → statement M
-is-left-out-spec = tie.close (tie.spec returns mul-direction-at add-direction-at direction-at-requires same-requires returns-2)
+is-left-out-spec = tie.close (tie.spec returns mul-word-in add-word-in word-in-requires direction-of-requires same-requires returns-2)
