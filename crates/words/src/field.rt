@@ -17,15 +17,6 @@ ghost use Rattle.words.specs.Word.{wordAt};
 ghost use Rattle.words.specs.Field.{shortOf, indexOf, linkOf, choiceOf, directionOf, markOf, groupOf, dimensionOf, ruleOf, linkDirOf, blueOf, flagsOf, oddOf, weightOf};
 ghost use Rattle.words.specs.Field.{linkWord, directionWord, markWord, presentWord, fittedWord, flagsWord};
 
-// The directions, by their words.
-const DIRECTIONS: [Direction; 5] = [
-    Direction::None,
-    Direction::Right,
-    Direction::Left,
-    Direction::Up,
-    Direction::Down,
-];
-
 // The marks, by their words.
 const MARKS: [Mark; 10] = [
     Mark::Nothing,
@@ -102,9 +93,17 @@ pub fn choice_of(word: i32) -> bool
 pub fn direction_of(word: i32) -> Direction
     ensures { λ r. ⌜ r ≡ directionOf word ⌝ }
 {
-    let number = size_of(word);
-    if number < 5 {
-        return DIRECTIONS[number];
+    if word == 1 {
+        return Direction::Right;
+    }
+    if word == 2 {
+        return Direction::Left;
+    }
+    if word == 3 {
+        return Direction::Up;
+    }
+    if word == 4 {
+        return Direction::Down;
     }
     Direction::None
 }

@@ -1,33 +1,33 @@
 -- `words::field::direction_of` meets its contract. Assumes nothing.
-use borrow.Author.Needs.{needs}
 use native.Mathlib.Omega.{arith}
-use mathlib.Core.Path.{_≡_, sym, ap, _∙_}
-use Prim.Native.Nat.{ℕ}
-use lib.ListN.{getD, List·getD-eq-default}
-use Rattle.axis.specs.declared.kinds.Direction.the-variants as Directions
-use Rattle.signed.specs.Parts.{up}
-use Rattle.signed.proofs.Signed.{is}
-use Rattle.words.specs.Field.{directions, directionOf}
+use mathlib.Core.Path.{sym, ap}
+use Rattle.words.specs.Field.{directionOf}
+use Rattle.words.proofs.Fields.{number-is, direction-none}
 use Rattle.words.proofs.field.direction_of.Statement.{statement}
 use Rattle.words.proofs.field.direction_of.Tie as tie
 
--- the number is the word's
-number : (c : tie.After-size-of) → c .size-of .result ≡ up (c .before .args .word)
-number c = c .size-of .ensures ∙ ap up (is (c .before .fits .word))
-
-size-of-requires : tie.Need-size-of-requires
-size-of-requires c κs = search needs
-
-array-copy-out-result : tie.Need-array-copy-out-result
-array-copy-out-result c = search needs
-
 returns : tie.Need-returns
 unfolding directionOf
-returns c = ap (λ (n : ℕ). getD directions n Directions.None) (number (c .before .before))
+returns c = let s = c .before in ap directionOf (sym (number-is 1 (omega arith) (s .args .word) (s .fits .word) (c .if1 .taken)))
 
 returns-2 : tie.Need-returns-2
 unfolding directionOf
-returns-2 c = sym (List·getD-eq-default directions Directions.None {n = up (c .before .before .args .word)} (omega (arith, number (c .before))))
+returns-2 c = let s = c .before .before in ap directionOf (sym (number-is 2 (omega arith) (s .args .word) (s .fits .word) (c .if2 .taken)))
+
+returns-3 : tie.Need-returns-3
+unfolding directionOf
+returns-3 c = let s = c .before .before .before in ap directionOf (sym (number-is 3 (omega arith) (s .args .word) (s .fits .word) (c .if3 .taken)))
+
+returns-4 : tie.Need-returns-4
+unfolding directionOf
+returns-4 c = let s = c .before .before .before .before in ap directionOf (sym (number-is 4 (omega arith) (s .args .word) (s .fits .word) (c .if4 .taken)))
+
+returns-5 : tie.Need-returns-5
+returns-5 c =
+    let third = c .before in
+    let second = third .before in
+    let first = second .before in
+    direction-none (first .before .args .word) (first .if1 .left) (second .if2 .left) (third .if3 .left) (c .if4 .left)
 
 pub direction-of-spec : {M : Type 1} → statement M
-direction-of-spec = tie.close (tie.spec size-of-requires array-copy-out-result returns returns-2)
+direction-of-spec = tie.close (tie.spec returns returns-2 returns-3 returns-4 returns-5)
