@@ -13,6 +13,10 @@ mostEdges = 128
 abbrev pub mostUnits : ℕ
 mostUnits = 16383
 
+-- the delta passed to the CJK stem: -16,383 to 16,383 units
+abbrev pub mostPassed : ℕ
+mostPassed = 16383
+
 -- `pos` of an edge: -16,777,216 to 16,777,216
 abbrev pub mostPos : ℕ
 mostPos = 16777216

@@ -2,15 +2,15 @@
 use mathlib.Core.Path.{_≡_}
 use mathlib.Core.Bool.{Bool, true, cond, _&&_}
 use mathlib.Core.List.{List, [], _∷_}
-use Prim.Native.Nat.{ℕ, zero, suc, _+_, _<_, _≤_}
+use Prim.Native.Nat.{ℕ, zero, suc, _+_, _<_}
 use lib.Dec.{eqb, ltb}
 use Rattle.axis.specs.declared.edge.Axis.{Axis}
-use Rattle.axis.specs.declared.kinds.Link.the-variants as Links
 use Rattle.axis.specs.declared.segment.Segments.{Segments}
 use Rattle.axis.specs.Edge.{edgeAt}
 use Rattle.axis.specs.Segment.{segmentAt}
 use Rattle.axis.specs.Limits.{mostSegments}
-use Rattle.axis.specs.Link.{indexOr}
+use Rattle.axis.specs.Link.{linksTo, indexOr}
+use Rattle.axis.specs.Refusals.{every}
 
 -- ---- walks
 -- the numbers visited from ix up to the last, each the next of the one before, in at most n steps
@@ -47,10 +47,36 @@ pub record AllWalked (axis : Axis) (t : Segments) : Type 0 where
   pub ring : (k : ℕ) → k < axis .len → Walked t (edgeAt axis k .first) (edgeAt axis k .last)
 
 -- ---- sound rings
--- the ring of edge k is sound: following it from the first segment visits each segment of that edge once, no other, and ends at the last, whose next is the first
-pub record Sound (axis : Axis) (t : Segments) (k : ℕ) : Type 0 where
-  pub walked : Walked t (edgeAt axis k .first) (edgeAt axis k .last)
-  pub once : (i : ℕ) → times i (members axis t k) ≤ 1
-  pub own : (i : ℕ) → 0 < times i (members axis t k) → segmentAt t i .edge ≡ Links.To k
-  pub every-one : (i : ℕ) → i < t .len → segmentAt t i .edge ≡ Links.To k → 0 < times i (members axis t k)
-  pub closed : segmentAt t (edgeAt axis k .last) .next ≡ Links.To (edgeAt axis k .first)
+-- the segments visited from the first one on, each the next of the one before, up to the last
+abbrev pub visited : (ℕ → ℕ) → ℕ → ℕ → List ℕ
+visited next first last = walk next last mostSegments first
+
+-- of n segments, with `own` for those of an edge and `next` for the segment behind each, no number below n where there is none: following the ring from the first segment
+-- visits each segment of the edge once, no other, and ends at the last, whose next is the first
+pub record SoundRing (own : ℕ → Bool) (next : ℕ → ℕ) (n first last : ℕ) : Type 0 where
+  pub starts : first < n
+  pub stops : ends next n last mostSegments first ≡ true
+  pub closed : next last ≡ first
+  pub visits : (i : ℕ) → i < n → times i (visited next first last) ≡ cond (own i) 1 0
+
+-- the same as a test
+unfoldable pub soundRing : (ℕ → Bool) → (ℕ → ℕ) → ℕ → ℕ → ℕ → Bool
+soundRing own next n first last =
+    ltb first n
+    && (ends next n last mostSegments first && (eqb (next last) first && every (λ (i : ℕ). eqb (times i (visited next first last)) (cond (own i) 1 0)) n))
+
+-- segment i is of edge k: its edge index says so
+abbrev pub isOf : Segments → ℕ → ℕ → Bool
+isOf t k i = linksTo (segmentAt t i .edge) k
+
+-- the segment that segment i leads to; where it has no next the count stands, which is no segment
+abbrev pub ledTo : Segments → ℕ → ℕ
+ledTo t i = indexOr (t .len) (segmentAt t i .next)
+
+-- the ring of edge k is sound
+abbrev pub Sound : Axis → Segments → ℕ → Type 0
+Sound axis t k = SoundRing (isOf t k) (ledTo t) (t .len) (edgeAt axis k .first) (edgeAt axis k .last)
+
+-- the same as a test
+abbrev pub isSound : Axis → Segments → ℕ → Bool
+isSound axis t k = soundRing (isOf t k) (ledTo t) (t .len) (edgeAt axis k .first) (edgeAt axis k .last)

@@ -11,6 +11,11 @@ pub const LEAST_UNITS: i32 = -16383;
 
 pub const MOST_UNITS: i32 = 16383;
 
+// The delta passed to the CJK stem, in units.
+pub const LEAST_PASSED: i32 = -16383;
+
+pub const MOST_PASSED: i32 = 16383;
+
 // `pos` of an edge.
 pub const LEAST_POS: i32 = -16777216;
 

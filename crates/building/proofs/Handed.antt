@@ -119,14 +119,7 @@ module _ (t : Segments) (r : Rules) (W : SegmentsWithin t) where
       let l : k < edges .len = rw (K .len) at h in
       let g = K .edge k l in
       let c : k < s .count = omega (arith, of-len t r s (j .full) (j .axis) (j .next) refl, l) in
-      let S = sound t r W T k c in
-      record {
-        walked = rw (g .first, g .last) (S .walked);
-        once = λ i. rw (g .first, g .last) (S .once i);
-        own = λ i p. S .own i (rw (g .first, g .last) at p);
-        every-one = λ i q e. rw (g .first, g .last) (S .every-one i q e);
-        closed = rw (g .first, g .last) (S .closed);
-      }
+      rw (g .first, g .last) (sound t r W T k c)
 
 -- ---- the call
 module _ (t : Segments) (old : Axis) (group : Group) (ttb : Bool) (scale : ℤ) (by : Thresholds) where

@@ -1,7 +1,7 @@
 -- Every edge of a built axis is a sound ring: following it from its first segment visits each segment of that edge once and no other, and ends at the last,
 -- whose next is the first.
 use mathlib.Core.Path.{_≡_, refl, sym, ap, subst, _∙_}
-use mathlib.Core.Bool.{not, cond}
+use mathlib.Core.Bool.{true, not, cond}
 use mathlib.Core.List.{List, [], _∷_}
 use mathlib.Core.Logic.{_⊎_, inl, inr, ⊎-elim}
 use Prim.Native.Nat.{ℕ, zero, suc, _+_, _≤_, _<_}
@@ -19,14 +19,17 @@ use Rattle.axis.specs.Accepted.{SegmentsWithin}
 use Rattle.axis.specs.Edge.{edgeAt}
 use Rattle.axis.specs.Handed.{Typed}
 use Rattle.axis.specs.Limits.{mostSegments}
+use Rattle.axis.specs.Link.{isLinked}
 use Rattle.axis.specs.Ring.{walk, nextOf, members, times, Sound}
 use Rattle.axis.specs.Segment.{emptySegment, segmentAt, putSegment}
 use Rattle.axis.proofs.Rings.{walk-at}
+use Rattle.axis.proofs.Sound.{sound-from}
+use Rattle.axis.proofs.Walks.{same?, times-nil}
 use Rattle.joining.specs.declared.rules.Rules.{Rules}
 use Rattle.joining.specs.Joining.{headOr, lastOf, lastIn, State, group, shown}
-use Rattle.joining.proofs.Members.{times-nil, times-head, times-apart, times-more, Once, once-rest, head-last, last-in, few}
+use Rattle.joining.proofs.Members.{times-head, times-apart, times-more, Once, once-rest, head-last, last-in, few}
 use Rattle.joining.proofs.Rings.{Chain}
-use Rattle.joining.proofs.Settling.{same?, total, total-two}
+use Rattle.joining.proofs.Settling.{total, total-two}
 use Rattle.joining.proofs.Good.{Good, members-below, members-once}
 use Rattle.joining.proofs.Steps.{of-len, of-first, of-last}
 use Rattle.marking.specs.Marks.{forgotten, clear, cleared, memberOf, marks, groupMarks}
@@ -181,6 +184,11 @@ module _ (t : Segments) (r : Rules) (W : SegmentsWithin t) (T : Typed t) where
   unfolding builtSegments
   own k h i p = member k h i p .edge
 
+  -- each leads to one
+  led : (k : ℕ) → k < s .count → (i : ℕ) → 0 < times i (group s k) → isLinked (segmentAt (builtSegments t s) i .next) ≡ true
+  unfolding builtSegments
+  led k h i p = ap isLinked (member k h i p .behind)
+
   -- and no others have
   every-one : (k i : ℕ) → i < builtSegments t s .len → segmentAt (builtSegments t s) i .edge ≡ Links.To k → 0 < times i (group s k)
   unfolding builtSegments
@@ -191,10 +199,10 @@ module _ (t : Segments) (r : Rules) (W : SegmentsWithin t) (T : Typed t) where
   sound k h =
       let v = visited k h in
       let j = shown t r s in
-      record {
-        walked = ready t r j refl W .rings .ring k (rw (of-len t r s (j .full) (j .axis) (j .next) refl) h);
-        once = λ i. subst (λ (ms : List ℕ). times i ms ≤ 1) (sym v) (members-once t r (not (r .cjk)) s (t .len) k (W .few) G h i);
-        own = λ i p. own k h i (subst (λ (ms : List ℕ). 0 < times i ms) v p);
-        every-one = λ i l e. subst (λ (ms : List ℕ). 0 < times i ms) (sym v) (every-one k i l e);
-        closed = closed k h;
-      }
+      sound-from (builtEdges t r s) (builtSegments t s) k
+      (ready t r j refl W .rings .ring k (rw (of-len t r s (j .full) (j .axis) (j .next) refl) h))
+      (λ i. subst (λ (ms : List ℕ). times i ms ≤ 1) (sym v) (members-once t r (not (r .cjk)) s (t .len) k (W .few) G h i))
+      (λ i p. own k h i (subst (λ (ms : List ℕ). 0 < times i ms) v p))
+      (λ i l e. subst (λ (ms : List ℕ). 0 < times i ms) (sym v) (every-one k i l e))
+      (λ i p. led k h i (subst (λ (ms : List ℕ). 0 < times i ms) v p))
+      (closed k h)

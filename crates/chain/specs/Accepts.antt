@@ -11,7 +11,7 @@ use Rattle.axis.specs.declared.edge.Axis.{Axis}
 use Rattle.axis.specs.declared.kinds.Group.{Group}
 use Rattle.axis.specs.declared.kinds.Link.{Link}
 use Rattle.axis.specs.Accepted.{Below}
-use Rattle.axis.specs.Limits.{mostUnits}
+use Rattle.axis.specs.Limits.{mostUnits, mostPassed}
 use Rattle.axis.specs.Refusals.{inside, within}
 use Rattle.placing.specs.declared.adjust.LinkDir.{LinkDir}
 use Rattle.placing.specs.Placing.{bothBelow}
@@ -30,7 +30,7 @@ pub record Accepts (axis : Axis) : Type 0 where
   pub serif : (base serif : ℕ) → bothBelow (axis .len) base serif ≡ true → alignSerifEdge axis base serif .answer ≡ 0
   pub bounds : (i : ℕ) → ltb i (axis .len) ≡ true → latinRemainingBounds axis i .answer ≡ 0
   pub adjust : (i : ℕ) (dir : LinkDir) → ltb i (axis .len) ≡ true → adjustLink axis i dir false .answer ≡ 0
-  pub cjk : (adjust : Bool) (rule : WidthRule) (xs : List ℤ) (i j : ℕ) (d : ℤ) → ruleHolds rule xs ≡ true → bothBelow (axis .len) i j ≡ true → within mostUnits d ≡ true
+  pub cjk : (adjust : Bool) (rule : WidthRule) (xs : List ℤ) (i j : ℕ) (d : ℤ) → ruleHolds rule xs ≡ true → bothBelow (axis .len) i j ≡ true → within mostPassed d ≡ true
       → hintNormalStemCjk axis adjust rule xs i j d .answer ≡ 0
   pub stems : (group : Group) (adjust : Bool) (anchor : Link) (rule : WidthRule) (xs : List ℤ) → Below (axis .len) anchor → ruleHolds rule xs ≡ true
       → alignStemEdges axis group adjust false anchor rule xs .answer ≡ 0

@@ -19,7 +19,7 @@ use Rattle.fixed.specs.Pixel.{pixFloor}
 use Rattle.fixed.proofs.Pixels.{floor-law}
 use Rattle.fixed.specs.declared.width.WidthRule.{WidthRule}
 use Rattle.fixed.specs.Width.{fittedWidth}
-use Rattle.axis.specs.Limits.{mostUnits}
+use Rattle.axis.specs.Limits.{mostUnits, mostPassed}
 use Rattle.axis.specs.declared.kinds.Dimension.{Dimension}
 use Rattle.axis.specs.declared.kinds.Dimension.the-variants.{Horizontal, Vertical}
 use Rattle.axis.specs.declared.edge.Edge.{Edge}
@@ -95,7 +95,7 @@ delta-range adjust p w t l = clamp-range adjust _ (offsets-range (pixelOffset p)
 abbrev pub mostUnmoved : ℕ
 mostUnmoved = 49157
 
-pub start-range : (o1 o2 w d : ℤ) → Between mostUnits mostUnits o1 → Between mostUnits mostUnits o2 → Between mostWidth mostWidth w → Between mostUnits mostUnits d
+pub start-range : (o1 o2 w d : ℤ) → Between mostUnits mostUnits o1 → Between mostUnits mostUnits o2 → Between mostWidth mostWidth w → Between mostPassed mostPassed d
     → Between mostUnmoved mostUnmoved (startOf o1 o2 w d)
 unfolding startOf
 start-range o1 o2 w d h g k l =
@@ -113,7 +113,7 @@ threshold-range : (adjust : Bool) (dim : Dimension) (round : Bool) → Between 0
 threshold-range adjust dim round = omega (arith, gap-range adjust dim round, sub-law (pos 64) (gapOf adjust dim round))
 
 -- the place of a stem's lower edge, its width, and what it is moved by
-pub stem-pos-range : (dim : Dimension) (adjust : Bool) (rule : WidthRule) (xs : List ℤ) (e e2 : Edge) (d : ℤ) → InReach e → InReach e2 → Between mostUnits mostUnits d
+pub stem-pos-range : (dim : Dimension) (adjust : Bool) (rule : WidthRule) (xs : List ℤ) (e e2 : Edge) (d : ℤ) → InReach e → InReach e2 → Between mostPassed mostPassed d
     → Between mostCjkStart mostCjkStart (stemOf dim adjust rule xs e e2 d .pos)
 unfolding stemOf stemAt
 stem-pos-range dim adjust rule xs e e2 d h g k =

@@ -9,7 +9,7 @@ use fixed::width::stem_width;
 ghost use mathlib.Core.Path.{_≡_};
 ghost use mathlib.Core.Bool.{true};
 ghost use Rattle.signed.specs.Range.{Between};
-ghost use Rattle.axis.specs.Limits.{mostUnits};
+ghost use Rattle.axis.specs.Limits.{mostUnits, mostPassed};
 ghost use Rattle.fixed.specs.Width.{ruleHolds};
 ghost use Rattle.placing.specs.Steps.{InReach};
 ghost use Rattle.cjk_numbers.specs.Cjk.{bothRound, startOf, clamped, deltaOf, stemAt, stemOf, mostWidth, mostCjkStart};
@@ -36,7 +36,7 @@ fn both_round(edge: Edge, edge2: Edge) -> bool
 
 // The start of a stem before it is moved: half its width before the centre, which the passed delta has shifted. Both halves drop their fraction.
 fn start_of(opos1: i32, opos2: i32, width: i32, delta: i32) -> i32
-    requires { ⌜ Between mostUnits mostUnits opos1 × Between mostUnits mostUnits opos2 × Between mostWidth mostWidth width × Between mostUnits mostUnits delta ⌝ }
+    requires { ⌜ Between mostUnits mostUnits opos1 × Between mostUnits mostUnits opos2 × Between mostWidth mostWidth width × Between mostPassed mostPassed delta ⌝ }
     ensures { λ r. ⌜ r ≡ startOf opos1 opos2 width delta ⌝ }
 {
     let centre = (opos1 + opos2) / 2 + delta;
@@ -78,7 +78,7 @@ fn stem_at(
     width: i32,
     delta: i32,
 ) -> Stem
-    requires { ⌜ Between mostUnits mostUnits opos1 × Between mostUnits mostUnits opos2 × Between mostWidth mostWidth width × Between mostUnits mostUnits delta × Between 0 64 threshold ⌝ }
+    requires { ⌜ Between mostUnits mostUnits opos1 × Between mostUnits mostUnits opos2 × Between mostWidth mostWidth width × Between mostPassed mostPassed delta × Between 0 64 threshold ⌝ }
     ensures { λ r. ⌜ r ≡ stemAt «stem_adjust» threshold opos1 opos2 width delta ⌝ }
 {
     let start = start_of(opos1, opos2, width, delta);
@@ -101,7 +101,7 @@ pub fn stem_of(
     delta: i32,
 ) -> Stem
     requires { ⌜ ruleHolds rule (now standards) ≡ true ⌝ }
-    requires { ⌜ InReach edge × InReach edge2 × Between mostUnits mostUnits delta ⌝ }
+    requires { ⌜ InReach edge × InReach edge2 × Between mostPassed mostPassed delta ⌝ }
     ensures { λ r. ⌜ r ≡ stemOf dim «stem_adjust» rule (now (standards .entry)) edge edge2 delta ⌝ }
 {
     let round = both_round(edge, edge2);

@@ -3,10 +3,10 @@ use mathlib.Core.Path.{_≡_, refl, ap, _∙_}
 use mathlib.Core.Bool.{Bool, true, false, cond, _&&_}
 use mathlib.Core.List.{List, [], _∷_, _++_}
 use Prim.Native.Nat.{ℕ, _<_}
-use borrow.Author.Tests.{ltb-true, lt-ltb}
-use lib.Dec.{leb, ltb}
+use borrow.Author.Tests.{lt-ltb}
+use lib.Dec.{leb}
 use Rattle.refusals.specs.Refusal.{Test, _unless_, tooLong, badIndex, outOfRange, refusal, orRefused, answered}
-use Rattle.refusals.proofs.Tests.{and-first, and-second, numbered, answered-no}
+use Rattle.refusals.proofs.Tests.{numbered, own-first}
 use Rattle.axis.specs.declared.edge.Axis.{Axis}
 use Rattle.axis.specs.Limits.{mostEdges}
 use Rattle.axis.specs.Refusals.{edgesIndices, edgesNumbers, edgesShort, edgesIndexed, edgesInRange}
@@ -19,17 +19,6 @@ in-order false n m p = refl
 in-order true false m p = refl
 in-order true true false p = refl
 in-order true true true p = refl
-
--- the parameters first
-pub own-first : (ts us : List Test) → numbered ts ≡ true → refusal (ts ++ us) ≡ answered (refusal ts) (λ (k : ℕ). k) (refusal us)
-unfolding refusal
-own-first [] us e = refl
-own-first (t ∷ ts) us e = go (own-first ts us (and-second (ltb 0 (t .number)) _ e)) (t .holds)
-  where
-    go : refusal (ts ++ us) ≡ answered (refusal ts) (λ (k : ℕ). k) (refusal us) → (b : Bool)
-        → cond b (refusal (ts ++ us)) (t .number) ≡ answered (cond b (refusal ts) (t .number)) (λ (k : ℕ). k) (refusal us)
-    go rest true = rest
-    go rest false = answered-no (t .number) (t .number) (λ (k : ℕ). k) (refusal us) refl (ltb-true 0 (t .number) (and-first _ _ e))
 
 module _ (axis : Axis) (named passed : Bool) (short : leb (axis .len) mostEdges ≡ true) where
   abbrev rest : List Test

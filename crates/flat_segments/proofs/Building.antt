@@ -10,7 +10,7 @@ use lib.ListN.{length}
 use lib.IntN.{ℤ, pos}
 use Rattle.signed.proofs.Choices.{cond-true, cond-false}
 use Rattle.refusals.specs.Refusal.{Test, _unless_, tooLong, badParameter, badIndex, outOfRange, noRoom, refusal, answered}
-use Rattle.refusals.proofs.Tests.{Tested, and-first, and-second, all-hold}
+use Rattle.refusals.proofs.Tests.{Tested, and-first, and-second, all-hold, own-first}
 use Rattle.axis.specs.declared.edge.Axis.{Axis}
 use Rattle.axis.specs.declared.segment.Segments.{Segments}
 use Rattle.axis.specs.Accepted.{SegmentsWithin}
@@ -34,7 +34,6 @@ use Rattle.words.specs.Segment.{segmentSize, segmentsIn, flatSegments, segments
 use Rattle.shape.specs.Shape.{isIn, direction}
 use Rattle.lent.specs.Lent.{Lent, refusedOr, segmentsFront, choices}
 use Rattle.lent.proofs.Kept.{passed, not-new}
-use Rattle.edges_test.proofs.Order.{own-first}
 use Rattle.segments_in.specs.Whole.{Whole}
 use Rattle.segments_in.proofs.Wholes.{segments-len}
 use Rattle.segments_test.specs.Held.{tested}

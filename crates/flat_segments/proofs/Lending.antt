@@ -23,12 +23,12 @@ use Rattle.segments_in.specs.Whole.{Became}
 use Rattle.segments_in.proofs.Became.{became-over}
 use Rattle.segments_test.specs.Held.{tested}
 use Rattle.segments_test.proofs.Calls.{short, ready, next-tests}
-use Rattle.linking_in.specs.Linking.{Sound}
+use Rattle.linking_in.specs.Linking.{Linkable}
 use Rattle.flat_segments.specs.Link.{LinkingLent}
 
 -- what the rounds may use
 pub record ReadyLinking (ws : List ℤ) (upem scale : ℤ) : Type 0 where
-  pub sound : Sound ws
+  pub sound : Linkable ws
   pub numbers : numbersHold upem scale ≡ true
 
 module _ (ws : List ℤ) (major upem scale : ℤ) {own r : ℕ} {right others : Bool} (n : right ≡ numbersHold upem scale) (o : own ≡ orRefused 0 right badParameter) (t : others ≡ isIn direction major)

@@ -16,7 +16,7 @@ use Rattle.axis.specs.declared.kinds.Link.{Link}
 use Rattle.axis.specs.declared.kinds.Link.the-variants as Links
 use Rattle.axis.specs.declared.edge.Axis.{Axis}
 use Rattle.axis.specs.Edge.{edgeAt}
-use Rattle.axis.specs.Limits.{mostEdges, mostUnits, mostPos}
+use Rattle.axis.specs.Limits.{mostEdges, mostPassed, mostPos}
 use Rattle.axis.specs.Accepted.{AxisWithin}
 use Rattle.axis.specs.Refusals.{within, edgesIndices, edgesNumbers}
 use Rattle.axis.proofs.Acceptance.{within-between}
@@ -55,11 +55,11 @@ unrefused false e = absurd (omega (arith, e))
 -- what the call may use
 pub record ReadyStem (ws : List ℤ) (i j : ℕ) (d : ℤ) : Type 0 where
   pub words : Whole ws × (i < edgesIn ws) × (j < edgesIn ws)
-  pub numbers : InReach (edgeAt (edgesOf ws) i) × InReach (edgeAt (edgesOf ws) j) × Between mostUnits mostUnits d
+  pub numbers : InReach (edgeAt (edgesOf ws) i) × InReach (edgeAt (edgesOf ws) j) × Between mostPassed mostPassed d
 
 module _ (ws : List ℤ) (dim adjust rule : ℤ) (xs : List ℤ) (edge edge2 delta own-old : ℤ) {width : WidthRule} {i j own r : ℕ} {named others near : Bool} (w : width ≡ ruleOf rule)
     (p : i ≡ namedEdge edge) (q : j ≡ namedEdge edge2) (n : named ≡ bothBelow (edgesIn ws) i j) (o : own ≡ orRefused 0 (ruleHolds width xs) badParameter)
-    (t : others ≡ choices dim adjust rule) (v : near ≡ within mostUnits delta) (e : r ≡ refusedOr (edgesFront ws others) (tested (edgesOf ws) own named near)) where
+    (t : others ≡ choices dim adjust rule) (v : near ≡ within mostPassed delta) (e : r ≡ refusedOr (edgesFront ws others) (tested (edgesOf ws) own named near)) where
   abbrev A : Axis
   A = axisIn ws (dimensionOf dim)
 
@@ -70,7 +70,7 @@ module _ (ws : List ℤ) (dim adjust rule : ℤ) (xs : List ℤ) (edge edge2 del
       let y = below-second (edgesIn ws) i j (sym n ∙ a .named-hold) in
       record {
         words = (a .whole, x, y);
-        numbers = (edge-reach ws mostPos i (omega arith) (a .axis) x, edge-reach ws mostPos j (omega arith) (a .axis) y, within-between mostUnits delta (sym v ∙ a .near-hold));
+        numbers = (edge-reach ws mostPos i (omega arith) (a .axis) x, edge-reach ws mostPos j (omega arith) (a .axis) y, within-between mostPassed delta (sym v ∙ a .near-hold));
       }
 
   pub stem-right : r ≤ 0 → ruleHolds width xs ≡ true
@@ -79,16 +79,16 @@ module _ (ws : List ℤ) (dim adjust rule : ℤ) (xs : List ℤ) (edge edge2 del
   -- the answer, by the call's words
   stem-is :
       r ≡ refusedOr (edgesFront ws (choices dim adjust rule))
-      (tested (edgesOf ws) (orRefused 0 (ruleHolds (ruleOf rule) xs) badParameter) (bothBelow (edgesOf ws .len) (namedEdge edge) (namedEdge edge2)) (within mostUnits delta))
+      (tested (edgesOf ws) (orRefused 0 (ruleHolds (ruleOf rule) xs) badParameter) (bothBelow (edgesOf ws .len) (namedEdge edge) (namedEdge edge2)) (within mostPassed delta))
   stem-is =
       e
       ∙ (λ x. refusedOr (edgesFront ws (t x))
       (tested (edgesOf ws) ((o ∙ ap (λ (k : WidthRule). orRefused 0 (ruleHolds k xs) badParameter) w) x) ((n ∙ (λ y. bothBelow (sym (edges-len ws) y) (p y) (q y))) x) (v x)))
 
   stem-same : leb (edgesOf ws .len) mostEdges ≡ true → refusal (stemTests A (ruleOf rule) xs (namedEdge edge) (namedEdge edge2) delta)
-      ≡ tested (edgesOf ws) (orRefused 0 (ruleHolds (ruleOf rule) xs) badParameter) (bothBelow (edgesOf ws .len) (namedEdge edge) (namedEdge edge2)) (within mostUnits delta)
+      ≡ tested (edgesOf ws) (orRefused 0 (ruleHolds (ruleOf rule) xs) badParameter) (bothBelow (edgesOf ws .len) (namedEdge edge) (namedEdge edge2)) (within mostPassed delta)
   unfolding edgesIndices edgesNumbers flatAxis axisRun
-  stem-same h = own-tests (edgesOf ws) (bothBelow (edgesOf ws .len) (namedEdge edge) (namedEdge edge2)) (within mostUnits delta) h badParameter (ruleHolds (ruleOf rule) xs) (omega arith)
+  stem-same h = own-tests (edgesOf ws) (bothBelow (edgesOf ws .len) (namedEdge edge) (namedEdge edge2)) (within mostPassed delta) h badParameter (ruleHolds (ruleOf rule) xs) (omega arith)
 
   abbrev result : StemCjk
   result =

@@ -1,7 +1,7 @@
 // The CJK stem over lent edges: the edges are tested and placed where their words stand.
 use axis::accept::is_inside;
-use axis::limits::LEAST_UNITS;
-use axis::limits::MOST_UNITS;
+use axis::limits::LEAST_PASSED;
+use axis::limits::MOST_PASSED;
 use edges_test::test::edges_test;
 use fixed::width::rule_holds;
 use lent::shown::are_choices;
@@ -36,7 +36,7 @@ pub fn lend_stem(
     let named = both_below(one, two, edges.len() / EDGE_WORDS);
     let own = or_refused(0, rule_holds(width, standards), BAD_PARAMETER);
     let others = are_choices(dim, stem_adjust, rule);
-    let passed = is_inside(delta, LEAST_UNITS, MOST_UNITS);
+    let passed = is_inside(delta, LEAST_PASSED, MOST_PASSED);
     let answer = edges_test(edges, others, own, named, passed);
     if 0 < answer {
         return answer;

@@ -20,6 +20,7 @@ use Rattle.axis.specs.Direction.{same}
 use Rattle.axis.specs.Limits.{mostEdges, mostSegments}
 use Rattle.axis.specs.Ring.{walk, ends, times}
 use Rattle.axis.specs.Segment.{segmentAt}
+use Rattle.axis.proofs.Walks.{same?, times-nil}
 use Rattle.joining.specs.declared.rules.Rules.{Rules}
 use Rattle.joining.specs.Joining.{
   stopsBehind,
@@ -43,9 +44,9 @@ use Rattle.joining.specs.Joining.{
   stateAt,
 }
 use Rattle.joining.specs.Walks.{nextIn, Latin}
-use Rattle.joining.proofs.Members.{times-nil, Once, last-in, times-snoc, times-one, times-self, few}
+use Rattle.joining.proofs.Members.{Once, last-in, times-snoc, times-one, times-self, few}
 use Rattle.joining.proofs.Rings.{Chain, chain-none, chain-other, ring-one, ring-more, ring-apart, walk-ring, ends-ring}
-use Rattle.joining.proofs.Settling.{same?, settle-all, set-all, settle-above, length-settle, total, total-set, total-at, total-two, total-settle}
+use Rattle.joining.proofs.Settling.{settle-all, set-all, settle-above, length-settle, total, total-set, total-at, total-two, total-settle}
 
 -- the state s of a loop before segment i
 pub record Good (t : Segments) (r : Rules) (second : Bool) (s : State) (i : ℕ) : Type 0 where

@@ -10,10 +10,6 @@ use lib.Dec.{eqb, ltb}
 use Rattle.axis.specs.Ring.{times}
 use Rattle.joining.specs.Joining.{lastOf, lastIn, headOr}
 
-pub times-nil : (x : ℕ) → times x [] ≡ 0
-unfolding times
-times-nil x = refl
-
 pub times-head : (m : ℕ) (ms : List ℕ) → 1 ≤ times m (m ∷ ms)
 unfolding times
 times-head m ms = rw (eq-eqb m m refl) (omega arith)

@@ -19,11 +19,11 @@ use Rattle.axis.specs.declared.segment.Segments.{Segments}
 use Rattle.axis.specs.Direction.{same}
 use Rattle.axis.specs.Limits.{mostEdges, mostSegments}
 use Rattle.axis.specs.Segment.{segmentAt}
+use Rattle.axis.proofs.Walks.{same?}
 use Rattle.joining.specs.declared.rules.Rules.{Rules}
 use Rattle.joining.specs.Joining.{stopsBehind, settle, edgeOf, State, group, start, join, skips, create, placeOf, joinOrCreate, visit, after, begun, stateAt}
 use Rattle.joining.specs.Walks.{Latin}
 use Rattle.joining.proofs.Good.{Good, good}
-use Rattle.joining.proofs.Settling.{same?}
 
 -- ---- adding to a table
 module _ {A : Type 0} (f : A → ℤ) (d : A) where

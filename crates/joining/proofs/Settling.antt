@@ -12,15 +12,8 @@ use lib.Seq.{getD-set-same, getD-set-other}
 use lib.Dec.{eqb}
 use Rattle.signed.proofs.Choices.{either-way, cond-map}
 use Rattle.axis.specs.Ring.{times}
+use Rattle.axis.proofs.Walks.{same?, times-nil}
 use Rattle.joining.specs.Joining.{settle}
-use Rattle.joining.proofs.Members.{times-nil}
-
-pub same? : (a b : ℕ) → (a ≡ b) ⊎ (a ≡ b → ⊥)
-same? a b = go (eqb a b) refl
-  where
-    go : (t : Bool) → eqb a b ≡ t → (a ≡ b) ⊎ (a ≡ b → ⊥)
-    go true e = inl (eqb-true a b e)
-    go false e = inr (eqb-false a b e)
 
 -- ---- maps
 pub map-set : {A B : Type 0} (f : A → B) (l : List A) (i : ℕ) (y : A) → map f (set l i y) ≡ set (map f l) i (f y)

@@ -35,7 +35,7 @@ use Rattle.words.specs.Segment.{segmentsIn, flatSegments}
 use Rattle.segments_in.specs.Whole.{Whole, Became, joining, reduced}
 use Rattle.segments_in.proofs.Became.{stays, became-as}
 use Rattle.segments_in.proofs.Wholes.{segments-len}
-use Rattle.linking_in.specs.Linking.{Sound, Made, Alike, otherWord, improving}
+use Rattle.linking_in.specs.Linking.{Linkable, Made, Alike, otherWord, improving}
 use Rattle.linking_in.proofs.Turns.{put-same, made-within}
 
 -- ---- one segment
@@ -104,7 +104,7 @@ two : (t : Segments) (i j : ℕ) → opposite (segmentAt t i .dir) (segmentAt t 
 two t i j h e = clash _ (subst (λ (k : ℕ). opposite (segmentAt t i .dir) (segmentAt t k .dir) ≡ false) e (not-itself _)) h
 
 -- ---- a pair
-module _ (by : Thresholds) (before : Segment) (ws : List ℤ) (i j : ℕ) (s : Sound ws) (like : Alike before (segmentAt (flatSegments ws) i)) where
+module _ (by : Thresholds) (before : Segment) (ws : List ℤ) (i j : ℕ) (s : Linkable ws) (like : Alike before (segmentAt (flatSegments ws) i)) where
   abbrev T : Segments
   T = flatSegments ws
 
@@ -232,7 +232,7 @@ word-back Directions.Left = refl
 word-back Directions.Up = refl
 word-back Directions.Down = refl
 
-module _ (major : Direction) (by : Thresholds) (ws : List ℤ) (i : ℕ) (s : Sound ws) (t : Bool) (word : ℤ) (a : t ≡ eqZ (directionWord (segmentAt (flatSegments ws) i .dir)) word)
+module _ (major : Direction) (by : Thresholds) (ws : List ℤ) (i : ℕ) (s : Linkable ws) (t : Bool) (word : ℤ) (a : t ≡ eqZ (directionWord (segmentAt (flatSegments ws) i .dir)) word)
     (e : word ≡ directionWord major) where
   abbrev S : Segment
   S = segmentAt (flatSegments ws) i

@@ -29,7 +29,7 @@ use Rattle.words.specs.Segment.{segmentsIn, flatSegments}
 use Rattle.segments_in.specs.Whole.{Whole, Became, loosing, reduced}
 use Rattle.segments_in.proofs.Became.{count-in, stays, became-then, became-as}
 use Rattle.segments_in.proofs.Wholes.{segments-len}
-use Rattle.linking_in.specs.Linking.{Sound, Made, Held}
+use Rattle.linking_in.specs.Linking.{Linkable, Made, Held}
 use Rattle.linking_in.proofs.Turns.{put-same, each-within, made-within, Turned, first-count}
 
 -- ---- a link
@@ -38,7 +38,7 @@ pub link-read : (ws : List ℤ) (i : ℕ) {seg : Segment} {l : Link} → seg ≡
 link-read ws i q e = sym (ap (λ (x : Segment). x .link) q) ∙ e
 
 -- it leads to a segment
-pub link-leads : {ws : List ℤ} {i k : ℕ} → Sound ws → i < segmentsIn ws → segmentAt (flatSegments ws) i .link ≡ Links.To k → k < segmentsIn ws
+pub link-leads : {ws : List ℤ} {i k : ℕ} → Linkable ws → i < segmentsIn ws → segmentAt (flatSegments ws) i .link ≡ Links.To k → k < segmentsIn ws
 link-leads {ws} {i} {k} s h e = to-below (segmentsIn ws) i k (flatSegments ws) (each-within ws (s .within)) h e
 
 -- ---- rewriting
@@ -80,7 +80,7 @@ unfolding rewriteAll
 rewrites-law j l m i {ws} e a = became-as (ap (λ (k : ℕ). turns (rewriteTurn j l m i) k (flatSegments ws)) (e ∙ sym (segments-len ws))) a
 
 -- ---- a turn of the inner loop
-module _ (a b : Segment) (i k j : ℕ) (ws : List ℤ) (s : Sound ws) (x : i < segmentsIn ws) (y : k < segmentsIn ws) where
+module _ (a b : Segment) (i k j : ℕ) (ws : List ℤ) (s : Linkable ws) (x : i < segmentsIn ws) (y : k < segmentsIn ws) where
   abbrev U : Segments
   U = flatSegments ws
 
@@ -135,11 +135,11 @@ pub record Holding (a b : Segment) (i k n : ℕ) (ws₀ ws : List ℤ) (j : ℕ)
   pub few : n ≤ mostSegments
   pub count : segmentsIn ws ≡ n
   pub long : length ws ≡ length ws₀
-  pub sound : Sound ws
+  pub sound : Linkable ws
   pub rest : till (givenUp a b i k) (holdTurn a b i k) (n - j) j (flatSegments ws) ≡ hold a b i k n (flatSegments ws₀)
 
 module _ (a b : Segment) (i k n : ℕ) (ws₀ : List ℤ) where
-  pub holds-start : Sound ws₀ → n ≡ segmentsIn ws₀ → Holding a b i k n ws₀ ws₀ 0
+  pub holds-start : Linkable ws₀ → n ≡ segmentsIn ws₀ → Holding a b i k n ws₀ ws₀ 0
   unfolding hold
   holds-start s e = record {
     below = omega arith;
@@ -219,14 +219,14 @@ module _ (by : Thresholds) (ws : List ℤ) (i : ℕ) (w : Whole ws) (seg1 : Segm
 
 -- ---- the round
 -- in the middle of it the words are sound
-pub near-sound : (by : Thresholds) {n i : ℕ} {ws₀ ws : List ℤ} → Sound ws₀ → Turned (serifTurn by n) n ws₀ ws i → Sound ws
+pub near-sound : (by : Thresholds) {n i : ℕ} {ws₀ ws : List ℤ} → Linkable ws₀ → Turned (serifTurn by n) n ws₀ ws i → Linkable ws
 near-sound by {n} {i} {ws₀} {ws} s p =
     record { whole = p .whole; within = all-within n (flatSegments ws) (p .few) (serif-within n by i (flatSegments ws₀) (flatSegments ws) every (p .table) (p .below)) }
   where
     every : Every n (Within n) (flatSegments ws₀)
     every = subst (λ (m : ℕ). Every m (Within m) (flatSegments ws₀)) (first-count (serifTurn by n) n ws₀ p) (each-within ws₀ (s .within))
 
-pub serifs-law : (by : Thresholds) {ws ws′ : List ℤ} {n : ℕ} → Sound ws → n ≡ segmentsIn ws → Became (turns (serifTurn by n) n) ws ws′ → Made (serifRound by) ws ws′
+pub serifs-law : (by : Thresholds) {ws ws′ : List ℤ} {n : ℕ} → Linkable ws → n ≡ segmentsIn ws → Became (turns (serifTurn by n) n) ws ws′ → Made (serifRound by) ws ws′
 unfolding serifRound
 serifs-law by {ws} {ws′} s e a = record { became = all; within = after-serifs by (flatSegments ws) (flatSegments ws′) (s .within) (all .table) }
   where

@@ -24,7 +24,7 @@ use Rattle.words.specs.Segment.{segmentsIn, flatSegments}
 use Rattle.segments_in.specs.Whole.{Whole, Became, loosing, reduced}
 use Rattle.segments_in.proofs.Became.{stays, became-then, became-as}
 use Rattle.segments_in.proofs.Wholes.{segments-len}
-use Rattle.linking_in.specs.Linking.{Sound}
+use Rattle.linking_in.specs.Linking.{Linkable}
 use Rattle.linking_in.proofs.Turns.{put-same, each-within, Turned, first-count}
 use Rattle.linking_in.proofs.Serifs.{link-read}
 
@@ -75,12 +75,12 @@ module _ (by : Thresholds) (ws : List ℤ) (i : ℕ) (w : Whole ws) (seg1 : Segm
       settle-gone g a = settles (λ n. cond (sym (back-is false h) n) A (cond (sym (stays-is false g) n) (serifOf A (B .link)) (unlinked A))) (became-as refl a)
 
 -- a link that is read leads to a segment of the table
-pub back-below : {ws : List ℤ} {k : ℕ} {seg2 : Segment} → Sound ws → k < segmentsIn ws → seg2 ≡ reduced (segmentAt (flatSegments ws) k) → Below mostSegments (seg2 .link)
+pub back-below : {ws : List ℤ} {k : ℕ} {seg2 : Segment} → Linkable ws → k < segmentsIn ws → seg2 ≡ reduced (segmentAt (flatSegments ws) k) → Below mostSegments (seg2 .link)
 back-below {ws} {k} {seg2} s h p = record { at = λ (m : ℕ) (e : seg2 .link ≡ Links.To m). omega (arith, each-within ws (s .within) .each k h .link .at m (link-read ws k p e), s .whole .few) }
 
 -- ---- the round
 -- in the middle of it the words are sound
-pub settle-sound : (by : Thresholds) {n i : ℕ} {ws₀ ws : List ℤ} → Sound ws₀ → Turned (lastTurn by) n ws₀ ws i → Sound ws
+pub settle-sound : (by : Thresholds) {n i : ℕ} {ws₀ ws : List ℤ} → Linkable ws₀ → Turned (lastTurn by) n ws₀ ws i → Linkable ws
 settle-sound by {n} {i} {ws₀} {ws} s p =
     record { whole = p .whole; within = all-within n (flatSegments ws) (p .few) (last-within n by i (flatSegments ws₀) (flatSegments ws) every (p .table) (p .below)) }
   where

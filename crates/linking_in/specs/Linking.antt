@@ -18,7 +18,7 @@ use Rattle.words.specs.Segment.{flatSegments}
 use Rattle.segments_in.specs.Whole.{Whole, Became}
 
 -- the words of segments that linking accepts
-pub record Sound (ws : List ℤ) : Type 0 where
+pub record Linkable (ws : List ℤ) : Type 0 where
   pub whole : Whole ws
   pub within : SegmentsWithin (flatSegments ws)
 

@@ -22,7 +22,7 @@ ghost use Rattle.linking_rounds.specs.Loops.{turns};
 ghost use Rattle.linking_rounds.specs.Rounds.{pairTurn, majorTurn, pairRound};
 ghost use Rattle.words.specs.Segment.{segmentsIn, flatSegments};
 ghost use Rattle.segments_in.specs.Whole.{Whole, Became};
-ghost use Rattle.linking_in.specs.Linking.{Sound, Made, Alike, otherWord, improving};
+ghost use Rattle.linking_in.specs.Linking.{Linkable, Made, Alike, otherWord, improving};
 
 // Links a segment to another one by a stem of this gap, where that is better.
 fn improve_in(words: &mut [i32], i: usize, gap: Gap, ix: u16)
@@ -46,7 +46,7 @@ fn pair_in(
     ix1: usize,
     ix2: usize,
 )
-    requires { ⌜ Sound (now words) × (ix1 < segmentsIn (now words)) × (ix2 < segmentsIn (now words)) ⌝ }
+    requires { ⌜ Linkable (now words) × (ix1 < segmentsIn (now words)) × (ix2 < segmentsIn (now words)) ⌝ }
     requires { ⌜ (pos 0 ≤ℤ thresholds .len) × Alike before (segmentAt (flatSegments (now words)) ix1) × (other ≡ otherWord (before .dir)) ⌝ }
     ensures { λ _. ⌜ Made (pairTurn thresholds before ix1 ix2) (now (words .entry)) (now (words .exit)) ⌝ }
 {
@@ -83,7 +83,7 @@ fn pairs_in(
     before: Segment,
     ix1: usize,
 )
-    requires { ⌜ Sound (now words) × (ix1 < segmentsIn (now words)) ⌝ }
+    requires { ⌜ Linkable (now words) × (ix1 < segmentsIn (now words)) ⌝ }
     requires { ⌜ (pos 0 ≤ℤ thresholds .len) × Alike before (segmentAt (flatSegments (now words)) ix1) × (before .dir ≡ «major_dir») ⌝ }
     ensures { λ _. ⌜ Made (turns (pairTurn thresholds before ix1) (segmentsIn (now (words .entry)))) (now (words .entry)) (now (words .exit)) ⌝ }
 {
@@ -96,7 +96,7 @@ fn pairs_in(
 
 // One segment against each other one, where it has the major direction.
 fn major_in(words: &mut [i32], major_dir: Direction, thresholds: Thresholds, ix1: usize)
-    requires { ⌜ Sound (now words) × (ix1 < segmentsIn (now words)) × (pos 0 ≤ℤ thresholds .len) ⌝ }
+    requires { ⌜ Linkable (now words) × (ix1 < segmentsIn (now words)) × (pos 0 ≤ℤ thresholds .len) ⌝ }
     ensures { λ _. ⌜ Made (majorTurn «major_dir» thresholds (segmentsIn (now (words .entry))) ix1) (now (words .entry)) (now (words .exit)) ⌝ }
 {
     if !points_in(words, ix1, direction_word(major_dir)) {
@@ -108,7 +108,7 @@ fn major_in(words: &mut [i32], major_dir: Direction, thresholds: Thresholds, ix1
 
 // Each segment in the major direction against each other one.
 pub fn pair_round_in(words: &mut [i32], major_dir: Direction, thresholds: Thresholds)
-    requires { ⌜ Sound (now words) × (pos 0 ≤ℤ thresholds .len) ⌝ }
+    requires { ⌜ Linkable (now words) × (pos 0 ≤ℤ thresholds .len) ⌝ }
     ensures { λ _. ⌜ Made (pairRound «major_dir» thresholds) (now (words .entry)) (now (words .exit)) ⌝ }
 {
     let count = words.len() / SEGMENT_WORDS;

@@ -8,11 +8,11 @@ ghost use lib.IntN.{pos};
 ghost use lib.Signed.{_≤ℤ_};
 ghost use Rattle.linking_rounds.specs.Rounds.{linked};
 ghost use Rattle.segments_in.specs.Whole.{Became};
-ghost use Rattle.linking_in.specs.Linking.{Sound};
+ghost use Rattle.linking_in.specs.Linking.{Linkable};
 
 // Links segments into stems and serifs.
 pub fn link_in(words: &mut [i32], major_dir: Direction, thresholds: Thresholds)
-    requires { ⌜ Sound (now words) × (pos 0 ≤ℤ thresholds .len) ⌝ }
+    requires { ⌜ Linkable (now words) × (pos 0 ≤ℤ thresholds .len) ⌝ }
     ensures { λ _. ⌜ Became (linked «major_dir» thresholds) (now (words .entry)) (now (words .exit)) ⌝ }
 {
     pair_round_in(words, major_dir, thresholds);

@@ -17,7 +17,7 @@ ghost use Rattle.axis.specs.Limits.{mostScore};
 ghost use Rattle.linking_rounds.specs.Rounds.{rewriteTurn, rewriteAll, hold, serifTurn, serifRound};
 ghost use Rattle.words.specs.Segment.{segmentsIn};
 ghost use Rattle.segments_in.specs.Whole.{Whole, Became};
-ghost use Rattle.linking_in.specs.Linking.{Sound, Made, Held};
+ghost use Rattle.linking_in.specs.Linking.{Linkable, Made, Held};
 
 // One segment, its link rewritten: what was linked to ix2 becomes a serif of link1_ix; what was linked to link2_ix, a serif of ix1.
 fn rewrite_in(words: &mut [i32], ix2: u16, link1_ix: u16, link2_ix: u16, ix1: u16, i: usize)
@@ -55,7 +55,7 @@ fn hold_in(
     link1_ix: u16,
     ix2: usize,
 ) -> bool
-    requires { ⌜ Sound (now words) × (ix1 < segmentsIn (now words)) × («link1_ix» < segmentsIn (now words)) × (ix2 < segmentsIn (now words)) ⌝ }
+    requires { ⌜ Linkable (now words) × (ix1 < segmentsIn (now words)) × («link1_ix» < segmentsIn (now words)) × (ix2 < segmentsIn (now words)) ⌝ }
     requires { ⌜ Between 0 mostScore (seg1 .score) ⌝ }
     ensures { λ r. ⌜ Held seg1 link1 ix1 «link1_ix» ix2 r (now (words .entry)) (now (words .exit)) ⌝ }
 {
@@ -82,7 +82,7 @@ fn hold_in(
 
 // Each stem held against the first one, until that one is given up.
 fn holds_in(words: &mut [i32], seg1: Segment, link1: Segment, ix1: u16, link1_ix: u16)
-    requires { ⌜ Sound (now words) × (ix1 < segmentsIn (now words)) × («link1_ix» < segmentsIn (now words)) × Between 0 mostScore (seg1 .score) ⌝ }
+    requires { ⌜ Linkable (now words) × (ix1 < segmentsIn (now words)) × («link1_ix» < segmentsIn (now words)) × Between 0 mostScore (seg1 .score) ⌝ }
     ensures { λ _. ⌜ Became (hold seg1 link1 ix1 «link1_ix» (segmentsIn (now (words .entry)))) (now (words .entry)) (now (words .exit)) ⌝ }
 {
     let count = words.len() / SEGMENT_WORDS;
@@ -95,7 +95,7 @@ fn holds_in(words: &mut [i32], seg1: Segment, link1: Segment, ix1: u16, link1_ix
 
 // One segment: where it and its link are a near stem, each other stem is held against it.
 fn near_in(words: &mut [i32], thresholds: Thresholds, ix1: usize)
-    requires { ⌜ Sound (now words) × (ix1 < segmentsIn (now words)) ⌝ }
+    requires { ⌜ Linkable (now words) × (ix1 < segmentsIn (now words)) ⌝ }
     ensures { λ _. ⌜ Became (serifTurn thresholds (segmentsIn (now (words .entry))) ix1) (now (words .entry)) (now (words .exit)) ⌝ }
 {
     let seg1 = seg_in(words, ix1);
@@ -112,7 +112,7 @@ fn near_in(words: &mut [i32], thresholds: Thresholds, ix1: usize)
 
 // Near stems against those that enclose them.
 pub fn serif_round_in(words: &mut [i32], thresholds: Thresholds)
-    requires { ⌜ Sound (now words) ⌝ }
+    requires { ⌜ Linkable (now words) ⌝ }
     ensures { λ _. ⌜ Made (serifRound thresholds) (now (words .entry)) (now (words .exit)) ⌝ }
 {
     let count = words.len() / SEGMENT_WORDS;

@@ -11,11 +11,11 @@ ghost use Prim.Native.Nat.{_<_};
 ghost use Rattle.linking_rounds.specs.Rounds.{lastTurn, lastRound};
 ghost use Rattle.words.specs.Segment.{segmentsIn};
 ghost use Rattle.segments_in.specs.Whole.{Became};
-ghost use Rattle.linking_in.specs.Linking.{Sound};
+ghost use Rattle.linking_in.specs.Linking.{Linkable};
 
 // One segment.
 fn settle_in(words: &mut [i32], thresholds: Thresholds, ix1: usize)
-    requires { ⌜ Sound (now words) × (ix1 < segmentsIn (now words)) ⌝ }
+    requires { ⌜ Linkable (now words) × (ix1 < segmentsIn (now words)) ⌝ }
     ensures { λ _. ⌜ Became (lastTurn thresholds ix1) (now (words .entry)) (now (words .exit)) ⌝ }
 {
     let seg1 = seg_in(words, ix1);
@@ -37,7 +37,7 @@ fn settle_in(words: &mut [i32], thresholds: Thresholds, ix1: usize)
 
 // Every segment.
 pub fn last_round_in(words: &mut [i32], thresholds: Thresholds)
-    requires { ⌜ Sound (now words) ⌝ }
+    requires { ⌜ Linkable (now words) ⌝ }
     ensures { λ _. ⌜ Became (lastRound thresholds) (now (words .entry)) (now (words .exit)) ⌝ }
 {
     let count = words.len() / SEGMENT_WORDS;

@@ -1,6 +1,6 @@
 -- The refusals: each test one element at a time, the answers in their order, and what an accepted outline is.
-use mathlib.Core.Path.{_≡_, refl, sym, _∙_}
-use mathlib.Core.Bool.{Bool, true, false, _&&_}
+use mathlib.Core.Path.{_≡_, refl, sym, ap, _∙_}
+use mathlib.Core.Bool.{Bool, true, false, cond, _&&_}
 use mathlib.Core.List.{List, [], _∷_}
 use Prim.Native.Nat.{ℕ, zero, suc, _+_, _≤_, _<_}
 use native.Mathlib.Numerals.{add-one}
@@ -14,10 +14,10 @@ use lib.Signed.{ltZ, leZ, _≤ℤ_}
 use Rattle.signed.proofs.Signed.{natAbs-is, one-zero, sub-law, signed}
 use Rattle.signed.proofs.Choices.{cond-true, cond-false}
 use Rattle.refusals.specs.Refusal.{Test, _unless_, refusal, badIndex, outOfRange}
-use Rattle.refusals.proofs.Tests.{and-first, and-second, all-hold, no-refusal}
+use Rattle.refusals.proofs.Tests.{and-first, and-second, all-hold}
 use Rattle.contours.specs.Limits.{mostPoints, mostCoordinate}
 use Rattle.contours.specs.Contour.{at}
-use Rattle.outline.specs.Weak.{endsHold, coordinateHolds, coordinatesHold, outlineTests, weakTests}
+use Rattle.outline.specs.Weak.{endsHold, coordinateHolds, coordinatesHold, listTests, rangeTests, outlineTests, weakTests}
 use Rattle.outline.specs.Steps.{Accepted}
 
 -- a list from its element i on
@@ -111,40 +111,44 @@ test-holds : (n : ℕ) (h : Bool) (ts : List Test) → h ≡ true → refusal (n
 unfolding refusal
 test-holds n h ts e = cond-true h (refusal ts) n e
 
-module _ (most : ℕ) (o c : List ℤ) (t es : List ℕ) where
+-- the last test
+test-last : (n : ℕ) (h b : Bool) → h ≡ b → refusal (n unless h ∷ []) ≡ cond b 0 n
+unfolding refusal
+test-last n h b e = ap (λ (x : Bool). cond x 0 n) e
+
+-- ---- by its lists and contour ends
+module _ (o c : List ℤ) (t es : List ℕ) where
   -- too many points
-  pub refused-long : mostPoints < length o → refusal (outlineTests most o c t es) ≡ 1
+  pub refused-long : mostPoints < length o → refusal (listTests o c t es) ≡ 1
   refused-long h = test-fails _ _ _ (lt-leb (length o) mostPoints h)
 
   module _ (h : length o ≤ mostPoints) where
     -- second coordinates of another length
-    pub refused-currents : (length c ≡ length o → ⊥) → refusal (outlineTests most o c t es) ≡ 1
+    pub refused-currents : (length c ≡ length o → ⊥) → refusal (listTests o c t es) ≡ 1
     refused-currents n = test-holds _ _ _ (le-leb (length o) mostPoints h) ∙ test-fails _ _ _ (ne-eqb (length c) (length o) n)
 
     -- marks of another length
-    pub refused-marks : length c ≡ length o → (length t ≡ length o → ⊥) → refusal (outlineTests most o c t es) ≡ 1
+    pub refused-marks : length c ≡ length o → (length t ≡ length o → ⊥) → refusal (listTests o c t es) ≡ 1
     refused-marks e n = test-holds _ _ _ (le-leb (length o) mostPoints h) ∙ test-holds _ _ _ (eq-eqb (length c) (length o) e) ∙ test-fails _ _ _ (ne-eqb (length t) (length o) n)
 
   module _ (h : length o ≤ mostPoints) (ec : length c ≡ length o) (et : length t ≡ length o) where
-    -- lists of one length leave it to the other tests
-    past-lengths : refusal (outlineTests most o c t es) ≡ refusal (badIndex unless endsHold 0 (length o) es ∷ outOfRange unless coordinatesHold most o ∷ outOfRange unless coordinatesHold most c ∷ [])
-    past-lengths = test-holds _ _ _ (le-leb (length o) mostPoints h) ∙ test-holds _ _ _ (eq-eqb (length c) (length o) ec) ∙ test-holds _ _ _ (eq-eqb (length t) (length o) et)
+    -- a contour end that breaks the rule, or none
+    pub ends-refuse : (b : Bool) → endsHold 0 (length o) es ≡ b → refusal (listTests o c t es) ≡ cond b 0 badIndex
+    ends-refuse b r =
+        test-holds _ _ _ (le-leb (length o) mostPoints h)
+        ∙ test-holds _ _ _ (eq-eqb (length c) (length o) ec)
+        ∙ test-holds _ _ _ (eq-eqb (length t) (length o) et)
+        ∙ test-last badIndex _ b r
 
-    -- a contour end that breaks the rule
-    pub refused-ends : endsHold 0 (length o) es ≡ false → refusal (outlineTests most o c t es) ≡ 3
-    refused-ends r = past-lengths ∙ test-fails _ _ _ r
+-- ---- by its coordinates
+module _ (most : ℕ) (o c : List ℤ) where
+  -- a first coordinate outside the range
+  pub refused-originals : coordinatesHold most o ≡ false → refusal (rangeTests most o c) ≡ 4
+  refused-originals a = test-fails _ _ _ a
 
-    -- a first coordinate outside the range
-    pub refused-originals : endsHold 0 (length o) es ≡ true → coordinatesHold most o ≡ false → refusal (outlineTests most o c t es) ≡ 4
-    refused-originals r a = past-lengths ∙ test-holds _ _ _ r ∙ test-fails _ _ _ a
-
-    -- a second coordinate outside the range
-    pub refused-places : endsHold 0 (length o) es ≡ true → coordinatesHold most o ≡ true → coordinatesHold most c ≡ false → refusal (outlineTests most o c t es) ≡ 4
-    refused-places r a b = past-lengths ∙ test-holds _ _ _ r ∙ test-holds _ _ _ a ∙ test-fails _ _ _ b
-
-    -- none of these
-    pub refused-not : endsHold 0 (length o) es ≡ true → coordinatesHold most o ≡ true → coordinatesHold most c ≡ true → refusal (outlineTests most o c t es) ≡ 0
-    refused-not r a b = no-refusal (outlineTests most o c t es) (le-leb (length o) mostPoints h, (eq-eqb (length c) (length o) ec, (eq-eqb (length t) (length o) et, (r, (a, (b, refl))))))
+  -- a second coordinate outside the range, or none
+  pub currents-refuse : (b : Bool) → coordinatesHold most o ≡ true → coordinatesHold most c ≡ b → refusal (rangeTests most o c) ≡ cond b 0 outOfRange
+  currents-refuse b a r = test-holds _ _ _ a ∙ test-last outOfRange _ b r
 
 -- ---- what is not refused
 -- an outline of whose tests none fails

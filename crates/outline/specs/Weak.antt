@@ -2,7 +2,7 @@
 -- c and touch marks t, and the ends es of its contours.
 use mathlib.Core.Path.{_≡_}
 use mathlib.Core.Bool.{Bool, true, cond, _&&_}
-use mathlib.Core.List.{List, [], _∷_}
+use mathlib.Core.List.{List, [], _∷_, _++_}
 use mathlib.Core.Option.{Option, some, none}
 use Prim.Native.Nat.{ℕ, zero, suc}
 use lib.Dec.{leb, ltb, eqb}
@@ -27,16 +27,22 @@ unfoldable pub coordinatesHold : ℕ → List ℤ → Bool
 coordinatesHold most [] = true
 coordinatesHold most (z ∷ zs) = coordinateHolds most z && coordinatesHold most zs
 
--- the tests of an outline with two coordinates a point, each at most `most` either way, in document 01's order
-abbrev pub outlineTests : ℕ → List ℤ → List ℤ → List ℕ → List ℕ → List Test
-outlineTests most o c t es =
+-- the tests of an outline with two coordinates a point, in document 01's order: those of its lists and contour ends
+abbrev pub listTests : List ℤ → List ℤ → List ℕ → List ℕ → List Test
+listTests o c t es =
     tooLong unless leb (length o) mostPoints
     ∷ tooLong unless eqb (length c) (length o)
     ∷ tooLong unless eqb (length t) (length o)
     ∷ badIndex unless endsHold 0 (length o) es
-    ∷ outOfRange unless coordinatesHold most o
-    ∷ outOfRange unless coordinatesHold most c
     ∷ []
+
+-- those of its coordinates, each at most `most` either way
+abbrev pub rangeTests : ℕ → List ℤ → List ℤ → List Test
+rangeTests most o c = outOfRange unless coordinatesHold most o ∷ outOfRange unless coordinatesHold most c ∷ []
+
+-- and both in a row
+abbrev pub outlineTests : ℕ → List ℤ → List ℤ → List ℕ → List ℕ → List Test
+outlineTests most o c t es = listTests o c t es ++ rangeTests most o c
 
 -- the tests of `align_weak_points`
 abbrev pub weakTests : List ℤ → List ℤ → List ℕ → List ℕ → List Test

@@ -7,7 +7,7 @@ ghost use mathlib.Core.Path.{_≡_};
 ghost use lib.IntN.{pos, natAbs};
 ghost use lib.Signed.{_≤ℤ_};
 ghost use Rattle.refusals.specs.Refusal.{refusal};
-ghost use Rattle.outline.specs.Weak.{endsHold, coordinateHolds, coordinatesHold, outlineTests};
+ghost use Rattle.outline.specs.Weak.{endsHold, coordinateHolds, coordinatesHold, listTests, rangeTests, outlineTests};
 
 // A contour end as an index.
 pub fn wide(x: u16) -> usize
@@ -62,17 +62,9 @@ fn coordinates_hold(list: &[i32], most: i32) -> bool
     all
 }
 
-// The refusal of an outline with two coordinates a point, each at most `most` either way, or 0: the first test that fails ends the tests, since each goes over a
-// whole list.
-pub fn outline_refusal(
-    originals: &[i32],
-    currents: &[i32],
-    touched: &[u8],
-    ends: &[u16],
-    most: i32,
-) -> u8
-    requires { ⌜ pos 0 ≤ℤ most ⌝ }
-    ensures { λ r. ⌜ r ≡ refusal (outlineTests (natAbs most) (now (originals .entry)) (now (currents .entry)) (now (touched .entry)) (now (ends .entry))) ⌝ }
+// The refusal of an outline by its lists and contour ends, or 0.
+pub fn list_refusal(originals: &[i32], currents: &[i32], touched: &[u8], ends: &[u16]) -> u8
+    ensures { λ r. ⌜ r ≡ refusal (listTests (now (originals .entry)) (now (currents .entry)) (now (touched .entry)) (now (ends .entry))) ⌝ }
 {
     if MOST_POINTS < originals.len() {
         return TOO_LONG;
@@ -86,6 +78,14 @@ pub fn outline_refusal(
     if !ends_hold(ends, originals.len()) {
         return BAD_INDEX;
     }
+    0
+}
+
+// The refusal by its coordinates, two a point, each at most `most` either way, or 0.
+pub fn range_refusal(originals: &[i32], currents: &[i32], most: i32) -> u8
+    requires { ⌜ pos 0 ≤ℤ most ⌝ }
+    ensures { λ r. ⌜ r ≡ refusal (rangeTests (natAbs most) (now (originals .entry)) (now (currents .entry))) ⌝ }
+{
     if !coordinates_hold(originals, most) {
         return OUT_OF_RANGE;
     }
@@ -93,4 +93,22 @@ pub fn outline_refusal(
         return OUT_OF_RANGE;
     }
     0
+}
+
+// The refusal by both in this order, or 0: the first test that fails ends the tests, since each goes over a whole list.
+pub fn outline_refusal(
+    originals: &[i32],
+    currents: &[i32],
+    touched: &[u8],
+    ends: &[u16],
+    most: i32,
+) -> u8
+    requires { ⌜ pos 0 ≤ℤ most ⌝ }
+    ensures { λ r. ⌜ r ≡ refusal (outlineTests (natAbs most) (now (originals .entry)) (now (currents .entry)) (now (touched .entry)) (now (ends .entry))) ⌝ }
+{
+    let answer = list_refusal(originals, currents, touched, ends);
+    if 0 < answer {
+        return answer;
+    }
+    range_refusal(originals, currents, most)
 }

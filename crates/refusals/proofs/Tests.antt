@@ -104,3 +104,15 @@ answered-no {A} k j refused result e h = subst (λ (i : ℕ). refused k ≡ answ
 
 pub answered-yes : {A : Type 0} (k j : ℕ) (refused : ℕ → A) (result x : A) → k ≡ j → k ≤ 0 → x ≡ result → x ≡ answered j refused result
 answered-yes {A} k j refused result x e h q = let z : j ≡ 0 = omega arith in subst (λ (i : ℕ). x ≡ answered i refused result) (sym z) q
+
+-- ---- tests behind others
+-- the refusal by the first tests, or by the others where these refuse nothing
+pub own-first : (ts us : List Test) → numbered ts ≡ true → refusal (ts ++ us) ≡ answered (refusal ts) (λ (k : ℕ). k) (refusal us)
+unfolding refusal
+own-first [] us e = refl
+own-first (t ∷ ts) us e = go (own-first ts us (and-second (ltb 0 (t .number)) _ e)) (t .holds)
+  where
+    go : refusal (ts ++ us) ≡ answered (refusal ts) (λ (k : ℕ). k) (refusal us) → (b : Bool)
+        → cond b (refusal (ts ++ us)) (t .number) ≡ answered (cond b (refusal ts) (t .number)) (λ (k : ℕ). k) (refusal us)
+    go rest true = rest
+    go rest false = answered-no (t .number) (t .number) (λ (k : ℕ). k) (refusal us) refl (ltb-true 0 (t .number) (and-first _ _ e))

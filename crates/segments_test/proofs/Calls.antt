@@ -8,7 +8,7 @@ use borrow.Author.Tests.{leb-true, lt-ltb}
 use lib.Dec.{leb}
 use lib.IntN.{ℤ}
 use Rattle.refusals.specs.Refusal.{Test, _unless_, tooLong, badIndex, outOfRange, refusal, orRefused, answered}
-use Rattle.refusals.proofs.Tests.{and-first, and-second, all-hold}
+use Rattle.refusals.proofs.Tests.{and-first, and-second, all-hold, own-first}
 use Rattle.axis.specs.declared.segment.Segments.{Segments}
 use Rattle.axis.specs.Accepted.{SegmentsWithin}
 use Rattle.axis.specs.Limits.{mostSegments}
@@ -18,7 +18,6 @@ use Rattle.words.specs.Segment.{segmentsIn, flatSegments}
 use Rattle.shape.specs.Shape.{segmentsShown}
 use Rattle.lent.specs.Lent.{refusedOr, segmentsFront}
 use Rattle.lent.proofs.Kept as Kept
-use Rattle.edges_test.proofs.Order.{own-first}
 use Rattle.segments_in.specs.Whole.{Whole}
 use Rattle.segments_in.proofs.Wholes.{shown-whole, segments-len}
 use Rattle.segments_test.specs.Held.{nextsHold, tested}

@@ -11,7 +11,7 @@ use Rattle.fixed.specs.Width.{ruleHolds}
 use Rattle.axis.specs.declared.kinds.Dimension.{Dimension}
 use Rattle.axis.specs.declared.edge.Axis.{Axis}
 use Rattle.axis.specs.Edge.{edgeAt}
-use Rattle.axis.specs.Limits.{mostEdges, mostUnits}
+use Rattle.axis.specs.Limits.{mostEdges, mostPassed}
 use Rattle.axis.specs.Mark.{Blind}
 use Rattle.axis.specs.Refusals.{within}
 use Rattle.axis.proofs.Alike.{AlikeAxis, at-alike, alike-len, indices-alike, numbers-alike, answered-alike, blind}
@@ -38,7 +38,7 @@ module _ (adjust : Bool) (rule : WidthRule) (xs : List ℤ) (i j : ℕ) (d : ℤ
         λ k. refusal
         (tooLong unless leb (len k) mostEdges ∷ badParameter unless ruleHolds rule xs
         ∷ badIndex unless indices-alike a b h k ∷ badIndex unless bothBelow (len k) i j
-        ∷ outOfRange unless numbers-alike a b h k ∷ outOfRange unless within mostUnits d ∷ [])
+        ∷ outOfRange unless numbers-alike a b h k ∷ outOfRange unless within mostPassed d ∷ [])
 
     stem-is : stem a ≡ stem b
     stem-is =

@@ -10,14 +10,14 @@ use Rattle.fixed.specs.declared.width.WidthRule.{WidthRule}
 use Rattle.fixed.specs.Width.{ruleHolds}
 use Rattle.axis.specs.declared.edge.Axis.{Axis}
 use Rattle.axis.specs.Handed.{EdgesAccepted}
-use Rattle.axis.specs.Limits.{mostUnits}
+use Rattle.axis.specs.Limits.{mostPassed}
 use Rattle.axis.specs.Refusals.{within}
 use Rattle.placing.specs.Placing.{bothBelow}
 use Rattle.stem_cjk.specs.declared.hint.StemCjk.{StemCjk}
 use Rattle.stem_cjk.specs.Cjk.{stemTests, hinted, hintNormalStemCjk}
 
 pub accepts : (axis : Axis) (adjust : Bool) (rule : WidthRule) (xs : List ℤ) (i j : ℕ) (d : ℤ) → EdgesAccepted axis → ruleHolds rule xs ≡ true → bothBelow (axis .len) i j ≡ true
-    → within mostUnits d ≡ true → hintNormalStemCjk axis adjust rule xs i j d .answer ≡ 0
+    → within mostPassed d ≡ true → hintNormalStemCjk axis adjust rule xs i j d .answer ≡ 0
 unfolding hintNormalStemCjk
 accepts axis adjust rule xs i j d a r b w =
     ap (λ (s : StemCjk). s .answer)

@@ -10,7 +10,7 @@ use Rattle.fixed.specs.Width.{ruleHolds}
 use Rattle.axis.specs.declared.kinds.Mark.{Mark}
 use Rattle.axis.specs.declared.kinds.Mark.the-variants.{Stem}
 use Rattle.axis.specs.declared.edge.Axis.{Axis}
-use Rattle.axis.specs.Limits.{mostUnits}
+use Rattle.axis.specs.Limits.{mostPassed}
 use Rattle.axis.specs.Edge.{edgeAt}
 use Rattle.axis.specs.Mark.{unmarkedAxis}
 use Rattle.axis.specs.Refusals.{within, edgesShort, edgesIndexed, edgesInRange}
@@ -27,7 +27,7 @@ abbrev pub stemTests : Axis → WidthRule → List ℤ → ℕ → ℕ → ℤ �
 stemTests axis rule xs i j d =
     edgesShort axis ∷ badParameter unless ruleHolds rule xs
     ∷ edgesIndexed axis ∷ badIndex unless bothBelow (axis .len) i j
-    ∷ edgesInRange axis ∷ outOfRange unless within mostUnits d ∷ []
+    ∷ edgesInRange axis ∷ outOfRange unless within mostPassed d ∷ []
 
 -- `hint_normal_stem_cjk`: the refusal, delta 0 and the axis as it came, or 0, the stem's own delta and the axis with its two edges placed
 unfoldable pub hintNormalStemCjk : Axis → Bool → WidthRule → List ℤ → ℕ → ℕ → ℤ → StemCjk

@@ -6,8 +6,8 @@ use axis::accept::is_inside;
 use axis::edge::Axis;
 use axis::edge::with_pos;
 use axis::kinds::Mark;
-use axis::limits::LEAST_UNITS;
-use axis::limits::MOST_UNITS;
+use axis::limits::LEAST_PASSED;
+use axis::limits::MOST_PASSED;
 use cjk_numbers::stem::Stem;
 use cjk_numbers::stem::stem_of;
 use fixed::width::WidthRule;
@@ -78,7 +78,7 @@ fn stem_refusal(
     let answer = or_refused(answer, edges_numbers(axis), OUT_OF_RANGE);
     or_refused(
         answer,
-        is_inside(delta, LEAST_UNITS, MOST_UNITS),
+        is_inside(delta, LEAST_PASSED, MOST_PASSED),
         OUT_OF_RANGE,
     )
 }

@@ -11,7 +11,7 @@ ghost use Prim.Native.Nat.{_<_};
 ghost use Rattle.signed.specs.Range.{Between};
 ghost use Rattle.fixed.specs.Width.{ruleHolds};
 ghost use Rattle.axis.specs.Edge.{edgeAt};
-ghost use Rattle.axis.specs.Limits.{mostUnits};
+ghost use Rattle.axis.specs.Limits.{mostPassed};
 ghost use Rattle.placing.specs.Steps.{InReach};
 ghost use Rattle.cjk_numbers.specs.Cjk.{mostWidth, mostCjkStart};
 ghost use Rattle.words.specs.Edge.{edgesIn};
@@ -42,7 +42,7 @@ pub fn stem_in(
 ) -> i32
     requires { ⌜ ruleHolds rule (now standards) ≡ true ⌝ }
     requires { ⌜ Whole (now words) × (edge < edgesIn (now words)) × (edge2 < edgesIn (now words)) ⌝ }
-    requires { ⌜ InReach (edgeAt (edgesOf (now words)) edge) × InReach (edgeAt (edgesOf (now words)) edge2) × Between mostUnits mostUnits delta ⌝ }
+    requires { ⌜ InReach (edgeAt (edgesOf (now words)) edge) × InReach (edgeAt (edgesOf (now words)) edge2) × Between mostPassed mostPassed delta ⌝ }
     ensures { λ r. ⌜ StemPlaced dim «stem_adjust» rule (now (standards .entry)) edge edge2 delta r (now (words .entry)) (now (words .exit)) ⌝ }
 {
     let edge1 = fit_in(words, edge);

@@ -19,7 +19,7 @@ use Rattle.axis.specs.declared.kinds.Group.the-variants.{Default, Cjk}
 use Rattle.axis.specs.declared.kinds.Dimension.{Dimension}
 use Rattle.axis.specs.declared.kinds.Dimension.the-variants.{Horizontal, Vertical}
 use Rattle.axis.specs.declared.edge.Edge.{Edge}
-use Rattle.axis.specs.Limits.{mostUnits, mostPos}
+use Rattle.axis.specs.Limits.{mostUnits, mostPos, mostPassed}
 use Rattle.placing.specs.Placing.{linkedPos}
 use Rattle.placing.specs.Steps.{mostReach, InReach}
 use Rattle.placing.proofs.Reach.{width-range}
@@ -54,7 +54,7 @@ pub record SecondWithin (b : ℕ) (x : Second) : Type 0 where
 -- what CJK stems left is within its range
 pub record TrailWithin (t : Trail) : Type 0 where
   pub last : LastWithin (t .last)
-  pub delta : Between mostUnits mostUnits (t .delta)
+  pub delta : Between mostPassed mostPassed (t .delta)
 
 pub record PlanWithin (b : ℕ) (plan : Plan) : Type 0 where
   pub first : Between b b (plan .first)
@@ -151,14 +151,14 @@ module _ (b : ℕ) (r : Reached b) where
   latin-within rule xs e e2 a (Links.To j) t h g l k = anchored-within rule xs e e2 a t h g l k
 
   -- ---- CJK
-  fixed-plan-within : (p q d : ℤ) → Between mostEnd mostEnd p → Between mostEnd mostEnd q → Between mostUnits mostUnits d → PlanWithin (b + mostGrowth) (fixedPlan p q d)
+  fixed-plan-within : (p q d : ℤ) → Between mostEnd mostEnd p → Between mostEnd mostEnd q → Between mostPassed mostPassed d → PlanWithin (b + mostGrowth) (fixedPlan p q d)
   fixed-plan-within p q d h g k = record {
     first = omega (arith, r .least, h);
     second = fixed-within (b + mostGrowth) q (omega (arith, r .least, g));
     trail = record { last = last-at q (omega (arith, g)); delta = k };
   }
 
-  stem-within : (e e2 : Edge) (s : Stem) (d : ℤ) → Between mostCjkStart mostCjkStart (s .pos) → Between mostWidth mostWidth (s .width) → Between mostUnits mostUnits d
+  stem-within : (e e2 : Edge) (s : Stem) (d : ℤ) → Between mostCjkStart mostCjkStart (s .pos) → Between mostWidth mostWidth (s .width) → Between mostPassed mostPassed d
       → PlanWithin (b + mostGrowth) (stemPlan e e2 s d)
   unfolding stemPlan
   stem-within e e2 s d h g k =
@@ -166,12 +166,12 @@ module _ (b : ℕ) (r : Reached b) where
       let l : Between mostEnd mostEnd (s .pos) = omega (arith, h) in
       either-way (PlanWithin (b + mostGrowth)) (ltZ (e .opos) (e2 .opos)) _ _ (fixed-plan-within _ _ d l u k) (fixed-plan-within _ _ d u l k)
 
-  beside-within : (anchor : Link) (old d : ℤ) → Between mostUnits mostUnits old → Between mostMove mostMove d → Between mostUnits mostUnits (deltaBeside anchor old d)
+  beside-within : (anchor : Link) (old d : ℤ) → Between mostPassed mostPassed old → Between mostMove mostMove d → Between mostPassed mostPassed (deltaBeside anchor old d)
   unfolding deltaBeside
   beside-within Links.None old d h g = omega (arith, g)
   beside-within (Links.To j) old d h g = h
 
-  after-within : (dim : Dimension) (anchor : Link) (old d : ℤ) → Between mostUnits mostUnits old → Between mostMove mostMove d → Between mostUnits mostUnits (deltaAfter dim anchor old d)
+  after-within : (dim : Dimension) (anchor : Link) (old d : ℤ) → Between mostPassed mostPassed old → Between mostMove mostMove d → Between mostPassed mostPassed (deltaAfter dim anchor old d)
   unfolding deltaAfter
   after-within Horizontal anchor old d h g = beside-within anchor old d h g
   after-within Vertical anchor old d h g = h

@@ -36,19 +36,19 @@ abbrev pub nothingYet : Link → Progress
 nothingYet start = record { count = 0; anchor = start; trail = record { last = LastStems.None; delta = pos 0 } }
 
 -- what holds before the visit of edge i of n: the state is sound, and, without the fallback, the edges are settled
-pub record Sound (fallback : Bool) (n i : ℕ) (axis : Axis) (p : Progress) : Type 0 where
+pub record VisitSound (fallback : Bool) (n i : ℕ) (axis : Axis) (p : Progress) : Type 0 where
   pub state : StateSound (grown i) n i (stateOf axis p)
   pub without : SettledWithout fallback n axis
 
 module _ (fallback : Bool) (m : Mode) (xs : List ℤ) (start : Link) where
   -- i of n edges are visited
   abbrev pub Aligning : ℕ → List ℤ → List ℤ → Progress → ℕ → Type 0
-  Aligning n ws₀ ws p i = Passing stateOf (step m xs) (Sound fallback n) n ws₀ (nothingYet start) ws p i
+  Aligning n ws₀ ws p i = Passing stateOf (step m xs) (VisitSound fallback n) n ws₀ (nothingYet start) ws p i
 
   pub aligning-starts : {ws : List ℤ} → Whole ws → AxisWithin mostPos (edgesOf ws) → Below (edgesIn ws) start → SettledWithout fallback (edgesIn ws) (edgesOf ws)
       → Aligning (edgesIn ws) ws ws (nothingYet start) 0
   unfolding flatAxis axisRun
-  aligning-starts {ws} w h b f = pass-starts stateOf (step m xs) (Sound fallback (edgesIn ws)) w refl (record { state = begun-sound start (edgesOf ws) h b; without = f })
+  aligning-starts {ws} w h b f = pass-starts stateOf (step m xs) (VisitSound fallback (edgesIn ws)) w refl (record { state = begun-sound start (edgesOf ws) h b; without = f })
 
   module _ {n : ℕ} {ws₀ ws : List ℤ} {p : Progress} {i : ℕ} (g : Aligning n ws₀ ws p i) where
     -- what the next visit may use
@@ -68,7 +68,7 @@ module _ (fallback : Bool) (m : Mode) (xs : List ℤ) (start : Link) where
 
     pub aligning-next : {ws′ : List ℤ} {r : Progress} → i < n → Visited stateOf (step m xs) i p r ws ws′ → Aligning n ws₀ ws′ r (i + 1)
     aligning-next h v =
-        pass-next stateOf (step m xs) (Sound fallback n) g h v
+        pass-next stateOf (step m xs) (VisitSound fallback n) g h v
         (record {
           state = turn-sound n i m xs _ _ (g .few) h (v .state _) (g .kept .state);
           without = record { settled = λ f. subst (λ (s : State). Settled n (s .axis)) (v .state _) (step-settled m xs n _ i (g .kept .without .settled f)) };
@@ -83,7 +83,7 @@ module _ (fallback : Bool) (m : Mode) (xs : List ℤ) (start : Link) where
     }
       where
         whole-pass : (d : Dimension) → stateOf (axisIn ws d) p ≡ visits (visit m xs) (axisIn ws₀ d .len) 0 (begun start (axisIn ws₀ d))
-        whole-pass d = pass-ends stateOf (step m xs) (Sound fallback n) g h d ∙ steps-are m xs (axisIn ws₀ d .len) 0 (begun start (axisIn ws₀ d))
+        whole-pass d = pass-ends stateOf (step m xs) (VisitSound fallback n) g h d ∙ steps-are m xs (axisIn ws₀ d .len) 0 (begun start (axisIn ws₀ d))
 
 -- no more edges are counted than a table holds
 pub passed-few : {m : Mode} {xs : List ℤ} {start : Link} {p : Passed} {ws now : List ℤ} → Whole ws → AxisWithin mostPos (edgesOf ws) → Below (edgesIn ws) start

@@ -10,7 +10,7 @@ use Rattle.axis.specs.declared.kinds.Link.{Link}
 use Rattle.axis.specs.declared.kinds.Mark.the-variants as Marks
 use Rattle.axis.specs.declared.edge.Axis.{Axis}
 use Rattle.axis.specs.Edge.{edgeAt, putEdge, placed}
-use Rattle.axis.specs.Limits.{mostUnits}
+use Rattle.axis.specs.Limits.{mostPassed}
 use Rattle.axis.specs.Accepted.{Below, AxisWithin}
 use Rattle.words.specs.Edge.{edgesIn}
 use Rattle.stems_plan.specs.declared.kinds.Mode.{Mode}
@@ -53,7 +53,7 @@ pub record ReadyVisit (fallback : Bool) (ws : List ℤ) (p : Progress) (i : ℕ)
   pub count : p .count ≤ i
   pub anchor : Below (edgesIn ws) (p .anchor)
   pub last : LastWithin (p .trail .last)
-  pub delta : Between mostUnits mostUnits (p .trail .delta)
+  pub delta : Between mostPassed mostPassed (p .trail .delta)
   pub without : SettledWithout fallback (edgesIn ws) (edgesOf ws)
 
 -- ---- the pass

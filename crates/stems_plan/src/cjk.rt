@@ -14,7 +14,7 @@ use cjk_numbers::stem::stem_of;
 ghost use mathlib.Core.Path.{_≡_};
 ghost use mathlib.Core.Bool.{true};
 ghost use Rattle.signed.specs.Range.{Between};
-ghost use Rattle.axis.specs.Limits.{mostUnits};
+ghost use Rattle.axis.specs.Limits.{mostPassed};
 ghost use Rattle.fixed.specs.Width.{ruleHolds};
 ghost use Rattle.placing.specs.Steps.{InReach};
 ghost use Rattle.cjk_numbers.specs.Cjk.{mostWidth, mostCjkStart};
@@ -83,7 +83,7 @@ pub fn cjk_plan(
     trail: Trail,
 ) -> Plan
     requires { ⌜ ruleHolds (mode .rule) (now standards) ≡ true ⌝ }
-    requires { ⌜ InReach edge × InReach edge2 × Between mostUnits mostUnits (trail .delta) ⌝ }
+    requires { ⌜ InReach edge × InReach edge2 × Between mostPassed mostPassed (trail .delta) ⌝ }
     ensures { λ r. ⌜ r ≡ cjkPlan mode (now (standards .entry)) edge edge2 anchor «is_before» trail ⌝ }
 {
     if is_before {

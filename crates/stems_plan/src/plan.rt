@@ -12,7 +12,7 @@ use zone::zone::has_blue;
 ghost use mathlib.Core.Path.{_≡_};
 ghost use mathlib.Core.Bool.{true, _&&_};
 ghost use Rattle.signed.specs.Range.{Between};
-ghost use Rattle.axis.specs.Limits.{mostUnits};
+ghost use Rattle.axis.specs.Limits.{mostPassed};
 ghost use Rattle.fixed.specs.Width.{ruleHolds};
 ghost use Rattle.placing.specs.Steps.{InReach};
 ghost use Rattle.zone.specs.Zones.{hasBlue};
@@ -31,7 +31,7 @@ fn group_plan(
     trail: Trail,
 ) -> Plan
     requires { ⌜ ruleHolds (mode .rule) (now standards) ≡ true ⌝ }
-    requires { ⌜ InReach edge × InReach edge2 × InReach base × Between mostUnits mostUnits (trail .delta) ⌝ }
+    requires { ⌜ InReach edge × InReach edge2 × InReach base × Between mostPassed mostPassed (trail .delta) ⌝ }
     ensures { λ r. ⌜ r ≡ groupPlan (mode .group) mode (now (standards .entry)) edge edge2 base anchor «is_before» trail ⌝ }
 {
     let group = mode.group;
@@ -64,7 +64,7 @@ pub fn plan_for(
     fallback: bool,
 ) -> Plan
     requires { ⌜ ruleHolds (mode .rule) (now standards) ≡ true ⌝ }
-    requires { ⌜ InReach edge × InReach edge2 × InReach base × Between mostUnits mostUnits (trail .delta) ⌝ }
+    requires { ⌜ InReach edge × InReach edge2 × InReach base × Between mostPassed mostPassed (trail .delta) ⌝ }
     requires { ⌜ BareWithout fallback edge2 ⌝ }
     ensures { λ r. ⌜ r ≡ planOf mode (now (standards .entry)) edge edge2 base anchor «is_before» trail ⌝ }
 {

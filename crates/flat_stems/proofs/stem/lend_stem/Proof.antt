@@ -7,7 +7,7 @@ use Rattle.signed.proofs.Signed.{is}
 use Rattle.signed.proofs.By.{by₃}
 use Rattle.refusals.specs.Refusal.{badParameter, orRefused}
 use Rattle.fixed.specs.Width.{ruleHolds}
-use Rattle.axis.specs.Limits.{mostUnits}
+use Rattle.axis.specs.Limits.{mostPassed}
 use Rattle.axis.specs.Refusals.{within}
 use Rattle.words.specs.Field.{choiceOf, dimensionOf, ruleOf}
 use Rattle.words.proofs.Fields.{kept}
@@ -43,8 +43,8 @@ choices-are c =
     let s = start c in
     by₃ choices (c .before .before .before .are-choices .ensures) (is (s .fits .dim)) (is (s .fits .stem-adjust)) (is (s .fits .rule))
 
-near-is : (c : tie.After-edges-test) → c .before .before .is-inside .result ≡ within mostUnits (start c .args .delta)
-near-is c = c .before .before .is-inside .ensures ∙ ap (within mostUnits) (is (start c .fits .delta))
+near-is : (c : tie.After-edges-test) → c .before .before .is-inside .result ≡ within mostPassed (start c .args .delta)
+near-is c = c .before .before .is-inside .ensures ∙ ap (within mostPassed) (is (start c .fits .delta))
 
 rule-of-requires : tie.Need-rule-of-requires
 rule-of-requires c κs = search needs
@@ -100,7 +100,7 @@ stem-in-requires c κs =
     let r =
     stem-right (s .args .edges .now) (s .args .dim) (s .args .stem-adjust) (s .args .rule) (s .args .standards .now) (s .args .edge) (s .args .edge2) (s .args .delta) (s .args .own-delta .now)
     (rule-is t) (edge-is t) (edge2-is t) (below t .both-below .ensures) (own-is t) (choices-are t) (near-is t) (t .edges-test .ensures) (o .if1 .left) in
-    (r, (a .words, (a .numbers .0, a .numbers .1, subst (Between mostUnits mostUnits) (sym (is (s .fits .delta))) (a .numbers .2))))
+    (r, (a .words, (a .numbers .0, a .numbers .1, subst (Between mostPassed mostPassed) (sym (is (s .fits .delta))) (a .numbers .2))))
 
 same-length-2 : tie.Need-same-length-2
 same-length-2 c = search needs

@@ -10,7 +10,7 @@ use Rattle.signed.specs.Range.{Between}
 use Rattle.signed.proofs.Signed.{is}
 use Rattle.refusals.specs.Refusal.{Test, refusal}
 use Rattle.refusals.proofs.Tests.{AllHold, all-held, answered-no, answered-yes}
-use Rattle.axis.specs.Limits.{mostEdges, mostUnits, mostPos}
+use Rattle.axis.specs.Limits.{mostEdges, mostPassed, mostPos}
 use Rattle.axis.specs.Edge.{edgeAt}
 use Rattle.axis.specs.Accepted.{AxisWithin}
 use Rattle.axis.proofs.Acceptance.{within-between, axis-within}
@@ -54,8 +54,8 @@ edge-below c = below-first _ _ _ (tests-hold c .1 .1 .1 .0)
 edge2-below : (c : tie.Else1) → start c .args .edge2 < start c .args .t1 .len
 edge2-below c = below-second _ _ _ (tests-hold c .1 .1 .1 .0)
 
-delta-within : (c : tie.Else1) → Between mostUnits mostUnits (start c .args .delta)
-delta-within c = within-between mostUnits _ (tests-hold c .1 .1 .1 .1 .1 .0)
+delta-within : (c : tie.Else1) → Between mostPassed mostPassed (start c .args .delta)
+delta-within c = within-between mostPassed _ (tests-hold c .1 .1 .1 .1 .1 .0)
 
 edge-inside : (c : tie.Else1) → start c .args .edge < mostEdges
 edge-inside c = in-table _ _ _ (accepted c) (edge-below c)

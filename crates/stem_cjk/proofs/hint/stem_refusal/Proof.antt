@@ -3,7 +3,7 @@ use mathlib.Core.Path.{refl, ap, _∙_}
 use Rattle.signed.proofs.Signed.{is}
 use Rattle.refusals.specs.Refusal.{tooLong, badParameter, badIndex, outOfRange}
 use Rattle.refusals.proofs.Tests.{none-tested, then-tested}
-use Rattle.axis.specs.Limits.{mostUnits}
+use Rattle.axis.specs.Limits.{mostPassed}
 use Rattle.axis.specs.Refusals.{within}
 use borrow.Author.Needs.{needs}
 use Rattle.stem_cjk.proofs.hint.stem_refusal.Statement.{statement}
@@ -64,7 +64,7 @@ returns c =
     let tested3 = then-tested badIndex tested2 refl (so3 .or-refused3 .ensures) (test3 .edges-indices .ensures) in
     let tested4 = then-tested badIndex tested3 refl (so4 .or-refused4 .ensures) (test4 .both-below .ensures) in
     let tested5 = then-tested outOfRange tested4 refl (so5 .or-refused5 .ensures) (test5 .edges-numbers .ensures) in
-    then-tested outOfRange tested5 refl (c .or-refused6 .ensures) (test6 .is-inside .ensures ∙ ap (within mostUnits) (is (test1 .before .fits .delta))) .refused
+    then-tested outOfRange tested5 refl (c .or-refused6 .ensures) (test6 .is-inside .ensures ∙ ap (within mostPassed) (is (test1 .before .fits .delta))) .refused
 
 pub stem-refusal-spec : {M : Type 1} → statement M
 stem-refusal-spec =

@@ -7,7 +7,7 @@ use Rattle.signed.specs.Range.{Between}
 use Rattle.signed.proofs.Signed.{is, got}
 use Rattle.axis.specs.declared.edge.Edge.{Edge}
 use Rattle.axis.specs.Edge.{edgeAt}
-use Rattle.axis.specs.Limits.{mostUnits}
+use Rattle.axis.specs.Limits.{mostPassed}
 use Rattle.lent.specs.Lent.{edgesOf}
 use Rattle.cjk_numbers.specs.declared.stem.Stem.{Stem}
 use Rattle.cjk_numbers.specs.Cjk.{mostWidth, mostCjkStart}
@@ -80,7 +80,7 @@ stem-of-requires c κs =
     let one = c .before .before in
     let s = one .before .before in
     let r = s .pre .1 .1 in
-    (s .pre .0, (read-reach (one .fit-in .result) (one .fit-in .ensures) (r .0), read-reach (c .fit-in2 .result) (c .fit-in2 .ensures) (r .1), subst (Between mostUnits mostUnits) (sym (is (s .fits .delta))) (r .2)))
+    (s .pre .0, (read-reach (one .fit-in .result) (one .fit-in .ensures) (r .0), read-reach (c .fit-in2 .result) (c .fit-in2 .ensures) (r .1), subst (Between mostPassed mostPassed) (sym (is (s .fits .delta))) (r .2)))
 
 place-stem-in-requires : tie.Need-place-stem-in-requires
 place-stem-in-requires c κs =
