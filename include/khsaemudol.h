@@ -59,7 +59,8 @@
  * words and a segment KHS_SEGMENT_WORDS, in the order of struct khs_edge and struct khs_segment, and nothing stands in front of the first. An array of n
  * such structs is passed as `(int32_t *)array, n * KHS_EDGE_WORDS`: the length is in words. A length in records is refused, but where it happens to be that of whole
  * records too: KHS_EDGE_WORDS means one edge, and KHS_SEGMENT_WORDS one segment. Of every list and of every place for a result:
- *   - It is never NULL: a list of length 0 has a pointer too, to anything of its type, and so have standards with KHS_KEEP.
+ *   - A list of length 0 may be NULL, as an empty std::vector's data() may be: nothing is read or written through its pointer, whatever that is. Every other list has a
+ *     pointer, standards with KHS_KEEP too, and so has every place for a result.
  *   - Its pointer is aligned as C asks of its type: to 4 bytes for int32_t, uint32_t and float, 2 for uint16_t.
  *   - It overlaps no other list or place of the same call, unless both are const.
  * A call that is given anything else, or a length beyond its list, is undefined, as in C; everything else that can be passed is answered.
@@ -180,7 +181,7 @@ struct khs_segment {
 };
 
 /* The width rule of the calls below is `rule`, KHS_KEEP or KHS_SNAP, with `standards`, the standard widths in units. Keep takes widths as they are and does
- * not read the standards: their list may be of any length, but is still not NULL. Snap wants 0 to 16 of them, strictly rising, each 1 to 16,383, else
+ * not read the standards: their list may be of any length, and is NULL at length 0 alone. Snap wants 0 to 16 of them, strictly rising, each 1 to 16,383, else
  * KHS_BAD_PARAMETER; a width then becomes the standard nearest to its magnitude, the smaller on a tie, with the width's sign, where that is at most 16 units
  * away, and else stays; then a nonzero width of less than a pixel, 64 units, becomes a pixel, with its sign, whether or not it was a standard. 0 stays 0.
  *
@@ -351,10 +352,11 @@ uint8_t khs_path_step(const int32_t *xs, khs_length xs_len, const int32_t *ys, k
                       const uint16_t *ends, khs_length ends_len, uint32_t cursor, uint8_t *kind, float places[4], uint32_t *next);
 
 /* All steps of a path, in time that grows with the points alone.
- * kinds, places: room for the steps, one kind and four floats each. For any outline of so many points and contours xs_len + 2 * ends_len steps are enough, at most
- * 12,288: with fewer kinds, or fewer than four times as many floats, the answer is KHS_TOO_LONG, in front of KHS_BAD_INDEX, whatever the path is.
+ * kinds, places: room for the steps, one kind and four floats each. The room is known before the call, by the lengths alone: no path has more than
+ * xs_len + 2 * ends_len steps, at most 12,288, and kinds must have as many entries and places four times as many, or more, whatever the path is.
  * Writes count, how many steps there are; for each its kind and its four floats as khs_path_step does. What stands behind them stays.
- * Answers: KHS_DONE, KHS_TOO_LONG, KHS_BAD_INDEX, KHS_OUT_OF_RANGE. */
+ * Answers: KHS_DONE, KHS_TOO_LONG (of two causes: kinds or places has too little room; or, as in khs_path_step, the point lists differ in length or have more than 4,096
+ * entries, which is the only cause where the room is as above), KHS_BAD_INDEX, KHS_OUT_OF_RANGE. */
 uint8_t khs_path(const int32_t *xs, khs_length xs_len, const int32_t *ys, khs_length ys_len, const uint8_t *marks, khs_length marks_len, const uint16_t *ends,
                  khs_length ends_len, uint8_t *kinds, khs_length kinds_len, float *places, khs_length places_len, uint32_t *count);
 
@@ -364,7 +366,7 @@ uint8_t khs_path(const int32_t *xs, khs_length xs_len, const int32_t *ys, khs_le
  * originals, currents, touched: one entry for each point, at most KHS_FRAME_PLACES, numbers from -32,768 to 32,767; a mark is kept as it is. ends: at most
  * KHS_FRAME_PLACES, each at most 255. They need not be what khs_align_weak_points accepts: what it refuses can be logged too.
  * line: room for the digits, 6 and 10 for each point and 2 for each contour; KHS_MOST_DIGITS is always enough. The line feed is the caller's.
- * Writes line, from its beginning on, what stands behind the digits stays; digits, how many they are.
+ * Writes line, from its beginning on, digits alone: what stands behind them stays, so that no zero byte ends them; digits, how many they are.
  * Answers: KHS_DONE, KHS_TOO_LONG (the point lists differ in length, there are more than 255 points or contours, or the line is too short), KHS_BAD_INDEX (an end
  * above 255), KHS_OUT_OF_RANGE (a number that two signed bytes do not hold). */
 uint8_t khs_write_frame(const int32_t *originals, khs_length originals_len, const int32_t *currents, khs_length currents_len, const uint8_t *touched,

@@ -1,6 +1,7 @@
 /* Answers job lines, as the program `replay` does, by the library's C functions, as a gateway calls them: reads lines from standard input, and writes a line for
  * each to standard output. A job is words of eight upper-case hexadecimal digits: the number of a call, and what it is given. The answer to a line that is no
- * job is the word -1, which is told here, before any call. C99, nothing but stdio and memcpy, and no allocation, so that it runs on bare boards too. */
+ * job is the word -1, which is told here, before any call. Every list of length 0 is passed as NULL, and a path has just the room that it asks for. C99, nothing but
+ * stdio and memcpy, and no allocation, so that it runs on bare boards too. */
 #include "khsaemudol.h"
 
 #include <stdio.h>
@@ -73,6 +74,12 @@ static size_t answered;
 
 /* The table that a call is lent: the job's, and room for one record more. */
 static int32_t table[KHS_SEGMENT_WORDS * (KHS_MOST_SEGMENTS + 1)];
+
+/* A list as it is passed, pointer and length: NULL where it is empty. */
+#define LIST(pointer, len) ((len) > 0 ? (pointer) : NULL), (len)
+/* A list of a job, its words or what they were read into. */
+#define WORDS(list) LIST((list).words, (list).size)
+#define READ(pointer, list) LIST(pointer, (list).size)
 
 /* Whether a word is one of a field's values. */
 static int is_field(char kind, int32_t word)
@@ -197,7 +204,7 @@ static void read_indices(const struct list *list, uint16_t *indices)
 static void answer_weak(const struct job *job)
 {
     const struct list *list = job->list;
-    say(khs_align_weak_points(list[0].words, list[0].size, list[1].words, list[1].size, marks, list[2].size, ends, list[3].size));
+    say(khs_align_weak_points(WORDS(list[0]), WORDS(list[1]), READ(marks, list[2]), READ(ends, list[3])));
     say_list(list[1].count, list[1].words, list[1].size);
 }
 
@@ -214,15 +221,15 @@ static size_t floats_of(uint8_t kind)
     return kind == KHS_CURVE ? 4 : kind == KHS_MOVE || kind == KHS_LINE ? 2 : 0;
 }
 
-/* A whole path, in the room that the longest lists of a job ask for. */
+/* A whole path, in the room that its lists ask for. */
 static void answer_path(const struct job *job)
 {
     static uint8_t kinds[3 * MOST_NUMBERS];
     static float places[sizeof kinds * STEP_FLOATS];
     const struct list *list = job->list;
+    size_t room = list[0].size + 2 * list[3].size;
     uint32_t count = 0;
-    say(khs_path(list[0].words, list[0].size, list[1].words, list[1].size, marks, list[2].size, ends, list[3].size, kinds, sizeof kinds, places,
-                 sizeof places / sizeof *places, &count));
+    say(khs_path(WORDS(list[0]), WORDS(list[1]), READ(marks, list[2]), READ(ends, list[3]), LIST(kinds, room), LIST(places, STEP_FLOATS * room), &count));
     say((int32_t)count);
     for (size_t i = 0; i < count; i++) {
         say(kinds[i]);
@@ -237,7 +244,7 @@ static void answer_step(const struct job *job)
     uint8_t kind = KHS_FINISHED;
     float places[STEP_FLOATS] = {0, 0, 0, 0};
     uint32_t next = (uint32_t)job->number[0];
-    say(khs_path_step(list[0].words, list[0].size, list[1].words, list[1].size, marks, list[2].size, ends, list[3].size, next, &kind, places, &next));
+    say(khs_path_step(WORDS(list[0]), WORDS(list[1]), READ(marks, list[2]), READ(ends, list[3]), next, &kind, places, &next));
     say(kind);
     say_floats(places, STEP_FLOATS);
     say((int32_t)next);
@@ -252,8 +259,8 @@ static void answer_catalogue(const struct job *job)
     read_indices(&list[4], points);
     read_indices(&list[5], contours);
     read_bytes(&list[6], answers);
-    say(khs_align_catalogue(list[0].words, list[0].size, list[1].words, list[1].size, marks, list[2].size, ends, list[3].size, points, list[4].size, contours,
-                            list[5].size, answers, list[6].size));
+    say(khs_align_catalogue(WORDS(list[0]), WORDS(list[1]), READ(marks, list[2]), READ(ends, list[3]), READ(points, list[4]), READ(contours, list[5]),
+                            READ(answers, list[6])));
     say_list(list[1].count, list[1].words, list[1].size);
     say_bytes(answers, list[6].size);
 }
@@ -267,7 +274,7 @@ static void answer_write(const struct job *job)
     const struct list *list = job->list;
     uint32_t count = 0;
     read_bytes(&list[4], frame);
-    say(khs_write_frame(list[0].words, list[0].size, list[1].words, list[1].size, marks, list[2].size, ends, list[3].size, frame, list[4].size, &count));
+    say(khs_write_frame(WORDS(list[0]), WORDS(list[1]), READ(marks, list[2]), READ(ends, list[3]), READ(frame, list[4]), &count));
     say((int32_t)count);
     say_bytes(frame, list[4].size);
 }
@@ -293,7 +300,7 @@ static void answer_read(const struct job *job)
     const struct list *list = job->list;
     uint32_t points = 0, contours = 0;
     read_bytes(&list[0], frame);
-    say(khs_read_frame(frame, list[0].size, originals, MOST_FRAMED, currents, MOST_FRAMED, marks, MOST_FRAMED, ends, MOST_FRAMED, &points, &contours));
+    say(khs_read_frame(READ(frame, list[0]), originals, MOST_FRAMED, currents, MOST_FRAMED, marks, MOST_FRAMED, ends, MOST_FRAMED, &points, &contours));
     say_list((int32_t)points, originals, points);
     say_list((int32_t)points, currents, points);
     say_bytes(marks, points);
@@ -310,13 +317,13 @@ static void answer_segments(const struct job *job)
     const struct list *segments = &job->list[0], *old = &job->list[1];
     khs_length len = lend(segments, KHS_SEGMENT_WORDS, KHS_MOST_SEGMENTS);
     if (job->call == 4) {
-        say(khs_link_segments_cjk(table, len, n[0], n[1], n[2]));
+        say(khs_link_segments_cjk(LIST(table, len), n[0], n[1], n[2]));
         say_list(segments->count, table, segments->size);
         return;
     }
     int32_t count = old->count;
     memcpy(edges, old->words, old->size * sizeof *edges);
-    say(old->count > KHS_MOST_EDGES ? KHS_TOO_LONG : khs_compute_edges(table, len, edges, KHS_EDGE_WORDS * KHS_MOST_EDGES, n[0], n[1], n[2], n[3], n[4], n[5], n[6], n[7], &count));
+    say(old->count > KHS_MOST_EDGES ? KHS_TOO_LONG : khs_compute_edges(LIST(table, len), edges, KHS_EDGE_WORDS * KHS_MOST_EDGES, n[0], n[1], n[2], n[3], n[4], n[5], n[6], n[7], &count));
     say_list(segments->count, table, segments->size);
     say_list(count, edges, KHS_EDGE_WORDS * (size_t)(count > KHS_MOST_EDGES ? KHS_MOST_EDGES : count));
 }
@@ -329,7 +336,7 @@ static void answer_turned(const struct job *job)
     khs_length edges_len = lend(given, KHS_EDGE_WORDS, KHS_MOST_EDGES);
     memcpy(edges, table, sizeof edges);
     khs_length len = lend(segments, KHS_SEGMENT_WORDS, KHS_MOST_SEGMENTS);
-    say(khs_turn_over(table, len, edges, edges_len));
+    say(khs_turn_over(LIST(table, len), LIST(edges, edges_len)));
     say_list(segments->count, table, segments->size);
     say_list(given->count, edges, given->size);
 }
@@ -339,7 +346,7 @@ static void answer_gaps(const struct job *job)
 {
     khs_length len = lend(&job->list[0], KHS_EDGE_WORDS, KHS_MOST_EDGES);
     int32_t count = 0, first = KHS_NONE, second = KHS_NONE, before = 0, after = 0;
-    say(khs_lost_gaps(table, len, job->number[0], &count, &first, &second, &before, &after));
+    say(khs_lost_gaps(LIST(table, len), job->number[0], &count, &first, &second, &before, &after));
     say(count);
     say(first);
     say(second);
@@ -356,39 +363,39 @@ static void answer_edges(const struct job *job)
     int32_t number = 0, index = KHS_NONE, second = KHS_NONE;
     switch (job->call) {
     case 106:
-        say(khs_align_edges_to_blues(table, len, n[0], n[1], n[2], standards->words, standards->size, &index));
+        say(khs_align_edges_to_blues(LIST(table, len), n[0], n[1], n[2], WORDS(*standards), &index));
         say(index);
         break;
     case 107:
-        say(khs_align_linked_edge(table, len, n[0], standards->words, standards->size, n[1], n[2]));
+        say(khs_align_linked_edge(LIST(table, len), n[0], WORDS(*standards), n[1], n[2]));
         break;
     case 108:
-        say(khs_align_serif_edge(table, len, n[0], n[1]));
+        say(khs_align_serif_edge(LIST(table, len), n[0], n[1]));
         break;
     case 109:
-        say(khs_adjust_link(table, len, n[0], n[1], n[2]));
+        say(khs_adjust_link(LIST(table, len), n[0], n[1], n[2]));
         break;
     case 110:
-        say(khs_latin_remaining_bounds(table, len, n[0], &index, &second));
+        say(khs_latin_remaining_bounds(LIST(table, len), n[0], &index, &second));
         say(index);
         say(second);
         return;
     case 111:
-        say(khs_hint_normal_stem_cjk(table, len, n[0], n[1], n[2], standards->words, standards->size, n[3], n[4], n[5], &number));
+        say(khs_hint_normal_stem_cjk(LIST(table, len), n[0], n[1], n[2], WORDS(*standards), n[3], n[4], n[5], &number));
         say(number);
         break;
     case 112:
-        say(khs_align_stem_edges(table, len, n[0], n[1], n[2], n[3], n[4], n[5], standards->words, standards->size, &number, &index));
+        say(khs_align_stem_edges(LIST(table, len), n[0], n[1], n[2], n[3], n[4], n[5], WORDS(*standards), &number, &index));
         say(number);
         say(index);
         break;
     case 122:
-        say(khs_align_blues_and_stems(table, len, n[0], n[1], n[2], n[3], n[4], standards->words, standards->size, &number, &index));
+        say(khs_align_blues_and_stems(LIST(table, len), n[0], n[1], n[2], n[3], n[4], WORDS(*standards), &number, &index));
         say(number);
         say(index);
         break;
     default:
-        say(khs_hint_lowercase_m(table, len, n[0]));
+        say(khs_hint_lowercase_m(LIST(table, len), n[0]));
     }
     say_list(edges->count, table, edges->size);
 }

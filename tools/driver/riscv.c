@@ -1,4 +1,4 @@
-/* Standard input and output of replay.c on a bare RISC-V board whose console is the emulator's (semihosting), for picolibc. */
+/* Standard input and output of replay.c on a bare RISC-V board whose console is the emulator's (semihosting), for picolibc; a fault ends it with status 1. */
 #include <stdint.h>
 #include <stdio.h>
 
@@ -66,4 +66,15 @@ void _exit(int status)
     const uintptr_t given[] = {STOPPED, (uintptr_t)status};
     for (;;)
         ask(EXIT, given);
+}
+
+/* Where a fault leads to, as by a pointer that is NULL: the board has nothing at address 0. */
+__attribute__((aligned(4))) static void fault(void)
+{
+    _exit(1);
+}
+
+__attribute__((constructor)) static void watch(void)
+{
+    __asm__ volatile(".option push\n.option arch, +zicsr\ncsrw mtvec, %0\n.option pop" : : "r"(fault));
 }

@@ -2,7 +2,7 @@
 
 use crate::{
     ffi,
-    memory::{Memory, Side},
+    memory::{with_and_without, Memory, Side},
     tally::Tally,
 };
 use oracle::{
@@ -64,7 +64,9 @@ pub fn catalogues(count: usize, random: &mut Random) -> Tally {
     let mut memories = Memories([(); 7].map(|()| Memory::new()));
     let mut tally = Tally::new("khs_align_catalogue");
     let mut compare = |given: &Catalogue, side: Side| {
-        tally.compare(given, calls::align_catalogue, || memories.run(given, side));
+        with_and_without(side, |side| {
+            tally.compare(given, calls::align_catalogue, || memories.run(given, side));
+        });
     };
     small(|given| compare(given, Side::Back));
     for _ in 0..count {

@@ -2,7 +2,7 @@
 
 use crate::{
     ffi,
-    memory::{Memory, Side},
+    memory::{with_and_without, Memory, Side},
     model::NOT_WORDS,
     tally::Tally,
 };
@@ -167,11 +167,13 @@ pub fn frames(count: usize, random: &mut Random) -> Vec<Tally> {
         let mut tally = Tally::new(name);
         let mut compare = |lent: &Lent, side: Side| {
             let wanted = expected(call, lent);
-            tally.begin();
-            let outcome = memories.run(call, lent, side);
-            let same = outcome.as_ref() == Some(&wanted);
-            tally.count(wanted.0, same, || {
-                format!("{lent:?}: {outcome:?}, and the oracle {wanted:?}")
+            with_and_without(side, |side| {
+                tally.begin();
+                let outcome = memories.run(call, lent, side);
+                let same = outcome.as_ref() == Some(&wanted);
+                tally.count(wanted.0, same, || {
+                    format!("{lent:?}: {outcome:?}, and the oracle {wanted:?}")
+                });
             });
         };
         match call {

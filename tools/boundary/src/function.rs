@@ -333,8 +333,12 @@ pub fn run(
         Some(_) => memories.table.shut(),
         None => memories.table.lend(&given.lent.table, side),
     };
-    let room = memories.room.lend(&given.lent.room, side);
-    let standards = memories.standards.lend(&given.lent.standards, side);
+    // a list that the function does not take is not lent as NULL, so that only those are counted which are passed
+    let taken = |takes: bool| if takes { side } else { Side::Placed };
+    let takes_room = [BUILDING, TURNING].contains(&function.call);
+    let room = memories.room.lend(&given.lent.room, taken(takes_room));
+    let standards =
+        (memories.standards).lend(&given.lent.standards, taken(function.rule.is_some()));
     let mut places = [ptr::null_mut(); PLACES];
     for (ix, place) in given.lent.places.iter().enumerate() {
         places[ix] = memories.places[ix].lend(&[*place], side);

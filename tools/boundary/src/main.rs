@@ -1,5 +1,6 @@
 //! The C boundary compared: `boundary COUNT SEED` passes damaged words, lengths and named edges to every function of the static library, and compares the answer and every word
-//! lent with the oracle behind the order of answers that `model` has. Every list has a guard on one side and memory that is shut on the other.
+//! lent with the oracle behind the order of answers that `model` has. Every list has a guard on one side and memory that is shut on the other. A case with an empty list is
+//! run twice: every such list is NULL, and then a pointer to memory that is shut.
 
 mod cases;
 mod catalogues;
@@ -13,7 +14,7 @@ mod points;
 mod tally;
 
 use function::{Function, Given, Memories, Outcome, FUNCTIONS};
-use memory::Side;
+use memory::{nulls, with_and_without, Side};
 use oracle::generate::Random;
 use std::{fmt::Display, process::ExitCode};
 use tally::{Tally, ANSWERS};
@@ -49,14 +50,16 @@ fn compare(function: &Function, count: usize, random: &mut Random) -> Tally {
     let mut tally = Tally::new(function.name);
     let mut compare = |given: &Given, side: Side| {
         let expected = model::expected(function, given);
-        tally.begin();
-        let outcome = function::run(function, given, &mut memories, side);
-        let same = outcome.as_ref() == Some(&expected);
-        tally.count(expected.answer, same, || {
-            let found = outcome.map_or("a guard was written".into(), |outcome| {
-                difference(&outcome, &expected)
+        with_and_without(side, |side| {
+            tally.begin();
+            let outcome = function::run(function, given, &mut memories, side);
+            let same = outcome.as_ref() == Some(&expected);
+            tally.count(expected.answer, same, || {
+                let found = outcome.map_or("a guard was written".into(), |outcome| {
+                    difference(&outcome, &expected)
+                });
+                format!("{found}; given {given:?}")
             });
-            format!("{found}; given {given:?}")
         });
     };
     for given in cases::small(function, random) {
@@ -106,7 +109,8 @@ fn tell(tallies: &[Tally]) -> ExitCode {
     }
     let cases: usize = tallies.iter().map(|tally| tally.cases).sum();
     let different: usize = tallies.iter().map(|tally| tally.different).sum();
-    println!("{cases} cases, {different} different");
+    let nulls = nulls();
+    println!("{cases} cases, {nulls} empty lists as NULL, {different} different");
     ExitCode::from(u8::from(different > 0))
 }
 

@@ -4,6 +4,7 @@ use crate::ffi;
 use std::{
     mem::{size_of, size_of_val},
     ptr,
+    sync::atomic::{AtomicUsize, Ordering},
 };
 
 /// Bytes that can be read and written; no list that a call may read is longer.
@@ -15,11 +16,30 @@ const GUARD: usize = 64;
 /// What they are.
 const GUARD_BYTE: u8 = 0xA5;
 
-/// Which end of the open memory a list stands at: its other side has the guard.
+/// Which end of the open memory a list stands at: its other side has the guard. A list of length 0 is NULL.
 #[derive(Copy, Clone, PartialEq, Debug)]
 pub enum Side {
     Front,
     Back,
+    /// At the back, where a list of length 0 has a pointer too, to memory that is shut.
+    Placed,
+}
+
+/// Counts the lists that are lent as NULL.
+static NULLS: AtomicUsize = AtomicUsize::new(0);
+
+/// How many there have been.
+pub fn nulls() -> usize {
+    NULLS.load(Ordering::Relaxed)
+}
+
+/// Runs a case at a side, and where a list of it was NULL, once more with a pointer.
+pub fn with_and_without(side: Side, mut run: impl FnMut(Side)) {
+    let before = nulls();
+    run(side);
+    if nulls() > before {
+        run(Side::Placed);
+    }
 }
 
 /// Open memory between shut memory, in which one list is lent at a time.
@@ -64,13 +84,17 @@ impl Memory {
         self.side = side;
         self.at = match side {
             Side::Front => 0,
-            Side::Back => OPEN - self.bytes,
+            Side::Back | Side::Placed => OPEN - self.bytes,
         };
         // SAFETY: list and guard lie in the open memory, and the list's place is as aligned as the memory's ends.
         unsafe {
             let place = self.open.add(self.at);
             ptr::copy_nonoverlapping(list.as_ptr().cast(), place, self.bytes);
             self.guard().write_bytes(GUARD_BYTE, GUARD);
+            if list.is_empty() && side != Side::Placed {
+                NULLS.fetch_add(1, Ordering::Relaxed);
+                return ptr::null_mut();
+            }
             place.cast()
         }
     }
@@ -91,7 +115,7 @@ impl Memory {
     unsafe fn guard(&self) -> *mut u8 {
         match self.side {
             Side::Front => self.open.add(self.bytes),
-            Side::Back => self.open.add(self.at - GUARD),
+            Side::Back | Side::Placed => self.open.add(self.at - GUARD),
         }
     }
 

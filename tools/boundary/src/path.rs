@@ -2,7 +2,7 @@
 
 use crate::{
     ffi,
-    memory::{Memory, Side},
+    memory::{with_and_without, Memory, Side},
     tally::Tally,
 };
 use oracle::{
@@ -190,11 +190,13 @@ pub fn paths(count: usize, random: &mut Random) -> Vec<Tally> {
             None => whole(walk, lent),
         };
         let tally = &mut tallies[usize::from(cursor.is_none())];
-        tally.begin();
-        let outcome = memories.run(walk, cursor, lent, side);
-        let same = outcome.as_ref() == Some(&expected);
-        tally.count(expected.0, same, || {
-            format!("{walk:?}, {cursor:?}, {lent:?}: {outcome:?}, and the oracle {expected:?}")
+        with_and_without(side, |side| {
+            tally.begin();
+            let outcome = memories.run(walk, cursor, lent, side);
+            let same = outcome.as_ref() == Some(&expected);
+            tally.count(expected.0, same, || {
+                format!("{walk:?}, {cursor:?}, {lent:?}: {outcome:?}, and the oracle {expected:?}")
+            });
         });
     };
     small(|walk| {

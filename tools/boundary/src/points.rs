@@ -2,7 +2,7 @@
 
 use crate::{
     ffi,
-    memory::{Memory, Side},
+    memory::{with_and_without, Memory, Side},
     tally::Tally,
 };
 use oracle::{
@@ -117,8 +117,10 @@ pub fn weak(count: usize, random: &mut Random) -> Tally {
     let mut memories = Memories::new();
     let mut tally = Tally::new("khs_align_weak_points");
     let mut compare = |points: &Points, side: Side| {
-        tally.compare(points, calls::align_weak_points, || {
-            memories.run(points, side)
+        with_and_without(side, |side| {
+            tally.compare(points, calls::align_weak_points, || {
+                memories.run(points, side)
+            });
         });
     };
     small(|points| compare(points, Side::Back));
