@@ -188,6 +188,18 @@ static uint8_t guard(const struct khs_edge *edges, int32_t count) {
     return answer;
 }
 
+/* The point behind a point on its contour: behind the last one comes the first. */
+static int32_t next_point(int32_t point) {
+    int32_t start = 0;
+    for (int32_t i = 0; i < CONTOURS; i++) {
+        if (point == ends[i]) {
+            return start;
+        }
+        start = ends[i] + 1;
+    }
+    return point + 1;
+}
+
 /* Moves the points of segments whose edges are done with them, and the other points behind these. */
 static uint8_t align_points(const struct axis *axis, const struct khs_segment *segments, const struct khs_edge *edges, int32_t currents[POINTS]) {
     int32_t originals[POINTS];
@@ -200,10 +212,13 @@ static uint8_t align_points(const struct axis *axis, const struct khs_segment *s
         if (segments[i].edge == KHS_NONE || !(edges[segments[i].edge].flags & KHS_FLAG_DONE)) {
             continue;
         }
-        for (int32_t point = segments[i].first; point <= segments[i].last; point++) {
+        for (int32_t point = segments[i].first;; point = next_point(point)) {
             currents[point] = edges[segments[i].edge].pos;
             touched[point] = 1;
             placed++;
+            if (point == segments[i].last) {
+                break;
+            }
         }
     }
     uint8_t answer = khs_align_weak_points(originals, POINTS, currents, POINTS, touched, POINTS, ends, CONTOURS);

@@ -23,22 +23,31 @@
  *      khs_align_stem_edges in a row, for who wants to look in between. khs_hint_lowercase_m evens out an m, on its horizontal axis.
  *      khs_lost_gaps then tells whether two edges that were apart have come to stand on one place, or the wrong way round, as it can happen where few pixels are left
  *      between two stems. Such a glyph is better shown unfitted, or at another size.
- *   5. An edge without KHS_FLAG_DONE has not been placed. The caller leaves it, and its points to step 6, or places it as it likes: one with a serif by
- *      khs_align_serif_edge with that as base, another one between the edges that khs_latin_remaining_bounds finds; khs_adjust_link keeps one with a link in order.
- *      None of these calls sets the flag: the caller does, by flags |= KHS_FLAG_DONE.
- *   6. The caller moves the points of every segment whose edge is done, from first to last, to that edge's pos, and touches them. khs_align_weak_points moves the
- *      other points, and khs_align_catalogue those of many outlines at once.
+ *   5. An edge without KHS_FLAG_DONE has not been placed. The caller leaves it, and its points to step 6, or places it as it likes. The Rust code of which this is a
+ *      port places all, one after the other. An edge of KHS_LATIN goes by the first of these that it can:
+ *        - its serif, whose opos is less than 80 units from its own: by khs_align_serif_edge with that as base;
+ *        - itself, where there is no anchor yet: at its opos, to the nearest pixel, and it is the anchor of those behind it;
+ *        - the nearest done edges on both sides: between their pos as its opos is between theirs, and at the first one's pos where these are equal;
+ *        - the anchor: at its pos and the distance of their opos, to the nearest 32 units.
+ *      It is done then, and khs_adjust_link, toward both neighbours, keeps it in order if it has a link. Of KHS_CJK first every edge with a serif goes by that, and is
+ *      done; then every other one goes between the nearest edges on both sides that were done before these, as its fpos is between theirs, or, where one side has none,
+ *      by khs_align_serif_edge with that of the other as base. None of these calls sets the flag: the caller does, by flags |= KHS_FLAG_DONE.
+ *   6. The caller moves the points of every segment whose edge is done to that edge's pos, and touches them: from first to last around the contour, whose last point
+ *      is followed by its first. A segment may run over that place, and its last is below its first then. (Points of KHS_CJK the Rust code moves by the edge's
+ *      pos - opos, where it is not told to snap.) Strong points are the caller's too: those that are not touched now and not weak, which a point is that is very near
+ *      another one or has no clear direction. The Rust code places them by the edges around them, and touches them; left out, they go with the weak ones.
+ *      khs_align_weak_points moves the points that are not touched then, and khs_align_catalogue those of many outlines at once.
  *   7. When both axes are fitted, khs_path makes the path for a rasteriser of the points, in pixels.
  * Edges stand by rising positions. Tables that were built and saved the other way, from top to bottom, go through khs_turn_over once.
  *
- * An example: a bar from 0 to 80 of 1,000 design units to the em, at 12 pixels to the em, whose foot has a zone at 0; it goes clockwise, and its point 2 lies at 40
- * between the sides. It leaves 64 64 33 0 0 in currents. In the repository examples/three.c fits a figure 3 so.
+ * An example: a bar from 0 to 80 of 1,000 design units to the em, at 12 pixels to the em, whose foot has a zone at 0; it goes clockwise, its upper side runs over the
+ * contour's start, and its point 1 lies at 40 between the sides. It leaves 64 33 0 0 64 in currents. In the repository examples/three.c fits a figure 3 so.
  *     int32_t scale = (int32_t)((int64_t)12 * 64 * 65536 / 1000), standards[1] = {64}, count, passed_over, anchor, lost, low, high, before, after;
  *     struct khs_segment segments[2] = {
- *         {0, KHS_DIR_RIGHT, 80, 0, 10, 200, 190, 32000, 0, 1, KHS_NONE, 0, 1, KHS_NONE, KHS_NONE},
- *         {0, KHS_DIR_LEFT, 0, 0, 10, 200, 190, 32000, 0, 0, KHS_NONE, 3, 4, KHS_NONE, KHS_NONE}};
+ *         {0, KHS_DIR_RIGHT, 80, 0, 10, 200, 190, 32000, 0, 1, KHS_NONE, 4, 0, KHS_NONE, KHS_NONE},
+ *         {0, KHS_DIR_LEFT, 0, 0, 10, 200, 190, 32000, 0, 0, KHS_NONE, 2, 3, KHS_NONE, KHS_NONE}};
  *     struct khs_edge edges[KHS_MOST_EDGES];
- *     int32_t originals[5] = {61, 61, 31, 0, 0}, currents[5] = {61, 61, 31, 0, 0};
+ *     int32_t originals[5] = {61, 31, 0, 0, 61}, currents[5] = {61, 31, 0, 0, 61};
  *     uint8_t touched[5] = {0};
  *     uint16_t ends[1] = {4};
  *     if (khs_compute_edges((int32_t *)segments, 2 * KHS_SEGMENT_WORDS, (int32_t *)edges, KHS_MOST_EDGES * KHS_EDGE_WORDS, KHS_VERTICAL, KHS_DIR_LEFT, KHS_LATIN,
@@ -51,7 +60,10 @@
  *     for (int i = 0; i < 2; i++) {
  *         int32_t edge = segments[i].edge;
  *         if (edge == KHS_NONE || !(edges[edge].flags & KHS_FLAG_DONE)) continue;
- *         for (int32_t p = segments[i].first; p <= segments[i].last; p++) currents[p] = edges[edge].pos, touched[p] = 1;
+ *         for (int32_t p = segments[i].first;; p = p == ends[0] ? 0 : p + 1) {
+ *             currents[p] = edges[edge].pos, touched[p] = 1;
+ *             if (p == segments[i].last) break;
+ *         }
  *     }
  *     if (khs_align_weak_points(originals, 5, currents, 5, touched, 5, ends, 1) != KHS_DONE) return 1;
  *
@@ -82,7 +94,7 @@
  * the call made of it, every word within its field's values, and every place for a result holds the result; of the room for built edges that is so of the edges
  * that were built, and what stands behind them stays. Results may leave the limits of what is accepted, and are then refused if they are passed again. But the edges
  * that khs_compute_edges and khs_align_edges_to_blues leave are accepted by every call over edges, but for khs_turn_over, which holds first and last against the
- * segments too.
+ * segments too, khs_hint_lowercase_m, which wants 6 or 12 of them, and khs_align_blues_and_stems, which takes no zone on KHS_LATIN's horizontal axis.
  *
  * No call allocates, keeps a pointer, prints or fails otherwise. Each may be called from any thread, and on other lists at the same time. Working tables stand on
  * the stack: on x86-64 and aarch64 khs_turn_over was measured to use 7 KiB of it, khs_compute_edges 3 KiB and every other call at most 1 KiB, and 4 KiB more where a
@@ -278,7 +290,8 @@ uint8_t khs_align_serif_edge(int32_t *edges, khs_length edges_len, int32_t base,
  * Answers: KHS_DONE, KHS_TOO_LONG, KHS_RETIRED, KHS_BAD_INDEX, KHS_OUT_OF_RANGE, KHS_NOT_WORDS. */
 uint8_t khs_adjust_link(int32_t *edges, khs_length edges_len, int32_t edge, int32_t dir, int32_t top_to_bottom);
 
-/* Finds what a remaining edge stands between: the edge before it, done or not, and the edge behind it where that is done.
+/* Finds the neighbours of a remaining edge in the list: the edge before it, done or not, and the edge behind it where that is done. The Rust code tells them to its
+ * recorder alone: what it places such an edge by is in step 5 above.
  * Writes lower and upper, each an index or KHS_NONE. Answers: KHS_DONE, KHS_TOO_LONG, KHS_BAD_INDEX, KHS_OUT_OF_RANGE, KHS_NOT_WORDS. */
 uint8_t khs_latin_remaining_bounds(const int32_t *edges, khs_length edges_len, int32_t edge, int32_t *lower, int32_t *upper);
 
@@ -300,7 +313,7 @@ uint8_t khs_hint_normal_stem_cjk(int32_t *edges, khs_length edges_len, int32_t d
  * Writes pos, mark and flags of edges; count, how many edges were passed over, with 0 of which every edge is done; found, the anchor afterwards, or KHS_NONE. Both
  * edges of a stem are marked KHS_MARK_STEM. But beside an anchor a KHS_LATIN edge whose link is done is marked alone, KHS_MARK_ADJUSTED, and one that is then held
  * to the previous edge KHS_MARK_BOUND; the edge that becomes KHS_LATIN's anchor KHS_MARK_ANCHOR, and its link KHS_MARK_LINKED, until that one's own visit adjusts
- * it; and an edge whose link is on a zone, or for KHS_CJK in front of it, KHS_MARK_LINKED.
+ * it, or for good where the anchor is its own link; and an edge whose link is on a zone, or for KHS_CJK in front of it, KHS_MARK_LINKED.
  * Answers: KHS_DONE, KHS_TOO_LONG, KHS_RETIRED, KHS_BAD_PARAMETER, KHS_BAD_INDEX, KHS_OUT_OF_RANGE, KHS_NOT_WORDS. */
 uint8_t khs_align_stem_edges(int32_t *edges, khs_length edges_len, int32_t dim, int32_t group, int32_t stem_adjust, int32_t top_to_bottom, int32_t anchor,
                              int32_t rule, const int32_t *standards, khs_length standards_len, int32_t *count, int32_t *found);

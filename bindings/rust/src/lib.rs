@@ -292,16 +292,16 @@ pub fn adjust_link(
     Refusal::of(answer)
 }
 
-/// The edges that a remaining edge stands between.
+/// The neighbours of a remaining edge in its list.
 #[derive(Clone, Copy, Debug, PartialEq, Eq)]
 pub struct Bounds {
-    /// The edge before it, where there is one.
+    /// The edge before it, where there is one, done or not.
     pub lower: Option<u16>,
     /// The edge behind it, where there is one that is done.
     pub upper: Option<u16>,
 }
 
-/// Finds the edges that a remaining edge stands between.
+/// Finds the neighbours of a remaining edge in its list. It is not placed between these: step 5 of the header's chain says how it is.
 ///
 /// ```
 /// use khsaemudol::{latin_remaining_bounds, Bounds, Edge, Flags};

@@ -225,6 +225,15 @@ fn guard(edges: &[Edge]) -> Result<(), Refusal> {
     Ok(())
 }
 
+/// The point behind a point on its contour: behind the last one comes the first.
+fn next_point(point: u16) -> u16 {
+    match ENDS.iter().position(|end| *end == point) {
+        Some(0) => 0,
+        Some(contour) => ENDS[contour - 1] + 1,
+        None => point + 1,
+    }
+}
+
 /// Moves the points of segments whose edges are done with them, and the other points behind these.
 fn align_points(
     points: [i32; POINTS],
@@ -237,9 +246,14 @@ fn align_points(
     for segment in segments {
         let edge = segment.edge().map(|ix| edges[usize::from(ix)]);
         if let Some(edge) = edge.filter(|edge| edge.flags().contains(Flags::DONE)) {
-            for point in segment.first()..=segment.last() {
+            let mut point = segment.first();
+            loop {
                 currents[usize::from(point)] = edge.pos();
                 touched[usize::from(point)] = 1;
+                if point == segment.last() {
+                    break;
+                }
+                point = next_point(point);
             }
         }
     }
