@@ -18,7 +18,8 @@ use std::{error, fmt};
 #[derive(Clone, Copy, Debug, PartialEq, Eq, Hash)]
 #[non_exhaustive]
 pub enum Refusal {
-    /// 1: a list is longer than its limit (4,096 points, 512 segments, 128 edges), the point lists of an outline differ in length, or a path has too little room.
+    /// 1: a list is longer than its limit (4,096 points, 512 segments, 128 edges; of a job that is written as a line 255 points and 255 contours), the point lists of an
+    /// outline differ in length, a path has too little room, or a catalogue's counts do not fit its lists.
     TooLong,
     /// 2: a scale, units per em, a threshold, a gap's least width or the edge count of the m rule is outside its limits, the standards of a width rule break its rule, or
     /// an edge has a zone on an axis that blues and stems in one call take none on.
@@ -75,7 +76,7 @@ impl Refusal {
     /// What is wrong.
     const fn reason(self) -> &'static str {
         match self {
-            Self::TooLong => "a list is longer than its limit or a room too small, or the point lists differ in length",
+            Self::TooLong => "a list is longer than its limit, a room is too small, the point lists differ in length, or a catalogue's counts do not fit its lists",
             Self::BadParameter => "a parameter or the width rule's list is outside its limits, or a zone is on an axis that has none",
             Self::BadIndex => {
                 "a contour end breaks its rule, or an index is not below its list's length"
