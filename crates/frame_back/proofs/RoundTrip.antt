@@ -13,8 +13,8 @@ use Rattle.words.specs.Word.{firsts}
 use Rattle.words.proofs.Tables.{firsts-length}
 use Rattle.refusals.proofs.Tests.{and-first, and-second}
 use Rattle.signed.proofs.By.{by₂}
-use Rattle.frame_digits.specs.Digits.{allDigits, digitsFor, byteAt, highOf, lowOf, numberOf}
-use Rattle.frame_digits.proofs.Lines.{Bytes, byte-small, digits-all, byte-back, digits-back}
+use Rattle.frame_digits.specs.Digits.{allDigits, Bytes, digitsFor, byteAt, highOf, lowOf, numberOf}
+use Rattle.frame_digits.proofs.Lines.{byte-small, digits-all, byte-back, digits-back}
 use Rattle.frame_digits.proofs.Numbers.{high-small, low-small, number-back, high-back, low-back}
 use Rattle.frames.specs.Limits.{headSize, pointSize, frameSize}
 use Rattle.frames.specs.Frame.{Frame, frameOf, kindByte, pointBytes, pointsBytes, frameBytes, frameDigits, goodLine, frameIn}

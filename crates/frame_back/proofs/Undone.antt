@@ -19,7 +19,7 @@ use Rattle.words.proofs.Tables.{firsts-length}
 use Rattle.shape.specs.Shape.{isIn, short}
 use Rattle.shape.proofs.Shapes.{in-range}
 use Rattle.frame_digits.specs.Digits.{numberOf}
-use Rattle.frame_digits.proofs.Lines.{Bytes, byte-small}
+use Rattle.frame_digits.proofs.Lines.{byte-small}
 use Rattle.frames.specs.Limits.{frameSize}
 use Rattle.frames.specs.Frame.{Frame, frameOf, frameDigits, goodLine, frameIn, pointsIn, contoursIn, endPlace, originalIn, currentIn, markIn, endIn}
 use Rattle.frames.specs.Write.{WritesFrame, writeTests, writtenBy, frameWritten, lineWritten, roomFor}
@@ -46,6 +46,20 @@ module _ {f : Frame} {line : List ℕ} {r : Written} {left : List ℕ} (w : Writ
   unfolding lineWritten
   leaves z = w .leaves ∙ worked (λ _. line) (frameDigits f ++ drop (length (frameDigits f)) line) _ z
 
+  -- so what stands at its beginning, as long as was handed back, is those digits
+  taken : r .answer ≡ 0 → take (r .digits) left ≡ frameDigits f
+  taken e =
+      let z = not-refused e in
+      let digits = frameDigits f in
+      (λ i. take (hands z i .digits) (leaves z i)) ∙ take-at digits (drop (length digits) line) (length digits) refl
+
+  -- which are a good line, and hold the job
+  pub line-good : r .answer ≡ 0 → goodLine (take (r .digits) left) ≡ true
+  line-good e = ap goodLine (taken e) ∙ written-good f _ (writable f line (not-refused e)) (w .marked)
+
+  pub line-holds : r .answer ≡ 0 → frameIn (take (r .digits) left) ≡ f
+  line-holds e = ap frameIn (taken e) ∙ written-read f _ (writable f line (not-refused e)) (w .marked)
+
 -- of reading: nothing was refused, and the rooms begin with the frame
 module _ {line : List ℕ} {rooms : Frame} {r : ReadFrame} {left : Frame} (w : ReadsFrame line rooms r left) where
   read-not-refused : r .answer ≡ 0 → refusal (readTests line rooms) ≡ 0
@@ -63,18 +77,16 @@ module _ {line : List ℕ} {rooms : Frame} {r : ReadFrame} {left : Frame} (w : R
 
 -- ---- writing a job and reading it gives the job: its counts, and its lists at the rooms' beginnings
 pub job-back :
-    (f : Frame) (lent : List ℕ) (rooms : Frame) {r : Written} {left : List ℕ} {s : ReadFrame} {now : Frame} → Bytes (f .marks)
+    (f : Frame) (lent : List ℕ) (rooms : Frame) {r : Written} {left : List ℕ} {s : ReadFrame} {now : Frame}
     → areRooms (length (rooms .originals)) (length (rooms .currents)) (length (rooms .marks)) (length (rooms .ends)) ≡ true → WritesFrame f lent r left → r .answer ≡ 0
     → ReadsFrame (take (r .digits) left) rooms s now → (s ≡ readBy 0 (length (f .originals)) (length (f .ends))) × (now ≡ overRooms f rooms)
-job-back f lent rooms {r} {left} {s} {now} marked roomy w e read =
-    let z = not-refused w e in
-    let fit = writable f lent z in
-    let digits = frameDigits f in
-    let taken : take (r .digits) left ≡ digits =
-    (λ i. take (hands w z i .digits) (leaves w z i)) ∙ take-at digits (drop (length digits) lent) (length digits) refl in
-    let again = subst (λ (l : List ℕ). ReadsFrame l rooms s now) taken read in
-    let none = no-refusal (readTests digits rooms) (roomy, (written-good f _ fit marked, refl)) in
-    (read-hands again none ∙ (λ i. readBy 0 (points-is f _ fit marked i) (contours-is f _ fit marked i)), read-leaves again none ∙ ap (λ (x : Frame). overRooms x rooms) (written-read f _ fit marked))
+job-back f lent rooms {r} {left} {s} {now} roomy w e read =
+    let line = take (r .digits) left in
+    let fit = writable f lent (not-refused w e) in
+    let none = no-refusal (readTests line rooms) (roomy, (line-good w e, refl)) in
+    let counts : (pointsIn line ≡ length (f .originals)) × (contoursIn line ≡ length (f .ends)) =
+    (ap pointsIn (taken w e) ∙ points-is f _ fit (w .marked), ap contoursIn (taken w e) ∙ contours-is f _ fit (w .marked)) in
+    (read-hands read none ∙ (λ i. readBy 0 (counts .0 i) (counts .1 i)), read-leaves read none ∙ ap (λ (x : Frame). overRooms x rooms) (line-holds w e))
 
 -- ---- what a good line holds is not refused, where the lent line is long enough
 number-short : (h l : ℕ) → h < 256 → l < 256 → isIn short (numberOf h l) ≡ true

@@ -8,7 +8,7 @@ use native.Mathlib.Omega.{arith}
 use lib.ListN.{length, getD, drop, drop-of-length-le}
 use lib.Seq.{drop-cons}
 use Rattle.refusals.proofs.Tests.{and-first, and-second}
-use Rattle.frame_digits.specs.Digits.{digitOf, isDigit, allDigits, valueOf, digitsOf, digitsFor, byteAt}
+use Rattle.frame_digits.specs.Digits.{digitOf, isDigit, allDigits, valueOf, Bytes, digitsOf, digitsFor, byteAt}
 use Rattle.frame_digits.proofs.Characters.{value-small, digit-value, value-digit, digit-is}
 
 -- ---- the test of a line, one character at a time
@@ -32,10 +32,6 @@ digits-end line i h = rw (drop-of-length-le line h)
 pub byte-small : (line : List ℕ) (i : ℕ) → byteAt line i < 256
 unfolding byteAt
 byte-small line i = omega (arith, value-small (getD line (digitsFor i) 0), value-small (getD line (digitsFor i + 1) 0))
-
--- numbers that are bytes
-abbrev pub Bytes : List ℕ → Type 0
-Bytes bytes = (i : ℕ) → getD bytes i 0 < 256
 
 -- the first byte, and those behind it
 byte-first : (x y : ℕ) (line : List ℕ) → byteAt (x ∷ y ∷ line) 0 ≡ 16 * valueOf x + valueOf y

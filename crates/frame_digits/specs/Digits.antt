@@ -2,7 +2,7 @@
 -- time. A line is the list of its characters' codes.
 use mathlib.Core.Bool.{Bool, true, cond, _&&_, _||_}
 use mathlib.Core.List.{List, [], _∷_, _++_}
-use Prim.Native.Nat.{ℕ, _+_, _-_, _*_, _/_, _%_}
+use Prim.Native.Nat.{ℕ, _+_, _-_, _*_, _/_, _%_, _<_}
 use lib.Dec.{leb, ltb}
 use lib.ListN.{length, getD, take, drop}
 use lib.IntN.{ℤ}
@@ -35,6 +35,10 @@ unfoldable pub valueOf : ℕ → ℕ
 valueOf char = cond (isFigure char) (char - 48) (cond (isLetter char) (char - 55) 0)
 
 -- ---- bytes
+-- numbers that are bytes, as those of every list of `u8` are
+abbrev pub Bytes : List ℕ → Type 0
+Bytes bytes = (i : ℕ) → getD bytes i 0 < 256
+
 -- the digits of bytes, one behind the other
 unfoldable pub digitsOf : List ℕ → List ℕ
 digitsOf [] = []

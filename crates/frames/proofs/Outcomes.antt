@@ -8,7 +8,7 @@ use lib.IntN.{ℤ}
 use Rattle.refusals.specs.Refusal.{refusal}
 use Rattle.refusals.proofs.Tests.{answered-no, answered-yes}
 use Rattle.words.specs.Word.{firsts}
-use Rattle.frame_digits.specs.Digits.{byteAt}
+use Rattle.frame_digits.specs.Digits.{Bytes, byteAt}
 use Rattle.frames.specs.Limits.{headSize, pointSize}
 use Rattle.frames.specs.Frame.{Frame, frameOf, frameDigits, frameIn, pointsIn, contoursIn, originalIn, currentIn, markIn}
 use Rattle.frames.specs.Write.{WritesFrame, writeTests, writtenBy, frameWritten, lineWritten}
@@ -20,18 +20,19 @@ use Rattle.frames.specs.declared.read.ReadFrame.{ReadFrame}
 -- ---- writing
 module _ (f : Frame) (line : List ℕ) where
   -- a refusal k writes nothing
-  pub writes-refused : (k : ℕ) → k ≡ refusal (writeTests f line) → 0 < k → WritesFrame f line (writtenBy k 0) line
+  pub writes-refused : (k : ℕ) → k ≡ refusal (writeTests f line) → 0 < k → Bytes (f .marks) → WritesFrame f line (writtenBy k 0) line
   unfolding frameWritten lineWritten
-  writes-refused k e h = record { handed = answered-no k _ (λ (j : ℕ). writtenBy j 0) _ e h; leaves = answered-no k _ (λ _. line) _ e h }
+  writes-refused k e h m = record { handed = answered-no k _ (λ (j : ℕ). writtenBy j 0) _ e h; leaves = answered-no k _ (λ _. line) _ e h; marked = m }
 
   -- a frame that is not refused
   pub writes-done :
       (digits : ℕ) {left : List ℕ} → refusal (writeTests f line) ≡ 0 → digits ≡ length (frameDigits f) → left ≡ frameDigits f ++ drop (length (frameDigits f)) line
-      → WritesFrame f line (writtenBy 0 digits) left
+      → Bytes (f .marks) → WritesFrame f line (writtenBy 0 digits) left
   unfolding frameWritten lineWritten
-  writes-done digits {left} z d l = record {
+  writes-done digits {left} z d l m = record {
     handed = answered-yes 0 _ (λ (j : ℕ). writtenBy j 0) _ _ (sym z) (omega arith) (ap (writtenBy 0) d);
     leaves = answered-yes 0 _ (λ _. line) _ _ (sym z) (omega arith) l;
+    marked = m;
   }
 
 -- ---- reading

@@ -8,7 +8,7 @@ use lib.ListN.{length, drop}
 use lib.IntN.{ℤ}
 use Rattle.refusals.specs.Refusal.{Test, _unless_, refusal, answered, tooLong, badIndex, outOfRange}
 use Rattle.shape.specs.Shape.{isIn, short}
-use Rattle.frame_digits.specs.Digits.{digitsFor}
+use Rattle.frame_digits.specs.Digits.{Bytes, digitsFor}
 use Rattle.frames.specs.Limits.{mostCounted, frameSize}
 use Rattle.frames.specs.Frame.{Frame, frameDigits}
 use Rattle.frames.specs.declared.write.Written.{Written}
@@ -51,7 +51,8 @@ frameWritten f line = answered (refusal (writeTests f line)) (λ k. writtenBy k 
 unfoldable pub lineWritten : Frame → List ℕ → List ℕ
 lineWritten f line = answered (refusal (writeTests f line)) (λ _. line) (frameDigits f ++ drop (length (frameDigits f)) line)
 
--- what `write_frame` owes its caller: what it hands back, r, and the line that it leaves, `left`
+-- what `write_frame` owes its caller: what it hands back, r, and the line that it leaves, `left`; and that the marks are bytes, since they are lent as such
 pub record WritesFrame (f : Frame) (line : List ℕ) (r : Written) (left : List ℕ) : Type 0 where
   pub handed : r ≡ frameWritten f line
   pub leaves : left ≡ lineWritten f line
+  pub marked : Bytes (f .marks)

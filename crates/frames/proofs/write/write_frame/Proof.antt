@@ -5,6 +5,7 @@ use mathlib.Core.Path.{_≡_, sym, ap, subst, _∙_}
 use mathlib.Core.List.{[], _∷_}
 use lib.ListN.{length}
 use Rattle.refusals.specs.Refusal.{refusal}
+use Rattle.frame_digits.specs.Digits.{Bytes}
 use Rattle.frame_digits.proofs.Writing.{written-length}
 use Rattle.frames.specs.Limits.{headSize}
 use Rattle.frames.specs.Frame.{Frame, frameOf, kindByte, pointsBytes}
@@ -27,6 +28,10 @@ start c = c .before .before .before .before .before .before
 -- the way past the refusals, from the function's end
 abbrev else-of : tie.After-slice-known4 → tie.Else1
 else-of c = c .before .before .before .before .before .before .before .before .before .before .before .before
+
+-- the marks are bytes, by the type that they are lent as
+marked : (c : tie.After-write-refusal) → Bytes (c .before .before .before .before .before .args .marks .now)
+marked c i = c .before .before .before .before .shared-slice-known .given i .fits
 
 -- what is not refused can be written
 not-refused : (c : tie.Else1) → refusal (writeTests (frame (start c)) (start c .args .line .now)) ≡ 0
@@ -62,7 +67,7 @@ same-length c = search needs
 returns : tie.Need-returns
 returns c =
     let s = c .before .before .before .before .before .before in
-    writes-refused (frame s) (s .args .line .now) _ (c .before .write-refusal .ensures) (c .if1 .taken)
+    writes-refused (frame s) (s .args .line .now) _ (c .before .write-refusal .ensures) (c .if1 .taken) (marked (c .before))
 
 put-head-requires : tie.Need-put-head-requires
 put-head-requires c κs = let w = accepted (c .before) in ((w .few-points, w .few-contours), omega (arith, w .room))
@@ -103,6 +108,7 @@ returns-2 c =
     let p = c .before .before .before .before .before .before in
     writes-done (frame s) (s .args .line .now) _ (not-refused e) (sym (frame-length (frame s)))
     (frame-written (frame s) (s .args .line .now) (accepted e) (h .put-head .ensures) (p .put-points .ensures) (c .before .before .put-ends .ensures))
+    (marked (e .before))
 
 pub write-frame-spec : {M : Type 1} → statement M
 write-frame-spec =
