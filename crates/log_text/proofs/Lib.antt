@@ -1,4 +1,5 @@
--- The laws: bytes written one behind the other, and the results of a job.
+-- The laws: bytes written one behind the other, the results of a job, and that three bytes hold each.
 pub mod Putting
 pub mod Results
 pub mod Jobs
+pub mod Held

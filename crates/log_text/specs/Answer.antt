@@ -1,9 +1,11 @@
 -- What a job of a log is answered by (document 02, #103), as bytes: 81, the count of points and each result in three signed bytes, or 82 and the refusal.
 use mathlib.Core.Path.{_≡_}
+use mathlib.Core.Bool.{cond}
 use mathlib.Core.List.{List, [], _∷_, _++_}
-use Prim.Native.Nat.{ℕ, _+_, _*_, _/_, _%_}
+use Prim.Native.Nat.{ℕ, _+_, _-_, _*_, _/_, _%_}
+use lib.Dec.{ltb}
 use lib.ListN.{length}
-use lib.IntN.{ℤ}
+use lib.IntN.{ℤ, pos, negsuc}
 use mir.Syntax.{w32}
 use mir.Val.{ofZ}
 use Rattle.refusals.specs.Refusal.{refusal, answered}
@@ -42,6 +44,20 @@ resultsBytes (z ∷ zs) = resultBytes z ++ resultsBytes zs
 
 unfoldable pub doneBytes : List ℤ → List ℕ
 doneBytes zs = doneByte ∷ length zs ∷ resultsBytes zs
+
+-- the result that three signed bytes hold: below zero they count down from the top
+abbrev pub threeBytes : ℕ → ℕ → ℕ → ℕ
+threeBytes high middle low = 65536 * high + 256 * middle + low
+
+unfoldable pub resultOf : ℕ → ℕ → ℕ → ℤ
+resultOf high middle low = cond (ltb high 128) (pos (threeBytes high middle low)) (negsuc (16777215 - threeBytes high middle low))
+
+-- the results that bytes hold, three for each
+unfoldable pub resultsIn : List ℕ → List ℤ
+resultsIn [] = []
+resultsIn (a ∷ []) = []
+resultsIn (a ∷ b ∷ []) = []
+resultsIn (a ∷ b ∷ c ∷ bytes) = resultOf a b c ∷ resultsIn bytes
 
 -- ---- a job
 -- its answer: the refusal of its outline, or where its points come to
