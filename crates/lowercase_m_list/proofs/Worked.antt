@@ -42,6 +42,10 @@ moved o p = finished (by LowercaseM (edge o p None))
 abbrev six : Link → Edge → List Edge
 six link stem = edge 0 0 link ∷ emptyEdge ∷ edge 100 128 None ∷ emptyEdge ∷ stem ∷ emptyEdge ∷ []
 
+-- six by the third stem and the edge behind it, which it may be linked to
+abbrev behind : Edge → Edge → List Edge
+behind stem link = edge 0 0 None ∷ emptyEdge ∷ edge 100 128 None ∷ emptyEdge ∷ stem ∷ link ∷ []
+
 -- a third stem at 270, by its opos
 abbrev far : ℕ → Edge
 far o = edge o 270 None
@@ -72,6 +76,9 @@ worked =
     -- a move by nothing marks the stem; the serifs are marked, and are not done
     ∷ row Default (six None (by Stem (edge 207 256 None))) 0 (six None (moved 207 256))
     ∷ row Default (twelve (far 207) (by Blue (edge 190 260 None)) (edge 230 300 None)) 0 (twelve (moved 207 256) (by LowercaseM (edge 190 246 None)) (by LowercaseM (edge 230 286 None)))
+    -- the edge that the third stem is linked to moves with it, is done, and is marked too, whatever it was; a stem that is linked to itself moves twice
+    ∷ row Default (behind (edge 207 270 (To 5)) (by Stem (edge 260 330 None))) 0 (behind (finished (by LowercaseM (edge 207 256 (To 5)))) (moved 260 316))
+    ∷ row Default (behind (edge 207 270 (To 4)) (by Stem (edge 260 330 None))) 0 (behind (finished (by LowercaseM (edge 207 242 (To 4)))) (by Stem (edge 260 330 None)))
     -- marks are kept where the rule does not apply, and by a refusal
     ∷ same Default (twelve (far 208) (by Blue (edge 190 260 None)) (by Stem (edge 230 300 None))) 0
     ∷ same Default (six (To 6) (by Stem (far 207))) 3
@@ -85,4 +92,4 @@ All (r ∷ rs) = (hintLowercaseMList (r .list) (r .group) ≡ r .value) × All r
 pub all-worked : All worked
 unfolding hintLowercaseMList M.hintLowercaseM M.aligned M.applies M.groupHolds M.linkedOn M.moveStem M.moveSerifs M.moveLink M.moveDone M.moveOnly linksTo refusal R.edgesIndices
     R.edgesNumbers R.edgeIndices R.edgeNumbers R.linkHolds R.blueHolds R.every
-all-worked = (refl, (refl, (refl, (refl, (refl, (refl, (refl, (refl, (refl, (refl, (refl, (refl, (refl, tt)))))))))))))
+all-worked = (refl, (refl, (refl, (refl, (refl, (refl, (refl, (refl, (refl, (refl, (refl, (refl, (refl, (refl, (refl, tt)))))))))))))))

@@ -23,7 +23,7 @@ use Rattle.axis.specs.declared.edge.Axis.{Axis}
 use Rattle.axis.specs.Edge.{freshEdge, changed, placed, finished, joinedTo}
 use Rattle.axis.specs.Visits.{visits}
 use Rattle.placing.specs.Placing.{linkedPos, lowerBound, hasPassed, neighbour, heldTo, boundBy, adjusted}
-use Rattle.stem_latin.specs.Latin.{centreOf, lowerOffset, upperOffset, nearerCentre, thinCentre, thinFirst, thinSecond, anchoredFirst, anchoredSecond, freeFirst}
+use Rattle.stem_latin.specs.Latin.{centreOf, lowerOffset, upperOffset, nearerCentre, thinCentre, thinFirst, thinSecond, wideFirst, anchoredFirst, anchoredSecond, freeFirst}
 use Rattle.cjk_numbers.specs.Cjk.{maxGap, gapOf, pixelOffset, narrowDelta, offsetsDelta, startOf, clamped, deltaOf, stemAt, stemOf, placedStem, hintedStem}
 use Rattle.stems_plan.specs.Visit.{isClose, tooClose, deltaAfter}
 use Rattle.stems.specs.declared.pass.Stems.{Stems}
@@ -67,6 +67,11 @@ pub record Worked : Type 0 where
       ≡ stems 1 (Links.To 0) (axisOf (finished (marked Marks.Anchor 10 0 (Links.To 1)) ∷ marked Marks.Linked 74 64 Links.None ∷ [])) 0
   -- a first edge that is linked to itself is placed as the anchor, then by its link
   pub self-linked-first : passOf Default Links.None (edge 100 100 (Links.To 0) ∷ []) ≡ stems 0 (Links.To 0) (axisOf (finished (marked Marks.Linked 100 96 (Links.To 0)) ∷ [])) 0
+  -- stems of 96 and more: beside an anchor at 0 one from 100 to 196 goes to 96 and 192, and both its edges are marked stem; as the first one it goes to 128 and 224
+  pub wide-stem : passOf Default (Links.To 0) (finished (edge 0 0 Links.None) ∷ edge 100 100 (Links.To 2) ∷ edge 196 196 (Links.To 1) ∷ [])
+      ≡ stems 0 (Links.To 0) (axisOf (finished (edge 0 0 Links.None) ∷ finished (marked Marks.Stem 100 96 (Links.To 2)) ∷ finished (marked Marks.Stem 196 192 (Links.To 1)) ∷ [])) 0
+  pub wide-first : passOf Default Links.None (edge 100 100 (Links.To 1) ∷ edge 196 196 (Links.To 0) ∷ [])
+      ≡ stems 0 (Links.To 0) (axisOf (finished (marked Marks.Anchor 100 128 (Links.To 1)) ∷ finished (marked Marks.Adjusted 196 224 (Links.To 0)) ∷ [])) 0
   -- a stem from 130 to 190 whose first edge has passed the edge before it, at 300, more than 16 from the second, is held to that
   pub bounded : passOf Default (Links.To 0) (finished (edge 0 0 Links.None) ∷ finished (edge 50 300 Links.None) ∷ edge 100 100 (Links.To 3) ∷ edge 160 160 (Links.To 2) ∷ [])
       ≡ stems 0 (Links.To 0)
@@ -102,12 +107,14 @@ pub record Worked : Type 0 where
 pub worked : Worked
 unfolding stemsOf visits visit visitLink tooClose isClose zoneStem groupStem latinStem besideAnchor cjkStem deltaAfter linkedPos lowerBound hasPassed
     neighbour heldTo boundBy adjusted fittedWidth lifted snapped settled withSign pixFloor pixRound centreOf lowerOffset upperOffset nearerCentre thinCentre thinFirst thinSecond
-    anchoredFirst anchoredSecond freeFirst maxGap gapOf pixelOffset narrowDelta offsetsDelta startOf clamped deltaOf stemAt stemOf placedStem
+    wideFirst anchoredFirst anchoredSecond freeFirst maxGap gapOf pixelOffset narrowDelta offsetsDelta startOf clamped deltaOf stemAt stemOf placedStem
     hintedStem
 worked = record {
   first-stem = refl;
   second-edge = refl;
   self-linked-first = refl;
+  wide-stem = refl;
+  wide-first = refl;
   bounded = refl;
   adjusted-bound = refl;
   on-zone = refl;
