@@ -33,14 +33,14 @@ second-edge e Stays = same-grown e
 second-edge e (Placed p) = record { done = λ h. h; bare = λ h. h; link = refl }
 second-edge e (Fixed p) = record { done = λ h. refl; bare = λ h. h; link = refl }
 
-second-grown : (plan : Plan) (k : ℕ) (axis : Axis) → AllGrown axis (secondPut plan k axis)
+pub second-grown : (plan : Plan) (k : ℕ) (axis : Axis) → AllGrown axis (secondPut plan k axis)
 second-grown plan k axis = put-grown axis k _ (second-edge (edgeAt axis k) (plan .second))
 
 held-edge : (plan : Plan) (i : ℕ) (e prev link : Edge) → Grown e (heldEdge plan i e prev link)
 unfolding heldEdge
 held-edge plan i e prev link = either-way (Grown e) (isBounded plan i && isOver e prev link) _ e (record { done = λ h. h; bare = λ h. h; link = refl }) (same-grown e)
 
-held-grown : (plan : Plan) (i k : ℕ) (axis : Axis) → AllGrown axis (heldPut plan i k axis)
+pub held-grown : (plan : Plan) (i k : ℕ) (axis : Axis) → AllGrown axis (heldPut plan i k axis)
 held-grown plan i k axis = put-grown axis i _ (held-edge plan i (edgeAt axis i) (edgeAt axis (i - 1)) (edgeAt axis k))
 
 carried-grown : (s : State) (i k : ℕ) (plan : Plan) → AllGrown (s .axis) (carriedOut s i k plan .axis)
@@ -56,7 +56,7 @@ module _ (m : Mode) (xs : List ℤ) where
       either-way (λ (t : State). AllGrown (s .axis) (t .axis)) (tooClose (m .group) (s .trail .last) (edgeAt (s .axis) i) (edgeAt (s .axis) k)) _ _ (all-same (s .axis))
       (carried-grown s i k (planAt m xs s i k))
 
-  step-grown : (s : State) (i : ℕ) → AllGrown (s .axis) (step m xs s i .axis)
+  pub step-grown : (s : State) (i : ℕ) → AllGrown (s .axis) (step m xs s i .axis)
   unfolding step
   step-grown s i = either-way (λ (t : State). AllGrown (s .axis) (t .axis)) (edgeAt (s .axis) i .flags .done) s _ (all-same (s .axis)) (link-grown s i (edgeAt (s .axis) i .link))
 
