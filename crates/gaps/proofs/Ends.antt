@@ -1,69 +1,106 @@
--- Which edges end lost gaps: each gap has one edge that ends it, so that as many gaps are lost as edges end one.
+-- Which edges end lost pairs: each pair has one edge that ends it, so that as many are lost as edges end one.
 use mathlib.Core.Path.{_≡_, refl, sym, ap, subst, _∙_}
-use mathlib.Core.Bool.{Bool, true, false, _&&_}
+use mathlib.Core.Bool.{Bool, true, false, not, _&&_, _||_}
 use mathlib.Core.Logic.{⊎-elim}
 use Prim.Native.Nat.{ℕ, _≤_, _<_}
 use native.Mathlib.Nat.{eq-or-lt-of-le}
 use native.Mathlib.Omega.{arith}
-use lib.IntN.{ℤ, pos}
+use lib.IntN.{ℤ}
+use lib.Signed.{leZ}
 use Rattle.refusals.proofs.Tests.{and-first, and-second}
 use Rattle.signed.proofs.Choices.{clash}
-use Rattle.signed.proofs.Signed.{lt-or-le}
+use Rattle.signed.proofs.Signed.{signed, lt-or-le, is-≤ℤ, to-le-true}
 use Rattle.axis.specs.declared.kinds.Link.{Link}
 use Rattle.axis.specs.declared.kinds.Link.the-variants as Links
 use Rattle.axis.specs.declared.edge.Axis.{Axis}
-use Rattle.gaps.specs.Gaps.{isDone, IsGap, lost, Lost, doneBefore, gapFrom, gapTo, endsLost}
-use Rattle.gaps.proofs.Before.{gap-starts, starts-gap}
-use Rattle.gaps.proofs.Losing.{none-lost, lost-is, is-lost}
+use Rattle.axis.proofs.Tests.{and-false}
+use Rattle.gaps.specs.Gaps.{counts, IsPair, isStem, widthBefore, isGone, lostGap, lostStem, lost, lastOf, before, pairFrom, kindFrom, pairTo, ends, LostPair}
+use Rattle.gaps.proofs.Lasts.{last-is, is-last}
+use Rattle.gaps.proofs.Losing.{gone-is, is-gone}
 
--- two gaps that one edge ends are one
-pub one-gap : (axis : Axis) (i k j : ℕ) → IsGap axis i j → IsGap axis k j → i ≡ k
-one-gap axis i k j g h = same-index (sym (gap-starts axis i j g) ∙ gap-starts axis k j h)
-  where
-    same-index : Links.To i ≡ Links.To k → i ≡ k
-    same-index e = cc
+-- ---- pairs, by the edge that ends them
+module _ (linked : Bool) (axis : Axis) where
+  pub pair-starts : (i j : ℕ) → IsPair linked axis i j → before linked axis j ≡ Links.To i
+  pair-starts i j g = is-last (counts linked axis) j i (record { order = g .order; passes = g .first; between = g .between })
 
--- of two gaps the one that ends first starts first
-pub starts-first : (axis : Axis) (i j k l : ℕ) → IsGap axis i j → IsGap axis k l → j ≤ l → i ≤ k
-starts-first axis i j k l g h o =
-    ⊎-elim
-    (λ (e : j ≡ l). let q = one-gap axis i k l (subst (IsGap axis i) e g) h in omega arith)
-    (λ (b : j < l).
-    ⊎-elim (λ (f : k < j). absurd (clash _ (h .between j f b) (g .second))) (λ (f : j ≤ k). let q = g .order in omega arith) (lt-or-le k j))
-    (eq-or-lt-of-le o)
+  pub starts-pair : (i j : ℕ) → j < axis .len → counts linked axis j ≡ true → before linked axis j ≡ Links.To i → IsPair linked axis i j
+  starts-pair i j h d e =
+      let s = last-is (counts linked axis) j .some i e in record { order = s .order; below = h; first = s .passes; second = d; between = s .between }
 
--- the lost gap that edge j ends
-pub record Ended (least : ℤ) (axis : Axis) (j : ℕ) : Type 0 where
-  pub i : ℕ
-  pub named : gapTo axis j ≡ gapFrom axis j (Links.To i)
-  pub gap : IsGap axis i j
-  pub lost : Lost least axis i j
-
-module _ (least : ℤ) (axis : Axis) where
-  -- an edge that ends a lost gap does so
-  pub ends-gap : (j : ℕ) → j < axis .len → endsLost least axis j ≡ true → Ended least axis j
-  unfolding endsLost gapTo
-  ends-gap j h e = by (doneBefore axis j) refl (and-second (isDone axis j) _ e)
+  -- two pairs that one edge ends are one
+  pub one-pair : (i k j : ℕ) → IsPair linked axis i j → IsPair linked axis k j → i ≡ k
+  one-pair i k j g h = same-index (sym (pair-starts i j g) ∙ pair-starts k j h)
     where
-      by : (l : Link) → doneBefore axis j ≡ l → lost least (gapFrom axis j (doneBefore axis j) .before) (gapFrom axis j (doneBefore axis j) .after) ≡ true → Ended least axis j
-      by Links.None q w = absurd (clash _ (none-lost least) (subst (λ (x : Link). lost least (gapFrom axis j x .before) (gapFrom axis j x .after) ≡ true) q w))
-      by (Links.To i) q w = record {
-        i = i;
-        named = ap (gapFrom axis j) q;
-        gap = starts-gap axis i j h (and-first (isDone axis j) _ e) q;
-        lost = lost-is least _ _ (subst (λ (x : Link). lost least (gapFrom axis j x .before) (gapFrom axis j x .after) ≡ true) q w);
-      }
+      same-index : Links.To i ≡ Links.To k → i ≡ k
+      same-index e = cc
 
-  -- and every lost gap is ended by its second edge
-  pub gap-ends : (i j : ℕ) → IsGap axis i j → Lost least axis i j → endsLost least axis j ≡ true
-  unfolding endsLost gapTo
-  gap-ends i j g l = rw (g .second, gap-starts axis i j g) (is-lost least _ _ l)
+  -- of two pairs the one that ends first starts first
+  pub starts-first : (i j k l : ℕ) → IsPair linked axis i j → IsPair linked axis k l → j ≤ l → i ≤ k
+  starts-first i j k l g h o =
+      ⊎-elim
+      (λ (e : j ≡ l). let q = one-pair i k l (subst (IsPair linked axis i) e g) h in omega arith)
+      (λ (b : j < l).
+      ⊎-elim (λ (f : k < j). absurd (clash _ (h .between j f b) (g .second))) (λ (f : j ≤ k). let q = g .order in omega arith) (lt-or-le k j))
+      (eq-or-lt-of-le o)
 
-  -- the first edge of an axis ends none
-  pub first-ends : endsLost least axis 0 ≡ false
-  unfolding endsLost gapTo doneBefore
-  first-ends = by (isDone axis 0)
-    where
-      by : (t : Bool) → (t && lost least (pos 0) (pos 0)) ≡ false
-      by true = none-lost least
-      by false = refl
+  -- ---- pairs of a kind
+  -- the one that edge j ends
+  pub record Ended (kind : ℕ → ℕ → Bool) (j : ℕ) : Type 0 where
+    pub i : ℕ
+    pub named : pairTo linked axis j ≡ pairFrom axis j (Links.To i)
+    pub pair : IsPair linked axis i j
+    pub is : kind i j ≡ true
+
+  module _ (kind : ℕ → ℕ → Bool) where
+    -- an edge that ends one does so
+    pub ends-pair : (j : ℕ) → j < axis .len → ends linked axis kind j ≡ true → Ended kind j
+    unfolding ends pairTo
+    ends-pair j h e = by (before linked axis j) refl (and-second (counts linked axis j) _ e)
+      where
+        by : (l : Link) → before linked axis j ≡ l → kindFrom kind j (before linked axis j) ≡ true → Ended kind j
+        by Links.None q w = absurd (clash false refl (subst (λ (x : Link). kindFrom kind j x ≡ true) q w))
+        by (Links.To i) q w = record {
+          i = i;
+          named = ap (pairFrom axis j) q;
+          pair = starts-pair i j h (and-first (counts linked axis j) _ e) q;
+          is = subst (λ (x : Link). kindFrom kind j x ≡ true) q w;
+        }
+
+    -- and every one is ended by its second edge
+    pub pair-ends : (i j : ℕ) → IsPair linked axis i j → kind i j ≡ true → ends linked axis kind j ≡ true
+    unfolding ends
+    pair-ends i j g e = rw (g .second, pair-starts i j g) e
+
+    -- the first edge of an axis ends none
+    pub first-ends : ends linked axis kind 0 ≡ false
+    unfolding ends lastOf
+    first-ends = and-false (counts linked axis 0)
+
+-- ---- lost pairs, as facts
+-- by whether a pair is a stem, was wide enough, and is gone
+record Loses (stem wide gone : Bool) : Type 0 where
+  held : stem ≡ false → wide ≡ true
+  now : gone ≡ true
+
+loses-is : (s w g : Bool) → ((not s && (w && g)) || (s && g)) ≡ true → Loses s w g
+loses-is true w g e = record { held = λ n. absurd (clash true n refl); now = e }
+loses-is false true true e = record { held = λ n. refl; now = refl }
+loses-is false true false e = absurd (clash false refl e)
+loses-is false false g e = absurd (clash false refl e)
+
+is-loses : (s w g : Bool) → Loses s w g → ((not s && (w && g)) || (s && g)) ≡ true
+is-loses true w g l = l .now
+is-loses false w g l = rw (l .held refl, l .now)
+
+module _ (least : ℤ) (linked : Bool) (axis : Axis) (i j : ℕ) where
+  pub lost-is : IsPair linked axis i j → lost least axis i j ≡ true → LostPair least linked axis i j
+  unfolding lost lostGap lostStem
+  lost-is p e =
+      let l = loses-is (isStem axis i j) (leZ least (widthBefore axis i j)) (isGone axis i j) e in
+      record { pair = p; wide = λ s. is-≤ℤ _ _ (l .held s); gone = gone-is _ _ _ (l .now) }
+
+  pub is-lost : LostPair least linked axis i j → lost least axis i j ≡ true
+  unfolding lost lostGap lostStem
+  is-lost l =
+      is-loses (isStem axis i j) (leZ least (widthBefore axis i j)) (isGone axis i j)
+      (record { held = λ s. to-le-true least (widthBefore axis i j) (let w = l .wide s in omega (arith, signed, w)); now = is-gone _ _ _ (l .gone) })

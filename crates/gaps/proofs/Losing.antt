@@ -1,108 +1,70 @@
--- When a gap of some widths is lost: test by test as the code comes to it, and as facts.
+-- When a pair is gone: test by test as the code comes to it, and as facts.
 use mathlib.Core.Path.{_≡_, refl, sym, _∙_}
 use mathlib.Core.Bool.{Bool, true, false, _&&_}
 use mathlib.Core.Logic.{inl, inr, ⊎-elim}
 use native.Mathlib.Omega.{arith}
-use lib.IntN.{ℤ, pos}
-use lib.Signed.{ltZ, leZ, _≤ℤ_, _<ℤ_}
+use lib.IntN.{ℤ, pos, _-ℤ_}
+use lib.Signed.{ltZ, leZ, _<ℤ_}
 use Rattle.signed.specs.Equality.{eqZ}
-use Rattle.signed.proofs.Reading.{turned-lt}
 use Rattle.signed.proofs.Choices.{clash}
-use Rattle.signed.proofs.Signed.{signed, eqZ-yes, eqZ-no, is-<ℤ, to-lt-true, to-lt-false, to-le-true, same}
+use Rattle.signed.proofs.Signed.{signed, sub-law, is-<ℤ, to-lt-true, to-lt-false, eqZ-yes, eqZ-true}
 use Rattle.axis.proofs.Tests.{and-false}
-use Rattle.gaps.specs.Gaps.{lost, Loses}
+use Rattle.gaps.specs.Gaps.{rowFrom, rows, RowBetween, gone, Gone}
+use Rattle.gaps.proofs.Rows.{none-is, no-row, row-none}
 
 and-true : (x : Bool) → (x && true) ≡ x
 and-true true = refl
 and-true false = refl
 
--- ---- test by test, each number by its bits
-module _ (least before after least′ before′ after′ : ℤ) (l : least′ ≡ least) (b : before′ ≡ before) (a : after′ ≡ after) where
-  -- too narrow
-  pub narrow : ltZ before′ least′ ≡ true → false ≡ lost least before after
-  unfolding lost
-  narrow h = let n : ltZ before least ≡ true = rw (l, b) at h in rw (turned-lt before least, n)
+module _ (before p q : ℤ) where
+  -- ---- test by test
+  -- a width is below 0 where its second position is below the first
+  width-turned : ltZ (q -ℤ p) (pos 0) ≡ ltZ q p
+  width-turned = by (ltZ q p) refl
+    where
+      by : (t : Bool) → ltZ q p ≡ t → ltZ (q -ℤ p) (pos 0) ≡ t
+      by true h = to-lt-true (q -ℤ p) (pos 0) (omega (arith, signed, h, sub-law q p))
+      by false h = to-lt-false (q -ℤ p) (pos 0) (omega (arith, signed, h, sub-law q p))
 
-  module _ (h : ltZ before′ least′ ≡ false) where
-    wide : leZ least before ≡ true
-    wide = let n : ltZ before least ≡ false = rw (l, b) at h in rw (turned-lt before least, n)
+  -- turned
+  pub turned : ltZ q p ≡ true → true ≡ gone before p q
+  unfolding gone
+  turned t = let n : ltZ (q -ℤ p) (pos 0) ≡ true = width-turned ∙ t in rw n
 
-    -- turned
-    pub turned : ltZ after′ (pos 0) ≡ true → true ≡ lost least before after
-    unfolding lost
-    turned t = let n : ltZ after (pos 0) ≡ true = rw a at t in rw (wide, n)
+  module _ (t : ltZ q p ≡ false) where
+    not-turned : ltZ (q -ℤ p) (pos 0) ≡ false
+    not-turned = width-turned ∙ t
 
-    module _ (t : ltZ after′ (pos 0) ≡ false) where
-      not-turned : ltZ after (pos 0) ≡ false
-      not-turned = rw a at t
+    -- without a row or not, where it was open
+    pub opened : ltZ (pos 0) before ≡ true → leZ (rowFrom q) (rowFrom p) ≡ gone before p q
+    unfolding gone
+    opened o = rw (not-turned, o, none-is p q) (sym (and-true (leZ (rowFrom q) (rowFrom p))))
 
-      -- what is not turned is closed where it is at most 0
-      at-most : leZ after (pos 0) ≡ eqZ after (pos 0)
-      at-most = by (leZ after (pos 0)) refl
+    -- kept, where it was not
+    pub kept : ltZ (pos 0) before ≡ false → false ≡ gone before p q
+    unfolding gone
+    kept o = rw (not-turned, o, and-false (eqZ (rows p q) (pos 0)))
+
+  -- ---- as facts
+  pub gone-is : gone before p q ≡ true → Gone before p q
+  gone-is e = by (ltZ q p) refl (ltZ (pos 0) before) refl
+    where
+      by : (t : Bool) → ltZ q p ≡ t → (o : Bool) → ltZ (pos 0) before ≡ o → Gone before p q
+      by true h o g = record { how = inl (is-<ℤ q p h) }
+      by false h true g =
+          let none = eqZ-true (rows p q) (pos 0) (none-is p q ∙ opened h g ∙ e) in record { how = inr (no-row p q none, is-<ℤ (pos 0) before g) }
+      by false h false g = absurd (clash _ (sym (kept h g)) e)
+
+  pub is-gone : Gone before p q → gone before p q ≡ true
+  is-gone g = ⊎-elim (λ (h : q <ℤ p). sym (turned (to-lt-true q p (omega (arith, signed, h))))) blank (g .how)
+    where
+      blank : ((k : ℤ) → RowBetween p q k → ⊥) × (pos 0 <ℤ before) → gone before p q ≡ true
+      blank h = by (ltZ q p) refl
         where
-          by : (r : Bool) → leZ after (pos 0) ≡ r → r ≡ eqZ after (pos 0)
-          by true e = let n = not-turned in sym (eqZ-yes after (pos 0) (same (omega (arith, signed))))
-          by false e = sym (eqZ-no after (pos 0) (λ (q : after ≡ pos 0). let z = q in omega (arith, signed)))
+          by : (t : Bool) → ltZ q p ≡ t → gone before p q ≡ true
+          by true t = sym (turned t)
+          by false t = sym (opened t (to-lt-true (pos 0) before (omega (arith, signed, h .1)))) ∙ sym (none-is p q) ∙ eqZ-yes (rows p q) (pos 0) (row-none p q (h .0))
 
-      -- closed or not, where it was positive
-      pub opened : ltZ (pos 0) before′ ≡ true → leZ after′ (pos 0) ≡ lost least before after
-      unfolding lost
-      opened o = let n : ltZ (pos 0) before ≡ true = rw b at o in rw (a, at-most, wide, not-turned, n) (sym (and-true (eqZ after (pos 0))))
-
-      -- kept, where it was not
-      pub kept : ltZ (pos 0) before′ ≡ false → false ≡ lost least before after
-      unfolding lost
-      kept o = let n : ltZ (pos 0) before ≡ false = rw b at o in rw (wide, not-turned, n, and-false (eqZ after (pos 0)))
-
--- ---- as facts
--- no gap is never lost
-pub none-lost : (least : ℤ) → lost least (pos 0) (pos 0) ≡ false
-unfolding lost
-none-lost least = and-false (leZ least (pos 0))
-
-module _ (least before after : ℤ) where
-  pub lost-is : lost least before after ≡ true → Loses least before after
-  lost-is e = by (ltZ before least) refl (ltZ after (pos 0)) refl (ltZ (pos 0) before) refl
-    where
-      by : (x : Bool) → ltZ before least ≡ x → (y : Bool) → ltZ after (pos 0) ≡ y → (z : Bool) → ltZ (pos 0) before ≡ z → Loses least before after
-      by true n y t z o = absurd (clash _ (sym (narrow least before after least before after refl refl refl n)) e)
-      by false n true t z o = record { wide = omega (arith, signed); gone = inl (is-<ℤ after (pos 0) t) }
-      by false n false t true o =
-          let closed = opened least before after least before after refl refl refl n t o ∙ e in
-          record { wide = omega (arith, signed); gone = inr (same (omega (arith, signed)), is-<ℤ (pos 0) before o) }
-      by false n false t false o = absurd (clash _ (sym (kept least before after least before after refl refl refl n t o)) e)
-
-  pub is-lost : Loses least before after → lost least before after ≡ true
-  is-lost l = ⊎-elim shut gaped (l .gone)
-    where
-      held : ltZ before least ≡ false
-      held = let w = l .wide in to-lt-false before least (omega (arith, signed))
-
-      shut : after <ℤ pos 0 → lost least before after ≡ true
-      shut t = sym (turned least before after least before after refl refl refl held (to-lt-true after (pos 0) (omega (arith, signed))))
-
-      gaped : (after ≡ pos 0) × (pos 0 <ℤ before) → lost least before after ≡ true
-      gaped g =
-          let z = g .0 in
-          let o = g .1 in
-          sym (opened least before after least before after refl refl refl held (to-lt-false after (pos 0) (omega (arith, signed))) (to-lt-true (pos 0) before (omega (arith, signed))))
-          ∙ to-le-true after (pos 0) (omega (arith, signed))
-
--- a gap of width 0 or more that is not lost at 0 is not turned, and open where it was
-pub record Keeps (before after : ℤ) : Type 0 where
-  pub not-turned : pos 0 ≤ℤ after
-  pub not-closed : pos 0 <ℤ before → pos 0 <ℤ after
-
-pub not-lost : (before after : ℤ) → pos 0 ≤ℤ before → lost (pos 0) before after ≡ false → Keeps before after
-not-lost before after w e = by (ltZ after (pos 0)) refl
-  where
-    held : ltZ before (pos 0) ≡ false
-    held = to-lt-false before (pos 0) (omega (arith, signed))
-
-    by : (y : Bool) → ltZ after (pos 0) ≡ y → Keeps before after
-    by true t = absurd (clash _ e (sym (turned (pos 0) before after (pos 0) before after refl refl refl held t)))
-    by false t = record {
-      not-turned = omega (arith, signed);
-      not-closed = λ (o : pos 0 <ℤ before).
-          let ahead = opened (pos 0) before after (pos 0) before after refl refl refl held t (to-lt-true (pos 0) before (omega (arith, signed))) ∙ e in omega (arith, signed);
-    }
+-- a pair of no width at one place is not gone
+pub self-kept : (p : ℤ) → gone (pos 0) p p ≡ false
+self-kept p = sym (kept (pos 0) p p (to-lt-false p p (omega (arith, signed))) refl)

@@ -1,11 +1,12 @@
--- The guard: a gap is two done edges with no done edge between them in the table; it is lost where it was wide enough and is now turned, or closed though it was open.
+-- The guard: a pair is two edges that count with no edge that counts between them in the table, a stem where one names the other by its link, and else a gap; it is lost where it
+-- is turned, or has no pixel row though it was open, a gap only if it was wide enough.
 use mathlib.Core.Path.{_≡_}
-use mathlib.Core.Bool.{Bool, true, false, cond, _&&_, _||_}
+use mathlib.Core.Bool.{Bool, true, false, cond, not, _&&_, _||_}
 use mathlib.Core.List.{List, [], _∷_}
 use mathlib.Core.Logic.{_⊎_}
 use Prim.Native.Nat.{ℕ, zero, suc, _+_, _≤_, _<_}
-use lib.IntN.{ℤ, pos, _-ℤ_}
-use lib.Signed.{ltZ, leZ, _≤ℤ_, _<ℤ_}
+use lib.IntN.{ℤ, pos, _+ℤ_, _-ℤ_, _*ℤ_}
+use lib.Signed.{ltZ, leZ, _≤ℤ_, _<ℤ_, shrZ}
 use Rattle.signed.specs.Equality.{eqZ}
 use Rattle.refusals.specs.Refusal.{Test, _unless_, badParameter, refusal, answered}
 use Rattle.axis.specs.declared.kinds.Link.{Link}
@@ -13,22 +14,56 @@ use Rattle.axis.specs.declared.kinds.Link.the-variants as Links
 use Rattle.axis.specs.declared.edge.Axis.{Axis}
 use Rattle.axis.specs.Edge.{edgeAt}
 use Rattle.axis.specs.Limits.{mostUnits}
+use Rattle.axis.specs.Link.{isLinked, linksTo}
 use Rattle.axis.specs.Refusals.{inside, edgesShort, edgesIndexed, edgesInRange}
-use Rattle.gaps.specs.declared.gap.Gap.{Gap}
+use Rattle.gaps.specs.declared.pair.Pair.{Pair}
 use Rattle.gaps.specs.declared.find.Gaps.{Gaps}
 
--- ---- gaps
--- edge i is done
+-- ---- pixel rows
+-- the centre of pixel row k
+abbrev pub centre : ℤ → ℤ
+centre k = (k *ℤ pos 64) +ℤ pos 32
+
+-- the first row whose centre is not below p: (p + 31) / 64, rounded down
+unfoldable pub rowFrom : ℤ → ℤ
+rowFrom p = shrZ (p +ℤ pos 31) 64
+
+-- how many rows are between p and q, those whose centre is not below p and below q: none where q is not above p
+unfoldable pub rows : ℤ → ℤ → ℤ
+rows p q = cond (ltZ p q) (rowFrom q -ℤ rowFrom p) (pos 0)
+
+-- row k is between p and q
+pub record RowBetween (p q k : ℤ) : Type 0 where
+  pub not-below : p ≤ℤ centre k
+  pub below : centre k <ℤ q
+
+-- ---- pairs
+-- edge i is done, or is not
 abbrev pub isDone : Axis → ℕ → Bool
 isDone axis i = edgeAt axis i .flags .done
 
--- edges i and j are a gap: both are done, and no edge between them is
-pub record IsGap (axis : Axis) (i j : ℕ) : Type 0 where
+abbrev pub notDone : Axis → ℕ → Bool
+notDone axis i = not (isDone axis i)
+
+-- a link is asked for: with `linked` there must be one
+abbrev pub askedFor : Bool → Link → Bool
+askedFor linked link = not linked || isLinked link
+
+-- edge i counts: it is done, and with `linked` it has a link
+abbrev pub counts : Bool → Axis → ℕ → Bool
+counts linked axis i = askedFor linked (edgeAt axis i .link) && isDone axis i
+
+-- edges i and j are a pair: both count, and no edge between them does
+pub record IsPair (linked : Bool) (axis : Axis) (i j : ℕ) : Type 0 where
   pub order : i < j
   pub below : j < axis .len
-  pub first : isDone axis i ≡ true
-  pub second : isDone axis j ≡ true
-  pub between : (k : ℕ) → i < k → k < j → isDone axis k ≡ false
+  pub first : counts linked axis i ≡ true
+  pub second : counts linked axis j ≡ true
+  pub between : (k : ℕ) → i < k → k < j → counts linked axis k ≡ false
+
+-- it is a stem where one names the other by its link, else a gap
+abbrev pub isStem : Axis → ℕ → ℕ → Bool
+isStem axis i j = linksTo (edgeAt axis i .link) j || linksTo (edgeAt axis j .link) i
 
 -- how far edge j is behind edge i, before fitting and after it
 abbrev pub widthBefore : Axis → ℕ → ℕ → ℤ
@@ -37,40 +72,57 @@ widthBefore axis i j = edgeAt axis j .opos -ℤ edgeAt axis i .opos
 abbrev pub widthAfter : Axis → ℕ → ℕ → ℤ
 widthAfter axis i j = edgeAt axis j .pos -ℤ edgeAt axis i .pos
 
--- a gap of these widths is lost: it was at least `least` wide, and is now turned, or closed though it was positive
-unfoldable pub lost : ℤ → ℤ → ℤ → Bool
-lost least before after = leZ least before && (ltZ after (pos 0) || (eqZ after (pos 0) && ltZ (pos 0) before))
+-- ---- lost pairs
+-- a pair of some width before, from p to q now, is gone: it is turned, or it has no row though it was above 0 wide
+unfoldable pub gone : ℤ → ℤ → ℤ → Bool
+gone before p q = ltZ (q -ℤ p) (pos 0) || (eqZ (rows p q) (pos 0) && ltZ (pos 0) before)
 
--- the same as facts, and of edges i and j
-pub record Loses (least before after : ℤ) : Type 0 where
-  pub wide : least ≤ℤ before
-  pub gone : (after <ℤ pos 0) ⊎ ((after ≡ pos 0) × (pos 0 <ℤ before))
+abbrev pub isGone : Axis → ℕ → ℕ → Bool
+isGone axis i j = gone (widthBefore axis i j) (edgeAt axis i .pos) (edgeAt axis j .pos)
 
-abbrev pub Lost : ℤ → Axis → ℕ → ℕ → Type 0
-Lost least axis i j = Loses least (widthBefore axis i j) (widthAfter axis i j)
+-- a gap is lost: it was at least `least` wide, and is gone
+unfoldable pub lostGap : ℤ → Axis → ℕ → ℕ → Bool
+lostGap least axis i j = not (isStem axis i j) && (leZ least (widthBefore axis i j) && isGone axis i j)
 
--- ---- the gap that an edge ends
--- the last done edge in front of edge j, or none
-unfoldable pub doneBefore : Axis → ℕ → Link
-doneBefore axis zero = Links.None
-doneBefore axis (suc j) = cond (isDone axis j) (Links.To j) (doneBefore axis j)
+-- a stem is lost, whatever its width: it is gone
+unfoldable pub lostStem : Axis → ℕ → ℕ → Bool
+lostStem axis i j = isStem axis i j && isGone axis i j
 
--- no gap
-abbrev pub noGap : Gap
-noGap = record { first = Links.None; second = Links.None; before = pos 0; after = pos 0 }
+-- a pair of either kind is
+unfoldable pub lost : ℤ → Axis → ℕ → ℕ → Bool
+lost least axis i j = lostGap least axis i j || lostStem axis i j
 
--- the gap from edge i, where there is one, to edge j
-abbrev pub gapFrom : Axis → ℕ → Link → Gap
-gapFrom axis j Links.None = noGap
-gapFrom axis j (Links.To i) = record { first = Links.To i; second = Links.To j; before = widthBefore axis i j; after = widthAfter axis i j }
+-- ---- the pair that an edge ends
+-- the last number below n that passes a test, or none
+unfoldable pub lastOf : (ℕ → Bool) → ℕ → Link
+lastOf p zero = Links.None
+lastOf p (suc n) = cond (p n) (Links.To n) (lastOf p n)
 
--- the gap that edge j ends, done as it is: from the last done edge in front of it
-unfoldable pub gapTo : Axis → ℕ → Gap
-gapTo axis j = gapFrom axis j (doneBefore axis j)
+-- the last edge that counts in front of edge j, or none
+abbrev pub before : Bool → Axis → ℕ → Link
+before linked axis j = lastOf (counts linked axis) j
 
--- edge j is done, and the gap that it ends is lost
-unfoldable pub endsLost : ℤ → Axis → ℕ → Bool
-endsLost least axis j = isDone axis j && lost least (gapTo axis j .before) (gapTo axis j .after)
+-- no pair
+abbrev pub noPair : Pair
+noPair = record { first = Links.None; second = Links.None; before = pos 0; after = pos 0 }
+
+-- the pair from edge i, where there is one, to edge j
+abbrev pub pairFrom : Axis → ℕ → Link → Pair
+pairFrom axis j Links.None = noPair
+pairFrom axis j (Links.To i) = record { first = Links.To i; second = Links.To j; before = widthBefore axis i j; after = widthAfter axis i j }
+
+-- whether it is of some kind
+abbrev pub kindFrom : (ℕ → ℕ → Bool) → ℕ → Link → Bool
+kindFrom kind j Links.None = false
+kindFrom kind j (Links.To i) = kind i j
+
+-- the pair that edge j ends, counting as it does: from the last edge in front of it that counts
+unfoldable pub pairTo : Bool → Axis → ℕ → Pair
+pairTo linked axis j = pairFrom axis j (before linked axis j)
+
+-- edge j counts, and the pair that it ends is of some kind
+unfoldable pub ends : Bool → Axis → (ℕ → ℕ → Bool) → ℕ → Bool
+ends linked axis kind j = counts linked axis j && kindFrom kind j (before linked axis j)
 
 -- ---- how many are lost, and the first
 -- how many numbers below n pass a test
@@ -88,18 +140,24 @@ unfoldable pub firstOf : (ℕ → Bool) → ℕ → Link
 firstOf p zero = Links.None
 firstOf p (suc n) = orElse (firstOf p n) (cond (p n) (Links.To n) Links.None)
 
--- the gap that an edge ends, where there is one
-abbrev pub gapAt : Axis → Link → Gap
-gapAt axis Links.None = noGap
-gapAt axis (Links.To j) = gapTo axis j
+-- the pair that an edge ends, where there is one
+abbrev pub pairAt : Bool → Axis → Link → Pair
+pairAt linked axis Links.None = noPair
+pairAt linked axis (Links.To j) = pairTo linked axis j
 
--- what is found among the first n edges: how many of them end a lost gap, and the gap that the first of these ends
-unfoldable pub foundTo : ℤ → Axis → ℕ → Gaps
-foundTo least axis n = record { answer = 0; count = counted (endsLost least axis) n; gap = gapAt axis (firstOf (endsLost least axis) n) }
+-- what is found among the first n edges: how many of them end a lost gap, the lost pair of either kind that ends first, how many end a lost stem, and how many are not done
+unfoldable pub foundTo : ℤ → Bool → Axis → ℕ → Gaps
+foundTo least linked axis n = record {
+  answer = 0;
+  count = counted (ends linked axis (lostGap least axis)) n;
+  pair = pairAt linked axis (firstOf (ends linked axis (lost least axis)) n);
+  stems = counted (ends linked axis (lostStem axis)) n;
+  «not_done» = counted (notDone axis) n;
+}
 
 -- and among all
-abbrev pub foundIn : ℤ → Axis → Gaps
-foundIn least axis = foundTo least axis (axis .len)
+abbrev pub foundIn : ℤ → Bool → Axis → Gaps
+foundIn least linked axis = foundTo least linked axis (axis .len)
 
 -- ---- the call
 -- its tests in document 01's order; the least width is one of units
@@ -108,17 +166,32 @@ gapsTests axis least = edgesShort axis ∷ badParameter unless inside (pos 0) (p
 
 -- a refusal beside nothing found
 abbrev pub refusedBy : ℕ → Gaps
-refusedBy k = record { answer = k; count = 0; gap = noGap }
+refusedBy k = record { answer = k; count = 0; pair = noPair; stems = 0; «not_done» = 0 }
 
 -- the refusal and nothing found, or 0 and what is found
-unfoldable pub lostGaps : Axis → ℤ → Gaps
-lostGaps axis least = answered (refusal (gapsTests axis least)) refusedBy (foundIn least axis)
+unfoldable pub lostGaps : Axis → ℤ → Bool → Gaps
+lostGaps axis least linked = answered (refusal (gapsTests axis least)) refusedBy (foundIn least linked axis)
 
--- what the call owes its caller: the answer, the count and the first lost gap
-abbrev pub FindsLostGaps : Axis → ℤ → Gaps → Type 0
-FindsLostGaps axis least r = r ≡ lostGaps axis least
+-- what the call owes its caller: the answer, the counts and the first lost pair
+abbrev pub FindsLostGaps : Axis → ℤ → Bool → Gaps → Type 0
+FindsLostGaps axis least linked r = r ≡ lostGaps axis least linked
 
 -- ---- for theorems on the definition
+-- a pair is gone, as facts
+pub record Gone (before p q : ℤ) : Type 0 where
+  pub how : (q <ℤ p) ⊎ (((k : ℤ) → RowBetween p q k → ⊥) × (pos 0 <ℤ before))
+
+-- edges i and j are a lost pair, as facts: a gap was wide enough
+pub record LostPair (least : ℤ) (linked : Bool) (axis : Axis) (i j : ℕ) : Type 0 where
+  pub pair : IsPair linked axis i j
+  pub wide : isStem axis i j ≡ false → least ≤ℤ widthBefore axis i j
+  pub gone : Gone (widthBefore axis i j) (edgeAt axis i .pos) (edgeAt axis j .pos)
+
+-- edges i and j have a pixel row between them
+pub record HasRow (axis : Axis) (i j : ℕ) : Type 0 where
+  pub row : ℤ
+  pub between : RowBetween (edgeAt axis i .pos) (edgeAt axis j .pos) row
+
 -- the original positions of edges do not fall, as those of built ones (`edges-rise`, building/proofs/Handed.antt)
 pub record EdgesRise (axis : Axis) : Type 0 where
   pub at : (i j : ℕ) → i < j → j < axis .len → edgeAt axis i .opos ≤ℤ edgeAt axis j .opos
@@ -132,11 +205,10 @@ pub record KeepsOrder (axis : Axis) (i j : ℕ) : Type 0 where
   pub not-turned : edgeAt axis i .pos ≤ℤ edgeAt axis j .pos
   pub not-closed : edgeAt axis i .opos <ℤ edgeAt axis j .opos → edgeAt axis i .pos <ℤ edgeAt axis j .pos
 
--- a named gap is the first that is lost: it is a gap, it is lost, and every lost gap starts there or behind it
-pub record FirstLost (least : ℤ) (axis : Axis) (g : Gap) : Type 0 where
+-- a named pair is the first that is lost: it is lost, and every lost pair starts there or behind it
+pub record FirstLost (least : ℤ) (linked : Bool) (axis : Axis) (p : Pair) : Type 0 where
   pub i : ℕ
   pub j : ℕ
-  pub named : g ≡ gapFrom axis j (Links.To i)
-  pub gap : IsGap axis i j
-  pub lost : Lost least axis i j
-  pub first : (k l : ℕ) → IsGap axis k l → Lost least axis k l → i ≤ k
+  pub named : p ≡ pairFrom axis j (Links.To i)
+  pub lost : LostPair least linked axis i j
+  pub first : (k l : ℕ) → LostPair least linked axis k l → i ≤ k

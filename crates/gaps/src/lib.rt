@@ -1,3 +1,3 @@
-// The guard: has a gap between placed edges been lost?
+// The guard: has a gap or a stem between placed edges been lost?
 pub mod find;
-pub mod gap;
+pub mod pair;

@@ -28,7 +28,7 @@ gaps-refusal-requires c κs = search needs
 
 returns : tie.Need-returns
 unfolding lostGaps
-returns c = answered-no _ _ refusedBy _ (refused (c .before)) (c .if1 .taken)
+returns c = let t = c .before in answered-no _ _ refusedBy _ (refused (t .before)) (t .if1 .taken)
 
 find-lost-requires : tie.Need-find-lost-requires
 find-lost-requires c κs = accepted c
@@ -38,7 +38,7 @@ unfolding lostGaps
 returns-2 c =
     let o = c .before in
     let s = o .before .before in
-    answered-yes _ _ refusedBy _ _ (refused (o .before)) (o .if1 .left) (c .find-lost .ensures ∙ ap (λ (z : ℤ). foundIn z (s .args .axis)) (is (s .fits .least)))
+    answered-yes _ _ refusedBy _ _ (refused (o .before)) (o .if1 .left) (c .find-lost .ensures ∙ ap (λ (z : ℤ). foundIn z (s .args .linked) (s .args .axis)) (is (s .fits .least)))
 
 pub lost-gaps-spec : {M : Type 1} → statement M
 lost-gaps-spec = tie.close (tie.spec gaps-refusal-requires returns find-lost-requires returns-2)
