@@ -1,8 +1,8 @@
 -- Which edges end lost pairs: each pair has one edge that ends it, so that as many are lost as edges end one.
 use mathlib.Core.Path.{_≡_, refl, sym, ap, subst, _∙_}
-use mathlib.Core.Bool.{Bool, true, false, not, _&&_, _||_}
+use mathlib.Core.Bool.{Bool, true, false, cond, not, _&&_, _||_}
 use mathlib.Core.Logic.{⊎-elim}
-use Prim.Native.Nat.{ℕ, _≤_, _<_}
+use Prim.Native.Nat.{ℕ, _+_, _≤_, _<_}
 use native.Mathlib.Nat.{eq-or-lt-of-le}
 use native.Mathlib.Omega.{arith}
 use lib.IntN.{ℤ}
@@ -75,6 +75,26 @@ module _ (linked : Bool) (axis : Axis) where
     pub first-ends : ends linked axis kind 0 ≡ false
     unfolding ends lastOf
     first-ends = and-false (counts linked axis 0)
+
+-- ---- gaps and stems
+-- an edge that ends a lost pair ends a lost gap or a lost stem, and not both
+pub gap-or-stem : (least : ℤ) (linked : Bool) (axis : Axis) (j : ℕ)
+    → cond (ends linked axis (lostGap least axis) j) 1 0 + cond (ends linked axis (lostStem axis) j) 1 0 ≡ cond (ends linked axis (lost least axis) j) 1 0
+unfolding ends lost lostGap lostStem
+gap-or-stem least linked axis j = by (counts linked axis j) (before linked axis j)
+  where
+    kinds : (s w g : Bool) → cond (not s && (w && g)) 1 0 + cond (s && g) 1 0 ≡ cond ((not s && (w && g)) || (s && g)) 1 0
+    kinds true w true = refl
+    kinds true w false = refl
+    kinds false true true = refl
+    kinds false true false = refl
+    kinds false false g = refl
+
+    by : (c : Bool) (l : Link)
+        → cond (c && kindFrom (lostGap least axis) j l) 1 0 + cond (c && kindFrom (lostStem axis) j l) 1 0 ≡ cond (c && kindFrom (lost least axis) j l) 1 0
+    by false l = refl
+    by true Links.None = refl
+    by true (Links.To i) = kinds (isStem axis i j) (leZ least (widthBefore axis i j)) (isGone axis i j)
 
 -- ---- lost pairs, as facts
 -- by whether a pair is a stem, was wide enough, and is gone

@@ -43,6 +43,33 @@ counted-fewer p (suc (suc n)) e = by (p (suc n)) (counted-fewer p (suc n) e)
     by true h = omega arith
     by false h = omega arith
 
+-- each number that passes a test passes one of two, and only that: then as many pass it as pass the two
+pub counted-parts : (p q r : ℕ → Bool) → ((i : ℕ) → cond (p i) 1 0 + cond (q i) 1 0 ≡ cond (r i) 1 0) → (n : ℕ) → counted p n + counted q n ≡ counted r n
+unfolding counted
+counted-parts p q r h zero = refl
+counted-parts p q r h (suc n) = by (p n) (q n) (r n) (h n) (counted-parts p q r h n)
+  where
+    by : (x y z : Bool) → cond x 1 0 + cond y 1 0 ≡ cond z 1 0 → counted p n + counted q n ≡ counted r n
+        → cond x (counted p n + 1) (counted p n) + cond y (counted q n + 1) (counted q n) ≡ cond z (counted r n + 1) (counted r n)
+    by true true true a b = absurd (omega arith)
+    by true true false a b = absurd (omega arith)
+    by true false true a b = omega arith
+    by true false false a b = absurd (omega arith)
+    by false true true a b = omega arith
+    by false true false a b = absurd (omega arith)
+    by false false true a b = absurd (omega arith)
+    by false false false a b = b
+
+-- where none passes each fails
+pub counted-none : (p : ℕ → Bool) (n : ℕ) → counted p n ≡ 0 → (i : ℕ) → i < n → p i ≡ false
+unfolding counted
+counted-none p zero e i h = absurd (omega arith)
+counted-none p (suc n) e i h = by (counted-none p n) (p n) refl e
+  where
+    by : (counted p n ≡ 0 → (k : ℕ) → k < n → p k ≡ false) → (t : Bool) → p n ≡ t → cond t (counted p n + 1) (counted p n) ≡ 0 → p i ≡ false
+    by rest true q e = absurd (omega arith)
+    by rest false q e = ⊎-elim (λ (w : i ≡ n). rw w q) (λ (g : i < n). rest e i g) (eq-or-lt-of-le (omega arith))
+
 -- some pass exactly where there is a first
 pub counted-first : (p : ℕ → Bool) (n : ℕ) → ltb 0 (counted p n) ≡ isLinked (firstOf p n)
 unfolding counted firstOf

@@ -4,13 +4,13 @@ use mathlib.Core.Bool.{Bool, true, false, _&&_}
 use mathlib.Core.Logic.{inl, inr, ⊎-elim}
 use native.Mathlib.Omega.{arith}
 use lib.IntN.{ℤ, pos, _-ℤ_}
-use lib.Signed.{ltZ, leZ, _<ℤ_}
+use lib.Signed.{ltZ, leZ, _≤ℤ_, _<ℤ_}
 use Rattle.signed.specs.Equality.{eqZ}
 use Rattle.signed.proofs.Choices.{clash}
 use Rattle.signed.proofs.Signed.{signed, sub-law, is-<ℤ, to-lt-true, to-lt-false, eqZ-yes, eqZ-true}
 use Rattle.axis.proofs.Tests.{and-false}
 use Rattle.gaps.specs.Gaps.{rowFrom, rows, RowBetween, gone, Gone}
-use Rattle.gaps.proofs.Rows.{none-is, no-row, row-none}
+use Rattle.gaps.proofs.Rows.{none-is, no-row, row-none, some-row}
 
 and-true : (x : Bool) → (x && true) ≡ x
 and-true true = refl
@@ -68,3 +68,16 @@ module _ (before p q : ℤ) where
 -- a pair of no width at one place is not gone
 pub self-kept : (p : ℤ) → gone (pos 0) p p ≡ false
 self-kept p = sym (kept (pos 0) p p (to-lt-false p p (omega (arith, signed))) refl)
+
+-- a pair that is not gone is not turned, and has a row where it was open
+module _ (before p q : ℤ) (k : gone before p q ≡ false) where
+  pub kept-order : p ≤ℤ q
+  kept-order = by (ltZ q p) refl
+    where
+      by : (t : Bool) → ltZ q p ≡ t → p ≤ℤ q
+      by true t = absurd (clash _ k (sym (turned before p q t)))
+      by false t = omega (arith, signed, t)
+
+  pub kept-row : pos 0 <ℤ before → RowBetween p q (rowFrom p)
+  kept-row o =
+      some-row p q (opened before p q (let h = kept-order in to-lt-false q p (omega (arith, signed, h))) (to-lt-true (pos 0) before (omega (arith, signed, o))) ∙ k)

@@ -200,6 +200,11 @@ pub record EdgesRise (axis : Axis) : Type 0 where
 pub record DoneRise (axis : Axis) : Type 0 where
   pub at : (i j : ℕ) → i < j → j < axis .len → isDone axis i ≡ true → isDone axis j ≡ true → edgeAt axis i .opos ≤ℤ edgeAt axis j .opos
 
+-- a table has as many edges as another, at the same original positions, whatever else of them was changed
+pub record SameOpos (old new : Axis) : Type 0 where
+  pub len : new .len ≡ old .len
+  pub at : (i : ℕ) → i < old .len → edgeAt new i .opos ≡ edgeAt old i .opos
+
 -- edges i and j keep their order: the second is not in front of the first, and it is behind it where it was
 pub record KeepsOrder (axis : Axis) (i j : ℕ) : Type 0 where
   pub not-turned : edgeAt axis i .pos ≤ℤ edgeAt axis j .pos

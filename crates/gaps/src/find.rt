@@ -128,10 +128,7 @@ pub fn lost_gaps(axis: Axis, least: i32, linked: bool) -> Gaps
 {
     let answer = gaps_refusal(axis, least);
     if 0 < answer {
-        return Gaps {
-            answer,
-            ..NOTHING
-        };
+        return Gaps { answer, ..NOTHING };
     }
     find_lost(axis, least, linked)
 }
