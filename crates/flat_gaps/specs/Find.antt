@@ -1,23 +1,24 @@
--- The guard over lent edges, which are not written, and the least width; five places are lent, for the count, the two edges of the first lost gap and its widths.
-use mathlib.Core.Bool.{true}
+-- The guard over lent edges, which are not written, the least width, and whether links are asked for; seven places are lent, for the count of lost gaps, the two edges of the first lost
+-- pair and its widths, the count of lost stems, and that of edges that are not done.
 use mathlib.Core.List.{List}
 use Prim.Native.Nat.{ℕ}
 use lib.IntN.{ℤ, pos}
 use Rattle.gaps.specs.declared.find.Gaps.{Gaps}
 use Rattle.gaps.specs.Gaps.{lostGaps}
-use Rattle.words.specs.Field.{linkWord}
+use Rattle.words.specs.Field.{choiceOf, linkWord}
+use Rattle.shape.specs.Shape.{isIn, choice}
 use Rattle.lent.specs.Lent.{Lent, edgesFront, edgesOf}
 
 -- what the call finds
-abbrev pub gapsFound : List ℤ → ℤ → Gaps
-gapsFound ws least = lostGaps (edgesOf ws) least
+abbrev pub gapsFound : List ℤ → ℤ → ℤ → Gaps
+gapsFound ws least linked = lostGaps (edgesOf ws) least (choiceOf linked)
 
--- what five places hold: the count, the first edge, the second, and the widths before fitting and after it
+-- what seven places hold: the gaps lost, the first edge, the second, the widths before fitting and after it, the stems lost, and the edges not done
 abbrev pub Places : Type 0
-Places = ℤ × (ℤ × (ℤ × (ℤ × ℤ)))
+Places = ℤ × (ℤ × (ℤ × (ℤ × (ℤ × (ℤ × ℤ)))))
 
 abbrev pub gapsWords : Gaps → Places
-gapsWords g = (pos (g .count), (linkWord (g .gap .first), (linkWord (g .gap .second), (g .gap .before, g .gap .after))))
+gapsWords g = (pos (g .count), (linkWord (g .pair .first), (linkWord (g .pair .second), (g .pair .before, (g .pair .after, (pos (g .stems), pos (g .«not_done»)))))))
 
-abbrev pub GapsLent : List ℤ → ℤ → Places → ℕ → Places → Type 0
-GapsLent ws least old = Lent (edgesFront ws true) (gapsFound ws least .answer) (gapsWords (gapsFound ws least)) old
+abbrev pub GapsLent : List ℤ → ℤ → ℤ → Places → ℕ → Places → Type 0
+GapsLent ws least linked old = Lent (edgesFront ws (isIn choice linked)) (gapsFound ws least linked .answer) (gapsWords (gapsFound ws least linked)) old

@@ -6,12 +6,15 @@ use axis::link::index_or;
 use edges_in::edge::fit_in;
 use edges_test::test::edges_test;
 use gaps::find::Gaps;
-use gaps::find::with_gap;
-use gaps::gap::NO_GAP;
-use gaps::gap::gap_of;
+use gaps::find::NOTHING;
+use gaps::find::asked_for;
+use gaps::find::with_pair;
 use refusals::order::BAD_PARAMETER;
 use refusals::order::or_refused;
+use shape::field::CHOICE;
+use shape::field::is_in;
 use words::edge::EDGE_WORDS;
+use words::field::choice_of;
 use words::field::link_word;
 use words::word::count_word;
 ghost use mathlib.Core.Path.{_≡_};
@@ -22,55 +25,62 @@ ghost use Rattle.lent.specs.Lent.{edgesOf};
 ghost use Rattle.edges_in.specs.Whole.{Whole};
 ghost use Rattle.flat_gaps.specs.Find.{GapsLent};
 
-// The lost gaps of lent edges: each done edge ends one that starts at the last done edge in front of it.
-fn find_in(words: &[i32], least: i32) -> Gaps
+// The lost pairs of lent edges: each edge that counts ends one that starts at the last edge in front of it that counts.
+fn find_in(words: &[i32], least: i32, linked: bool) -> Gaps
     requires { ⌜ Whole (now words) × AxisWithin mostPos (edgesOf (now words)) ⌝ }
-    ensures { λ r. ⌜ r ≡ foundIn least (edgesOf (now (words .entry))) ⌝ }
+    ensures { λ r. ⌜ r ≡ foundIn least linked (edgesOf (now (words .entry))) ⌝ }
 {
     let n = words.len() / EDGE_WORDS;
     let mut last = Link::None;
-    let mut found = Gaps {
-        answer: 0,
-        count: 0,
-        gap: NO_GAP,
-    };
+    let mut found = NOTHING;
     for i in 0..n {
         let edge = fit_in(words, i);
         if !edge.flags.done {
+            found.not_done += 1;
             continue;
         }
-        let k = index_or(last, i); // a first done edge is no width behind itself, which loses nothing
-        let gap = gap_of(k, fit_in(words, k), i, edge);
-        found = with_gap(found, gap, least);
+        let link = edge.link;
+        if !asked_for(link, linked) {
+            continue;
+        }
+        let k = index_or(last, i); // the first edge that counts is no width behind itself, which loses nothing
+        found = with_pair(found, k, fit_in(words, k), i, edge, least);
         last = Link::To(i as u16);
     }
     found
 }
 
-// Finds the gaps that fitting has lost, and tells how many they are, the two edges of the first and its widths before and after.
+// Finds the gaps and the stems that fitting has lost, and tells how many gaps they are, the two edges of the first pair and its widths before and after, how many stems they are, and
+// how many edges are not done.
 pub fn lend_gaps(
     edges: &[i32],
     least: i32,
+    linked: i32,
     count: &mut i32,
     first: &mut i32,
     second: &mut i32,
     before: &mut i32,
     after: &mut i32,
+    stems: &mut i32,
+    not_done: &mut i32,
 ) -> u8
-    ensures { λ r. ⌜ GapsLent (now (edges .entry)) least (now (count .entry), (now (first .entry), (now (second .entry), (now (before .entry), now (after .entry)))))
-        r (now (count .exit), (now (first .exit), (now (second .exit), (now (before .exit), now (after .exit))))) ⌝ }
+    ensures { λ r. ⌜ GapsLent (now (edges .entry)) least linked
+        (now (count .entry), (now (first .entry), (now (second .entry), (now (before .entry), (now (after .entry), (now (stems .entry), now («not_done» .entry)))))))
+        r (now (count .exit), (now (first .exit), (now (second .exit), (now (before .exit), (now (after .exit), (now (stems .exit), now («not_done» .exit))))))) ⌝ }
 {
     let own = or_refused(0, is_inside(least, 0, MOST_UNITS), BAD_PARAMETER);
-    let answer = edges_test(edges, true, own, true, true);
+    let answer = edges_test(edges, is_in(linked, CHOICE), own, true, true);
     if 0 < answer {
         return answer;
     }
-    let found = find_in(edges, least);
-    let gap = found.gap;
-    let from = gap.first;
-    let to = gap.second;
-    let old = gap.before;
-    let new = gap.after;
+    let found = find_in(edges, least, choice_of(linked));
+    let pair = found.pair;
+    let from = pair.first;
+    let to = pair.second;
+    let old = pair.before;
+    let new = pair.after;
+    *not_done = count_word(found.not_done);
+    *stems = count_word(found.stems);
     *after = new;
     *before = old;
     *second = link_word(to);

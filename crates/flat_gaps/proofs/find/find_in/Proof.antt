@@ -1,4 +1,4 @@
--- `flat_gaps::find::find_in` meets its contract: each turn adds the gap that an edge ends. Assumes nothing.
+-- `flat_gaps::find::find_in` meets its contract: each turn adds the pair that an edge ends. Assumes nothing.
 use native.Mathlib.Omega.{arith}
 use mathlib.Core.Path.{ap, _∙_}
 use Prim.Native.Nat.{_-_, _<_}
@@ -6,28 +6,31 @@ use borrow.Author.Needs.{needs}
 use borrow.Author.Tests.{not-true, not-false}
 use lib.IntN.{ℤ}
 use mir.Syntax.{w32}
-use mir.Val.{toZ}
+use mir.Val.{toZ, ofZ}
 use Rattle.signed.proofs.Signed.{is}
 use Rattle.axis.specs.Limits.{mostEdges}
 use Rattle.gaps.specs.Gaps.{foundIn}
-use Rattle.gaps.proofs.Turns.{Searched, search-starts, search-ends, found-few, search-skips, starts-inside, search-steps}
+use Rattle.gaps.proofs.Turns.{Searched, search-starts, search-ends, search-few, search-undone, search-skips, starts-inside, search-steps}
 use Rattle.lent.specs.Lent.{edgesOf}
 use Rattle.edges_in.proofs.Wholes.{edges-len}
-use Rattle.flat_gaps.proofs.Search.{read-placed, read-done, read-gap}
+use Rattle.flat_gaps.proofs.Search.{read-placed, read-done, read-asked, read-pair}
 use Rattle.flat_gaps.proofs.find.find_in.Statement.{statement}
 use Rattle.flat_gaps.proofs.find.find_in.Tie as tie
 
 abbrev Inv-loop : tie.InvT-loop
-Inv-loop words least n last₀ found₀ i₀ last found i = Searched (toZ w32 least) (edgesOf words) i last found
+Inv-loop words least linked n last₀ found₀ i₀ last found i = Searched (toZ w32 least) linked (edgesOf words) i last found
 
 abbrev μ-loop : tie.MeasureT-loop
-μ-loop words least n last₀ found₀ i₀ last found i = n - i
+μ-loop words least linked n last₀ found₀ i₀ last found i = n - i
 
--- ---- the turn, from where the gap's start is known
+-- ---- the turn, from where the edge is known to be done, and from where the pair's start is known
+abbrev known : tie.After-asked-for Inv-loop μ-loop → tie.In-loop Inv-loop μ-loop
+known c = c .before .before .before .before
+
 abbrev turn : tie.After-index-or Inv-loop μ-loop → tie.In-loop Inv-loop μ-loop
-turn c = c .before .before .before .before
+turn c = known (c .before .before)
 
--- the visited edge, and the one that its gap starts at, are edges, and places of the table
+-- the visited edge, and the one that its pair starts at, are edges, and places of the table
 of-axis : (c : tie.In-loop Inv-loop μ-loop) → c .before .loop .i < edgesOf (c .before .before .args .words .now) .len
 of-axis c = omega (arith, c .loop-test .taken, edges-len (c .before .before .args .words .now))
 
@@ -35,29 +38,49 @@ inside : (c : tie.In-loop Inv-loop μ-loop) → c .before .loop .i < mostEdges
 inside c = omega (arith, c .loop-test .taken, c .before .before .pre .0 .few)
 
 start-in : (c : tie.After-index-or Inv-loop μ-loop) → c .index-or .result < edgesOf (turn c .before .before .args .words .now) .len
-start-in c = let t = turn c in starts-inside _ _ _ _ _ (t .before .loop .inv) (of-axis t) _ (c .index-or .ensures)
-
-start-inside : (c : tie.After-index-or Inv-loop μ-loop) → c .index-or .result < mostEdges
-start-inside c = omega (arith, start-in c, turn c .before .before .pre .1 .few)
+start-in c = let t = turn c in starts-inside _ _ _ _ _ _ (t .before .loop .inv) (of-axis t) _ (c .index-or .ensures)
 
 -- ---- the answers
 loop-holds : tie.Need-loop-holds Inv-loop μ-loop
-loop-holds c = search-starts _ _
+loop-holds c = search-starts _ _ _
 
 fit-in-requires : tie.Need-fit-in-requires Inv-loop μ-loop
 fit-in-requires c κs = (c .before .before .pre .0, c .loop-test .taken)
 
+add-found : tie.Need-add-found Inv-loop μ-loop
+add-found c =
+    let t = c .before .before .before .before in omega (arith, search-few _ _ _ _ _ _ (t .before .loop .inv) (t .before .before .pre .1) .undone)
+
 add-i : tie.Need-add-i Inv-loop μ-loop
-add-i c = omega (arith, inside (c .before .before .before))
+add-i c = omega (arith, inside (c .before .before .before .before))
 
 loop-less : tie.Need-loop-less Inv-loop μ-loop
-loop-less c = omega (arith, c .before .before .before .loop-test .taken)
+loop-less c = omega (arith, c .before .before .before .before .loop-test .taken)
 
 loop-again : tie.Need-loop-again Inv-loop μ-loop
 loop-again c =
-    let f = c .before .before in
+    let f = c .before .before .before in
     let t = f .before in
-    search-skips _ _ _ _ _ (t .before .loop .inv) (of-axis t) (read-done (t .before .before .args .words .now) _ (f .fit-in .ensures) (not-true _ (c .if1 .taken)))
+    search-undone _ _ _ _ _ _ (t .before .loop .inv) (of-axis t) (read-done (t .before .before .args .words .now) _ (f .fit-in .ensures) (not-true _ (c .before .if1 .taken)))
+
+asked-for-requires : tie.Need-asked-for-requires Inv-loop μ-loop
+asked-for-requires c κs = search needs
+
+add-i-2 : tie.Need-add-i-2 Inv-loop μ-loop
+add-i-2 c = omega (arith, inside (known (c .before)))
+
+loop-less-2 : tie.Need-loop-less-2 Inv-loop μ-loop
+loop-less-2 c = omega (arith, known (c .before) .loop-test .taken)
+
+loop-again-2 : tie.Need-loop-again-2 Inv-loop μ-loop
+loop-again-2 c =
+    let a = c .before in
+    let f = a .before .before .before in
+    let t = f .before in
+    let s = t .before .before in
+    let ws = s .args .words .now in
+    search-skips _ _ _ _ _ _ (t .before .loop .inv) (of-axis t) (read-done ws _ (f .fit-in .ensures) (not-false _ (a .before .if1 .left))) _
+    (read-asked ws _ (f .fit-in .ensures) (s .args .linked) (a .asked-for .ensures)) (not-true _ (c .if2 .taken))
 
 index-or-requires : tie.Need-index-or-requires Inv-loop μ-loop
 index-or-requires c κs = search needs
@@ -65,43 +88,44 @@ index-or-requires c κs = search needs
 fit-in-requires-2 : tie.Need-fit-in-requires-2 Inv-loop μ-loop
 fit-in-requires-2 c κs = let s = turn c .before .before in (s .pre .0, omega (arith, start-in c, edges-len (s .args .words .now)))
 
-gap-of-requires : tie.Need-gap-of-requires Inv-loop μ-loop
-gap-of-requires c κs =
+with-pair-requires : tie.Need-with-pair-requires Inv-loop μ-loop
+with-pair-requires c κs =
     let from = c .before in
-    let t = turn from in
+    let f = from .before .before .before .before .before in
+    let t = f .before in
     let s = t .before .before in
     let ws = s .args .words .now in
-    (start-inside from, inside t, read-placed ws _ (c .fit-in2 .ensures) (s .pre .1) (start-in from), read-placed ws _ (from .before .before .before .fit-in .ensures) (s .pre .1) (of-axis t))
+    (search-few _ _ _ _ _ _ (t .before .loop .inv) (s .pre .1), read-placed ws _ (c .fit-in2 .ensures) (s .pre .1) (start-in from), read-placed ws _ (f .fit-in .ensures) (s .pre .1) (of-axis t))
 
-with-gap-requires : tie.Need-with-gap-requires Inv-loop μ-loop
-with-gap-requires c κs = let t = turn (c .before .before) in found-few _ _ _ _ _ (t .before .loop .inv) (t .before .before .pre .1)
+cast-t18 : tie.Need-cast-t18 Inv-loop μ-loop
+cast-t18 c = omega (arith, inside (turn (c .before .before)))
 
-cast-t16 : tie.Need-cast-t16 Inv-loop μ-loop
-cast-t16 c = omega (arith, inside (turn (c .before .before .before)))
+add-i-3 : tie.Need-add-i-3 Inv-loop μ-loop
+add-i-3 c = omega (arith, inside (turn (c .before .before)))
 
-add-i-2 : tie.Need-add-i-2 Inv-loop μ-loop
-add-i-2 c = omega (arith, inside (turn (c .before .before .before)))
+loop-less-3 : tie.Need-loop-less-3 Inv-loop μ-loop
+loop-less-3 c = omega (arith, turn (c .before .before) .loop-test .taken)
 
-loop-less-2 : tie.Need-loop-less-2 Inv-loop μ-loop
-loop-less-2 c = omega (arith, turn (c .before .before .before) .loop-test .taken)
-
-loop-again-2 : tie.Need-loop-again-2 Inv-loop μ-loop
-loop-again-2 c =
-    let gap = c .before in
-    let two = gap .before in
+loop-again-3 : tie.Need-loop-again-3 Inv-loop μ-loop
+loop-again-3 c =
+    let two = c .before in
     let from = two .before in
-    let f = from .before .before .before in
+    let o = from .before in
+    let a = o .before in
+    let f = a .before .before .before in
     let t = f .before in
-    let ws = t .before .before .args .words .now in
-    search-steps _ _ _ _ _ (t .before .loop .inv) (of-axis t) (read-done ws _ (f .fit-in .ensures) (not-false _ (from .before .if1 .left))) _ _ _ (from .index-or .ensures)
-    (read-gap ws _ (two .fit-in2 .ensures) _ (f .fit-in .ensures) (gap .gap-of .ensures)) (c .with-gap .ensures)
+    let s = t .before .before in
+    let ws = s .args .words .now in
+    search-steps _ _ _ _ _ _ (t .before .loop .inv) (of-axis t) (read-done ws _ (f .fit-in .ensures) (not-false _ (a .before .if1 .left))) _
+    (read-asked ws _ (f .fit-in .ensures) (s .args .linked) (a .asked-for .ensures)) (not-false _ (o .if2 .left)) _ _ (from .index-or .ensures)
+    (read-pair ws _ (two .fit-in2 .ensures) (toZ w32 (ofZ w32 (s .args .least))) (t .before .loop .found) _ (f .fit-in .ensures) (c .with-pair .ensures))
 
 returns : tie.Need-returns Inv-loop μ-loop
 returns c =
     let l = c .before in
     let s = l .before in
     let ws = s .args .words .now in
-    search-ends _ _ _ _ _ (l .loop .inv) (omega (arith, c .loop-test .left, edges-len ws)) ∙ ap (λ (z : ℤ). foundIn z (edgesOf ws)) (is (s .fits .least))
+    search-ends _ _ _ _ _ _ (l .loop .inv) (omega (arith, c .loop-test .left, edges-len ws)) ∙ ap (λ (z : ℤ). foundIn z (s .args .linked) (edgesOf ws)) (is (s .fits .least))
 
 pub find-in-spec : {M : Type 1} → statement M
 find-in-spec =
@@ -111,15 +135,19 @@ find-in-spec =
     μ-loop
     loop-holds
     fit-in-requires
+    add-found
     add-i
     loop-less
     loop-again
-    index-or-requires
-    fit-in-requires-2
-    gap-of-requires
-    with-gap-requires
-    cast-t16
+    asked-for-requires
     add-i-2
     loop-less-2
     loop-again-2
+    index-or-requires
+    fit-in-requires-2
+    with-pair-requires
+    cast-t18
+    add-i-3
+    loop-less-3
+    loop-again-3
     returns)
