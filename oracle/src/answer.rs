@@ -94,13 +94,15 @@ fn of_requests(w: &mut Words, job: Job) {
             w.segments(&segments);
             w.edges(edges.count, &edges.items);
         }
-        Job::Gaps(edges, least) => {
-            let (count, gap) = number(w, gaps::lost_gaps(&edges, least)).unwrap_or((0, None));
-            w.count("count", count);
-            index(w, "first edge", gap.map(|gap| gap.first));
-            index(w, "second edge", gap.map(|gap| gap.second));
-            w.put("width before", gap.map_or(0, |gap| gap.before));
-            w.put("width after", gap.map_or(0, |gap| gap.after));
+        Job::Gaps(edges, least, linked) => {
+            let lost = number(w, gaps::lost_gaps(&edges, least, linked)).unwrap_or_default();
+            w.count("gaps lost", lost.gaps);
+            index(w, "first edge", lost.first.map(|pair| pair.first));
+            index(w, "second edge", lost.first.map(|pair| pair.second));
+            w.put("width before", lost.first.map_or(0, |pair| pair.before));
+            w.put("width after", lost.first.map_or(0, |pair| pair.after));
+            w.count("stems lost", lost.stems);
+            w.count("not done", lost.not_done);
         }
         Job::WriteFrame(points, mut line) => {
             let digits = number(w, frames::write_frame(&points, &mut line));

@@ -219,7 +219,7 @@ impl Reader<'_> {
             114 => Job::MLent(self.lent()?, self.group()?),
             122 => Job::Joined(self.edges()?, self.joined()?),
             124 => Job::TurnOver(self.segments()?, self.edges()?),
-            127 => Job::Gaps(self.edges()?, self.word()?),
+            127 => Job::Gaps(self.edges()?, self.word()?, self.choice()?),
             _ => return None,
         })
     }

@@ -131,7 +131,7 @@ pub enum Job {
     Catalogue(Catalogue),
     Joined(Table<Edge>, Joined),
     TurnOver(Table<Segment>, Table<Edge>),
-    Gaps(Table<Edge>, i32),
+    Gaps(Table<Edge>, i32, bool),
     WriteFrame(Points, Vec<u8>),
     ReadFrame(Vec<u8>),
 }

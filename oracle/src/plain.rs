@@ -1,7 +1,7 @@
 //! The path and the guard as one would write them for speed, for benchmarks: one pass over the points, each step pushed behind the one before, and one over the edges.
 
 use crate::{
-    gaps::Gap,
+    gaps::{Lost, Pair},
     job::{Edge, TopoFlags, Walk},
     path::{Place, Step},
 };
@@ -68,26 +68,35 @@ fn halfway(walk: &Walk, a: usize, b: usize) -> Place {
     }
 }
 
-/// How many gaps of accepted edges are lost, and the first of them: the last done edge is kept from edge to edge.
-pub fn lost_gaps(edges: &[Edge], least: i32) -> (usize, Option<Gap>) {
-    let (mut count, mut found) = (0, None);
+/// What is lost of accepted edges: the last edge that counts is kept from edge to edge, and positions are shifted to the rows below them.
+pub fn lost_gaps(edges: &[Edge], least: i32, linked: bool) -> Lost {
+    let mut lost = Lost::default();
     let mut last: Option<(usize, &Edge)> = None;
     for (second, high) in edges.iter().enumerate() {
         if !high.flags.contains(TopoFlags::DONE) {
+            lost.not_done += 1;
+            continue;
+        }
+        if linked && high.link_ix.is_none() {
             continue;
         }
         if let Some((first, low)) = last.replace((second, high)) {
             let (before, after) = (high.opos - low.opos, high.pos - low.pos);
-            if before >= least && (after < 0 || after == 0 && before > 0) {
-                count += 1;
-                found.get_or_insert(Gap {
+            let is_stem = low.link_ix == Some(second as u16) || high.link_ix == Some(first as u16);
+            let has_row = (low.pos + 31) >> 6 < (high.pos + 31) >> 6;
+            if (is_stem || before >= least) && (after < 0 || before > 0 && !has_row) {
+                lost.stems += usize::from(is_stem);
+                lost.gaps += usize::from(!is_stem);
+                lost.first.get_or_insert(Pair {
                     first,
                     second,
                     before,
                     after,
+                    is_stem,
+                    has_row,
                 });
             }
         }
     }
-    (count, found)
+    lost
 }

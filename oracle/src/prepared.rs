@@ -44,7 +44,7 @@ enum Call {
     CjkStem(usize, usize, i32),
     Stems(bool, Option<usize>),
     Joined(bool),
-    Gaps(i32),
+    Gaps(i32, bool),
     M,
 }
 
@@ -125,7 +125,10 @@ impl Prepared {
                 let group = given.group;
                 (edges, given.dim, group, given.rule, given.stem_adjust, call)
             }
-            Job::Gaps(edges, least) => (edges, Horizontal, Default, keep, false, Call::Gaps(least)),
+            Job::Gaps(edges, least, linked) => {
+                let call = Call::Gaps(least, linked);
+                (edges, Horizontal, Default, keep, false, call)
+            }
             Job::M(edges, group) => (edges, Horizontal, group, keep, false, Call::M),
             Job::MLent(edges, group) => (Table::of(edges), Horizontal, group, keep, false, Call::M),
             _ => unreachable!("the other jobs are not over edges"),
@@ -240,8 +243,8 @@ impl Fitting {
                     None,
                 ));
             }
-            Call::Gaps(least) => {
-                black_box(plain::lost_gaps(&axis.edges, least));
+            Call::Gaps(least, linked) => {
+                black_box(plain::lost_gaps(&axis.edges, least, linked));
             }
             Call::M => {
                 hint_edges::hint_lowercase_m(&mut axis.edges, group);

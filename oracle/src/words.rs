@@ -315,7 +315,10 @@ fn behind_edges(w: &mut Words, job: &Job) {
         Job::Stems(_, given) => stems(w, given),
         Job::M(_, group) => w.group(*group),
         Job::Joined(_, given) => joined(w, given),
-        Job::Gaps(_, least) => w.put("least", *least),
+        Job::Gaps(_, least, linked) => {
+            w.put("least", *least);
+            w.choice("linked", *linked);
+        }
         _ => unreachable!("the other calls are not on a table of edges"),
     }
 }

@@ -35,8 +35,11 @@ pub fn line(call: usize, random: &mut Random) -> Vec<u8> {
     let small = random.below(4) > 0;
     let mut words = encode(&job(call, small, random));
     let marks = marks(&words);
+    let linked = words.names.iter().position(|name| *name == "linked");
     if !marks.is_empty() && random.once_in(8) {
         words.values[random.pick(&marks)] = random.pick(&[-1, 0, 9, 10]);
+    } else if let Some(ix) = linked.filter(|_| random.once_in(8)) {
+        words.values[ix] = random.pick(&WORDS);
     } else if random.below(3) > 0 {
         damage_words(&mut words.values, random);
     } else {

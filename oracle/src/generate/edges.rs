@@ -4,6 +4,7 @@ use super::{group, segments, Random};
 use crate::{
     calls,
     job::{Direction, Edge, Mark, ScaledWidth, ScriptGroup, Table, TopoFlags, WidthRule},
+    limits::POSITION,
 };
 
 /// The rounds in which edges get flags, blues and links, and how often each.
@@ -188,26 +189,72 @@ fn zone(opos: i32, random: &mut Random) -> ScaledWidth {
     ScaledWidth { fitted }
 }
 
-/// Edges as a fitting may leave them, some or few of them done: gaps between these are kept, closed, turned, or were none.
+/// Edges as a fitting may leave them, some or few of them done: gaps and stems between these are kept, narrowed below a pixel row, closed, turned, or were none.
 pub fn gapped(small: bool, random: &mut Random) -> Vec<Edge> {
     let mut edges = edges(small, random);
     let done = random.pick(&[1, 1, 2, 4]);
     let gap = random.pick(&[1, 3, 40, 100]);
     let falls = random.pick(&[0, 0, 1, gap]);
     let strays = random.pick(&[0, 1, gap, 2 * gap, 8_000_000]);
-    let mut before = Edge::default();
-    for edge in &mut edges {
+    let near = random.coin();
+    let start = random.between(-500, 500);
+    let count = edges.len();
+    let mut before = Edge {
+        opos: start,
+        pos: start,
+        ..Edge::default()
+    };
+    for (ix, edge) in edges.iter_mut().enumerate() {
         edge.flags = flags(done, random);
         edge.opos = before.opos + random.between(-falls, gap);
-        edge.pos = match random.below(5) {
+        edge.pos = match random.below(8) {
             0 => before.pos,
             1 => before.pos + random.between(-1, 1),
             2 => before.pos - random.between(0, gap),
+            3 => before.pos + random.between(0, 70),
+            4 => about_a_centre(before.pos, random),
             _ => edge.opos + random.between(-strays, strays),
         };
+        if near {
+            edge.link_ix = near_link(ix, count, random);
+        }
         before = *edge;
     }
+    if random.once_in(4) {
+        to_an_end(&mut edges, random);
+    }
     edges
+}
+
+/// A position at a centre of a pixel near another one, or a unit beside it.
+fn about_a_centre(pos: i32, random: &mut Random) -> i32 {
+    let pixel = pos.div_euclid(64) + random.between(0, 1);
+    64 * pixel + 32 + random.between(-1, 1)
+}
+
+/// A link to a neighbour or the one behind that, on either side, to the edge itself, to any edge, or none.
+fn near_link(ix: usize, count: usize, random: &mut Random) -> Option<u16> {
+    let link = match random.below(8) {
+        0..=1 => return None,
+        2 => random.below(count),
+        3 => ix,
+        _ => (ix + random.pick(&[0, 1, 1, 3, 3, 4])).saturating_sub(2),
+    };
+    Some(link.min(count - 1) as u16)
+}
+
+/// Moves all positions so that the highest or the lowest is at the end of what a position may be.
+fn to_an_end(edges: &mut [Edge], random: &mut Random) {
+    let positions = || edges.iter().map(|edge| edge.pos);
+    let (lowest, highest) = (positions().min(), positions().max());
+    let moved = if random.coin() {
+        POSITION.start() - lowest.unwrap_or(0)
+    } else {
+        POSITION.end() - highest.unwrap_or(0)
+    };
+    for edge in edges {
+        edge.pos += moved;
+    }
 }
 
 /// What an edge table may hold before building: anything.

@@ -162,7 +162,7 @@ fn resize_on_edges(job: &mut Job, random: &mut Random) {
         Job::Serif(edges, ..) | Job::Bounds(edges, _) => {
             resize_edges(edges, random);
         }
-        Job::Gaps(edges, least) => {
+        Job::Gaps(edges, least, _) => {
             resize_edges(edges, random);
             if random.once_in(4) {
                 *least = -1;

@@ -164,7 +164,7 @@ fn blues_and_stems(small: bool, random: &mut Random) -> Job {
     Job::Joined(Table::of(edges), given)
 }
 
-/// A job of the guard: mostly on edges whose gaps are lost here and there, or on what blues and stems leave, with a least width about that of a gap.
+/// A job of the guard: mostly on edges whose gaps and stems are lost here and there, or on what blues and stems leave, with a least width about that of a pair.
 fn gaps(small: bool, random: &mut Random) -> Job {
     let edges = match blues_and_stems(small, random) {
         Job::Joined(mut edges, given) if random.once_in(4) => {
@@ -174,13 +174,13 @@ fn gaps(small: bool, random: &mut Random) -> Job {
         _ => edges::gapped(small, random),
     };
     let ix = random.below(edges.len());
-    let gap = edges[ix].opos - edges[ix.saturating_sub(random.below(3) + 1)].opos;
+    let width = edges[ix].opos - edges[ix.saturating_sub(random.below(3) + 1)].opos;
     let least = match random.below(3) {
-        0 => random.pick(&[0, 1, 32, 64, 16_383]),
+        0 => random.pick(&[0, 1, 31, 32, 33, 64, 16_383]),
         1 => 0,
-        _ => (gap + random.between(-1, 1)).clamp(0, 16_383),
+        _ => (width + random.between(-1, 1)).clamp(0, 16_383),
     };
-    Job::Gaps(Table::of(edges), least)
+    Job::Gaps(Table::of(edges), least, random.coin())
 }
 
 /// A job of the CJK stem: mostly a narrow one.
