@@ -40,7 +40,7 @@ static const char *const formats[] = {
     [114] = "Lc",         /* hint_lowercase_m, lent list: edges, group */
     [122] = "EcccccN",    /* align_blues_and_stems: edges, dimension, group, stem adjust, top to bottom, width rule */
     [124] = "SE",         /* turn_over: segments, edges */
-    [127] = "Ew"          /* lost_gaps: edges, least width */
+    [127] = "Ewc"         /* lost_gaps: edges, least width, linked */
 };
 enum { CALLS = sizeof formats / sizeof formats[0], MOST_ITEMS = 10 };
 
@@ -345,13 +345,15 @@ static void answer_turned(const struct job *job)
 static void answer_gaps(const struct job *job)
 {
     khs_length len = lend(&job->list[0], KHS_EDGE_WORDS, KHS_MOST_EDGES);
-    int32_t count = 0, first = KHS_NONE, second = KHS_NONE, before = 0, after = 0;
-    say(khs_lost_gaps(LIST(table, len), job->number[0], &count, &first, &second, &before, &after));
+    int32_t count = 0, first = KHS_NONE, second = KHS_NONE, before = 0, after = 0, stems = 0, not_done = 0;
+    say(khs_lost_gaps(LIST(table, len), job->number[0], job->number[1], &count, &first, &second, &before, &after, &stems, &not_done));
     say(count);
     say(first);
     say(second);
     say(before);
     say(after);
+    say(stems);
+    say(not_done);
 }
 
 /* The calls over edges. What they hand back beside stands between their number and the edges. */

@@ -13,7 +13,7 @@ static int32_t originals[POINTS], currents[POINTS], standards[STANDARDS];
 static uint8_t touched[POINTS];
 static uint16_t ends[POINTS / 4], point_counts[] = {POINTS}, contour_counts[] = {POINTS / 4};
 static uint8_t own_answer;
-static int32_t first, second, third, fourth, fifth;
+static int32_t first, second, third, fourth, fifth, sixth, seventh;
 static uint8_t kinds[POINTS + 2 * (POINTS / 4)];
 static float places[4 * sizeof kinds];
 static uint32_t number, contours;
@@ -60,7 +60,7 @@ static uint8_t write_frame(void) { return khs_write_frame(originals, FRAMED, cur
 static uint8_t read_frame(void) {
     return khs_read_frame(line, sizeof line, originals, FRAMED, currents, FRAMED, touched, FRAMED, ends, FRAMED, &number, &contours);
 }
-static uint8_t guard(void) { return khs_lost_gaps(edge_words(), EDGE_LIST, 0, &first, &second, &third, &fourth, &fifth); }
+static uint8_t guard(void) { return khs_lost_gaps(edge_words(), EDGE_LIST, 0, adjusted, &first, &second, &third, &fourth, &fifth, &sixth, &seventh); }
 static uint8_t lowercase_m(void) { return khs_hint_lowercase_m(edge_words(), 12 * KHS_EDGE_WORDS, group); }
 
 static const struct {

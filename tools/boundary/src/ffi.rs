@@ -130,11 +130,14 @@ extern "C" {
         edges: *const i32,
         edges_len: usize,
         least: i32,
+        linked: i32,
         count: *mut i32,
         first: *mut i32,
         second: *mut i32,
         before: *mut i32,
         after: *mut i32,
+        stems: *mut i32,
+        not_done: *mut i32,
     ) -> u8;
     pub fn khs_path_step(
         xs: *const i32,

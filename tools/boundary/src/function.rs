@@ -215,11 +215,11 @@ pub static FUNCTIONS: [Function; 13] = [
         name: "khs_lost_gaps",
         call: 127,
         record: &EDGE,
-        numbers: &[Free],
+        numbers: &[Free, Choice],
         rule: None,
-        plain: &[0],
+        plain: &[0, 0],
         scale: None,
-        places: 5,
+        places: 7,
     },
     Function {
         name: "khs_turn_over",
@@ -243,7 +243,7 @@ pub const TURNING: i32 = 124;
 pub const GUARD: i32 = 127;
 
 /// The most places that a function is lent.
-const PLACES: usize = 5;
+const PLACES: usize = 7;
 
 /// What everything lent holds, before a call or after it.
 #[derive(Clone, PartialEq, Debug)]
@@ -379,7 +379,7 @@ fn call(call: i32, lists: &Pointers, n: &[i32]) -> u8 {
         room_len,
         standards,
         standards_len,
-        places: [first, second, third, fourth, fifth],
+        places: [first, second, third, fourth, fifth, sixth, seventh],
     } = *lists;
     // SAFETY: each pointer and length is of one list in memory of its own, but for a list that cannot be read: that one is too long, or not of whole records, and a
     // function that looked into it would be stopped.
@@ -447,7 +447,9 @@ fn call(call: i32, lists: &Pointers, n: &[i32]) -> u8 {
                 second,
             ),
             124 => ffi::khs_turn_over(table, len, room, room_len),
-            127 => ffi::khs_lost_gaps(table, len, n[0], first, second, third, fourth, fifth),
+            127 => ffi::khs_lost_gaps(
+                table, len, n[0], n[1], first, second, third, fourth, fifth, sixth, seventh,
+            ),
             _ => unreachable!("no function has this call"),
         }
     }
