@@ -302,7 +302,7 @@ fn guard() -> Vec<Case> {
     let fitting = by_group("guard", 122, edges::on_zones, on_zones);
     let asked = |case: &Case| {
         // answer, count and anchor stand in front of the edges that are left
-        let ask = |job: &Vec<i32>| [&[127], &port::answer(job)[3..], &[32]].concat();
+        let ask = |job: &Vec<i32>| [&[127], &port::answer(job)[3..], &[32, 0]].concat();
         let jobs = case.jobs.iter().map(ask).collect();
         Case::own(case.name, case.kind.clone(), case.size, jobs, far_edge)
     };

@@ -1,7 +1,7 @@
 //! Job lines answered by the library's functions, each by its own call; `jobs` answers those alone whose call the wrapper does not have.
 
 use crate::{
-    port::{self, Beside, Call, Prepared, NO_GAP},
+    port::{self, Beside, Call, Prepared, NO_PAIR},
     records,
 };
 use khsaemudol::{PathStep, Refusal, EDGE_WORDS, SEGMENT_WORDS};
@@ -89,7 +89,7 @@ pub fn answer(words: &[i32]) -> Vec<i32> {
         Prepared::Job(_, out) => answer.extend(out),
         Prepared::Edges(given, edges, call) => {
             answer.extend(beside(call, done));
-            if !matches!(call, Call::Bounds(_) | Call::Gaps(_)) {
+            if !matches!(call, Call::Bounds(_) | Call::Gaps(..)) {
                 let carried = if words[0] == LENT_M {
                     edges.len()
                 } else {
@@ -140,7 +140,7 @@ fn beside(call: &Call, done: Option<Beside>) -> Vec<i32> {
         Call::CjkStem(..) => &[0],
         Call::Bounds(_) => &[-1, -1],
         Call::Stems(..) | Call::Joined(..) | Call::Apart(..) => &[0, -1],
-        Call::Gaps(_) => &NO_GAP,
+        Call::Gaps(..) => &NO_PAIR,
         Call::Linked(..) | Call::Serif(..) | Call::Adjust(..) | Call::M(_) => &[],
     };
     let words = done.as_ref().map_or(none, |words| &words[..none.len()]);

@@ -95,7 +95,7 @@ pub enum Call {
     Joined(job::Joined, Rule),
     /// The same by a call each.
     Apart(job::Joined, Rule),
-    Gaps(i32),
+    Gaps(i32, bool),
     M(Group),
 }
 
@@ -174,13 +174,13 @@ pub fn catalogue(given: &job::Catalogue) -> Catalogue<'_> {
 }
 
 /// What a call hands back beside its lists: its words in front, and 0 behind.
-pub type Beside = [i32; 5];
+pub type Beside = [i32; 7];
 
 /// Nothing beside the lists.
-const NOTHING: Beside = [0; 5];
+const NOTHING: Beside = [0; 7];
 
-/// What the guard hands back where no gap is lost.
-pub const NO_GAP: Beside = [0, -1, -1, 0, 0];
+/// What the guard hands back beside a refusal: nothing lost, and no pair.
+pub const NO_PAIR: Beside = [0, -1, -1, 0, 0, 0, 0];
 
 /// One word.
 fn one(word: i32) -> Beside {
@@ -189,7 +189,20 @@ fn one(word: i32) -> Beside {
 
 /// Two words.
 fn two(first: i32, second: i32) -> Beside {
-    [first, second, 0, 0, 0]
+    [first, second, 0, 0, 0, 0, 0]
+}
+
+/// What the guard tells.
+fn told(lost: LostGaps) -> Beside {
+    let count = |count: usize| count as i32;
+    let mut words = lost.first.map_or(NO_PAIR, |pair| {
+        let (first, second) = (pair.first.into(), pair.second.into());
+        [0, first, second, pair.before, pair.after, 0, 0]
+    });
+    words[0] = count(lost.gaps);
+    words[5] = count(lost.stems);
+    words[6] = count(lost.not_done);
+    words
 }
 
 /// An index or its absence as a word.
@@ -246,7 +259,7 @@ impl Prepared {
                 let rule = Rule::of(given.rule.clone());
                 Call::Joined(given, rule)
             }
-            Job::Gaps(_, least) => Call::Gaps(least),
+            Job::Gaps(_, least, linked) => Call::Gaps(least, linked),
             Job::M(_, script) => Call::M(group(script)),
             Job::MLent(_, script) => {
                 let given = records::given(words, LENT);
@@ -417,16 +430,7 @@ impl Call {
                 } = khsaemudol::align_stem_edges(edges, &given)?;
                 two(passed_over as i32, word(anchor))
             }
-            Self::Gaps(least) => match khsaemudol::lost_gaps(edges, *least)? {
-                Some(LostGaps {
-                    count,
-                    first,
-                    second,
-                    before,
-                    after,
-                }) => [count as i32, first.into(), second.into(), before, after],
-                None => NO_GAP,
-            },
+            Self::Gaps(least, linked) => told(khsaemudol::lost_gaps(edges, *least, *linked)?),
             Self::M(group) => {
                 khsaemudol::hint_lowercase_m(edges, *group)?;
                 NOTHING

@@ -14,6 +14,9 @@ use std::ops::RangeInclusive;
 /// The least gap that may not be lost, for the guard: half a pixel.
 pub const LEAST_GAP: i32 = PIXEL / 2;
 
+/// The guard looks at edges with a link alone: an open stroke's end inside a stem is no side of a gap.
+const LINKED: bool = true;
+
 /// The edge counts that the rule of the lowercase m is for.
 const M_EDGES: [usize; 2] = [6, 12];
 
@@ -46,8 +49,8 @@ pub struct FittedAxis {
     pub dimension: Dimension,
     pub segments: Vec<Segment>,
     pub edges: Vec<Edge>,
-    /// The gaps that the guard found lost.
-    pub guard: Option<LostGaps>,
+    /// What the guard found lost.
+    pub guard: LostGaps,
     /// Where the points were, in units.
     pub before: Vec<i32>,
     /// Where they came to.
@@ -170,7 +173,7 @@ fn fit_axis(axis: &Axis) -> Result<FittedAxis, Refused> {
     if axis.is_m && M_EDGES.contains(&edges.len()) {
         hint_lowercase_m(edges, building.group).map_err(at(&step("lowercase m")))?;
     }
-    let guard = lost_gaps(edges, LEAST_GAP).map_err(at(&step("guard")))?;
+    let guard = lost_gaps(edges, LEAST_GAP, LINKED).map_err(at(&step("guard")))?;
     let (after, placing) =
         align_points(axis, &segments, edges).map_err(at(&step("weak points")))?;
     Ok(FittedAxis {

@@ -125,16 +125,22 @@ pub fn guard(fitted: &Fitted) -> Option<String> {
 
 /// What the guard says of an axis, where it says something.
 fn guard_of(axis: &FittedAxis) -> Option<String> {
-    let lost = axis.guard?;
-    let (before, after) = (pixels(lost.before), pixels(lost.after));
-    let s = if lost.count == 1 { "" } else { "s" };
+    let lost = axis.guard;
+    let pair = lost.first?;
+    let (before, after) = (pixels(pair.before), pixels(pair.after));
     Some(format!(
-        "{} gap{s} of the {} lost, the first between edges {} and {}, from {before} to {after} pixels",
-        lost.count,
+        "{} of the {} lost, the first between edges {} and {}, from {before} to {after} pixels",
+        joined([counted(lost.gaps, "gap"), counted(lost.stems, "stem")])?,
         name(axis.dimension),
-        lost.first,
-        lost.second
+        pair.first,
+        pair.second
     ))
+}
+
+/// So many things, or none where there are none.
+fn counted(count: usize, thing: &str) -> Option<String> {
+    let s = if count == 1 { "" } else { "s" };
+    (count > 0).then(|| format!("{count} {thing}{s}"))
 }
 
 /// Units in pixels and 64ths.

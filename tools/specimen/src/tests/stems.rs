@@ -4,7 +4,7 @@ use crate::{
     chain::{Fitted, FittedAxis, Placing},
     findings::{judge, What},
 };
-use khsaemudol::{path, Dimension, Edge, Flags, Outline, PathStep, Segment};
+use khsaemudol::{path, Dimension, Edge, Flags, LostGaps, Outline, PathStep, Segment};
 
 /// An axis of points that were and are at these places; an edge for each stem's two sides, given by the points of each.
 fn axis(
@@ -29,7 +29,7 @@ fn axis(
             .map(|side| Segment::default().with_edge(Some(side as u16)))
             .collect(),
         edges: sides.iter().enumerate().map(edge).collect(),
-        guard: None,
+        guard: LostGaps::default(),
         before: before.to_vec(),
         after: after.to_vec(),
         placing: vec![Placing::Touched; before.len()],
