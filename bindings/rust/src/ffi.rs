@@ -157,11 +157,14 @@ extern "C" {
         edges: *const i32,
         edges_len: Length,
         least: i32,
+        linked: i32,
         count: *mut i32,
         first: *mut i32,
         second: *mut i32,
         before: *mut i32,
         after: *mut i32,
+        stems: *mut i32,
+        not_done: *mut i32,
     ) -> u8;
 
     fn khs_path_step(
@@ -498,12 +501,16 @@ pub fn hint_lowercase_m(edges: &mut [Edge], group: i32) -> u8 {
     unsafe { khs_hint_lowercase_m(words, len, group) }
 }
 
-/// The places are for the count, the two edges and the two widths.
-pub fn lost_gaps(edges: &[Edge], least: i32, places: &mut [i32; 5]) -> u8 {
+/// The places are for the count of gaps, the two edges and the two widths of the first pair, the count of stems and that of edges that are not done.
+pub fn lost_gaps(edges: &[Edge], least: i32, linked: i32, places: &mut [i32; 7]) -> u8 {
     let (words, len) = (edges.as_ptr().cast(), length(edges) * EDGE_WORDS as Length);
-    let [count, first, second, before, after] = places;
-    // SAFETY: one slice and five places, which are lent to this call alone.
-    unsafe { khs_lost_gaps(words, len, least, count, first, second, before, after) }
+    let [count, first, second, before, after, stems, not_done] = places;
+    // SAFETY: one slice and seven places, which are lent to this call alone.
+    unsafe {
+        khs_lost_gaps(
+            words, len, least, linked, count, first, second, before, after, stems, not_done,
+        )
+    }
 }
 
 pub fn path_step(

@@ -1,48 +1,68 @@
-//! The guard: has fitting lost a gap?
+//! The guard: what of a fitted axis does a display not show any more?
 
 use crate::{ffi, field, Edge, Refusal};
 
-/// The gaps that fitting lost: how many, and the first of them.
-#[derive(Clone, Copy, Debug, PartialEq, Eq)]
+/// What fitting lost between placed edges, as a display shows it.
+#[derive(Clone, Copy, Debug, Default, PartialEq, Eq)]
 pub struct LostGaps {
-    /// How many gaps are lost, at least one.
-    pub count: usize,
-    /// The edge in front of the first of them.
+    /// How many gaps are lost.
+    pub gaps: usize,
+    /// How many stems are lost.
+    pub stems: usize,
+    /// The first pair of edges that is lost, of a gap or of a stem.
+    pub first: Option<LostPair>,
+    /// How many edges are not done: these are not guarded.
+    pub not_done: usize,
+}
+
+/// Two edges between which a display shows nothing any more, or that are turned.
+#[derive(Clone, Copy, Debug, PartialEq, Eq)]
+pub struct LostPair {
+    /// The lower edge.
     pub first: u16,
-    /// The edge behind it.
+    /// The upper one.
     pub second: u16,
-    /// How wide it was, in units.
+    /// How far apart they were, in units.
     pub before: i32,
-    /// How wide it is: 0 where it is closed, and below 0 where it is turned.
+    /// How far apart they are: below 0 where they are turned.
     pub after: i32,
 }
 
-/// Tells whether fitting lost a gap, so that a glyph may be shown otherwise that would be shown wrong: unfitted, or at another size.
+/// Tells what fitting lost: gaps and stems that have no pixel row left on a display that colours a pixel by its centre, or that are turned.
 ///
-/// A gap is two done edges with no done edge between them in the list. It is lost where it was at least `least` wide, 0 to 16,383 units, and is now turned, or closed
-/// though it was open. Half a pixel, 32, is a good least width: gaps below that may well close.
+/// A pair is two edges that count with none that counts between them in the list. Those count that are done, and with `linked` only those of them that have a link. The
+/// pair is a stem where one names the other by link, else a gap. A gap is lost where it was at least `least` wide, 0 to 16,383 units, and is now turned, or without a pixel
+/// row though it was above 0 wide; a stem, whatever its width. Rows are the centres 64 k + 32 from the first position on and below the second.
 ///
 /// ```
-/// use khsaemudol::{lost_gaps, Edge, Flags, LostGaps};
+/// use khsaemudol::{lost_gaps, Edge, Flags, LostGaps, LostPair};
 ///
-/// let done = |opos: i32, pos: i32| Edge::default().with_opos(opos).with_pos(pos).with_flags(Flags::DONE);
-/// // a bar from 0 to 64, and one from 100 on, which was fitted against it
-/// let edges = [done(0, 0), done(64, 64), done(100, 64), done(164, 128)];
-/// let lost = LostGaps { count: 1, first: 1, second: 2, before: 36, after: 0 };
-/// assert_eq!(lost_gaps(&edges, 32)?, Some(lost));
-/// assert_eq!(lost_gaps(&edges, 37)?, None);
+/// let done = |opos: i32, pos: i32, link: u16| {
+///     let edge = Edge::default().with_opos(opos).with_pos(pos);
+///     edge.with_flags(Flags::DONE).with_link(Some(link))
+/// };
+/// // a bar from 87 to 157, and one from 223 on, which was fitted against it: 3 units are left, and no white row
+/// let edges = [done(87, 119, 1), done(157, 189, 0), done(223, 192, 3), done(287, 256, 2)];
+/// let pair = LostPair { first: 1, second: 2, before: 66, after: 3 };
+/// let lost = LostGaps { gaps: 1, first: Some(pair), ..LostGaps::default() };
+/// assert_eq!(lost_gaps(&edges, 32, true)?, lost);
+/// assert_eq!(lost_gaps(&edges, 67, true)?, LostGaps::default());
 /// # Ok::<(), khsaemudol::Refusal>(())
 /// ```
-pub fn lost_gaps(edges: &[Edge], least: i32) -> Result<Option<LostGaps>, Refusal> {
-    let mut places = [0, -1, -1, 0, 0];
-    Refusal::of(ffi::lost_gaps(edges, least, &mut places))?;
-    let [count, first, second, before, after] = places;
+pub fn lost_gaps(edges: &[Edge], least: i32, linked: bool) -> Result<LostGaps, Refusal> {
+    let mut places = [0, -1, -1, 0, 0, 0, 0];
+    Refusal::of(ffi::lost_gaps(edges, least, linked.into(), &mut places))?;
+    let [gaps, first, second, before, after, stems, not_done] = places;
     let named = field::index(first).zip(field::index(second));
-    Ok(named.map(|(first, second)| LostGaps {
-        count: count as usize,
-        first,
-        second,
-        before,
-        after,
-    }))
+    Ok(LostGaps {
+        gaps: gaps as usize,
+        stems: stems as usize,
+        first: named.map(|(first, second)| LostPair {
+            first,
+            second,
+            before,
+            after,
+        }),
+        not_done: not_done as usize,
+    })
 }

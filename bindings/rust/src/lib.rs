@@ -32,7 +32,7 @@ mod refusal;
 
 pub use choices::{Dimension, Group, Neighbour, Order, WidthRule};
 pub use field::{Direction, Flags, Mark};
-pub use gaps::{lost_gaps, LostGaps};
+pub use gaps::{lost_gaps, LostGaps, LostPair};
 pub use joined::{align_blues_and_stems, BluesAndStems};
 pub use log::{Job, MOST_DIGITS};
 pub use path::{path, path_step, Outline, Path, PathStep, PixelPoint};

@@ -706,41 +706,78 @@ fn lowercase_m() {
 #[test]
 fn guard() {
     let placed = |opos: i32, pos: i32| at(opos).with_pos(pos).with_flags(Flags::DONE);
-    // a gap closed, an edge that is not done, and a gap turned across it
+    let tied = |opos: i32, pos: i32, link: u16| placed(opos, pos).with_link(Some(link));
+    let lost = |gaps, stems, [first, second]: [u16; 2], [before, after]: [i32; 2], not_done| {
+        let pair = LostPair {
+            first,
+            second,
+            before,
+            after,
+        };
+        Ok(LostGaps {
+            gaps,
+            stems,
+            first: Some(pair),
+            not_done,
+        })
+    };
+    let nothing = |not_done| {
+        Ok(LostGaps {
+            not_done,
+            ..LostGaps::default()
+        })
+    };
+    // a gap without a row, an edge that is not done, and a gap turned across it
     let edges = [
         placed(0, 0),
-        placed(32, 0),
+        placed(32, 32),
         at(60).with_pos(500),
         placed(160, -64),
     ];
-    let lost = |count, first, second, before, after| LostGaps {
-        count,
-        first,
-        second,
-        before,
-        after,
-    };
-    assert_eq!(lost_gaps(&edges, 32), Ok(Some(lost(2, 0, 1, 32, 0))));
-    assert_eq!(lost_gaps(&edges, 33), Ok(Some(lost(1, 1, 3, 128, -64))));
-    assert_eq!(lost_gaps(&edges, 129), Ok(None));
-    // two edges at one place lose nothing while they stay there
+    let first = lost(2, 0, [0, 1], [32, 32], 1);
+    assert_eq!(lost_gaps(&edges, 32, false), first);
+    let second = lost(1, 0, [1, 3], [128, -96], 1);
+    assert_eq!(lost_gaps(&edges, 33, false), second);
+    assert_eq!(lost_gaps(&edges, 129, false), nothing(1));
+    assert_eq!(lost_gaps(&edges, 0, true), nothing(1));
+    // two bars that fuse
+    let bars = [
+        placed(0, 0),
+        tied(87, 119, 2),
+        tied(157, 189, 1),
+        tied(223, 192, 4),
+        tied(287, 256, 3),
+    ];
+    for linked in [false, true] {
+        let fused = lost(1, 0, [2, 3], [66, 3], 0);
+        assert_eq!(lost_gaps(&bars, 32, linked), fused);
+    }
+    // a stem, whatever its width
+    let stem = [tied(0, 33, 1), placed(1, 96)];
+    let vanished = lost(0, 1, [0, 1], [1, 63], 0);
+    assert_eq!(lost_gaps(&stem, 16_383, false), vanished);
+    assert_eq!(lost_gaps(&stem, 0, true), nothing(0));
+    // two edges at one place lose nothing while they are not turned
     let same = [placed(9, 70), placed(9, 70), placed(9, 69)];
-    assert_eq!(lost_gaps(&same, 0), Ok(Some(lost(1, 1, 2, 0, -1))));
-    assert_eq!(lost_gaps(&same[..2], 0), Ok(None));
-    assert_eq!(lost_gaps(&[], 0), Ok(None));
+    let turned = lost(1, 0, [1, 2], [0, -1], 0);
+    assert_eq!(lost_gaps(&same, 0, false), turned);
+    assert_eq!(lost_gaps(&same[..2], 0, false), nothing(0));
+    assert_eq!(lost_gaps(&[], 0, false), nothing(0));
     let apart = [placed(0, 16_777_216), placed(1, -16_777_216)];
-    let far = lost(1, 0, 1, 1, -33_554_432);
-    assert_eq!(lost_gaps(&apart, 0), Ok(Some(far)));
-    refuses_edges(&edges, |edges| lost_gaps(edges, 0));
+    let far = lost(1, 0, [0, 1], [1, -33_554_432], 0);
+    assert_eq!(lost_gaps(&apart, 0, false), far);
+    refuses_edges(&edges, |edges| lost_gaps(edges, 0, true));
     for least in [-1, 16_384] {
         refused(&edges, Refusal::BadParameter, |edges| {
-            lost_gaps(edges, least)
+            lost_gaps(edges, least, false)
         });
         let many = [Edge::default(); MOST_EDGES + 1];
-        refused(&many, Refusal::TooLong, |edges| lost_gaps(edges, least));
+        refused(&many, Refusal::TooLong, |edges| {
+            lost_gaps(edges, least, true)
+        });
         let beyond = [at(0).with_link(Some(1))];
         refused(&beyond, Refusal::BadParameter, |edges| {
-            lost_gaps(edges, least)
+            lost_gaps(edges, least, false)
         });
     }
 }
