@@ -173,13 +173,13 @@ static uint8_t place_edges(const struct axis *axis, struct khs_edge *edges, int3
     return answer;
 }
 
-/* Asks whether two edges that were half a pixel apart or more have come to stand on one place, or the wrong way round, and tells so: a gateway would show the glyph
-   unfitted then, or at another size. */
+/* Asks whether a gap of half a pixel and more, or a stem, between two edges with links has no row of pixels left, or is turned, and tells so: a gateway would show the
+   glyph at another size then. */
 static uint8_t guard(const struct khs_edge *edges, int32_t count) {
-    int32_t lost, first, second, before, after;
-    uint8_t answer = khs_lost_gaps((const int32_t *)edges, (khs_length)count * KHS_EDGE_WORDS, LEAST_GAP, &lost, &first, &second, &before, &after);
-    if (answer == KHS_DONE && lost > 0) {
-        printf("  guard     %d lost, the first between edges %d and %d, width ", (int)lost, (int)first, (int)second);
+    int32_t gaps, first, second, before, after, stems, not_done;
+    uint8_t answer = khs_lost_gaps((const int32_t *)edges, (khs_length)count * KHS_EDGE_WORDS, LEAST_GAP, 1, &gaps, &first, &second, &before, &after, &stems, &not_done);
+    if (answer == KHS_DONE && gaps + stems > 0) {
+        printf("  guard     %d gaps and %d stems lost, the first between edges %d and %d, width ", (int)gaps, (int)stems, (int)first, (int)second);
         print_width(before);
         printf(" -> ");
         print_width(after);

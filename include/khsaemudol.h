@@ -21,8 +21,9 @@
  *      KHS_LATIN have none on the horizontal axis.
  *   4. khs_align_blues_and_stems puts edges on their zones, and places the stems, beginning with the anchor that the zones give. It is khs_align_edges_to_blues and
  *      khs_align_stem_edges in a row, for who wants to look in between. khs_hint_lowercase_m evens out an m, on its horizontal axis.
- *      khs_lost_gaps then tells whether two edges that were apart have come to stand on one place, or the wrong way round, as it can happen where few pixels are left
- *      between two stems. Such a glyph is better shown unfitted, or at another size.
+ *      khs_lost_gaps then tells whether a gap or a stem between two placed edges is lost to the display, turned or without a row of pixels, as it can happen where few
+ *      pixels are left. Show such a glyph at another size, or fitted with KHS_SNAP in place of KHS_KEEP: the unfitted outline was more often worse than
+ *      better, where that was looked at.
  *   5. An edge without KHS_FLAG_DONE has not been placed. The caller leaves it, and its points to step 6, or places it as it likes. The Rust code of which this is a
  *      port places all, one after the other. An edge of KHS_LATIN goes by the first of these that it can:
  *        - its serif, whose opos is less than 80 units from its own: by khs_align_serif_edge with that as base;
@@ -42,7 +43,7 @@
  *
  * An example: a bar from 0 to 80 of 1,000 design units to the em, at 12 pixels to the em, whose foot has a zone at 0; it goes clockwise, its upper side runs over the
  * contour's start, and its point 1 lies at 40 between the sides. It leaves 64 33 0 0 64 in currents. In the repository examples/three.c fits a figure 3 so.
- *     int32_t scale = (int32_t)((int64_t)12 * 64 * 65536 / 1000), standards[1] = {64}, count, passed_over, anchor, lost, low, high, before, after;
+ *     int32_t scale = (int32_t)((int64_t)12 * 64 * 65536 / 1000), standards[1] = {64}, count, passed_over, anchor, gaps, low, high, before, after, stems, not_done;
  *     struct khs_segment segments[2] = {
  *         {0, KHS_DIR_RIGHT, 80, 0, 10, 200, 190, 32000, 0, 1, KHS_NONE, 4, 0, KHS_NONE, KHS_NONE},
  *         {0, KHS_DIR_LEFT, 0, 0, 10, 200, 190, 32000, 0, 0, KHS_NONE, 2, 3, KHS_NONE, KHS_NONE}};
@@ -56,7 +57,8 @@
  *     edges[segments[1].edge].blue_fitted = 0;
  *     if (khs_align_blues_and_stems((int32_t *)edges, count * KHS_EDGE_WORDS, KHS_VERTICAL, KHS_LATIN, 0, 0, KHS_SNAP, standards, 1, &passed_over, &anchor)
  *         != KHS_DONE) return 1;
- *     if (khs_lost_gaps((int32_t *)edges, count * KHS_EDGE_WORDS, 32, &lost, &low, &high, &before, &after) != KHS_DONE || lost > 0) return 1;
+ *     if (khs_lost_gaps((int32_t *)edges, count * KHS_EDGE_WORDS, 32, 1, &gaps, &low, &high, &before, &after, &stems, &not_done) != KHS_DONE || gaps + stems > 0)
+ *         return 1;
  *     for (int i = 0; i < 2; i++) {
  *         int32_t edge = segments[i].edge;
  *         if (edge == KHS_NONE || !(edges[edge].flags & KHS_FLAG_DONE)) continue;
@@ -337,17 +339,25 @@ uint8_t khs_align_blues_and_stems(int32_t *edges, khs_length edges_len, int32_t 
  * Answers: KHS_DONE, KHS_TOO_LONG, KHS_BAD_PARAMETER, KHS_BAD_INDEX, KHS_OUT_OF_RANGE, KHS_NOT_WORDS. */
 uint8_t khs_hint_lowercase_m(int32_t *edges, khs_length edges_len, int32_t group);
 
-/* The guard: tells whether fitting lost a gap, so that a caller may show a glyph otherwise that it would show wrong.
- * A gap is two done edges with no done edge between them in the list. Its width before is the second's opos less the first's, and its width after the same of pos. It
- * is lost where it was at least `least` wide and is now turned, below 0, or closed, 0 though it was above 0. An edge that is not done is in no gap: a caller that places
- * such edges asks behind that.
- * least: 0 to 16,383 units, else KHS_BAD_PARAMETER. 32 is half a pixel: gaps below that may well close. With 0 and nothing lost, and on edges whose opos do not fall,
- * as building leaves them, the done edges stand in their order, and those that were apart still are.
- * Writes count, how many gaps are lost; of the first of them first and second, its two edges, and before and after, its widths in units: where none is, KHS_NONE twice
- * and 0 twice. The edges are not written.
+/* The guard: tells whether a display that colours a pixel by its centre still shows every gap and every stem between placed edges, so that a caller may show a glyph
+ * otherwise that it would show wrong.
+ * The rows between two positions p and q are the rows of pixels whose centre, 64 k + 32, is at p or above it, and below q: the lower and left side belongs to a shape. There
+ * are none where q is not above p. Those edges count that are done, and with linked 1 only those of them that have a link. A pair is two edges that count with none that
+ * counts between them in the list; it is a stem where one names the other by link, else a gap. Its width before is the second's opos less the first's, and its width after
+ * the same of pos. A gap is lost where it was at least `least` wide, and is now turned, below 0, or without a row though it was above 0 wide; a stem, whatever its width,
+ * where it is turned, or without a row though it was above 0 wide.
+ * least: 0 to 16,383 units, else KHS_BAD_PARAMETER. 32 is half a pixel. Where nothing is lost every gap that was at least that wide, and above 0, has a row, and so has every
+ * stem that was above 0 wide.
+ * linked: 0 or 1. An edge without a link may stand inside a stem, as the end of an open stroke does, and is no side of a gap there: with 1 it makes no false alarm, and a gap
+ * that it is a side of is not seen. With 0, and 0 for least, and nothing lost, on edges whose opos do not fall, as building leaves them, all done edges stand in their order,
+ * and those that were apart still are.
+ * It does not see slanted strokes and curves, which have no edges, nor edges that are not done: not_done tells how many those are, and a caller that places them asks behind
+ * that. It knows one axis: a pair whose edges do not overlap on the other one, so that nothing was between them, is told as lost all the same.
+ * Writes count, how many gaps are lost; of the first lost pair of either kind first and second, its two edges, and before and after, its widths in units: where none is,
+ * KHS_NONE twice and 0 twice; stems, how many stems are lost; not_done, how many edges are not done, whatever linked is. The edges are not written.
  * Answers: KHS_DONE, KHS_TOO_LONG, KHS_BAD_PARAMETER, KHS_BAD_INDEX, KHS_OUT_OF_RANGE, KHS_NOT_WORDS. */
-uint8_t khs_lost_gaps(const int32_t *edges, khs_length edges_len, int32_t least, int32_t *count, int32_t *first, int32_t *second, int32_t *before,
-                      int32_t *after);
+uint8_t khs_lost_gaps(const int32_t *edges, khs_length edges_len, int32_t least, int32_t linked, int32_t *count, int32_t *first, int32_t *second, int32_t *before,
+                      int32_t *after, int32_t *stems, int32_t *not_done);
 
 /* The path of an outline is a list of steps. Each contour gives a KHS_MOVE to its start, lines and quadratic curves around it, and a KHS_CLOSE; a straight way
  * back to the start is left to the close. The start is the contour's first point that is on the curve, or where none is, halfway between its last and its first

@@ -3,8 +3,8 @@
 
 use khsaemudol::{
     align_blues_and_stems, align_weak_points, compute_edges, lost_gaps, path, BluesAndStems,
-    Building, Dimension, Direction, Edge, Flags, Group, LostGaps, Order, Outline, PathStep,
-    Refusal, Segment, Stems, WidthRule, MOST_EDGES,
+    Building, Dimension, Direction, Edge, Flags, Group, LostGaps, LostPair, Order, Outline,
+    PathStep, Refusal, Segment, Stems, WidthRule, MOST_EDGES,
 };
 
 /// Units of a pixel.
@@ -208,19 +208,24 @@ fn place_edges(dimension: Dimension, edges: &mut [Edge]) -> Result<(), Refusal> 
     Ok(())
 }
 
-/// Asks whether two edges that were half a pixel apart or more have come to stand on one place, or the wrong way round, and tells so: a gateway would show the glyph
-/// unfitted then, or at another size.
+/// Asks whether a gap of half a pixel and more, or a stem, between two edges with links has no row of pixels left, or is turned, and tells so: a gateway would show the
+/// glyph at another size then.
 fn guard(edges: &[Edge]) -> Result<(), Refusal> {
-    if let Some(LostGaps {
-        count,
+    let LostGaps {
+        gaps,
+        stems,
+        first: pair,
+        ..
+    } = lost_gaps(edges, LEAST_GAP, true)?;
+    if let Some(LostPair {
         first,
         second,
         before,
         after,
-    }) = lost_gaps(edges, LEAST_GAP)?
+    }) = pair
     {
         let (before, after) = (position(before), position(after));
-        println!("  guard     {count} lost, the first between edges {first} and {second}, width {before} -> {after}");
+        println!("  guard     {gaps} gaps and {stems} stems lost, the first between edges {first} and {second}, width {before} -> {after}");
     }
     Ok(())
 }
