@@ -44,7 +44,7 @@ accepts axis a = record {
   stems = λ group adjust anchor rule xs b r. Stems.accepts axis group adjust false anchor rule xs a refl b r;
   joined = λ group adjust rule xs r z. Joined.accepts axis group adjust false rule xs a refl r z;
   m = λ group c. M.accepts axis group a c;
-  gaps = λ least h. Gaps.accepts axis least a h;
+  gaps = λ least linked h. Gaps.accepts axis least linked a h;
 }
 
 -- ---- linking

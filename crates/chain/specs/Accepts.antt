@@ -37,4 +37,4 @@ pub record Accepts (axis : Axis) : Type 0 where
   pub joined : (group : Group) (adjust : Bool) (rule : WidthRule) (xs : List ℤ) → ruleHolds rule xs ≡ true → zonesHold group axis ≡ true
       → alignBluesAndStems axis group adjust false rule xs .answer ≡ 0
   pub m : (group : Group) → countHolds (axis .len) ≡ true → hintLowercaseM axis group .answer ≡ 0
-  pub gaps : (least : ℤ) → inside (pos 0) (pos mostUnits) least ≡ true → lostGaps axis least .answer ≡ 0
+  pub gaps : (least : ℤ) (linked : Bool) → inside (pos 0) (pos mostUnits) least ≡ true → lostGaps axis least linked .answer ≡ 0

@@ -81,3 +81,14 @@ module _ (before p q : ℤ) (k : gone before p q ≡ false) where
   pub kept-row : pos 0 <ℤ before → RowBetween p q (rowFrom p)
   kept-row o =
       some-row p q (opened before p q (let h = kept-order in to-lt-false q p (omega (arith, signed, h))) (to-lt-true (pos 0) before (omega (arith, signed, o))) ∙ k)
+
+-- and one with a row is not gone
+pub row-stays : (before p q k : ℤ) → RowBetween p q k → gone before p q ≡ false
+row-stays before p q k r = by (gone before p q) refl
+  where
+    by : (t : Bool) → gone before p q ≡ t → t ≡ false
+    by true e =
+        let x = r .not-below in
+        let y = r .below in
+        absurd (⊎-elim (λ (h : q <ℤ p). omega (arith, signed, h, x, y)) (λ h. h .0 k r) (gone-is before p q e .how))
+    by false e = refl

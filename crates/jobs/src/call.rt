@@ -93,7 +93,7 @@ const FORMATS_OF_EDGES: [u64; CALLS_OF_EDGES] = [
     0xa9, // turn_over
     NONE, // 125 and 126: none
     NONE,
-    0x1a, // lost_gaps
+    0x31a, // lost_gaps
 ];
 
 // The format of the jobs of a call, by its word.

@@ -131,5 +131,5 @@ pub turning-determined : (ws es : List ℤ) {r r′ : ℕ} {now now′ : List �
 turning-determined ws es a b = lent-determined a b
 
 -- `khs_lost_gaps`
-pub gaps-determined : (ws : List ℤ) (least : ℤ) (old : Places) {r r′ : ℕ} {now now′ : Places} → GapsLent ws least old r now → GapsLent ws least old r′ now′ → (r ≡ r′) × (now ≡ now′)
-gaps-determined ws least old a b = lent-determined a b
+pub gaps-determined : (ws : List ℤ) (least linked : ℤ) (old : Places) {r r′ : ℕ} {now now′ : Places} → GapsLent ws least linked old r now → GapsLent ws least linked old r′ now′ → (r ≡ r′) × (now ≡ now′)
+gaps-determined ws least linked old a b = lent-determined a b

@@ -374,19 +374,34 @@ pub extern "C" fn khs_turn_over(segments: &mut [i32], edges: &mut [i32]) -> u8
     lend_turning(segments, edges)
 }
 
-// Finds the gaps between placed edges that fitting has lost.
+// Finds the gaps and the stems between placed edges that fitting has lost, and counts the edges that are not done.
 #[no_mangle]
 pub extern "C" fn khs_lost_gaps(
     edges: &[i32],
     least: i32,
+    linked: i32,
     count: &mut i32,
     first: &mut i32,
     second: &mut i32,
     before: &mut i32,
     after: &mut i32,
+    stems: &mut i32,
+    not_done: &mut i32,
 ) -> u8
-    ensures { λ r. ⌜ GapsLent (now (edges .entry)) least (now (count .entry), (now (first .entry), (now (second .entry), (now (before .entry), now (after .entry)))))
-        r (now (count .exit), (now (first .exit), (now (second .exit), (now (before .exit), now (after .exit))))) ⌝ }
+    ensures { λ r. ⌜ GapsLent (now (edges .entry)) least linked
+        (now (count .entry), (now (first .entry), (now (second .entry), (now (before .entry), (now (after .entry), (now (stems .entry), now («not_done» .entry)))))))
+        r (now (count .exit), (now (first .exit), (now (second .exit), (now (before .exit), (now (after .exit), (now (stems .exit), now («not_done» .exit))))))) ⌝ }
 {
-    lend_gaps(edges, least, count, first, second, before, after)
+    lend_gaps(
+        edges,
+        least,
+        linked,
+        count,
+        first,
+        second,
+        before,
+        after,
+        stems,
+        not_done,
+    )
 }

@@ -53,10 +53,12 @@ fn fitted(mut glyph: Glyph, edges: [i32; TABLE_WORDS], anchor: i32) -> Glyph {
     glyph
 }
 
-// The gaps that the guard is asked for are half a pixel wide and more.
+// The gaps that the guard is asked for are half a pixel wide and more, between done edges with a link or without.
 const LEAST_GAP: i32 = 32;
 
-// Writes that a gap between placed edges was lost, where the guard finds one.
+const LINKED: i32 = 0;
+
+// Writes that a gap or a stem between placed edges was lost, where the guard finds one.
 fn guard(glyph: Glyph) {
     let edges = edges_of(glyph);
     let n = edge_words(glyph);
@@ -65,17 +67,22 @@ fn guard(glyph: Glyph) {
     let mut second = -1;
     let mut before = 0;
     let mut after = 0;
+    let mut stems = 0;
+    let mut not_done = 0;
     let answer = khs_lost_gaps(
         &edges[0..n],
         LEAST_GAP,
+        LINKED,
         &mut count,
         &mut first,
         &mut second,
         &mut before,
         &mut after,
+        &mut stems,
+        &mut not_done,
     );
     if answer == 0 {
-        if count == 0 {
+        if first < 0 {
             return;
         }
     }
@@ -83,8 +90,8 @@ fn guard(glyph: Glyph) {
         return;
     }
     show(
-        b"# lost, the first between edges # and #, width ~ -> ~\n",
-        &[count, first, second, before, after],
+        b"# gaps and # stems lost, the first between edges # and #, width ~ -> ~, # edges not done\n",
+        &[count, stems, first, second, before, after, not_done],
     );
 }
 
