@@ -183,7 +183,7 @@ static uint8_t guard(const struct khs_edge *edges, int32_t count) {
         print_width(before);
         printf(" -> ");
         print_width(after);
-        printf("\n");
+        printf(", %d edges not done\n", (int)not_done);
     }
     return answer;
 }

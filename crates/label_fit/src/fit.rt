@@ -53,10 +53,10 @@ fn fitted(mut glyph: Glyph, edges: [i32; TABLE_WORDS], anchor: i32) -> Glyph {
     glyph
 }
 
-// The gaps that the guard is asked for are half a pixel wide and more, between done edges with a link or without.
+// The guard is asked for gaps half a pixel wide and more, and for pairs of edges that have links.
 const LEAST_GAP: i32 = 32;
 
-const LINKED: i32 = 0;
+const LINKED: i32 = 1;
 
 // Writes that a gap or a stem between placed edges was lost, where the guard finds one.
 fn guard(glyph: Glyph) {

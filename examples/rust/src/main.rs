@@ -215,7 +215,7 @@ fn guard(edges: &[Edge]) -> Result<(), Refusal> {
         gaps,
         stems,
         first: pair,
-        ..
+        not_done,
     } = lost_gaps(edges, LEAST_GAP, true)?;
     if let Some(LostPair {
         first,
@@ -225,7 +225,7 @@ fn guard(edges: &[Edge]) -> Result<(), Refusal> {
     }) = pair
     {
         let (before, after) = (position(before), position(after));
-        println!("  guard     {gaps} gaps and {stems} stems lost, the first between edges {first} and {second}, width {before} -> {after}");
+        println!("  guard     {gaps} gaps and {stems} stems lost, the first between edges {first} and {second}, width {before} -> {after}, {not_done} edges not done");
     }
     Ok(())
 }
