@@ -9,22 +9,45 @@ ghost use lib.ListN.{length};
 ghost use Rattle.frames.specs.Limits.{mostDigits};
 ghost use Rattle.log_reply.specs.Reply.{mostReply};
 
-// Answers the lines that end in a block, and hands back how many bytes are held of the line that has begun.
-fn answer_block(block: &[u8], line: &mut [u8], begun: usize, out: &mut [u8]) -> usize
+// How many bytes are held of the line that has begun, and whether every reply was written.
+struct Answered {
+    count: usize,
+    written: bool,
+}
+
+// Writes replies, or says why they cannot be written.
+fn put(replies: &[u8]) -> bool {
+    let written = io::write_all(STDOUT_FILENO, replies);
+    if !written {
+        os::fail(b"refit: the replies cannot be written");
+    }
+    written
+}
+
+// Answers the lines that end in a block, up to the first reply that cannot be written.
+fn answer_block(block: &[u8], line: &mut [u8], begun: usize, out: &mut [u8]) -> Answered
     requires { ⌜ (mostDigits < length (now line)) × (begun ≤ length (now line)) ⌝ }
     requires { ⌜ mostReply ≤ length (now out) ⌝ }
-    ensures { λ r. ⌜ r ≤ length (now (line .exit)) ⌝ }
+    ensures { λ r. ⌜ r .«count» ≤ length (now (line .exit)) ⌝ }
 {
     let mut at: usize = 0;
     let mut count = begun;
     while at < block.len() {
         let done = refit_block(block, at, line, count, out);
         let size = done.size;
-        io::write_all(STDOUT_FILENO, &out[..size]);
+        if !put(&out[..size]) {
+            return Answered {
+                count: 0,
+                written: false,
+            };
+        }
         at = done.at;
         count = done.count;
     }
-    count
+    Answered {
+        count: count,
+        written: true,
+    }
 }
 
 // Answers what the log ends in without a line feed.
@@ -32,7 +55,7 @@ fn answer_rest(line: &[u8], count: usize, out: &mut [u8])
     requires { ⌜ (count ≤ length (now line)) × (mostReply ≤ length (now out)) ⌝ }
 {
     let size = refit_rest(line, count, out);
-    io::write_all(STDOUT_FILENO, &out[..size]);
+    put(&out[..size]);
 }
 
 fn main() {
@@ -43,12 +66,20 @@ fn main() {
     let mut turns: u64 = 18446744073709551615;
     while 0 < turns {
         let got = libc::read(STDIN_FILENO, &mut block);
+        if got < 0 {
+            os::fail(b"refit: the log cannot be read");
+            return;
+        }
         let n = io::count(got, &block);
         if n == 0 {
             turns = 0;
             continue;
         }
-        count = answer_block(&block[..n], &mut line, count, &mut out);
+        let answered = answer_block(&block[..n], &mut line, count, &mut out);
+        if !answered.written {
+            return;
+        }
+        count = answered.count;
         turns -= 1;
     }
     answer_rest(&line, count, &mut out);

@@ -16,17 +16,32 @@ ghost use lib.ListN.{length};
 ghost use Rattle.lines.specs.Limits.{mostWords};
 ghost use Rattle.replay.specs.Limits.{mostText};
 
+// The line that has begun, and whether every answer was written.
+struct Fed {
+    line: Line,
+    written: bool,
+}
+
+// Writes an answer, or says why it cannot be written.
+fn put(answer: &[u8]) -> bool {
+    let written = io::write_all(STDOUT_FILENO, answer);
+    if !written {
+        os::fail(b"replay: the answers cannot be written");
+    }
+    written
+}
+
 // Writes the answer to the words that a line has, by the library and by value.
-fn reply(words: &[i32], line: Line, out: &mut [i32], text: &mut [u8])
+fn reply(words: &[i32], line: Line, out: &mut [i32], text: &mut [u8]) -> bool
     requires { ⌜ (mostWords ≤ length (now words)) × (mostText ≤ length (now text)) ⌝ }
 {
     let n = words_of(line);
     let count = answer_both(&words[..n], out);
     let size = spell(out, count, text);
-    io::write_all(STDOUT_FILENO, &text[..size]);
+    put(&text[..size])
 }
 
-// Feeds the first n bytes of a block, answers each line that ends in them, and hands back the line that has begun.
+// Feeds the first n bytes of a block, and answers each line that ends in them, up to the first answer that cannot be written.
 fn feed_block(
     block: &[u8],
     n: usize,
@@ -34,7 +49,7 @@ fn feed_block(
     begun: Line,
     out: &mut [i32],
     text: &mut [u8],
-) -> Line
+) -> Fed
     requires { ⌜ (mostWords ≤ length (now words)) × (mostText ≤ length (now text)) ⌝ }
     requires { ⌜ n ≤ length (now block) ⌝ }
 {
@@ -47,10 +62,18 @@ fn feed_block(
             line = feed(words, line, byte);
             continue;
         }
-        reply(words, line, out, text);
+        if !reply(words, line, out, text) {
+            return Fed {
+                line: line,
+                written: false,
+            };
+        }
         line = Line::new();
     }
-    line
+    Fed {
+        line: line,
+        written: true,
+    }
 }
 
 fn main() {
@@ -62,12 +85,20 @@ fn main() {
     let mut turns: u64 = 18446744073709551615;
     while 0 < turns {
         let got = libc::read(STDIN_FILENO, &mut block);
+        if got < 0 {
+            os::fail(b"replay: the jobs cannot be read");
+            return;
+        }
         let n = io::count(got, &block);
         if n == 0 {
             turns = 0;
             continue;
         }
-        line = feed_block(&block, n, &mut words, line, &mut out, &mut text);
+        let fed = feed_block(&block, n, &mut words, line, &mut out, &mut text);
+        if !fed.written {
+            return;
+        }
+        line = fed.line;
         turns -= 1;
     }
     if line.begun {

@@ -15,7 +15,7 @@ abbrev μ-loop : tie.MeasureT-loop
 μ-loop block line₀ begun out₀ at₀ count₀ line out at count = length block - at
 
 -- a turn takes something of the block
-onward : (c : tie.After-write-all Inv-loop μ-loop) → c .before .before .before .before .before .before .before .before .before .before .loop .at < c .before .before .before .before .before .before .refit-block .result .at
+onward : (c : tie.After-put Inv-loop μ-loop) → c .before .before .before .before .before .before .before .before .before .before .loop .at < c .before .before .before .before .before .before .refit-block .result .at
 onward c = c .before .before .before .before .before .before .refit-block .ensures .further (c .before .before .before .before .before .before .before .before .before .loop-test .taken) (omega (arith, c .before .before .before .before .before .before .before .before .before .before .loop .inv, c .before .before .before .before .before .before .before .before .before .before .before .before .before .before .pre))
 
 loop-holds : tie.Need-loop-holds Inv-loop μ-loop
@@ -24,29 +24,38 @@ loop-holds c = (refl, (refl, c .before .before .before .pre .0 .1))
 refit-block-requires : tie.Need-refit-block-requires Inv-loop μ-loop
 refit-block-requires c κs = omega (arith, c .before .before .before .loop .inv, c .before .before .before .before .before .before .before .pre)
 
-slice-reshare-prefix-write-all : tie.Need-slice-reshare-prefix-write-all Inv-loop μ-loop
-slice-reshare-prefix-write-all c = c .before .before .before .before .refit-block .ensures .in-list
+slice-reshare-prefix-put : tie.Need-slice-reshare-prefix-put Inv-loop μ-loop
+slice-reshare-prefix-put c = c .before .before .before .before .refit-block .ensures .in-list
 
-slice-aggregate-write-all : tie.Need-slice-aggregate-write-all Inv-loop μ-loop
-slice-aggregate-write-all c = sym (length-take-le _ _ (c .before .before .before .before .before .refit-block .ensures .in-list))
+slice-aggregate-put : tie.Need-slice-aggregate-put Inv-loop μ-loop
+slice-aggregate-put c = sym (length-take-le _ _ (c .before .before .before .before .before .refit-block .ensures .in-list))
 
-write-all-requires : tie.Need-write-all-requires Inv-loop μ-loop
-write-all-requires c κs = search needs
-
-loop-less : tie.Need-loop-less Inv-loop μ-loop
-loop-less c = omega (arith, c .before .before .before .before .before .before .before .before .before .loop-test .taken, onward c)
-
-loop-again : tie.Need-loop-again Inv-loop μ-loop
-loop-again c = (c .before .before .before .before .before .before .refit-block .ensures .list-kept ∙ c .before .before .before .before .before .before .before .before .before .before .loop .inv .0, (c .before .before .before .out .given ∙ c .before .before .before .before .before .before .before .before .before .before .loop .inv .1 .0, c .before .before .before .before .before .before .refit-block .ensures .held))
+put-requires : tie.Need-put-requires Inv-loop μ-loop
+put-requires c κs = search needs
 
 same-length : tie.Need-same-length Inv-loop μ-loop
-same-length c = c .before .loop .inv .0
+same-length c = omega arith
 
 same-length-2 : tie.Need-same-length-2 Inv-loop μ-loop
-same-length-2 c = c .before .loop .inv .1 .0
+same-length-2 c = omega arith
 
 returns : tie.Need-returns Inv-loop μ-loop
-returns c = c .before .loop .inv .1 .1
+returns c = omega arith
+
+loop-less : tie.Need-loop-less Inv-loop μ-loop
+loop-less c = omega (arith, c .before .before .before .before .before .before .before .before .before .before .loop-test .taken, onward (c .before))
+
+loop-again : tie.Need-loop-again Inv-loop μ-loop
+loop-again c = (c .before .before .before .before .before .before .before .refit-block .ensures .list-kept ∙ c .before .before .before .before .before .before .before .before .before .before .before .loop .inv .0, (c .before .before .before .before .out .given ∙ c .before .before .before .before .before .before .before .before .before .before .before .loop .inv .1 .0, c .before .before .before .before .before .before .before .refit-block .ensures .held))
+
+same-length-3 : tie.Need-same-length-3 Inv-loop μ-loop
+same-length-3 c = c .before .loop .inv .0
+
+same-length-4 : tie.Need-same-length-4 Inv-loop μ-loop
+same-length-4 c = c .before .loop .inv .1 .0
+
+returns-2 : tie.Need-returns-2 Inv-loop μ-loop
+returns-2 c = c .before .loop .inv .1 .1
 
 pub answer-block-spec : {M : Type 1} → statement M
 answer-block-spec =
@@ -56,11 +65,14 @@ answer-block-spec =
     μ-loop
     loop-holds
     refit-block-requires
-    slice-reshare-prefix-write-all
-    slice-aggregate-write-all
-    write-all-requires
-    loop-less
-    loop-again
+    slice-reshare-prefix-put
+    slice-aggregate-put
+    put-requires
     same-length
     same-length-2
-    returns)
+    returns
+    loop-less
+    loop-again
+    same-length-3
+    same-length-4
+    returns-2)

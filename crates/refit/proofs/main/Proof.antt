@@ -8,10 +8,10 @@ use Rattle.refit.proofs.main.Statement.{statement}
 use Rattle.refit.proofs.main.Tie as tie
 
 abbrev Inv-loop : tie.InvT-loop
-Inv-loop block₀ line₀ out₀ count₀ turns₀ block line out count turns = (length block ≡ 65536) × ((length line ≡ mostDigits + 1) × ((length out ≡ 65536) × (count ≤ length line)))
+Inv-loop block₀ line₀ out₀ count₀ turns₀ t9 block line out count turns = (length block ≡ 65536) × ((length line ≡ mostDigits + 1) × ((length out ≡ 65536) × (count ≤ length line)))
 
 abbrev μ-loop : tie.MeasureT-loop
-μ-loop block₀ line₀ out₀ count₀ turns₀ block line out count turns = turns
+μ-loop block₀ line₀ out₀ count₀ turns₀ t9 block line out count turns = turns
 
 large-buffer-requires : tie.Need-large-buffer-requires Inv-loop μ-loop
 large-buffer-requires c κs = search needs
@@ -27,6 +27,15 @@ slice-aggregate-read c = search needs
 
 read-requires : tie.Need-read-requires Inv-loop μ-loop
 read-requires c κs = search needs
+
+slice-aggregate-fail : tie.Need-slice-aggregate-fail Inv-loop μ-loop
+slice-aggregate-fail c = search needs
+
+fail-requires : tie.Need-fail-requires Inv-loop μ-loop
+fail-requires c κs = search needs
+
+returns : tie.Need-returns Inv-loop μ-loop
+returns c = search needs
 
 slice-aggregate-count : tie.Need-slice-aggregate-count Inv-loop μ-loop
 slice-aggregate-count c = search needs
@@ -55,6 +64,9 @@ slice-aggregate-answer-block-3 c = search needs
 answer-block-requires : tie.Need-answer-block-requires Inv-loop μ-loop
 answer-block-requires c κs = search needs
 
+returns-2 : tie.Need-returns-2 Inv-loop μ-loop
+returns-2 c = search needs
+
 sub-turns : tie.Need-sub-turns Inv-loop μ-loop
 sub-turns c = search needs
 
@@ -73,8 +85,8 @@ slice-aggregate-answer-rest-2 c = search needs
 answer-rest-requires : tie.Need-answer-rest-requires Inv-loop μ-loop
 answer-rest-requires c κs = search needs
 
-returns : tie.Need-returns Inv-loop μ-loop
-returns c = search needs
+returns-3 : tie.Need-returns-3 Inv-loop μ-loop
+returns-3 c = search needs
 
 pub main-spec : {M : Type 1} → statement M
 main-spec =
@@ -87,6 +99,9 @@ main-spec =
     loop-holds
     slice-aggregate-read
     read-requires
+    slice-aggregate-fail
+    fail-requires
+    returns
     slice-aggregate-count
     count-requires
     loop-less
@@ -96,10 +111,11 @@ main-spec =
     slice-aggregate-answer-block-2
     slice-aggregate-answer-block-3
     answer-block-requires
+    returns-2
     sub-turns
     loop-less-2
     loop-again-2
     slice-aggregate-answer-rest
     slice-aggregate-answer-rest-2
     answer-rest-requires
-    returns)
+    returns-3)

@@ -34,15 +34,6 @@ loop-again c = omega arith
 reply-requires : tie.Need-reply-requires Inv-loop μ-loop
 reply-requires c κs = omega arith
 
-new-requires : tie.Need-new-requires Inv-loop μ-loop
-new-requires c κs = search needs
-
-loop-less-2 : tie.Need-loop-less-2 Inv-loop μ-loop
-loop-less-2 c = omega arith
-
-loop-again-2 : tie.Need-loop-again-2 Inv-loop μ-loop
-loop-again-2 c = omega arith
-
 same-length : tie.Need-same-length Inv-loop μ-loop
 same-length c = omega arith
 
@@ -54,6 +45,27 @@ same-length-3 c = omega arith
 
 returns : tie.Need-returns Inv-loop μ-loop
 returns c = omega arith
+
+new-requires : tie.Need-new-requires Inv-loop μ-loop
+new-requires c κs = search needs
+
+loop-less-2 : tie.Need-loop-less-2 Inv-loop μ-loop
+loop-less-2 c = omega arith
+
+loop-again-2 : tie.Need-loop-again-2 Inv-loop μ-loop
+loop-again-2 c = omega arith
+
+same-length-4 : tie.Need-same-length-4 Inv-loop μ-loop
+same-length-4 c = omega arith
+
+same-length-5 : tie.Need-same-length-5 Inv-loop μ-loop
+same-length-5 c = omega arith
+
+same-length-6 : tie.Need-same-length-6 Inv-loop μ-loop
+same-length-6 c = omega arith
+
+returns-2 : tie.Need-returns-2 Inv-loop μ-loop
+returns-2 c = omega arith
 
 pub feed-block-spec : {M : Type 1} → statement M
 feed-block-spec =
@@ -68,10 +80,14 @@ feed-block-spec =
     loop-less
     loop-again
     reply-requires
-    new-requires
-    loop-less-2
-    loop-again-2
     same-length
     same-length-2
     same-length-3
-    returns)
+    returns
+    new-requires
+    loop-less-2
+    loop-again-2
+    same-length-4
+    same-length-5
+    same-length-6
+    returns-2)

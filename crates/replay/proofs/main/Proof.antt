@@ -9,10 +9,10 @@ use Rattle.replay.proofs.main.Statement.{statement}
 use Rattle.replay.proofs.main.Tie as tie
 
 abbrev Inv-loop : tie.InvT-loop
-Inv-loop block₀ words₀ out₀ text₀ line₀ turns₀ block words out text line turns = (length block ≡ 65536) × ((length words ≡ mostWords) × ((length out ≡ longest) × (length text ≡ mostText)))
+Inv-loop block₀ words₀ out₀ text₀ line₀ turns₀ t10 block words out text line turns = (length block ≡ 65536) × ((length words ≡ mostWords) × ((length out ≡ longest) × (length text ≡ mostText)))
 
 abbrev μ-loop : tie.MeasureT-loop
-μ-loop block₀ words₀ out₀ text₀ line₀ turns₀ block words out text line turns = turns
+μ-loop block₀ words₀ out₀ text₀ line₀ turns₀ t10 block words out text line turns = turns
 
 large-buffer-requires : tie.Need-large-buffer-requires Inv-loop μ-loop
 large-buffer-requires c κs = search needs
@@ -28,6 +28,15 @@ slice-aggregate-read c = search needs
 
 read-requires : tie.Need-read-requires Inv-loop μ-loop
 read-requires c κs = search needs
+
+slice-aggregate-fail : tie.Need-slice-aggregate-fail Inv-loop μ-loop
+slice-aggregate-fail c = search needs
+
+fail-requires : tie.Need-fail-requires Inv-loop μ-loop
+fail-requires c κs = search needs
+
+returns : tie.Need-returns Inv-loop μ-loop
+returns c = search needs
 
 slice-aggregate-count : tie.Need-slice-aggregate-count Inv-loop μ-loop
 slice-aggregate-count c = search needs
@@ -56,6 +65,9 @@ slice-aggregate-feed-block-4 c = search needs
 feed-block-requires : tie.Need-feed-block-requires Inv-loop μ-loop
 feed-block-requires c κs = search needs
 
+returns-2 : tie.Need-returns-2 Inv-loop μ-loop
+returns-2 c = search needs
+
 sub-turns : tie.Need-sub-turns Inv-loop μ-loop
 sub-turns c = search needs
 
@@ -77,11 +89,11 @@ slice-aggregate-reply-3 c = search needs
 reply-requires : tie.Need-reply-requires Inv-loop μ-loop
 reply-requires c κs = search needs
 
-returns : tie.Need-returns Inv-loop μ-loop
-returns c = search needs
+returns-3 : tie.Need-returns-3 Inv-loop μ-loop
+returns-3 c = search needs
 
-returns-2 : tie.Need-returns-2 Inv-loop μ-loop
-returns-2 c = search needs
+returns-4 : tie.Need-returns-4 Inv-loop μ-loop
+returns-4 c = search needs
 
 pub main-spec : {M : Type 1} → statement M
 main-spec =
@@ -94,6 +106,9 @@ main-spec =
     loop-holds
     slice-aggregate-read
     read-requires
+    slice-aggregate-fail
+    fail-requires
+    returns
     slice-aggregate-count
     count-requires
     loop-less
@@ -103,6 +118,7 @@ main-spec =
     slice-aggregate-feed-block-3
     slice-aggregate-feed-block-4
     feed-block-requires
+    returns-2
     sub-turns
     loop-less-2
     loop-again-2
@@ -110,5 +126,5 @@ main-spec =
     slice-aggregate-reply-2
     slice-aggregate-reply-3
     reply-requires
-    returns
-    returns-2)
+    returns-3
+    returns-4)
