@@ -4,7 +4,6 @@ use mathlib.Core.Bool.{Bool, true}
 use mathlib.Core.List.{List}
 use mathlib.Core.Logic.{⊎-elim}
 use Prim.Native.Nat.{ℕ, zero, suc, _+_, _≤_, _<_}
-use native.Mathlib.Nat.{add-zero}
 use native.Mathlib.Omega.{arith}
 use lib.IntN.{ℤ}
 use lib.ListN.{length, length-set}
@@ -19,14 +18,14 @@ use Rattle.axis.specs.declared.kinds.Link.the-variants as Links
 use Rattle.axis.specs.declared.kinds.Group.{Group}
 use Rattle.axis.specs.declared.edge.Edge.{Edge}
 use Rattle.axis.specs.declared.edge.Axis.{Axis}
-use Rattle.axis.specs.Edge.{emptyEdge, edgeAt, fixedAt}
+use Rattle.axis.specs.Edge.{emptyEdge, edgeAt}
 use Rattle.axis.specs.Visits.{visits}
 use Rattle.stems_plan.specs.declared.kinds.Mode.{Mode}
 use Rattle.stems_plan.specs.declared.kinds.Plan.{Plan}
 use Rattle.stems_plan.specs.Visit.{tooClose}
 use Rattle.stems.specs.declared.pass.Stems.{Stems}
 use Rattle.stems.specs.Stems.{State, counted, begun, stems, stemsOf, modeOf, stemsTests, alignStemEdges}
-use Rattle.stems.specs.Steps.{planAt, firstPut, secondPut, heldPut, carriedOut, stepLink, step}
+use Rattle.stems.specs.Steps.{planAt, firstPut, secondPut, carriedOut, stepLink, step}
 use Rattle.stems.proofs.Straight.{steps-are}
 use Rattle.stems.proofs.Settling.{second-grown, held-grown, step-grown}
 use Rattle.stems.proofs.Handed.{outcome}
