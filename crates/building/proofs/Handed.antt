@@ -157,11 +157,11 @@ module _ (t : Segments) (old : Axis) (group : Group) (ttb : Bool) (scale : ℤ) 
         go true h = absurd (omega (arith, h))
         go false h = refl
 
-    outcome : handed ≡ beside (builtSegments t (lastState t rules)) (edgeProperties (builtEdges t rules (lastState t rules)) (builtSegments t (lastState t rules))) 0
+    pub outcome : handed ≡ beside (builtSegments t (lastState t rules)) (edgeProperties (builtEdges t rules (lastState t rules)) (builtSegments t (lastState t rules))) 0
     unfolding built
     outcome = not-refused t old group ttb scale by unrefused ∙ cond-false _ _ _ room
 
-    taken : Accepted t scale by
+    pub taken : Accepted t scale by
     taken = accepted t (old .len) ttb scale by 0 (sym unrefused) (omega arith)
 
     ready-to-join : Joinable t rules

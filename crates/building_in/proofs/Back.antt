@@ -32,7 +32,7 @@ joined-alike f g zero h = refl
 joined-alike f g (suc n) h = λ i. joined-alike f g n (λ (k : ℕ) (l : k < n). h k (omega arith)) i ++ h n (omega arith) i
 
 -- behind the first of a table all places are empty
-past-end : {A : Type 0} (xs : List A) (e : A) (m k : ℕ) → length xs ≤ k → getD (xs ++ replicate m e) k e ≡ e
+pub past-end : {A : Type 0} (xs : List A) (e : A) (m k : ℕ) → length xs ≤ k → getD (xs ++ replicate m e) k e ≡ e
 past-end [] e zero k h = refl
 past-end [] e (suc m) zero h = refl
 past-end [] e (suc m) (suc k) h = past-end [] e m k (omega arith)
@@ -74,7 +74,7 @@ module _ (axis : Axis) (n : ℕ) (few : n ≤ mostEdges) (typed : (k : ℕ) → 
   word-is : (i j : ℕ) → i < n → j < edgeSize → wordAt words (wordOfEdge i j) ≡ wordAt (edgeWordsAt axis i) j
   word-is i j h b = joined-at (edgeWordsAt axis) edgeSize (edge-lengths axis) n i j h b
 
-  read : (i : ℕ) → i < n → edgeFrom words (edgeSize * i) ≡ edgeAt axis i
+  pub read : (i : ℕ) → i < n → edgeFrom words (edgeSize * i) ≡ edgeAt axis i
   read i h = edge-moved words (edgeWordsAt axis i) (edgeSize * i) (λ (k : ℕ) (l : k < edgeSize). word-is i k h l) ∙ edge-back (edgeAt axis i) (typed i h)
 
   below : (i : ℕ) → i < edgesIn words → i < n

@@ -78,7 +78,7 @@ ringed-word s edge next j h =
     word-beside (set (segmentWords s) edgePlace (linkWord edge)) nextPlace j (linkWord next) (b .0) ∙ word-beside (segmentWords s) edgePlace j (linkWord edge) (a .0)
 
 -- every word of a segment but those two
-abbrev Same : Segments → Segments → Type 0
+abbrev pub Same : Segments → Segments → Type 0
 Same t u = (i j : ℕ) → isOneOf builtWords j ≡ false → wordAt (segmentWordsAt u i) j ≡ wordAt (segmentWordsAt t i) j
 
 same-put : (t u : Segments) (m : ℕ) (edge next : Link) → Same t u → Same t (putSegment u m (ringed (segmentAt u m) edge next))
@@ -105,7 +105,7 @@ same-built : (t : Segments) (s : State) → Same t (builtSegments t s)
 unfolding builtSegments cleared
 same-built t s = same-groups t (clear (t .len) t) s (s .count) (same-clear t (t .len))
 
-computed-same : (t : Segments) (old : Axis) (group : Group) (ttb : Bool) (scale : ℤ) (by : Thresholds) → Same t (computeEdges t old group ttb scale by .segments)
+pub computed-same : (t : Segments) (old : Axis) (group : Group) (ttb : Bool) (scale : ℤ) (by : Thresholds) → Same t (computeEdges t old group ttb scale by .segments)
 unfolding built
 computed-same t old group ttb scale by = go (refusal (buildingTests t (old .len) ttb scale by)) refl
   where

@@ -1,0 +1,2 @@
+-- The words of the theorems on what is left of lent records.
+pub mod Left
