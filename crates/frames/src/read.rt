@@ -34,7 +34,7 @@ fn read_points(line: &[u8], n: usize, originals: &mut [i32], currents: &mut [i32
         marks[i] = byte_at(line, at);
         originals[i] = number_at(line, at + 1);
         currents[i] = number_at(line, at + 3);
-        i += 1;
+        i += 1; // the next point
     }
 }
 

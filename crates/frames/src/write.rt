@@ -57,7 +57,7 @@ fn put_points(line: &mut [u8], originals: &[i32], currents: &[i32], marks: &[u8]
             originals[i],
             currents[i],
         );
-        i += 1;
+        i += 1; // the next point
     }
 }
 
