@@ -37,10 +37,10 @@ use Rattle.edges_in.proofs.Wholes.{shown-whole, len-in, edges-over}
 use Rattle.flat_stems.specs.Zones.{zonesAnchored, zonesWords, ZonesLent}
 use Rattle.flat_stems.specs.Stems.{stemsAligned, stemsWords, StemsLent}
 use Rattle.flat_joined.specs.Joined.{joinedAligned, JoinedLent}
-use Rattle.flat_left.specs.Left.{EdgesLeft}
-use Rattle.flat_left.proofs.Answers.{both, lent-done}
-use Rattle.flat_left.proofs.Edges.{Done, read-on, as-many, flat-dim, flat-major, call-done, front-holds}
-use Rattle.flat_left.proofs.Fitted.{zones-left}
+use Rattle.chain_words.specs.Left.{EdgesLeft}
+use Rattle.chain_words.proofs.Answers.{both, lent-done}
+use Rattle.chain_words.proofs.Edges.{Done, read-on, as-many, flat-dim, flat-major, call-done, front-holds}
+use Rattle.chain_words.proofs.Fitted.{zones-left}
 
 -- an anchor among the edges is named by its own word
 named-back : (l : Link) → Below mostEdges l → namedAnchor (linkWord l) ≡ l

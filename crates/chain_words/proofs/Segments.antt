@@ -35,9 +35,9 @@ use Rattle.lent.proofs.Kept.{passed}
 use Rattle.segments_in.specs.Whole.{Whole}
 use Rattle.segments_in.proofs.Wholes.{shown-whole, segments-len, segments-over}
 use Rattle.building_in.proofs.Back.{past-end as behind-all}
-use Rattle.flat_left.specs.Left.{SegmentsLeft}
-use Rattle.flat_left.proofs.Shown.{SegmentFits, segments-are-shown}
-use Rattle.flat_left.proofs.Edges.{short-of, link-of}
+use Rattle.chain_words.specs.Left.{SegmentsLeft}
+use Rattle.chain_words.proofs.Shown.{SegmentFits, segments-are-shown}
+use Rattle.chain_words.proofs.Edges.{short-of, link-of}
 
 -- ---- one segment
 -- its fields are read back

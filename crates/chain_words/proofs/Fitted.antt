@@ -57,9 +57,9 @@ use Rattle.flat_stems.specs.Stem.{stemHinted, StemLent}
 use Rattle.flat_stems.specs.Zones.{zonesAnchored, ZonesLent}
 use Rattle.flat_stems.specs.Stems.{stemsAligned, StemsLent}
 use Rattle.flat_joined.specs.Joined.{joinedAligned, JoinedLent}
-use Rattle.flat_left.specs.Left.{EdgesLeft}
-use Rattle.flat_left.proofs.Edges.{call-left}
-use Rattle.flat_left.proofs.Placed.{linked-named, linked-within, serif-named, serif-within, adjust-named, adjust-within, first-named, second-named, cjk-within}
+use Rattle.chain_words.specs.Left.{EdgesLeft}
+use Rattle.chain_words.proofs.Edges.{call-left}
+use Rattle.chain_words.proofs.Placed.{linked-named, linked-within, serif-named, serif-within, adjust-named, adjust-within, first-named, second-named, cjk-within}
 
 -- ---- extents: nothing behind the last edge
 -- of one edge

@@ -25,9 +25,9 @@ use Rattle.edges_in.proofs.Became.{flags-in}
 use Rattle.edges_in.proofs.Wholes.{shown-whole, len-in, axis-long}
 use Rattle.flat_stems.specs.Stems.{stemsAligned, StemsLent}
 use Rattle.flat_joined.specs.Joined.{joinedAligned, JoinedLent}
-use Rattle.flat_left.specs.Left.{EdgesLeft, EdgeDone}
-use Rattle.flat_left.proofs.Edges.{read-on, flat-dim, flat-major, call-done, as-many}
-use Rattle.flat_left.proofs.Fitted.{stems-left, joined-left}
+use Rattle.chain_words.specs.Left.{EdgesLeft, EdgeDone}
+use Rattle.chain_words.proofs.Edges.{read-on, flat-dim, flat-major, call-done, as-many}
+use Rattle.chain_words.proofs.Fitted.{stems-left, joined-left}
 
 -- a count of 0 is the word 0
 count-back : (n : ℕ) → pos n ≡ pos 0 → n ≡ 0

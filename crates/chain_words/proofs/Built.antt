@@ -59,10 +59,10 @@ use Rattle.flat_segments.specs.Link.{linkingLinked, LinkingLent}
 use Rattle.flat_segments.specs.Build as Build
 use Rattle.flat_segments.proofs.Kept.{computed-same}
 use Rattle.flat_segments.proofs.Room.{room-kept}
-use Rattle.flat_left.specs.Left.{SegmentsLeft, RoomLeft}
-use Rattle.flat_left.proofs.Shown.{EdgeFits, SegmentFits, edges-are-shown}
-use Rattle.flat_left.proofs.Edges.{few-below, fitted-word}
-use Rattle.flat_left.proofs.Segments.{Done, segments-left, read-fits, call-done}
+use Rattle.chain_words.specs.Left.{SegmentsLeft, RoomLeft}
+use Rattle.chain_words.proofs.Shown.{EdgeFits, SegmentFits, edges-are-shown}
+use Rattle.chain_words.proofs.Edges.{few-below, fitted-word}
+use Rattle.chain_words.proofs.Segments.{Done, segments-left, read-fits, call-done}
 
 -- ---- linking
 module _ (ws : List ℤ) (major upem scale : ℤ) {now : List ℤ} (l : LinkingLent ws major upem scale 0 now) where

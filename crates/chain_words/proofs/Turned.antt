@@ -32,11 +32,11 @@ use Rattle.edges_in.proofs.Wholes as EdgesIn
 use Rattle.segments_in.proofs.Wholes as SegmentsIn
 use Rattle.flat_turning.specs.Turn.{turnFront, turned, turnedWords, TurnedLent}
 use Rattle.flat_turning.proofs.Lending.{Shown, all-shown}
-use Rattle.flat_left.specs.Left.{EdgesLeft, SegmentsLeft}
-use Rattle.flat_left.proofs.Shown.{EdgeFits, SegmentFits}
-use Rattle.flat_left.proofs.Answers.{both, lent-done}
-use Rattle.flat_left.proofs.Edges as Edges
-use Rattle.flat_left.proofs.Segments as Segments
+use Rattle.chain_words.specs.Left.{EdgesLeft, SegmentsLeft}
+use Rattle.chain_words.proofs.Shown.{EdgeFits, SegmentFits}
+use Rattle.chain_words.proofs.Answers.{both, lent-done}
+use Rattle.chain_words.proofs.Edges as Edges
+use Rattle.chain_words.proofs.Segments as Segments
 
 -- ---- the tables
 module _ (ws es : List ℤ) (s : Shown ws es) (e : turned ws es .answer ≡ 0) where

@@ -38,9 +38,9 @@ use Rattle.lent.proofs.Whole.{edges-long}
 use Rattle.edges_in.specs.Whole.{Whole, axisIn}
 use Rattle.edges_in.proofs.Wholes.{shown-whole, len-in, axis-long, edge-in, edges-over}
 use Rattle.building_in.proofs.Back.{past-end as behind-all, axis-back}
-use Rattle.flat_left.specs.Left.{EdgesLeft}
-use Rattle.flat_left.proofs.Answers.{both}
-use Rattle.flat_left.proofs.Shown.{Word, EdgeFits, edges-are-shown}
+use Rattle.chain_words.specs.Left.{EdgesLeft}
+use Rattle.chain_words.proofs.Answers.{both}
+use Rattle.chain_words.proofs.Shown.{Word, EdgeFits, edges-are-shown}
 
 -- ---- the law
 -- an axis of n edges, each of its types, and nothing behind them
