@@ -1,4 +1,5 @@
 -- Edges, and the table of an axis.
+use mathlib.Core.Bool.{Bool, true, false}
 use Prim.Native.Nat.{ℕ}
 use lib.IntN.{ℤ, pos}
 use lib.ListN.{getD, set, replicate}
@@ -37,6 +38,11 @@ edgeAt axis i = getD (axis .edges) i emptyEdge
 -- the axis with another edge in a place
 abbrev pub putEdge : Axis → ℕ → Edge → Axis
 putEdge axis i e = record { dim = axis .dim; «major_dir» = axis .«major_dir»; edges = set (axis .edges) i e; len = axis .len }
+
+-- there is a blue zone
+unfoldable pub hasBlue : Blue → Bool
+hasBlue Blues.None = false
+hasBlue (Blues.Fitted z) = true
 
 -- ---- an edge of which something is changed
 -- the edge with this position and what gave it, these flags, zone, link and serif, and this last segment; nothing else of an edge is ever changed

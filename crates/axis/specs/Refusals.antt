@@ -9,11 +9,15 @@ use Rattle.axis.specs.declared.kinds.Link.{Link}
 use Rattle.axis.specs.declared.kinds.Link.the-variants as Links
 use Rattle.axis.specs.declared.kinds.Blue.{Blue}
 use Rattle.axis.specs.declared.kinds.Blue.the-variants as Blues
+use Rattle.axis.specs.declared.accept.EdgeTest.{EdgeTest}
+use Rattle.axis.specs.declared.accept.EdgeTest.the-variants as EdgeTests
+use Rattle.axis.specs.declared.accept.SegmentTest.{SegmentTest}
+use Rattle.axis.specs.declared.accept.SegmentTest.the-variants as SegmentTests
 use Rattle.axis.specs.declared.edge.Edge.{Edge}
 use Rattle.axis.specs.declared.edge.Axis.{Axis}
 use Rattle.axis.specs.declared.segment.Segment.{Segment}
 use Rattle.axis.specs.declared.segment.Segments.{Segments}
-use Rattle.axis.specs.Edge.{edgeAt}
+use Rattle.axis.specs.Edge.{edgeAt, hasBlue}
 use Rattle.axis.specs.Segment.{segmentAt}
 use Rattle.axis.specs.Limits.{mostSegments, mostEdges, mostUnits, mostPos, mostScore}
 
@@ -55,9 +59,24 @@ everySegment p t = every (λ (i : ℕ). p (segmentAt t i)) (min (t .len) mostSeg
 unfoldable pub edgeIndices : ℕ → Edge → Bool
 edgeIndices n e = linkHolds n (e .link) && linkHolds n (e .serif)
 
+-- first and last of an edge are below the segment count
+unfoldable pub edgeSegments : ℕ → Edge → Bool
+edgeSegments n e = ltb (e .first) n && ltb (e .last) n
+
+-- an edge has no zone
+abbrev pub isBare : Edge → Bool
+isBare e = not (hasBlue (e .blue))
+
 -- opos, pos and a present blue's fitted are within the table
 unfoldable pub edgeNumbers : Edge → Bool
 edgeNumbers e = within mostUnits (e .opos) && (within mostPos (e .pos) && blueHolds (e .blue))
+
+-- the tests of one edge, by their names
+unfoldable pub edgePasses : EdgeTest → Edge → Bool
+edgePasses (EdgeTests.Indices n) e = edgeIndices n e
+edgePasses (EdgeTests.Segments n) e = edgeSegments n e
+edgePasses EdgeTests.Numbers e = edgeNumbers e
+edgePasses EdgeTests.Bare e = isBare e
 
 -- the same of every edge
 unfoldable pub edgesIndices : Axis → Bool
@@ -75,9 +94,20 @@ segmentIndices n s = linkHolds n (s .link) && linkHolds n (s .serif)
 unfoldable pub segmentNext : ℕ → Segment → Bool
 segmentNext n s = linkHolds n (s .next)
 
+-- its edge is below the edge count
+unfoldable pub segmentEdge : ℕ → Segment → Bool
+segmentEdge m s = linkHolds m (s .edge)
+
 -- score and len are within the table
 unfoldable pub segmentNumbers : Segment → Bool
 segmentNumbers s = inside (pos 0) (pos mostScore) (s .score) && inside (pos 0) (pos mostScore) (s .len)
+
+-- the tests of one segment, by their names
+unfoldable pub segmentPasses : SegmentTest → Segment → Bool
+segmentPasses (SegmentTests.Indices n) s = segmentIndices n s
+segmentPasses (SegmentTests.Next n) s = segmentNext n s
+segmentPasses (SegmentTests.Edge m) s = segmentEdge m s
+segmentPasses SegmentTests.Numbers s = segmentNumbers s
 
 -- the same of every segment
 unfoldable pub segmentsIndices : Segments → Bool

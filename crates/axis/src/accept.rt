@@ -1,6 +1,7 @@
 // The tests that calls over edges and segments share.
 use super::edge::Axis;
 use super::edge::Edge;
+use super::edge::has_blue;
 use super::kinds::Blue;
 use super::kinds::Link;
 use super::limits::LEAST_POS;
@@ -20,13 +21,19 @@ ghost use Rattle.axis.specs.Refusals.{
   inside,
   linkHolds,
   blueHolds,
+  everyEdge,
+  everySegment,
   edgeIndices,
+  edgeSegments,
   edgeNumbers,
+  edgePasses,
   edgesIndices,
   edgesNumbers,
   segmentIndices,
   segmentNext,
+  segmentEdge,
   segmentNumbers,
+  segmentPasses,
   segmentsIndices,
   segmentsNexts,
   segmentsNumbers,
@@ -87,6 +94,16 @@ fn edge_numbers(edge: Edge) -> bool
     false
 }
 
+// Whether an edge's first and last are segments.
+fn edge_segments(edge: Edge, count: usize) -> bool
+    ensures { λ r. ⌜ r ≡ edgeSegments count edge ⌝ }
+{
+    if (edge.first as usize) < count {
+        return (edge.last as usize) < count;
+    }
+    false
+}
+
 // Whether a segment's link and serif are segments.
 fn segment_indices(segment: Segment, count: usize) -> bool
     ensures { λ r. ⌜ r ≡ segmentIndices count segment ⌝ }
@@ -105,6 +122,14 @@ fn segment_next(segment: Segment, count: usize) -> bool
 {
     let next = segment.next;
     link_holds(next, count)
+}
+
+// Whether a segment's edge is an edge.
+fn segment_edge(segment: Segment, count: usize) -> bool
+    ensures { λ r. ⌜ r ≡ segmentEdge count segment ⌝ }
+{
+    let edge = segment.edge;
+    link_holds(edge, count)
 }
 
 // Whether a segment's score and len are accepted.
@@ -141,72 +166,105 @@ pub fn least(a: usize, b: usize) -> usize
     b
 }
 
-// Whether link and serif of every edge are edges.
-pub fn edges_indices(axis: Axis) -> bool
-    ensures { λ r. ⌜ r ≡ edgesIndices axis ⌝ }
+// A test of an edge: link and serif are of so many edges, first and last of so many segments, its positions are accepted, or it has no blue zone.
+pub enum EdgeTest {
+    Indices(usize),
+    Segments(usize),
+    Numbers,
+    Bare,
+}
+
+// A test of a segment: link and serif are of so many segments, so is next, edge is of so many edges, or score and len are accepted.
+pub enum SegmentTest {
+    Indices(usize),
+    Next(usize),
+    Edge(usize),
+    Numbers,
+}
+
+// Whether an edge passes a test.
+pub fn edge_passes(edge: Edge, test: EdgeTest) -> bool
+    ensures { λ r. ⌜ r ≡ edgePasses test edge ⌝ }
+{
+    match test {
+        EdgeTest::Indices(count) => edge_indices(edge, count),
+        EdgeTest::Segments(count) => edge_segments(edge, count),
+        EdgeTest::Numbers => edge_numbers(edge),
+        EdgeTest::Bare => !has_blue(edge),
+    }
+}
+
+// Whether a segment passes a test.
+pub fn segment_passes(segment: Segment, test: SegmentTest) -> bool
+    ensures { λ r. ⌜ r ≡ segmentPasses test segment ⌝ }
+{
+    match test {
+        SegmentTest::Indices(count) => segment_indices(segment, count),
+        SegmentTest::Next(count) => segment_next(segment, count),
+        SegmentTest::Edge(count) => segment_edge(segment, count),
+        SegmentTest::Numbers => segment_numbers(segment),
+    }
+}
+
+// Whether every edge passes a test.
+pub fn every_edge(axis: Axis, test: EdgeTest) -> bool
+    ensures { λ r. ⌜ r ≡ everyEdge (edgePasses test) axis ⌝ }
 {
     let n = least(axis.len, MOST_EDGES);
     for i in 0..n {
         let edge = axis.edges[i];
-        if !edge_indices(edge, axis.len) {
+        if !edge_passes(edge, test) {
             return false;
         }
     }
     true
+}
+
+// Whether every segment passes a test.
+pub fn every_segment(table: Segments, test: SegmentTest) -> bool
+    ensures { λ r. ⌜ r ≡ everySegment (segmentPasses test) table ⌝ }
+{
+    let n = least(table.len, MOST_SEGMENTS);
+    for i in 0..n {
+        let segment = table.segments[i];
+        if !segment_passes(segment, test) {
+            return false;
+        }
+    }
+    true
+}
+
+// Whether link and serif of every edge are edges.
+pub fn edges_indices(axis: Axis) -> bool
+    ensures { λ r. ⌜ r ≡ edgesIndices axis ⌝ }
+{
+    every_edge(axis, EdgeTest::Indices(axis.len))
 }
 
 // Whether the positions of every edge are accepted.
 pub fn edges_numbers(axis: Axis) -> bool
     ensures { λ r. ⌜ r ≡ edgesNumbers axis ⌝ }
 {
-    let n = least(axis.len, MOST_EDGES);
-    for i in 0..n {
-        let edge = axis.edges[i];
-        if !edge_numbers(edge) {
-            return false;
-        }
-    }
-    true
+    every_edge(axis, EdgeTest::Numbers)
 }
 
 // Whether link and serif of every segment are segments.
 pub fn segments_indices(table: Segments) -> bool
     ensures { λ r. ⌜ r ≡ segmentsIndices table ⌝ }
 {
-    let n = least(table.len, MOST_SEGMENTS);
-    for i in 0..n {
-        let segment = table.segments[i];
-        if !segment_indices(segment, table.len) {
-            return false;
-        }
-    }
-    true
+    every_segment(table, SegmentTest::Indices(table.len))
 }
 
 // Whether the next of every segment is a segment.
 pub fn segments_nexts(table: Segments) -> bool
     ensures { λ r. ⌜ r ≡ segmentsNexts table ⌝ }
 {
-    let n = least(table.len, MOST_SEGMENTS);
-    for i in 0..n {
-        let segment = table.segments[i];
-        if !segment_next(segment, table.len) {
-            return false;
-        }
-    }
-    true
+    every_segment(table, SegmentTest::Next(table.len))
 }
 
 // Whether score and len of every segment are accepted.
 pub fn segments_numbers(table: Segments) -> bool
     ensures { λ r. ⌜ r ≡ segmentsNumbers table ⌝ }
 {
-    let n = least(table.len, MOST_SEGMENTS);
-    for i in 0..n {
-        let segment = table.segments[i];
-        if !segment_numbers(segment) {
-            return false;
-        }
-    }
-    true
+    every_segment(table, SegmentTest::Numbers)
 }

@@ -8,7 +8,7 @@ use super::kinds::Link;
 use super::kinds::Mark;
 use super::limits::MOST_EDGES;
 ghost use mathlib.Core.Path.{_≡_};
-ghost use Rattle.axis.specs.Edge.{emptyAxis, placed, finished, fixedAt};
+ghost use Rattle.axis.specs.Edge.{emptyAxis, hasBlue, placed, finished, fixedAt};
 
 // Segments that share a position: the font position, the original and the fitted position in units, the edges that it is linked to, and what last gave it its position.
 pub struct Edge {
@@ -57,6 +57,17 @@ pub fn empty_axis(dim: Dimension, major_dir: Direction) -> Axis
         major_dir,
         edges: [EMPTY_EDGE; MOST_EDGES],
         len: 0,
+    }
+}
+
+// Whether an edge has a blue zone.
+pub fn has_blue(edge: Edge) -> bool
+    ensures { λ r. ⌜ r ≡ hasBlue (edge .blue) ⌝ }
+{
+    let blue = edge.blue;
+    match blue {
+        Blue::None => false,
+        Blue::Fitted(z) => true,
     }
 }
 

@@ -12,11 +12,11 @@ use Rattle.axis.specs.declared.kinds.Blue.{Blue}
 use Rattle.axis.specs.declared.kinds.Blue.the-variants as Blues
 use Rattle.axis.specs.declared.edge.Axis.{Axis}
 use Rattle.axis.specs.Link.{indexOr}
-use Rattle.axis.specs.Edge.{edgeAt}
+use Rattle.axis.specs.Edge.{edgeAt, hasBlue}
 use Rattle.axis.specs.Limits.{mostUnits}
 use Rattle.axis.specs.Accepted.{AxisWithin}
 use Rattle.placing.specs.Steps.{mostWidth}
-use Rattle.zone.specs.Zones.{hasBlue, onZone}
+use Rattle.zone.specs.Zones.{onZone}
 use Rattle.zone.specs.Steps.{zoneOf, thinBoth, byZone, stepBy, step}
 use Rattle.zone.proofs.Kept.{within-more, link-in, choice-in, thin-put, zone-at, zone-put, link-put}
 use Rattle.blues_pass.specs.Pass.{stateOf}

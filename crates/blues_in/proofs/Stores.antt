@@ -12,18 +12,19 @@ use Rattle.axis.specs.declared.kinds.Link.{Link}
 use Rattle.axis.specs.declared.kinds.Mark.{Mark}
 use Rattle.axis.specs.declared.kinds.Mark.the-variants.{Linked}
 use Rattle.axis.specs.declared.edge.Edge.{Edge}
-use Rattle.axis.specs.Edge.{edgeAt, putEdge, flagged, finished, fixedAt}
+use Rattle.axis.specs.Edge.{edgeAt, putEdge, flagged, finished, fixedAt, hasBlue}
 use Rattle.placing.specs.Placing.{linkedPos, linkedEdge}
 use Rattle.words.specs.Word.{wordAt}
 use Rattle.words.specs.Field.{flagsOf, markOf}
 use Rattle.words.specs.Edge.{flagsPlace, markPlace, wordOfEdge, edgesIn}
-use Rattle.zone.specs.Zones.{hasBlue, notNeutral, zoneMark}
+use Rattle.zone.specs.Zones.{notNeutral, zoneMark}
 use Rattle.zone.specs.Steps.{thinned, bothZoned, losesOwn, losesLink, linkedOrZoned, thinAt}
 use Rattle.zone.proofs.Straight.{put-same}
 use Rattle.lent.specs.Lent.{edgesOf}
 use Rattle.edges_in.specs.Whole.{Whole, axisIn, Became, flagging, fixing, zoned, unzoning, reduced}
 use Rattle.edges_in.proofs.Wholes.{read-in}
-use Rattle.edges_in.proofs.Became.{stays, became-then, became-as, flags-in, mark-in, put-again}
+use Rattle.edges_in.proofs.Reading.{flags-in, mark-in}
+use Rattle.edges_in.proofs.Became.{stays, became-then, became-as, put-again}
 use Rattle.blues_in.specs.Blues.{thinning, skipping, zoning, linking}
 
 -- ---- a zone skipped

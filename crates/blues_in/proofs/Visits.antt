@@ -14,12 +14,12 @@ use Rattle.axis.specs.declared.kinds.Dimension.{Dimension}
 use Rattle.axis.specs.declared.edge.Edge.{Edge}
 use Rattle.axis.specs.declared.edge.Axis.{Axis}
 use Rattle.axis.specs.Link.{indexOr}
-use Rattle.axis.specs.Edge.{edgeAt}
+use Rattle.axis.specs.Edge.{edgeAt, hasBlue}
 use Rattle.axis.specs.Limits.{mostUnits}
 use Rattle.axis.specs.Accepted.{AxisWithin}
 use Rattle.placing.specs.Steps.{mostReach}
 use Rattle.words.specs.Edge.{edgesIn}
-use Rattle.zone.specs.Zones.{hasBlue, onZone, State, anchorFirst}
+use Rattle.zone.specs.Zones.{onZone, State, anchorFirst}
 use Rattle.zone.specs.Steps.{zoneOf, linkAt, byZone, stepBy, step}
 use Rattle.zone.proofs.Kept.{link-in, choice-in, zone-at}
 use Rattle.zone.proofs.Turns.{step-done}
@@ -91,7 +91,7 @@ module _ {ws w1 : List ℤ} {i k : ℕ} {visited : Edge} {x : Blue} (f : Found w
         let r = sym (read-in ws i (f .read) d) in
         ap (λ (y : Bool). cond y s (stepBy rule xs s i (indexOr i (edgeAt (axisIn ws d) i .link)))) (ap (λ (y : Edge). y .flags .done) r ∙ f .not-done)
         ∙ ap (stepBy rule xs s i) (ap (λ (y : Edge). indexOr i (y .link)) r ∙ sym (f .link))
-        ∙ ap (λ (u : Axis). byZone rule xs u anchor i k (zoneOf (edgeAt u i .blue) (edgeAt u k .blue))) (sym (f .skip .axis d))
+        ∙ ap (λ (u : Axis). byZone rule xs u anchor i k (zoneOf (edgeAt u i .blue) (edgeAt u k .blue))) (sym (f .skip .table d))
         ∙ ap (byZone rule xs (axisIn w1 d) anchor i k) (sym (zone-is d))
 
     -- none is left
@@ -108,7 +108,7 @@ module _ {ws w1 : List ℤ} {i k : ℕ} {visited : Edge} {x : Blue} (f : Found w
     two-below = choice-in (edgesIn w1) k i two (c .on) second-still first-still (c .two-is)
 
     skip-bound : AxisWithin mostReach (edgesOf w1)
-    skip-bound = subst (AxisWithin mostReach) (sym (f .skip .axis _)) (skip-within mostReach (edgesIn ws) (edgesOf ws) (f .within) (edges-len ws) i k (f .below) k-below)
+    skip-bound = subst (AxisWithin mostReach) (sym (f .skip .table _)) (skip-within mostReach (edgesIn ws) (edgesOf ws) (f .within) (edges-len ws) i k (f .below) k-below)
 
     pub fitted-between : Between mostUnits mostUnits z
     fitted-between = zone-at mostReach (edgesIn w1) i k (edgesOf w1) x z skip-bound (edges-len w1) first-still second-still (zone-is _) (c .fitted)
@@ -116,7 +116,7 @@ module _ {ws w1 : List ℤ} {i k : ℕ} {visited : Edge} {x : Blue} (f : Found w
     module _ (anchor : Link) {w2 : List ℤ} (a : Became (zoning anchor one z) w1 w2) where
       pub zone-bound : AxisWithin mostReach (edgesOf w2)
       zone-bound =
-          subst (AxisWithin mostReach) (sym (a .axis _)) (zone-within mostReach (edgesIn w1) (edgesOf w1) skip-bound (edges-len w1) anchor one z one-below (omega arith) fitted-between)
+          subst (AxisWithin mostReach) (sym (a .table _)) (zone-within mostReach (edgesIn w1) (edgesOf w1) skip-bound (edges-len w1) anchor one z one-below (omega arith) fitted-between)
 
       pub visited-zone : (rule : WidthRule) (xs : List ℤ) {w3 : List ℤ} {r : Link} → Became (linking rule xs one two) w2 w3 → r ≡ anchorFirst anchor i
           → Visited stateOf (step rule xs) i anchor r ws w3
@@ -131,6 +131,6 @@ module _ {ws w1 : List ℤ} {i k : ℕ} {visited : Edge} {x : Blue} (f : Found w
             ∙ ap (λ (y : Bool). stateOf (linkAt rule xs (onZone U anchor (cond y i k) z) (cond y i k) (cond y k i)) (anchorFirst anchor i))
             (ap (λ (y : Edge). hasBlue (y .blue)) (sym (read-in w1 i (f .first) d)) ∙ sym (c .on-is))
             ∙ (λ n. stateOf (linkAt rule xs (onZone U anchor (sym (c .one-is) n) z) (sym (c .one-is) n) (sym (c .two-is) n)) (anchorFirst anchor i))
-            ∙ ap (λ (u : Axis). stateOf (linkAt rule xs u one two) (anchorFirst anchor i)) (sym (a .axis d))
-            ∙ (λ n. stateOf (sym (b .axis d) n) (sym r-is n));
+            ∙ ap (λ (u : Axis). stateOf (linkAt rule xs u one two) (anchorFirst anchor i)) (sym (a .table d))
+            ∙ (λ n. stateOf (sym (b .table d) n) (sym r-is n));
       }

@@ -1,5 +1,6 @@
 // The stores of a visit.
 use axis::edge::Edge;
+use axis::edge::has_blue;
 use axis::kinds::Link;
 use axis::kinds::Mark;
 use edges_in::edge::fit_in;
@@ -10,7 +11,6 @@ use edges_in::edge::mark_in;
 use edges_in::edge::unzone_in;
 use fixed::width::WidthRule;
 use placing::place::linked_edge;
-use zone::zone::has_blue;
 use zone::zone::loses_link;
 use zone::zone::loses_own;
 use zone::zone::put_on_zone;

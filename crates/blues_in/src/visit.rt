@@ -2,6 +2,7 @@
 use super::store::skip_in;
 use super::store::stem_in;
 use super::store::zone_in;
+use axis::edge::has_blue;
 use axis::kinds::Blue;
 use axis::kinds::Link;
 use axis::link::index_or;
@@ -9,7 +10,6 @@ use edges_in::edge::fit_in;
 use fixed::width::WidthRule;
 use zone::zone::anchor_first;
 use zone::zone::choose;
-use zone::zone::has_blue;
 use zone::zone::zone_of;
 ghost use mathlib.Core.Path.{_≡_};
 ghost use mathlib.Core.Bool.{true};

@@ -17,14 +17,14 @@ use Rattle.axis.specs.declared.kinds.Mark.{Mark}
 use Rattle.axis.specs.declared.kinds.Mark.the-variants.{Linked}
 use Rattle.axis.specs.declared.edge.Edge.{Edge}
 use Rattle.axis.specs.declared.edge.Axis.{Axis}
-use Rattle.axis.specs.Edge.{edgeAt, putEdge, fixedAt}
+use Rattle.axis.specs.Edge.{edgeAt, putEdge, fixedAt, hasBlue}
 use Rattle.axis.specs.Mark.{among}
 use Rattle.axis.specs.Accepted.{Below, AxisWithin}
 use Rattle.axis.specs.Changes.{zone, Only, wherever, OnlyAxis}
 use Rattle.axis.proofs.Only.{place-zone, fixed-only, rezoned-only, without-zone, named, same-axis, also-put, link-kept}
 use Rattle.axis.proofs.Visits.{visits-keep}
 use Rattle.placing.specs.Placing.{linkedPos}
-use Rattle.zone.specs.Zones.{hasBlue, unzoned, skipped, zoneMark, zonedEdge, onZone, linkAligned, State, visitAlone, visitPair, visitLink, visit}
+use Rattle.zone.specs.Zones.{unzoned, skipped, zoneMark, zonedEdge, onZone, linkAligned, State, visitAlone, visitPair, visitLink, visit}
 use Rattle.blues_pass.specs.Pass.{bluesMarks, bluesOf}
 
 -- a zone gives one of the marks

@@ -17,10 +17,10 @@ use Rattle.axis.specs.declared.kinds.Mark.{Mark}
 use Rattle.axis.specs.declared.kinds.Mark.the-variants as Marks
 use Rattle.axis.specs.declared.edge.Edge.{Edge}
 use Rattle.axis.specs.declared.edge.Axis.{Axis}
-use Rattle.axis.specs.Edge.{freshEdge, changed}
+use Rattle.axis.specs.Edge.{freshEdge, changed, hasBlue}
 use Rattle.axis.specs.Visits.{visits}
 use Rattle.placing.specs.Placing.{linkedPos}
-use Rattle.zone.specs.Zones.{hasBlue, skipped, zoneMark, linkAligned, anchorFirst, visitAlone, visitPair, visitLink, visit}
+use Rattle.zone.specs.Zones.{skipped, zoneMark, linkAligned, anchorFirst, visitAlone, visitPair, visitLink, visit}
 use Rattle.blues_pass.specs.declared.pass.Anchored.{Anchored}
 use Rattle.blues_pass.specs.Pass.{anchored, bluesOf}
 

@@ -1,5 +1,6 @@
 // The pass over the edges.
 use axis::edge::Axis;
+use axis::edge::has_blue;
 use axis::kinds::Blue;
 use axis::kinds::Link;
 use axis::link::index_or;
@@ -7,7 +8,6 @@ use fixed::width::WidthRule;
 use zone::zone::align_stem;
 use zone::zone::anchor_first;
 use zone::zone::choose;
-use zone::zone::has_blue;
 use zone::zone::loses_link;
 use zone::zone::loses_own;
 use zone::zone::put_on_zone;

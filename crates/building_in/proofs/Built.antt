@@ -113,13 +113,13 @@ module _ {ws : List ℤ} {r : Rules} {first last next : List ℕ} {room : List �
       pub properties-ready : Steps.Ready (edgesOf w1) (flatSegments ws′)
       properties-ready =
           subst (λ (x : Axis). Steps.Ready x (flatSegments ws′)) (sym (made-axis Dimensions.Horizontal))
-          (subst (Steps.Ready (faced Dimensions.Horizontal Directions.None edges)) (sym (told .table))
+          (subst (Steps.Ready (faced Dimensions.Horizontal Directions.None edges)) (sym (told .table tt))
           (ready-faced edges (builtSegments t s) Dimensions.Horizontal Directions.None (Handing.ready t r (shown t r s) refl (R .within))))
 
       module _ {w2 : List ℤ} (p : Edges.Became (propertiesOf (flatSegments ws′)) w1 w2) where
         given : Edges.axisIn w2 Dimensions.Horizontal ≡ faced Dimensions.Horizontal Directions.None (edgeProperties edges (builtSegments t s))
         given =
-            p .axis Dimensions.Horizontal ∙ (λ i. edgeProperties (made-axis Dimensions.Horizontal i) (told .table i))
+            p .table Dimensions.Horizontal ∙ (λ i. edgeProperties (made-axis Dimensions.Horizontal i) (told .table tt i))
             ∙ properties-unread (builtSegments t s) Dimensions.Horizontal Directions.None edges
 
         as-many : edgesIn w2 ≡ s .count

@@ -21,7 +21,7 @@ use Rattle.words.specs.Field.{choiceOf, dimensionOf, groupOf, ruleOf}
 use Rattle.words.specs.Edge.{edgesIn, flatAxis}
 use Rattle.shape.specs.Shape.{choice}
 use Rattle.lent.specs.Lent.{bothIn, choices, namedAnchor}
-use Rattle.edges_in.proofs.Became.{flags-in}
+use Rattle.edges_in.proofs.Reading.{flags-in}
 use Rattle.edges_in.proofs.Wholes.{shown-whole, len-in, axis-long}
 use Rattle.flat_stems.specs.Stems.{stemsAligned, StemsLent}
 use Rattle.flat_joined.specs.Joined.{joinedAligned, JoinedLent}

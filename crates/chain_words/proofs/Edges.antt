@@ -36,7 +36,9 @@ use Rattle.lent.specs.Lent.{Lent, edgesFront}
 use Rattle.lent.proofs.Kept.{passed}
 use Rattle.lent.proofs.Whole.{edges-long}
 use Rattle.edges_in.specs.Whole.{Whole, axisIn}
-use Rattle.edges_in.proofs.Wholes.{shown-whole, len-in, axis-long, edge-in, edges-over}
+use Rattle.edges_in.proofs.Wholes.{shown-whole, len-in, axis-long, edge-in}
+use Rattle.words_record.proofs.Layouts.{edgeCodec}
+use Rattle.words_record.proofs.Wholes.{over}
 use Rattle.building_in.proofs.Back.{past-end as behind-all, axis-back}
 use Rattle.chain_words.specs.Left.{EdgesLeft}
 use Rattle.chain_words.proofs.Answers.{both}
@@ -72,6 +74,11 @@ module _ (n : ℕ) (axis : Axis) (few : n ≤ mostEdges) (f : Fits n axis) where
       other-major words (axis .dim) (axis .«major_dir»)
       ∙ (λ k. record { dim = axis .dim; «major_dir» = axis .«major_dir»; edges = back k .edges; len = back k .len })
       ∙ ap (λ (m : ℕ). record { dim = axis .dim; «major_dir» = axis .«major_dir»; edges = axis .edges; len = m }) (sym (f .len))
+
+-- an axis written over the words of edges
+pub edges-over : (ws : List ℤ) (axis : Axis) → Whole ws → edgesOver ws axis ≡ joined (edgeWordsAt axis) (edgesIn ws)
+unfolding edgesOver
+edges-over ws axis w = over edgeCodec ws (edgeAt axis) w
 
 -- written over words of as many edges
 pub edges-left : (ws : List ℤ) (axis : Axis) → Whole ws → Fits (edgesIn ws) axis → EdgesLeft ws (edgesOver ws axis) axis

@@ -45,13 +45,13 @@ use Rattle.stems.proofs.Handed as StemsHanded
 use Rattle.joined.specs.Joined.{joinedMarks}
 use Rattle.joined.proofs.Changed as Joined
 use Rattle.joined.proofs.Handed as JoinedHanded
-use Rattle.words.specs.Field.{choiceOf, dimensionOf, groupOf, ruleOf, linkDirOf}
+use Rattle.words.specs.Field.{choiceOf, dimensionOf, groupOf, ruleOf}
 use Rattle.words.specs.Edge.{edgesIn, flatAxis}
 use Rattle.shape.specs.Shape.{isIn, choice}
 use Rattle.lent.specs.Lent.{edgesOf, bothIn, choices, namedEdge, namedAnchor}
 use Rattle.lent.proofs.Kept.{lent-first}
 use Rattle.edges_in.proofs.Wholes.{edges-len, len-in}
-use Rattle.flat.specs.Fit.{linkedFitted, LinkedLent, serifFitted, SerifLent, adjustFitted, AdjustLent}
+use Rattle.flat.specs.Fit.{linkDirOf, linkedFitted, LinkedLent, serifFitted, SerifLent, adjustFitted, AdjustLent}
 use Rattle.flat.specs.M.{mHinted, MLent}
 use Rattle.flat_stems.specs.Stem.{stemHinted, StemLent}
 use Rattle.flat_stems.specs.Zones.{zonesAnchored, ZonesLent}

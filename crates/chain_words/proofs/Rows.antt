@@ -33,13 +33,13 @@ use Rattle.shape.specs.Shape.{isIn, choice}
 use Rattle.lent.specs.Lent.{refusedOr, edgesFront, bothIn, choices, namedAnchor}
 use Rattle.lent.proofs.Naming.{anchor-none, anchor-named, index-names}
 use Rattle.edges_in.specs.Whole.{Whole}
-use Rattle.edges_in.proofs.Wholes.{shown-whole, len-in, edges-over}
+use Rattle.edges_in.proofs.Wholes.{shown-whole, len-in}
 use Rattle.flat_stems.specs.Zones.{zonesAnchored, zonesWords, ZonesLent}
 use Rattle.flat_stems.specs.Stems.{stemsAligned, stemsWords, StemsLent}
 use Rattle.flat_joined.specs.Joined.{joinedAligned, JoinedLent}
 use Rattle.chain_words.specs.Left.{EdgesLeft}
 use Rattle.chain_words.proofs.Answers.{both, lent-done}
-use Rattle.chain_words.proofs.Edges.{Done, read-on, as-many, flat-dim, flat-major, call-done, front-holds}
+use Rattle.chain_words.proofs.Edges.{Done, edges-over, read-on, as-many, flat-dim, flat-major, call-done, front-holds}
 use Rattle.chain_words.proofs.Fitted.{zones-left}
 
 -- an anchor among the edges is named by its own word

@@ -33,7 +33,9 @@ use Rattle.shape.specs.Shape.{segmentsShown}
 use Rattle.lent.specs.Lent.{Lent, segmentsFront}
 use Rattle.lent.proofs.Kept.{passed}
 use Rattle.segments_in.specs.Whole.{Whole}
-use Rattle.segments_in.proofs.Wholes.{shown-whole, segments-len, segments-over}
+use Rattle.segments_in.proofs.Wholes.{shown-whole, segments-len, segment-in}
+use Rattle.words_record.proofs.Layouts.{segmentCodec}
+use Rattle.words_record.proofs.Wholes.{over, joined-whole}
 use Rattle.building_in.proofs.Back.{past-end as behind-all}
 use Rattle.chain_words.specs.Left.{SegmentsLeft}
 use Rattle.chain_words.proofs.Shown.{SegmentFits, segments-are-shown}
@@ -125,6 +127,15 @@ module _ (n : ℕ) (t : Segments) (few : n ≤ mostSegments) (f : Fits n t) wher
   words-read i h =
       segment-read words i (omega (arith, count)) (omega (arith, count))
       ∙ segment-moved words (segmentWordsAt t i) (segmentSize * i) (λ (k : ℕ) (l : k < segmentSize). word-is i k h l) ∙ segment-back (segmentAt t i) (f .segment i h)
+
+-- words of segments are those of their table
+pub words-joined : (ws : List ℤ) → Whole ws → ws ≡ joined (segmentWordsAt (flatSegments ws)) (segmentsIn ws)
+words-joined ws w = joined-whole segmentCodec ws (segmentAt (flatSegments ws)) w (λ i h. segment-in ws i w h)
+
+-- a table written over the words of segments
+pub segments-over : (ws : List ℤ) (t : Segments) → Whole ws → segmentsOver ws t ≡ joined (segmentWordsAt t) (segmentsIn ws)
+unfolding segmentsOver
+segments-over ws t w = over segmentCodec ws (segmentAt t) w
 
 -- written over words of as many segments
 pub segments-left : (ws : List ℤ) (t : Segments) → Whole ws → Fits (segmentsIn ws) t → SegmentsLeft ws (segmentsOver ws t) t

@@ -208,7 +208,7 @@ module _ (ws es : List ℤ) {now edges : List ℤ} (l : TurnedLent ws es 0 (now,
       let v′ = EdgesIn.shown-whole edges (turned-edges-left .shown) (omega (arith, many-edges, was-shown .few-edges)) in (
         d .0,
         (
-          ap (λ (p : List ℤ × List ℤ). p .0) held ∙ SegmentsIn.segments-over now (flatSegments ws) w′ ∙ ap (joined (segmentWordsAt (flatSegments ws))) many ∙ sym (SegmentsIn.words-joined ws w),
-          ap (λ (p : List ℤ × List ℤ). p .1) held ∙ EdgesIn.edges-over edges (edgesOf es) v′ ∙ ap (joined (edgeWordsAt (edgesOf es))) many-edges ∙ sym (EdgesIn.words-joined es _ v),
+          ap (λ (p : List ℤ × List ℤ). p .0) held ∙ Segments.segments-over now (flatSegments ws) w′ ∙ ap (joined (segmentWordsAt (flatSegments ws))) many ∙ sym (Segments.words-joined ws w),
+          ap (λ (p : List ℤ × List ℤ). p .1) held ∙ Edges.edges-over edges (edgesOf es) v′ ∙ ap (joined (edgeWordsAt (edgesOf es))) many-edges ∙ sym (EdgesIn.words-joined es _ v),
         ),
       )

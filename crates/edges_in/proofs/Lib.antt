@@ -1,6 +1,6 @@
 -- Laws on edges in place.
-pub mod Tables
 pub mod Wholes
+pub mod Reading
 pub mod Writes
 pub mod Became
 pub mod Passes

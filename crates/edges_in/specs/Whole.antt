@@ -1,8 +1,6 @@
 -- Lists of words that are the words of their edges, and what they become where an edge is written.
-use mathlib.Core.Path.{_≡_}
 use mathlib.Core.List.{List}
-use Prim.Native.Nat.{ℕ, _*_, _≤_, _<_}
-use lib.ListN.{length}
+use Prim.Native.Nat.{ℕ}
 use lib.IntN.{ℤ, pos}
 use Rattle.axis.specs.declared.edge.Edge.{Edge}
 use Rattle.axis.specs.declared.edge.Axis.{Axis}
@@ -16,25 +14,20 @@ use Rattle.axis.specs.declared.kinds.Link.the-variants as Links
 use Rattle.axis.specs.declared.kinds.Mark.{Mark}
 use Rattle.axis.specs.declared.kinds.Mark.the-variants as Marks
 use Rattle.axis.specs.Edge.{edgeAt, putEdge, changed, placed, flagged, fixedAt, joinedTo}
-use Rattle.axis.specs.Limits.{mostEdges}
-use Rattle.words.specs.Word.{wordAt}
-use Rattle.words.specs.Edge.{edgeSize, wordOfEdge, edgesIn, edgeFrom, flatAxis, edgeWords}
+use Rattle.words.specs.Edge.{flatAxis}
+use Rattle.words_record.specs.Record.{edgeLayout, WholeOf, BecameOf}
 
 -- no more than the table holds, nothing behind the last, and word for word those that the edges read from them are written as
-pub record Whole (ws : List ℤ) : Type 0 where
-  pub few : edgesIn ws ≤ mostEdges
-  pub long : length ws ≡ edgeSize * edgesIn ws
-  pub word : (i j : ℕ) → i < edgesIn ws → j < edgeSize → wordAt (edgeWords (edgeFrom ws (edgeSize * i))) j ≡ wordAt ws (wordOfEdge i j)
+abbrev pub Whole : List ℤ → Type 0
+Whole = WholeOf edgeLayout
 
 -- the axis of lent edges on a dimension, for a call that does not read its major direction
 abbrev pub axisIn : List ℤ → Dimension → Axis
 axisIn ws d = flatAxis ws d Directions.None
 
 -- they stay the words of their edges, as many, and on every dimension the axis is what f makes of it
-pub record Became (f : Axis → Axis) (ws ws′ : List ℤ) : Type 0 where
-  pub whole : Whole ws′
-  pub long : length ws′ ≡ length ws
-  pub axis : (d : Dimension) → axisIn ws′ d ≡ f (axisIn ws d)
+abbrev pub Became : (Axis → Axis) → List ℤ → List ℤ → Type 0
+Became = BecameOf edgeLayout axisIn
 
 -- edge i at a position, and what gave it; and that for good
 abbrev pub placing : ℕ → ℤ → Mark → Axis → Axis
@@ -60,6 +53,11 @@ linking i link axis = putEdge axis i (joinedTo (edgeAt axis i) link (edgeAt axis
 
 abbrev pub serifing : ℕ → Link → Axis → Axis
 serifing i serif axis = putEdge axis i (joinedTo (edgeAt axis i) (edgeAt axis i .link) serif)
+
+-- an edge with this first segment and this last one
+abbrev pub ended : Edge → ℕ → ℕ → Edge
+ended e f l =
+    record { fpos = e .fpos; opos = e .opos; pos = e .pos; flags = e .flags; dir = e .dir; blue = e .blue; link = e .link; serif = e .serif; first = f; last = l; mark = e .mark }
 
 -- what fitting reads of an edge, its other fields empty
 abbrev pub reduced : Edge → Edge

@@ -4,7 +4,15 @@ use axis::flags::Flags;
 use axis::kinds::Direction;
 use axis::kinds::Link;
 use axis::kinds::Mark;
+use words::edge::BLUE_PLACE;
 use words::edge::EDGE_WORDS;
+use words::edge::FITTED_PLACE;
+use words::edge::FLAGS_PLACE;
+use words::edge::LINK_PLACE;
+use words::edge::MARK_PLACE;
+use words::edge::OPOS_PLACE;
+use words::edge::POS_PLACE;
+use words::edge::SERIF_PLACE;
 use words::field::blue_of;
 use words::field::flags_of;
 use words::field::flags_word;
@@ -33,12 +41,15 @@ pub fn fit_in(words: &[i32], i: usize) -> Edge
     let at = EDGE_WORDS * i;
     Edge {
         fpos: 0,
-        opos: word_in(words, at + 1),
-        pos: word_in(words, at + 2),
-        flags: flags_of(word_in(words, at + 3)),
+        opos: word_in(words, at + OPOS_PLACE),
+        pos: word_in(words, at + POS_PLACE),
+        flags: flags_of(word_in(words, at + FLAGS_PLACE)),
         dir: Direction::None,
-        blue: blue_of(word_in(words, at + 5), word_in(words, at + 6)),
-        link: link_of(word_in(words, at + 7)),
+        blue: blue_of(
+            word_in(words, at + BLUE_PLACE),
+            word_in(words, at + FITTED_PLACE),
+        ),
+        link: link_of(word_in(words, at + LINK_PLACE)),
         serif: Link::None,
         first: 0,
         last: 0,
@@ -51,7 +62,7 @@ pub fn flags_in(words: &[i32], i: usize) -> Flags
     requires { ⌜ Whole (now words) × (i < edgesIn (now words)) ⌝ }
     ensures { λ r. ⌜ r ≡ flagsOf (wordAt (now (words .entry)) (wordOfEdge i flagsPlace)) ⌝ }
 {
-    flags_of(word_in(words, EDGE_WORDS * i + 3))
+    flags_of(word_in(words, EDGE_WORDS * i + FLAGS_PLACE))
 }
 
 // The mark of an edge.
@@ -59,7 +70,7 @@ pub fn mark_in(words: &[i32], i: usize) -> Mark
     requires { ⌜ Whole (now words) × (i < edgesIn (now words)) ⌝ }
     ensures { λ r. ⌜ r ≡ markOf (wordAt (now (words .entry)) (wordOfEdge i markPlace)) ⌝ }
 {
-    mark_of(word_in(words, EDGE_WORDS * i + 11))
+    mark_of(word_in(words, EDGE_WORDS * i + MARK_PLACE))
 }
 
 // Writes the word of an edge in a field's place.
@@ -75,8 +86,8 @@ pub fn place_in(words: &mut [i32], i: usize, pos: i32, mark: Mark)
     requires { ⌜ Whole (now words) × (i < edgesIn (now words)) ⌝ }
     ensures { λ _. ⌜ Became (placing i pos mark) (now (words .entry)) (now (words .exit)) ⌝ }
 {
-    put_word(words, i, 2, pos);
-    put_word(words, i, 11, mark_word(mark));
+    put_word(words, i, POS_PLACE, pos);
+    put_word(words, i, MARK_PLACE, mark_word(mark));
 }
 
 // Gives an edge other flags.
@@ -84,7 +95,7 @@ pub fn flag_in(words: &mut [i32], i: usize, flags: Flags)
     requires { ⌜ Whole (now words) × (i < edgesIn (now words)) ⌝ }
     ensures { λ _. ⌜ Became (flagging i flags) (now (words .entry)) (now (words .exit)) ⌝ }
 {
-    put_word(words, i, 3, flags_word(flags));
+    put_word(words, i, FLAGS_PLACE, flags_word(flags));
 }
 
 // Places an edge for good.
@@ -103,8 +114,8 @@ pub fn unzone_in(words: &mut [i32], i: usize)
     requires { ⌜ Whole (now words) × (i < edgesIn (now words)) ⌝ }
     ensures { λ _. ⌜ Became (unzoning i) (now (words .entry)) (now (words .exit)) ⌝ }
 {
-    put_word(words, i, 6, 0);
-    put_word(words, i, 5, 0);
+    put_word(words, i, FITTED_PLACE, 0);
+    put_word(words, i, BLUE_PLACE, 0);
 }
 
 // Links an edge to what `link` names.
@@ -112,7 +123,7 @@ pub fn link_in(words: &mut [i32], i: usize, link: Link)
     requires { ⌜ Whole (now words) × (i < edgesIn (now words)) × Below mostEdges link ⌝ }
     ensures { λ _. ⌜ Became (linking i link) (now (words .entry)) (now (words .exit)) ⌝ }
 {
-    put_word(words, i, 7, link_word(link));
+    put_word(words, i, LINK_PLACE, link_word(link));
 }
 
 // Makes an edge a serif of what `serif` names.
@@ -120,5 +131,5 @@ pub fn serif_in(words: &mut [i32], i: usize, serif: Link)
     requires { ⌜ Whole (now words) × (i < edgesIn (now words)) × Below mostEdges serif ⌝ }
     ensures { λ _. ⌜ Became (serifing i serif) (now (words .entry)) (now (words .exit)) ⌝ }
 {
-    put_word(words, i, 8, link_word(serif));
+    put_word(words, i, SERIF_PLACE, link_word(serif));
 }

@@ -34,8 +34,8 @@ use Rattle.shape.specs.declared.element.Element.the-variants as Elements
 use Rattle.shape.specs.Shape as Shape
 use Rattle.lent.specs.Lent.{edgesOf}
 use Rattle.edges_in.proofs.Wholes.{edges-len}
-use Rattle.edges_test.proofs.Refusals.{numbers-held, indices-held}
-use Rattle.edges_test.specs.Held.{zoneTest, FrontHeld, BackHeld, Held}
+use Rattle.edges_test.proofs.Refusals.{edge-held}
+use Rattle.edges_test.specs.Held.{zoneTest, linksTo, FrontHeld, BackHeld, Held}
 
 pub clash : false ≡ true → ⊥
 clash h = absurd (let z : _≡_ {A = ℕ} 0 1 = cc in omega arith)
@@ -121,7 +121,7 @@ fields-make (r ∷ rs) ws at room h =
     let n : at + 1 + length rs ≡ at + suc (length rs) = omega arith in
     rw (a, b) (fields-make rs ws (at + 1) (omega arith) (λ k l. let m : at + 1 + k ≡ at + suc k = omega arith in rw m (h (suc k) (omega arith))) ∙ ap At n)
 
-module _ (ws : List ℤ) (at n : ℕ) (few : n ≤ mostEdges) (room : at + edgeSize ≤ length ws) (f : FrontHeld ws at) (b : BackHeld ws at n) where
+module _ (ws : List ℤ) (at n : ℕ) (few : n ≤ mostEdges) (room : at + edgeSize ≤ length ws) (f : FrontHeld ws at) (b : BackHeld ws at (linksTo n)) where
   words-hold : (k : ℕ) → k < edgeSize → Shape.isIn (getD (Shape.rangesOf Records.Edge) k Shape.noRange) (wordAt ws (at + k)) ≡ true
   words-hold zero h = let q : at + 0 ≡ at = omega arith in rw q (f .w0)
   words-hold (suc zero) h = inside-more (negsuc 16382) (pos 16383) (negsuc 2147483647) (pos 2147483647) (wordAt ws (at + 1)) refl refl (f .w1)
@@ -170,19 +170,19 @@ pub record Passed (ws : List ℤ) (n i : ℕ) : Type 0 where
   pub count : n ≡ edgesIn ws
   pub long : length ws ≤ edgeSize * n
   pub front : (k : ℕ) → k < i → FrontHeld ws (edgeSize * k)
-  pub back : (k : ℕ) → k < i → BackHeld ws (edgeSize * k) n
+  pub back : (k : ℕ) → k < i → BackHeld ws (edgeSize * k) (linksTo n)
 
 pub passed-none : (ws : List ℤ) (n : ℕ) → n ≤ mostEdges → n ≡ edgesIn ws → length ws ≤ edgeSize * n → Passed ws n 0
 passed-none ws n few e l = record { within = omega arith; few = few; count = e; long = l; front = λ k q. absurd (omega arith); back = λ k q. absurd (omega arith) }
 
-pub passed-more : (ws : List ℤ) (n i : ℕ) → Passed ws n i → i < n → FrontHeld ws (edgeSize * i) → BackHeld ws (edgeSize * i) n → Passed ws n (i + 1)
-passed-more ws n i p h f b = record {
+pub passed-more : (ws : List ℤ) (n i : ℕ) (links : Range) → Passed ws n i → i < n → FrontHeld ws (edgeSize * i) → BackHeld ws (edgeSize * i) links → links ≡ linksTo n → Passed ws n (i + 1)
+passed-more ws n i links p h f b g = record {
   within = omega arith;
   few = p .few;
   count = p .count;
   long = p .long;
   front = λ (k : ℕ) (q : k < i + 1). ⊎-elim (λ (e : k ≡ i). subst (λ (x : ℕ). FrontHeld ws (edgeSize * x)) (sym e) f) (λ (l : k < i). p .front k l) (eq-or-lt-of-le (omega arith));
-  back = λ (k : ℕ) (q : k < i + 1). ⊎-elim (λ (e : k ≡ i). subst (λ (x : ℕ). BackHeld ws (edgeSize * x) n) (sym e) b) (λ (l : k < i). p .back k l) (eq-or-lt-of-le (omega arith));
+  back = λ (k : ℕ) (q : k < i + 1). ⊎-elim (λ (e : k ≡ i). subst (λ (x : ℕ). BackHeld ws (edgeSize * x) (linksTo n)) (sym e) (subst (BackHeld ws (edgeSize * i)) g b)) (λ (l : k < i). p .back k l) (eq-or-lt-of-le (omega arith));
 }
 
 pub passed-all : (ws : List ℤ) (n i : ℕ) → Passed ws n i → n ≤ i → Held ws
@@ -190,8 +190,8 @@ unfolding Shape.edgesShown Shape.isRun Shape.element edgesIndices edgesNumbers
 passed-all ws n i p h = record {
   shown = ap (λ (x : Place). Shape.isAt (length ws) x) (elements-make Elements.Edge edgeSize ws (edgesIn ws) 0 (λ k l. whole k (0 + edgeSize * k) (omega arith) (omega (arith, p .count)))) ∙ eq-eqb (0 + edgeSize * edgesIn ws) (length ws) (omega (arith, p .count, p .long));
   short = le-leb (edgesOf ws .len) mostEdges (omega (arith, edges-len ws, p .count, p .few));
-  indexed = every-holds _ (min (edgesOf ws .len) mostEdges) (λ k l. indices-held ws k true true (at-most k l) (sym (indexed k (omega (arith, edges-len ws, p .count, l)))) refl);
-  in-range = every-holds _ (min (edgesOf ws .len) mostEdges) (λ k l. numbers-held ws k true true (at-most k l) (sym (numbered k (omega (arith, edges-len ws, p .count, l)))) refl);
+  indexed = every-holds _ (min (edgesOf ws .len) mostEdges) (λ k l. ap (edgeIndices (edgesOf ws .len)) (edge-held ws k (at-most k l)) ∙ indexed k (omega (arith, edges-len ws, p .count, l)));
+  in-range = every-holds _ (min (edgesOf ws .len) mostEdges) (λ k l. ap edgeNumbers (edge-held ws k (at-most k l)) ∙ numbered k (omega (arith, edges-len ws, p .count, l)));
 }
   where
     room : (k : ℕ) → k < n → edgeSize * k + edgeSize ≤ length ws
@@ -203,8 +203,8 @@ passed-all ws n i p h = record {
     at-most : (k : ℕ) → k < min (edgesOf ws .len) mostEdges → k < min (edgesIn ws) mostEdges
     at-most k l = let e = edges-len ws in rw e at l
 
-    indexed : (k : ℕ) → k < n → edgeIndices (edgesIn ws) (edgeFrom ws (edgeSize * k)) ≡ true
-    indexed k l = rw (sym (p .count)) (indices-make ws (edgeSize * k) n (p .few) (room k l) (p .front k (omega arith)) (p .back k (omega arith)))
+    indexed : (k : ℕ) → k < n → edgeIndices (edgesOf ws .len) (edgeFrom ws (edgeSize * k)) ≡ true
+    indexed k l = rw (edges-len ws ∙ sym (p .count)) (indices-make ws (edgeSize * k) n (p .few) (room k l) (p .front k (omega arith)) (p .back k (omega arith)))
 
     numbered : (k : ℕ) → k < n → edgeNumbers (edgeFrom ws (edgeSize * k)) ≡ true
     numbered k l = numbers-make ws (edgeSize * k) n (p .few) (room k l) (p .front k (omega arith)) (p .back k (omega arith))

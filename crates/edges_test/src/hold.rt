@@ -1,41 +1,61 @@
 // Whether words are those of edges that every call accepts: one loop, and no edge made.
-use axis::accept::is_inside;
 use axis::limits::LEAST_POS;
 use axis::limits::LEAST_UNITS;
 use axis::limits::MOST_EDGES;
 use axis::limits::MOST_POS;
 use axis::limits::MOST_UNITS;
 use lent::shown::both;
+use shape::field::CHOICE;
+use shape::field::DIRECTION;
+use shape::field::FLAGS;
+use shape::field::INDEX;
+use shape::field::LINK;
+use shape::field::MARK;
+use shape::field::Range;
+use shape::field::SHORT;
+use shape::field::in_at;
+use words::edge::BLUE_PLACE;
+use words::edge::DIR_PLACE;
 use words::edge::EDGE_WORDS;
+use words::edge::FIRST_PLACE;
+use words::edge::FLAGS_PLACE;
+use words::edge::LAST_PLACE;
+use words::edge::LINK_PLACE;
+use words::edge::MARK_PLACE;
+use words::edge::OPOS_PLACE;
+use words::edge::POS_PLACE;
+use words::edge::SERIF_PLACE;
 use words::field::choice_of;
 ghost use mathlib.Core.Path.{_≡_};
 ghost use mathlib.Core.Bool.{true};
 ghost use Prim.Native.Nat.{_<_, _≤_, _+_};
 ghost use lib.ListN.{length};
-ghost use lib.IntN.{pos, negsuc, _-ℤ_};
+ghost use lib.IntN.{pos};
 ghost use Rattle.signed.specs.Equality.{eqZ};
-ghost use Rattle.axis.specs.Limits.{mostEdges};
-ghost use Rattle.axis.specs.Refusals.{inside};
+ghost use Rattle.axis.specs.Limits.{mostSegments};
 ghost use Rattle.words.specs.Word.{wordAt};
 ghost use Rattle.words.specs.Edge.{edgeSize};
-ghost use Rattle.edges_test.specs.Held.{zoneTest, FrontHeld, BackHeld, Held};
+ghost use Rattle.edges_test.specs.Held.{zoneTest, linksTo, FrontHeld, BackHeld, Held};
 
-// Whether the word at a place is from low to high.
-pub fn in_at(words: &[i32], at: usize, low: i32, high: i32) -> bool
-    requires { ⌜ at < length (now words) ⌝ }
-    ensures { λ r. ⌜ r ≡ inside low high (wordAt (now (words .entry)) at) ⌝ }
-{
-    let word = words[at];
-    is_inside(word, low, high)
-}
+// The original positions that every call accepts, and the fitted ones of zones.
+const UNITS: Range = Range {
+    low: LEAST_UNITS,
+    high: MOST_UNITS,
+};
 
-// Whether it is -1 or an index below a count.
-fn link_in(words: &[i32], at: usize, n: usize) -> bool
-    requires { ⌜ (at < length (now words)) × (n ≤ mostEdges) ⌝ }
-    ensures { λ r. ⌜ r ≡ inside (negsuc 0) (pos n -ℤ pos 1) (wordAt (now (words .entry)) at) ⌝ }
+// The positions that every call accepts.
+const POS: Range = Range {
+    low: LEAST_POS,
+    high: MOST_POS,
+};
+
+// The values of a link to one of so many, or to none.
+pub fn links_to(n: usize) -> Range
+    requires { ⌜ n ≤ mostSegments ⌝ }
+    ensures { λ r. ⌜ r ≡ linksTo n ⌝ }
 {
     let last = (n as i32) - 1;
-    in_at(words, at, -1, last)
+    Range { high: last, ..LINK }
 }
 
 // Whether a word is 0.
@@ -52,7 +72,7 @@ fn zone_in(words: &[i32], at: usize) -> bool
 {
     let present = words[at];
     if choice_of(present) {
-        return in_at(words, at + 1, LEAST_UNITS, MOST_UNITS);
+        return in_at(words, at + 1, UNITS);
     }
     let fitted = words[at + 1];
     is_zero(fitted)
@@ -63,40 +83,40 @@ fn front_holds(words: &[i32], at: usize) -> bool
     requires { ⌜ at + edgeSize ≤ length (now words) ⌝ }
     ensures { λ r. ⌜ (r ≡ true → FrontHeld (now (words .entry)) at) ⌝ }
 {
-    let fpos = in_at(words, at, -32768, 32767);
-    let opos = in_at(words, at + 1, LEAST_UNITS, MOST_UNITS);
-    let pos = in_at(words, at + 2, LEAST_POS, MOST_POS);
-    let flags = in_at(words, at + 3, 0, 15);
+    let fpos = in_at(words, at, SHORT);
+    let opos = in_at(words, at + OPOS_PLACE, UNITS);
+    let pos = in_at(words, at + POS_PLACE, POS);
+    let flags = in_at(words, at + FLAGS_PLACE, FLAGS);
     both(both(fpos, opos), both(pos, flags))
 }
 
-// Whether the other eight are, among so many edges.
-fn back_holds(words: &[i32], at: usize, n: usize) -> bool
-    requires { ⌜ (at + edgeSize ≤ length (now words)) × (n ≤ mostEdges) ⌝ }
-    ensures { λ r. ⌜ (r ≡ true → BackHeld (now (words .entry)) at n) ⌝ }
+// Whether the other eight are, where link and serif have these values.
+fn back_holds(words: &[i32], at: usize, links: Range) -> bool
+    requires { ⌜ at + edgeSize ≤ length (now words) ⌝ }
+    ensures { λ r. ⌜ (r ≡ true → BackHeld (now (words .entry)) at links) ⌝ }
 {
-    if !in_at(words, at + 4, 0, 4) {
+    if !in_at(words, at + DIR_PLACE, DIRECTION) {
         return false;
     }
-    if !in_at(words, at + 5, 0, 1) {
+    if !in_at(words, at + BLUE_PLACE, CHOICE) {
         return false;
     }
-    if !zone_in(words, at + 5) {
+    if !zone_in(words, at + BLUE_PLACE) {
         return false;
     }
-    if !link_in(words, at + 7, n) {
+    if !in_at(words, at + LINK_PLACE, links) {
         return false;
     }
-    if !link_in(words, at + 8, n) {
+    if !in_at(words, at + SERIF_PLACE, links) {
         return false;
     }
-    if !in_at(words, at + 9, 0, 65535) {
+    if !in_at(words, at + FIRST_PLACE, INDEX) {
         return false;
     }
-    if !in_at(words, at + 10, 0, 65535) {
+    if !in_at(words, at + LAST_PLACE, INDEX) {
         return false;
     }
-    in_at(words, at + 11, 0, 9)
+    in_at(words, at + MARK_PLACE, MARK)
 }
 
 // Whether the words are those of edges, and every call accepts them.
@@ -110,11 +130,12 @@ pub fn edges_hold(words: &[i32]) -> bool
     if EDGE_WORDS * n < words.len() {
         return false;
     }
+    let links = links_to(n);
     for i in 0..n {
         if !front_holds(words, EDGE_WORDS * i) {
             return false;
         }
-        if !back_holds(words, EDGE_WORDS * i, n) {
+        if !back_holds(words, EDGE_WORDS * i, links) {
             return false;
         }
     }

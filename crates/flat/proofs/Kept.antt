@@ -14,13 +14,13 @@ use Rattle.fitting.proofs.Changed as Fitting
 use Rattle.lowercase_m.specs.M.{mExtent}
 use Rattle.lowercase_m.proofs.Changed as M
 use Rattle.words.specs.Word.{wordAt}
-use Rattle.words.specs.Field.{choiceOf, ruleOf, linkDirOf, groupOf}
+use Rattle.words.specs.Field.{choiceOf, ruleOf, groupOf}
 use Rattle.shape.specs.Shape.{isIn, choice}
 use Rattle.lent.specs.Lent.{bothIn, namedEdge, edgesOf}
 use Rattle.lent.specs.Kept.{KeptBut, ofEdges, inExtent, Beside}
 use Rattle.lent.proofs.Kept.{edges-left}
 use Rattle.lent.proofs.Extents.{only-words, other-word}
-use Rattle.flat.specs.Fit.{linkedFitted, LinkedLent, serifFitted, SerifLent, adjustFitted, AdjustLent}
+use Rattle.flat.specs.Fit.{linkDirOf, linkedFitted, LinkedLent, serifFitted, SerifLent, adjustFitted, AdjustLent}
 use Rattle.flat.specs.M.{mHinted, MLent}
 
 -- the linked edge: position and mark of the stem edge

@@ -27,7 +27,7 @@ use Rattle.placing.proofs.Reach.{below-first, below-second}
 use Rattle.fitting.specs.declared.bounds.Bounds.{Bounds}
 use Rattle.fitting.specs.declared.place.Fitted.{Fitted}
 use Rattle.fitting.specs.Fitting.{linkedTests, serifTests, edgeTests, adjustTests, fitted, bounds, alignLinkedEdge, alignSerifEdge, latinRemainingBounds, adjustLink}
-use Rattle.words.specs.Field.{choiceOf, groupOf, linkDirOf, linkWord, ruleOf}
+use Rattle.words.specs.Field.{choiceOf, groupOf, linkWord, ruleOf}
 use Rattle.words.specs.Edge.{edgesIn, edgesOver}
 use Rattle.shape.specs.Shape.{isIn, choice}
 use Rattle.lent.specs.Lent.{refusedOr, edgesFront, bothIn, namedEdge, edgesOf}
@@ -40,7 +40,7 @@ use Rattle.edges_test.proofs.Order.{plain-tests, own-tests}
 use Rattle.placing_in.specs.Placing.{linkedTo, serifTo, adjusting}
 use Rattle.placing_in.proofs.Places.{edge-reach}
 use Rattle.lowercase_m_in.specs.M.{aligning}
-use Rattle.flat.specs.Fit.{LinkedLent, SerifLent, AdjustLent, boundsWords, BoundsLent}
+use Rattle.flat.specs.Fit.{linkDirOf, LinkedLent, SerifLent, AdjustLent, boundsWords, BoundsLent}
 use Rattle.flat.specs.M.{MLent}
 
 -- ---- what a call on two edges, or on one, may use

@@ -1,12 +1,14 @@
 -- The calls that place one edge over lent edges: by its link, by its serif, by its neighbours.
-use mathlib.Core.Bool.{true}
+use mathlib.Core.Bool.{true, cond}
 use mathlib.Core.List.{List}
 use Prim.Native.Nat.{ℕ}
 use lib.IntN.{ℤ}
 use Rattle.fitting.specs.declared.bounds.Bounds.{Bounds}
 use Rattle.fitting.specs.declared.place.Fitted.{Fitted}
 use Rattle.fitting.specs.Fitting.{alignLinkedEdge, alignSerifEdge, adjustLink, latinRemainingBounds}
-use Rattle.words.specs.Field.{choiceOf, ruleOf, linkDirOf, linkWord}
+use Rattle.placing.specs.declared.adjust.LinkDir.{LinkDir}
+use Rattle.placing.specs.declared.adjust.LinkDir.the-variants.{Prev, Next}
+use Rattle.words.specs.Field.{choiceOf, ruleOf, linkWord}
 use Rattle.words.specs.Edge.{edgesOver}
 use Rattle.shape.specs.Shape.{isIn, choice}
 use Rattle.lent.specs.Lent.{Lent, edgesFront, bothIn, namedEdge, edgesOf}
@@ -27,6 +29,10 @@ abbrev pub SerifLent : List ℤ → ℤ → ℤ → ℕ → List ℤ → Type 0
 SerifLent ws base serif = Lent (edgesFront ws true) (serifFitted ws base serif .answer) (edgesOver ws (serifFitted ws base serif .axis)) ws
 
 -- ---- the adjustment: edges, the edge, its neighbour, and whether the retired order is asked for
+-- a neighbour: the previous edge or the next
+unfoldable pub linkDirOf : ℤ → LinkDir
+linkDirOf w = cond (choiceOf w) Next Prev
+
 abbrev pub adjustFitted : List ℤ → ℤ → ℤ → ℤ → Fitted
 adjustFitted ws edge dir ttb = adjustLink (edgesOf ws) (namedEdge edge) (linkDirOf dir) (choiceOf ttb)
 

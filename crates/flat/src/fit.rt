@@ -3,6 +3,7 @@ use edges_test::test::edges_test;
 use fixed::width::rule_holds;
 use lent::shown::both_in;
 use lent::word::named_edge;
+use placing::adjust::LinkDir;
 use placing::bounds::lower_bound;
 use placing::named::both_below;
 use placing_in::adjust::adjust_in;
@@ -16,10 +17,10 @@ use shape::field::CHOICE;
 use shape::field::is_in;
 use words::edge::EDGE_WORDS;
 use words::field::choice_of;
-use words::field::link_dir_of;
 use words::field::link_word;
 use words::field::rule_of;
-ghost use Rattle.flat.specs.Fit.{LinkedLent, SerifLent, AdjustLent, BoundsLent};
+ghost use mathlib.Core.Path.{_≡_};
+ghost use Rattle.flat.specs.Fit.{linkDirOf, LinkedLent, SerifLent, AdjustLent, BoundsLent};
 
 // Places a stem edge by its base edge.
 pub fn lend_linked_edge(edges: &mut [i32], rule: i32, standards: &[i32], base: i32, stem: i32) -> u8
@@ -51,6 +52,16 @@ pub fn lend_serif_edge(edges: &mut [i32], base: i32, serif: i32) -> u8
     }
     serif_in(edges, from, to);
     0
+}
+
+// The neighbour that a choice names.
+pub fn link_dir_of(word: i32) -> LinkDir
+    ensures { λ r. ⌜ r ≡ linkDirOf word ⌝ }
+{
+    if choice_of(word) {
+        return LinkDir::Next;
+    }
+    LinkDir::Prev
 }
 
 // Holds an edge to its neighbour where it has passed it.

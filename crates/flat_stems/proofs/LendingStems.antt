@@ -43,7 +43,7 @@ pub passed-words : (ws : List ℤ) (d : Dimension) {m : Mode} {xs : List ℤ} {s
 passed-words ws d {m} {xs} {start} {p} {w1} {now} {s} {c} {f} w l b same x y = λ n. (words n, (count n, anchor n))
   where
     words : now ≡ edgesOver ws (s .axis)
-    words = axis-over ws now d w (b .words .whole) (b .words .long ∙ l) (b .words .axis d ∙ ap (λ (r : Stems). r .axis) same)
+    words = axis-over ws now d w (b .words .whole) (b .words .long ∙ l) (b .words .table d ∙ ap (λ (r : Stems). r .axis) same)
 
     count : c ≡ pos (s .count)
     count = x ∙ ap pos (b .count d) ∙ ap (λ (r : Stems). pos (r .count)) same

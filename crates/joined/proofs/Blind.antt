@@ -13,14 +13,14 @@ use Rattle.axis.specs.declared.kinds.Group.{Group}
 use Rattle.axis.specs.declared.edge.Axis.{Axis}
 use Rattle.axis.specs.Limits.{mostEdges}
 use Rattle.axis.specs.Mark.{Blind}
-use Rattle.axis.specs.Refusals.{every}
+use Rattle.axis.specs.Refusals.{every, isBare}
 use Rattle.axis.proofs.Alike.{AlikeAxis, alike-len, at-alike, indices-alike, numbers-alike, answered-alike, blind}
 use Rattle.blues_pass.specs.declared.pass.Anchored.{Anchored}
 use Rattle.blues.specs.Zones.{hasBlues, alignEdgesToBlues}
 use Rattle.blues.proofs.Blind.{align-edges-to-blues}
 use Rattle.stems.specs.Stems.{stems, alignStemEdges, withoutMarks}
 use Rattle.stems.proofs.Blind.{marks-unread}
-use Rattle.joined.specs.Joined.{isBare, zonesHold, joinedTests, thenStems, alignBluesAndStems}
+use Rattle.joined.specs.Joined.{zonesHold, joinedTests, thenStems, alignBluesAndStems}
 
 module _ (group : Group) (adjust ttb : Bool) (rule : WidthRule) (xs : List ℤ) where
   module _ (a b : Axis) (h : AlikeAxis a b) where

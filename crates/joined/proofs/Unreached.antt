@@ -16,14 +16,13 @@ use Rattle.axis.specs.declared.kinds.Blue.the-variants as Blues
 use Rattle.axis.specs.declared.kinds.Group.{Group}
 use Rattle.axis.specs.declared.edge.Axis.{Axis}
 use Rattle.axis.specs.Accepted.{AxisWithin}
-use Rattle.axis.specs.Edge.{edgeAt}
+use Rattle.axis.specs.Edge.{edgeAt, hasBlue}
 use Rattle.axis.specs.Limits.{mostPos}
-use Rattle.axis.specs.Refusals.{everyEdge}
+use Rattle.axis.specs.Refusals.{everyEdge, isBare}
 use Rattle.axis.proofs.Accepting.{edges-within}
 use Rattle.axis.proofs.Tests.{every-at}
 use Rattle.axis.proofs.Visits.{visits-keep}
 use Rattle.zone.specs.Settled.{Settled}
-use Rattle.zone.specs.Zones.{hasBlue}
 use Rattle.signed.proofs.Choices.{clash}
 use Rattle.zone.proofs.Settled.{pass-settled}
 use Rattle.blues_pass.specs.Pass.{anchored, bluesOf}
@@ -33,7 +32,7 @@ use Rattle.stems.specs.Stems.{State, begun, modeOf}
 use Rattle.stems.specs.Steps.{step}
 use Rattle.stems.proofs.Settling.{step-settled}
 use Rattle.stems.proofs.Straight.{steps-are}
-use Rattle.joined.specs.Joined.{isBare, zonesHold, joinedTests}
+use Rattle.joined.specs.Joined.{zonesHold, joinedTests}
 use Rattle.joined.specs.Unreached.{Unreached}
 use Rattle.joined.proofs.Rows.{edges, same-len}
 

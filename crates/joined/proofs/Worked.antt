@@ -22,7 +22,7 @@ use Rattle.axis.specs.declared.kinds.Mark.{Mark}
 use Rattle.axis.specs.declared.kinds.Mark.the-variants as Marks
 use Rattle.axis.specs.declared.edge.Edge.{Edge}
 use Rattle.axis.specs.declared.edge.Axis.{Axis}
-use Rattle.axis.specs.Edge.{freshEdge, changed, placed, finished, joinedTo}
+use Rattle.axis.specs.Edge.{freshEdge, changed, placed, finished, joinedTo, hasBlue}
 use Rattle.axis.specs.Refusals.{linkHolds, blueHolds, every, edgeIndices, edgeNumbers, edgesIndices, edgesNumbers}
 use Rattle.axis.specs.Visits.{visits}
 use Rattle.placing.specs.Placing.{linkedPos, lowerBound, hasPassed, neighbour, heldTo, boundBy, adjusted}
@@ -84,7 +84,7 @@ pub record Worked : Type 0 where
 
 pub worked : Worked
 unfolding alignBluesAndStems alignEdgesToBlues Stem.alignStemEdges refusal ruleHolds zonesHold hasBlues isVertical every edgesIndices edgeIndices linkHolds edgesNumbers edgeNumbers
-    blueHolds bluesOf visits Zone.hasBlue Zone.skipped Zone.zoneMark Zone.linkAligned Zone.anchorFirst Zone.visitAlone Zone.visitPair Zone.visitLink Zone.visit Stem.stemsOf
+    blueHolds bluesOf visits hasBlue Zone.skipped Zone.zoneMark Zone.linkAligned Zone.anchorFirst Zone.visitAlone Zone.visitPair Zone.visitLink Zone.visit Stem.stemsOf
     Stem.visit Stem.visitLink Stem.zoneStem Stem.groupStem Stem.latinStem Stem.besideAnchor Stem.cjkStem tooClose isClose deltaAfter deltaBeside linkedPos lowerBound hasPassed
     neighbour heldTo boundBy adjusted fittedWidth pixFloor pixRound centreOf lowerOffset upperOffset nearerCentre thinCentre thinFirst thinSecond anchoredFirst anchoredSecond
     maxGap gapOf pixelOffset narrowDelta offsetsDelta startOf clamped deltaOf stemAt stemOf placedStem hintedStem

@@ -1,6 +1,6 @@
 -- Blue zones and then stems, on the same edges in one call (request #108).
 use mathlib.Core.Path.{_≡_}
-use mathlib.Core.Bool.{Bool, not, _||_}
+use mathlib.Core.Bool.{Bool, _||_}
 use mathlib.Core.List.{List, [], _∷_, _++_}
 use lib.IntN.{ℤ}
 use Rattle.refusals.specs.Refusal.{Test, _unless_, refusal, answered, badParameter}
@@ -9,19 +9,13 @@ use Rattle.fixed.specs.Width.{ruleHolds}
 use Rattle.axis.specs.declared.kinds.Link.the-variants as Links
 use Rattle.axis.specs.declared.kinds.Group.{Group}
 use Rattle.axis.specs.declared.kinds.Mark.{Mark}
-use Rattle.axis.specs.declared.edge.Edge.{Edge}
 use Rattle.axis.specs.declared.edge.Axis.{Axis}
-use Rattle.axis.specs.Refusals.{everyEdge, edgesShort, bottomToTop, edgesIndexed, edgesInRange}
-use Rattle.zone.specs.Zones.{hasBlue}
+use Rattle.axis.specs.Refusals.{isBare, everyEdge, edgesShort, bottomToTop, edgesIndexed, edgesInRange}
 use Rattle.blues_pass.specs.declared.pass.Anchored.{Anchored}
 use Rattle.blues_pass.specs.Pass.{bluesMarks}
 use Rattle.blues.specs.Zones.{hasBlues, alignEdgesToBlues}
 use Rattle.stems.specs.declared.pass.Stems.{Stems}
 use Rattle.stems.specs.Stems.{stems, alignStemEdges, stemsMarks}
-
--- an edge has no zone
-abbrev pub isBare : Edge → Bool
-isBare e = not (hasBlue (e .blue))
 
 -- where the group has no blue zones on the axis, none of the edges has one
 unfoldable pub zonesHold : Group → Axis → Bool

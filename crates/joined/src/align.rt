@@ -1,12 +1,12 @@
 // The call.
+use axis::accept::EdgeTest;
 use axis::accept::edges_indices;
 use axis::accept::edges_numbers;
+use axis::accept::every_edge;
 use axis::accept::few_edges;
-use axis::accept::least;
 use axis::edge::Axis;
 use axis::kinds::Group;
 use axis::kinds::Link;
-use axis::limits::MOST_EDGES;
 use blues::align::align_where_zoned;
 use blues::align::has_blues;
 use fixed::width::WidthRule;
@@ -20,25 +20,9 @@ use refusals::order::or_refused;
 use stems::pass::Stems;
 use stems::pass::align_stems;
 use stems_plan::kinds::Mode;
-use zone::zone::has_blue;
 ghost use mathlib.Core.Path.{_≡_};
 ghost use Rattle.refusals.specs.Refusal.{refusal};
-ghost use Rattle.axis.specs.Refusals.{everyEdge};
-ghost use Rattle.joined.specs.Joined.{isBare, zonesHold, joinedTests, AlignsBluesAndStems};
-
-// Whether no edge has a zone.
-fn none_zoned(axis: Axis) -> bool
-    ensures { λ r. ⌜ r ≡ everyEdge isBare axis ⌝ }
-{
-    let n = least(axis.len, MOST_EDGES);
-    for i in 0..n {
-        let edge = axis.edges[i];
-        if has_blue(edge) {
-            return false;
-        }
-    }
-    true
-}
+ghost use Rattle.joined.specs.Joined.{zonesHold, joinedTests, AlignsBluesAndStems};
 
 // Whether the group has zones on the axis, or no edge has one.
 fn zones_hold(axis: Axis, group: Group) -> bool
@@ -48,7 +32,7 @@ fn zones_hold(axis: Axis, group: Group) -> bool
     if has_blues(group, dim) {
         return true;
     }
-    none_zoned(axis)
+    every_edge(axis, EdgeTest::Bare)
 }
 
 // The refusal of the call, or 0.

@@ -14,7 +14,13 @@ use words::field::link_at;
 use words::field::link_of;
 use words::field::short_at;
 use words::field::short_of;
+use words::segment::DELTA_PLACE;
+use words::segment::DIR_PLACE;
+use words::segment::HEIGHT_PLACE;
+use words::segment::LINK_PLACE;
+use words::segment::POS_PLACE;
 use words::segment::SEGMENT_WORDS;
+use words::segment::SERIF_PLACE;
 use words::word::word_in;
 ghost use mathlib.Core.Path.{_≡_};
 ghost use mathlib.Core.Bool.{true, not, _&&_, _||_};
@@ -35,16 +41,16 @@ pub fn segment_in(words: &[i32], i: u16) -> Segment
     let at = SEGMENT_WORDS * (i as usize);
     Segment {
         flags: NORMAL,
-        dir: direction_of(word_in(words, at + 1)),
-        pos: short_of(word_in(words, at + 2)),
-        delta: short_of(word_in(words, at + 3)),
+        dir: direction_of(word_in(words, at + DIR_PLACE)),
+        pos: short_of(word_in(words, at + POS_PLACE)),
+        delta: short_of(word_in(words, at + DELTA_PLACE)),
         min_coord: 0,
         max_coord: 0,
-        height: short_of(word_in(words, at + 6)),
+        height: short_of(word_in(words, at + HEIGHT_PLACE)),
         score: 0,
         len: 0,
         link: Link::None,
-        serif: link_of(word_in(words, at + 10)),
+        serif: link_of(word_in(words, at + SERIF_PLACE)),
         first: 0,
         last: 0,
         edge: Link::None,
@@ -60,7 +66,7 @@ pub fn is_left_out(words: &[i32], i: u16, second: bool) -> bool
     if !second {
         return false;
     }
-    let dir = direction_of(word_in(words, SEGMENT_WORDS * (i as usize) + 1));
+    let dir = direction_of(word_in(words, SEGMENT_WORDS * (i as usize) + DIR_PLACE));
     !same(dir, Direction::None)
 }
 
@@ -70,8 +76,8 @@ pub fn edge_in(words: &[i32], first: u16, last: u16) -> Edge
     ensures { λ r. ⌜ r ≡ edgeIn (now (words .entry)) first last ⌝ }
 {
     let at = SEGMENT_WORDS * (first as usize);
-    let dir = direction_of(word_in(words, at + 1));
-    let fpos = short_of(word_in(words, at + 2));
+    let dir = direction_of(word_in(words, at + DIR_PLACE));
+    let fpos = short_of(word_in(words, at + POS_PLACE));
     Edge {
         fpos,
         dir,
@@ -92,10 +98,10 @@ pub fn edge_at(fpos: i16) -> Edge
 fn stem_in(words: &[i32], i: u16) -> i32
     ensures { λ r. ⌜ r ≡ stemIn (now (words .entry)) i ⌝ }
 {
-    let link = link_at(words, SEGMENT_WORDS * (i as usize) + 9);
+    let link = link_at(words, SEGMENT_WORDS * (i as usize) + LINK_PLACE);
     match link {
         Link::None => NO_STEM,
-        Link::To(ix) => short_at(words, SEGMENT_WORDS * (ix as usize) + 2) as i32,
+        Link::To(ix) => short_at(words, SEGMENT_WORDS * (ix as usize) + POS_PLACE) as i32,
     }
 }
 

@@ -11,6 +11,7 @@ use label_print::print::show;
 use label_print::print::text;
 use lines::limits::MOST_WORDS;
 use words::edge::TABLE_WORDS;
+use words::segment::LINK_PLACE;
 use words::segment::SEGMENT_WORDS;
 use words::word::count_word;
 use words::word::size_of;
@@ -40,7 +41,7 @@ fn segments(words: &[i32]) -> usize
 fn pair(words: &[i32], i: usize)
     requires { ⌜ i ≤ mostSegments ⌝ }
 {
-    let link = word_at(words, 2 + SEGMENT_WORDS * i + 9);
+    let link = word_at(words, 2 + SEGMENT_WORDS * i + LINK_PLACE);
     let n = count_word(i);
     if n < link {
         show(b", # with #", &[n, link]);

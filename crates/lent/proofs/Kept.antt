@@ -3,12 +3,11 @@ use mathlib.Core.Path.{_≡_, refl, sym, ap, subst, _∙_}
 use mathlib.Core.Bool.{Bool, true, false, cond}
 use mathlib.Core.List.{List}
 use mathlib.Core.Logic.{⊎-elim}
-use Prim.Native.Nat.{ℕ, zero, suc, _/_, _%_, _≤_, _<_}
+use Prim.Native.Nat.{ℕ, zero, suc, _+_, _*_, _/_, _%_, _≤_, _<_, min}
 use native.Mathlib.Omega.{arith}
 use borrow.Author.Tests.{leb-true, ne-eqb}
 use lib.Dec.{eqb}
 use lib.ListN.{length, List·getD-eq-default}
-use lib.Seq.{ext-getD}
 use lib.IntN.{ℤ, pos}
 use Rattle.signed.proofs.Signed.{lt-or-le}
 use Rattle.refusals.specs.Refusal.{Test, refusal, answered}
@@ -19,63 +18,73 @@ use Rattle.axis.specs.declared.edge.Edge.{Edge}
 use Rattle.axis.specs.declared.edge.Axis.{Axis}
 use Rattle.axis.specs.declared.segment.Segment.{Segment}
 use Rattle.axis.specs.declared.segment.Segments.{Segments}
+use Rattle.axis.specs.Edge.{edgeAt}
+use Rattle.axis.specs.Segment.{segmentAt}
 use Rattle.axis.specs.Limits.{mostEdges, mostSegments}
-use Rattle.words.specs.Word.{wordAt}
-use Rattle.words.specs.Edge.{edgeSize, wordOfEdge, edgesIn, flatAxis, edgeWords, edgeWordsAt, edgesOver}
-use Rattle.words.specs.Segment.{segmentSize, wordOfSegment, segmentsIn, segmentsRun, flatSegments, segmentWords, segmentWordsAt, segmentsOver}
+use Rattle.words.specs.Word.{wordAt, written, joined}
+use Rattle.words.specs.Edge.{edgesIn, flatAxis, edgeWords, edgeWordsAt, edgesOver}
+use Rattle.words.specs.Segment.{segmentsIn, segmentsRun, flatSegments, segmentWords, segmentWordsAt, segmentsOver}
 use Rattle.words.proofs.Tables.{joined-length}
-use Rattle.words.proofs.Edges.{edge-lengths}
-use Rattle.words.proofs.Segments.{segment-lengths}
 use Rattle.words.proofs.Places.{joined-at, edge-read, segment-read}
+use Rattle.words_record.specs.Record.{Layout, countOf, WholeOf}
+use Rattle.words_record.proofs.Codecs.{Codec}
+use Rattle.words_record.proofs.Wholes.{placed-in, over}
+use Rattle.words_record.proofs.Became.{table-over}
+use Rattle.words_record.proofs.Layouts.{edgeCodec, segmentCodec}
 use Rattle.shape.specs.Shape.{edgesShown, segmentsShown}
-use Rattle.shape.proofs.Back.{edges-back, segments-back}
 use Rattle.lent.specs.Lent.{Lent, refusedOr, edgesFront, segmentsFront}
 use Rattle.lent.specs.Kept.{KeptBut, ofEdges, ofSegments}
-use Rattle.lent.proofs.Whole.{edges-long, segments-long, edges-whole, segments-whole}
+use Rattle.lent.proofs.Whole.{edges-shown, segments-shown}
 
 -- every word stays
 pub all-kept : (named : ℕ → Bool) (ws : List ℤ) → KeptBut named ws ws
 all-kept named ws = record { size = refl; word = λ k f. refl }
 
--- behind the end of both lists there is no word
-no-word : (now before : List ℤ) (k : ℕ) → length now ≡ length before → length before ≤ k → wordAt now k ≡ wordAt before k
-no-word now before k e h = List·getD-eq-default now (pos 0) {n = k} (omega arith) ∙ sym (List·getD-eq-default before (pos 0) {n = k} h)
+-- records written over the words of their list, of each the word in place j the same unless it is named
+module _ {R : Type 0} {L : Layout R} (C : Codec L) (named : ℕ → ℕ → Bool) (ws : List ℤ) (f : ℕ → R) (w : WholeOf L ws)
+    (same : (i j : ℕ) → i < countOf L ws → named i j ≡ false → wordAt (L .words (f i)) j ≡ wordAt (L .words (L .from ws (L .size * i))) j) where
+  abbrev now : List ℤ
+  now = written ws 0 (joined (λ (i : ℕ). L .words (f i)) (min (countOf L ws) (L .most)))
+
+  whole-is : now ≡ joined (λ (i : ℕ). L .words (f i)) (countOf L ws)
+  whole-is = over C ws f w
+
+  size : length now ≡ length ws
+  size = ap length whole-is ∙ joined-length (λ (i : ℕ). L .words (f i)) (L .size) (λ i. C .sized (f i)) (countOf L ws) ∙ sym (w .long)
+
+  inside : (k : ℕ) → k < length ws → named (k / L .size) (k % L .size) ≡ false → wordAt now k ≡ wordAt ws k
+  inside k h q =
+      let p = placed-in (L .size) (countOf L ws) k (omega (arith, w .long)) in
+      let i = k / L .size in
+      let j = k % L .size in
+      subst (λ (m : ℕ). wordAt now m ≡ wordAt ws m) (p .2)
+      (ap (λ (xs : List ℤ). wordAt xs (L .size * i + j)) whole-is
+      ∙ joined-at (λ (i : ℕ). L .words (f i)) (L .size) (λ i. C .sized (f i)) (countOf L ws) i j (p .0) (p .1)
+      ∙ same i j (p .0) q ∙ w .word i j (p .0) (p .1))
+
+  kept-over : KeptBut (λ (k : ℕ). named (k / L .size) (k % L .size)) ws now
+  kept-over = record {
+    size = size;
+    word = λ k q.
+        ⊎-elim (λ (h : k < length ws). inside k h q)
+        (λ (h : length ws ≤ k). List·getD-eq-default now (pos 0) {n = k} (omega (arith, size)) ∙ sym (List·getD-eq-default ws (pos 0) {n = k} h)) (lt-or-le k (length ws));
+  }
 
 -- ---- edges
 -- of edge i the word in place j is the same in both tables, unless it is named
 abbrev pub SameEdges : (ℕ → ℕ → Bool) → Axis → Axis → Type 0
 SameEdges named old new = (i j : ℕ) → named i j ≡ false → wordAt (edgeWordsAt new i) j ≡ wordAt (edgeWordsAt old i) j
 
-module _ (named : ℕ → ℕ → Bool) (ws : List ℤ) (dim : Dimension) (major : Direction) (new : Axis) (shown : edgesShown ws ≡ true) (few : edgesIn ws ≤ mostEdges)
-    (same : SameEdges named (flatAxis ws dim major) new) where
-  edges-size : length (edgesOver ws new) ≡ length ws
-  edges-size = ap length (edges-whole ws new shown few) ∙ joined-length (edgeWordsAt new) edgeSize (edge-lengths new) (edgesIn ws) ∙ sym (edges-long ws shown)
-
-  edges-at : (i j : ℕ) → i < edgesIn ws → j < edgeSize → named i j ≡ false → wordAt (edgesOver ws new) (wordOfEdge i j) ≡ wordAt ws (wordOfEdge i j)
-  edges-at i j h b f =
-      ap (λ (xs : List ℤ). wordAt xs (wordOfEdge i j)) (edges-whole ws new shown few)
-      ∙ joined-at (edgeWordsAt new) edgeSize (edge-lengths new) (edgesIn ws) i j h b
-      ∙ same i j f
-      ∙ ap (λ (e : Edge). wordAt (edgeWords e) j) (edge-read ws dim major i h few)
-      ∙ edges-back ws shown i j h b
-
-  edges-inside : (k : ℕ) → k < length ws → ofEdges named k ≡ false → wordAt (edgesOver ws new) k ≡ wordAt ws k
-  edges-inside k h f =
-      let l = edges-long ws shown in
-      let q : wordOfEdge (k / edgeSize) (k % edgeSize) ≡ k = omega arith in
-      subst (λ (m : ℕ). wordAt (edgesOver ws new) m ≡ wordAt ws m) q (edges-at (k / edgeSize) (k % edgeSize) (omega (arith, l, h)) (omega arith) f)
-
-  edges-kept : KeptBut (ofEdges named) ws (edgesOver ws new)
-  edges-kept = record {
-    size = edges-size;
-    word = λ k f. ⊎-elim (λ (h : k < length ws). edges-inside k h f) (λ (h : length ws ≤ k). no-word (edgesOver ws new) ws k edges-size h) (lt-or-le k (length ws));
-  }
+edges-kept : (named : ℕ → ℕ → Bool) (ws : List ℤ) (dim : Dimension) (major : Direction) (new : Axis) → edgesShown ws ≡ true → edgesIn ws ≤ mostEdges
+    → SameEdges named (flatAxis ws dim major) new → KeptBut (ofEdges named) ws (edgesOver ws new)
+unfolding edgesOver
+edges-kept named ws dim major new shown few same =
+    kept-over edgeCodec named ws (edgeAt new) (edges-shown ws shown few) (λ i j h q. same i j q ∙ ap (λ (e : Edge). wordAt (edgeWords e) j) (edge-read ws dim major i h few))
 
 -- words that are those of their fields, decoded and encoded, are the words
 pub edges-again : (ws : List ℤ) (dim : Dimension) (major : Direction) → edgesShown ws ≡ true → edgesIn ws ≤ mostEdges → edgesOver ws (flatAxis ws dim major) ≡ ws
-edges-again ws dim major shown few =
-    let k = edges-kept (λ (i j : ℕ). false) ws dim major (flatAxis ws dim major) shown few (λ i j f. refl) in
-    ext-getD (pos 0) (edgesOver ws (flatAxis ws dim major)) ws (k .size) (λ i h. k .word i refl)
+unfolding edgesOver
+edges-again ws dim major shown few = let w = edges-shown ws shown few in sym (table-over edgeCodec ws ws (edgeAt (flatAxis ws dim major)) w w refl (λ i h. edge-read ws dim major i h few))
 
 -- ---- segments
 abbrev pub SameSegments : (ℕ → ℕ → Bool) → Segments → Segments → Type 0
@@ -86,35 +95,16 @@ segments-len : (ws : List ℤ) → flatSegments ws .len ≡ segmentsIn ws
 unfolding flatSegments segmentsRun
 segments-len ws = refl
 
-module _ (named : ℕ → ℕ → Bool) (ws : List ℤ) (new : Segments) (shown : segmentsShown ws ≡ true) (few : segmentsIn ws ≤ mostSegments)
-    (same : SameSegments named (flatSegments ws) new) where
-  segments-size : length (segmentsOver ws new) ≡ length ws
-  segments-size = ap length (segments-whole ws new shown few) ∙ joined-length (segmentWordsAt new) segmentSize (segment-lengths new) (segmentsIn ws) ∙ sym (segments-long ws shown)
-
-  segments-at : (i j : ℕ) → i < segmentsIn ws → j < segmentSize → named i j ≡ false → wordAt (segmentsOver ws new) (wordOfSegment i j) ≡ wordAt ws (wordOfSegment i j)
-  segments-at i j h b f =
-      ap (λ (xs : List ℤ). wordAt xs (wordOfSegment i j)) (segments-whole ws new shown few)
-      ∙ joined-at (segmentWordsAt new) segmentSize (segment-lengths new) (segmentsIn ws) i j h b
-      ∙ same i j (omega (arith, h, segments-len ws)) f
-      ∙ ap (λ (s : Segment). wordAt (segmentWords s) j) (segment-read ws i h few)
-      ∙ segments-back ws shown i j h b
-
-  segments-inside : (k : ℕ) → k < length ws → ofSegments named k ≡ false → wordAt (segmentsOver ws new) k ≡ wordAt ws k
-  segments-inside k h f =
-      let l = segments-long ws shown in
-      let q : wordOfSegment (k / segmentSize) (k % segmentSize) ≡ k = omega arith in
-      subst (λ (m : ℕ). wordAt (segmentsOver ws new) m ≡ wordAt ws m) q (segments-at (k / segmentSize) (k % segmentSize) (omega (arith, l, h)) (omega arith) f)
-
-  pub segments-kept : KeptBut (ofSegments named) ws (segmentsOver ws new)
-  segments-kept = record {
-    size = segments-size;
-    word = λ k f. ⊎-elim (λ (h : k < length ws). segments-inside k h f) (λ (h : length ws ≤ k). no-word (segmentsOver ws new) ws k segments-size h) (lt-or-le k (length ws));
-  }
+pub segments-kept : (named : ℕ → ℕ → Bool) (ws : List ℤ) (new : Segments) → segmentsShown ws ≡ true → segmentsIn ws ≤ mostSegments → SameSegments named (flatSegments ws) new
+    → KeptBut (ofSegments named) ws (segmentsOver ws new)
+unfolding segmentsOver
+segments-kept named ws new shown few same =
+    kept-over segmentCodec named ws (segmentAt new) (segments-shown ws shown few)
+    (λ i j h q. same i j (omega (arith, h, segments-len ws)) q ∙ ap (λ (s : Segment). wordAt (segmentWords s) j) (segment-read ws i h few))
 
 pub segments-again : (ws : List ℤ) → segmentsShown ws ≡ true → segmentsIn ws ≤ mostSegments → segmentsOver ws (flatSegments ws) ≡ ws
-segments-again ws shown few =
-    let k = segments-kept (λ (i j : ℕ). false) ws (flatSegments ws) shown few (λ i j h f. refl) in
-    ext-getD (pos 0) (segmentsOver ws (flatSegments ws)) ws (k .size) (λ i h. k .word i refl)
+unfolding segmentsOver
+segments-again ws shown few = let w = segments-shown ws shown few in sym (table-over segmentCodec ws ws (segmentAt (flatSegments ws)) w w refl (λ i h. segment-read ws i h few))
 
 -- ---- a call
 -- answer 0 is the call's own, behind tests that hold

@@ -161,13 +161,13 @@ module _ (by : Thresholds) (before : Segment) (ws : List ℤ) (i j : ℕ) (s : L
 
       -- behind the first store the other segment is as it was
       pub pair-second : {w1 : List ℤ} → Became (improving i g j) ws w1 → segmentAt (flatSegments w1) j ≡ segmentAt T j
-      pair-second {w1} m = ap (λ (x : Segments). segmentAt x j) (m .table) ∙ getD-set-other (T .segments) i j _ emptySegment (λ (z : j ≡ i). others (sym z))
+      pair-second {w1} m = ap (λ (x : Segments). segmentAt x j) (m .table tt) ∙ getD-set-other (T .segments) i j _ emptySegment (λ (z : j ≡ i). others (sym z))
 
       -- a stem, for each of the two where it is better
       pub pair-law : {w1 w2 : List ℤ} → i < segmentsIn ws → j < segmentsIn ws → pos 0 ≤ℤ by .len → Became (improving i g j) ws w1 → Became (improving j g i) w1 w2 → Made (pairTurn by before i j) ws w2
       pair-law {w1} {w2} x y l m n =
           made-within (s .whole) keeps (s .within)
-          (record { whole = n .whole; long = n .long ∙ m .long; table = n .table ∙ ap (λ (u : Segments). putSegment u j (improvedBy (segmentAt u j) g i)) (m .table) ∙ second ∙ go })
+          (record { whole = n .whole; long = n .long ∙ m .long; table = λ d. n .table d ∙ ap (λ (u : Segments). putSegment u j (improvedBy (segmentAt u j) g i)) (m .table d) ∙ second ∙ go })
         where
           new : Segments
           new = putSegment (putSegment T i (improvedBy (segmentAt T i) g j)) j (improvedBy (segmentAt T j) g i)
@@ -204,7 +204,7 @@ turn-alike by before a i j t h =
 
 pub made-alike : (by : Thresholds) (before a : Segment) (i j : ℕ) {ws ws′ : List ℤ} → Made (pairTurn by before i j) ws ws′ → Alike a (segmentAt (flatSegments ws) i)
     → Alike a (segmentAt (flatSegments ws′) i)
-made-alike by before a i j {ws} {ws′} m h = subst (λ (u : Segments). Alike a (segmentAt u i)) (sym (m .became .table)) (turn-alike by before a i j (flatSegments ws) h)
+made-alike by before a i j {ws} {ws′} m h = subst (λ (u : Segments). Alike a (segmentAt u i)) (sym (m .became .table tt)) (turn-alike by before a i j (flatSegments ws) h)
 
 -- ---- a segment of the outer loop
 -- its position alone is read of the one before the inner loop

@@ -87,7 +87,7 @@ module _ (a b : Segment) (i k j : ℕ) (ws : List ℤ) (s : Linkable ws) (x : i 
   held-by : {ws′ : List ℤ} {r : Bool} → Whole ws′ → length ws′ ≡ length ws → H.Made a b i k j (segmentAt U j .link) U (flatSegments ws′) r → Held a b i k j r ws ws′
   unfolding holdTurn givenUp
   held-by {ws′} w l m = record {
-    made = made-within (s .whole) (hold-within (segmentsIn ws) a b i k j U x y) (s .within) (record { whole = w; long = l; table = m .table });
+    made = made-within (s .whole) (hold-within (segmentsIn ws) a b i k j U x y) (s .within) (record { whole = w; long = l; table = λ d. m .table });
     last = m .ends;
   }
 
@@ -121,12 +121,12 @@ module _ (a b : Segment) (i k j : ℕ) (ws : List ℤ) (s : Linkable ws) (x : i 
         longer-is v g = ap (muchLonger a) (sym q) ∙ sym d ∙ g
 
         pub hold-serifs : {ws′ : List ℤ} → u ≡ true → Became (rewriteAll j k m i) ws ws′ → Held a b i k j false ws ws′
-        hold-serifs g z = held-by (z .whole) (z .long) (H.made-serifs a b i k j m (segmentAt U j .link) U _ (link-read ws j q e) (encloses-is true h) (longer-is true g) (z .table))
+        hold-serifs g z = held-by (z .whole) (z .long) (H.made-serifs a b i k j m (segmentAt U j .link) U _ (link-read ws j q e) (encloses-is true h) (longer-is true g) (z .table tt))
 
         pub hold-last : {w1 w2 : List ℤ} → u ≡ false → Became (unlink i) ws w1 → Became (unlink k) w1 w2 → Held a b i k j true ws w2
         hold-last g z z′ =
             let both = became-then z z′ in
-            held-by (both .whole) (both .long) (H.made-last a b i k j m (segmentAt U j .link) U _ (link-read ws j q e) (encloses-is true h) (longer-is false g) (both .table))
+            held-by (both .whole) (both .long) (H.made-last a b i k j m (segmentAt U j .link) U _ (link-read ws j q e) (encloses-is true h) (longer-is false g) (both .table tt))
 
 -- ---- the inner loop
 -- before the turn j, the rest of the loop makes of the words what the whole makes of the first ones
@@ -160,7 +160,7 @@ module _ (a b : Segment) (i k n : ℕ) (ws₀ : List ℤ) where
           count = count-in z ∙ p .count;
           long = z .long ∙ p .long;
           sound = record { whole = z .whole; within = d .made .within };
-          rest = till-on (givenUp a b i k) (holdTurn a b i k) n j (flatSegments ws) (flatSegments ws′) (hold a b i k n (flatSegments ws₀)) h (d .last ∙ e) (z .table) (p .rest);
+          rest = till-on (givenUp a b i k) (holdTurn a b i k) n j (flatSegments ws) (flatSegments ws′) (hold a b i k n (flatSegments ws₀)) h (d .last ∙ e) (z .table tt) (p .rest);
         }
 
     pub holds-break : {ws′ : List ℤ} {r : Bool} → j < n → Held a b i k j r ws ws′ → r ≡ true → Became (hold a b i k n) ws₀ ws′
@@ -169,14 +169,14 @@ module _ (a b : Segment) (i k n : ℕ) (ws₀ : List ℤ) where
         record {
           whole = z .whole;
           long = z .long ∙ p .long;
-          table = till-last (givenUp a b i k) (holdTurn a b i k) n j (flatSegments ws) (flatSegments ws′) (hold a b i k n (flatSegments ws₀)) h (d .last ∙ e) (z .table) (p .rest);
+          table = λ u. till-last (givenUp a b i k) (holdTurn a b i k) n j (flatSegments ws) (flatSegments ws′) (hold a b i k n (flatSegments ws₀)) h (d .last ∙ e) (z .table tt) (p .rest);
         }
 
     pub holds-end : n ≤ j → Became (hold a b i k n) ws₀ ws
     holds-end h = record {
       whole = p .sound .whole;
       long = p .long;
-      table = till-end (givenUp a b i k) (holdTurn a b i k) n j (flatSegments ws) (hold a b i k n (flatSegments ws₀)) h (p .rest);
+      table = λ u. till-end (givenUp a b i k) (holdTurn a b i k) n j (flatSegments ws) (hold a b i k n (flatSegments ws₀)) h (p .rest);
     }
 
 -- ---- a segment of the outer loop
@@ -228,7 +228,7 @@ near-sound by {n} {i} {ws₀} {ws} s p =
 
 pub serifs-law : (by : Thresholds) {ws ws′ : List ℤ} {n : ℕ} → Linkable ws → n ≡ segmentsIn ws → Became (turns (serifTurn by n) n) ws ws′ → Made (serifRound by) ws ws′
 unfolding serifRound
-serifs-law by {ws} {ws′} s e a = record { became = all; within = after-serifs by (flatSegments ws) (flatSegments ws′) (s .within) (all .table) }
+serifs-law by {ws} {ws′} s e a = record { became = all; within = after-serifs by (flatSegments ws) (flatSegments ws′) (s .within) (all .table tt) }
   where
     all : Became (serifRound by) ws ws′
     all = became-as (ap (λ (k : ℕ). turns (serifTurn by k) k (flatSegments ws)) (e ∙ sym (segments-len ws))) a

@@ -36,7 +36,7 @@ pub made-within :
     → SegmentsWithin (flatSegments ws) → Became f ws ws′ → Made f ws ws′
 made-within {f} {ws} {ws′} whole keeps w a = record {
   became = a;
-  within = subst SegmentsWithin (sym (a .table)) (all-within (segmentsIn ws) (f (flatSegments ws)) (whole .few) (keeps (each-within ws w)));
+  within = subst SegmentsWithin (sym (a .table tt)) (all-within (segmentsIn ws) (f (flatSegments ws)) (whole .few) (keeps (each-within ws w)));
 }
 
 -- ---- rounds
@@ -62,12 +62,12 @@ module _ (f : ℕ → Segments → Segments) (n : ℕ) (ws₀ : List ℤ) where
       count = count-in a ∙ p .count;
       long = a .long ∙ p .long;
       whole = a .whole;
-      table = turn f i (flatSegments ws₀) (flatSegments ws) (flatSegments ws′) (p .table) (a .table);
+      table = turn f i (flatSegments ws₀) (flatSegments ws) (flatSegments ws′) (p .table) (a .table tt);
     }
 
     -- all of them
     pub turns-end : n ≤ i → Became (turns f n) ws₀ ws
-    turns-end h = record { whole = p .whole; long = p .long; table = end f i n (flatSegments ws₀) (flatSegments ws) (p .below) h (p .table) }
+    turns-end h = record { whole = p .whole; long = p .long; table = λ d. end f i n (flatSegments ws₀) (flatSegments ws) (p .below) h (p .table) }
 
     -- their number is that of the first words
     pub first-count : segmentsIn ws₀ ≡ n

@@ -48,10 +48,10 @@ module _ (ws : List ℤ) {a d z : ℤ} {e moved : Edge} (i : ℕ) (r : e ≡ red
 -- the positions behind it
 module _ {ws ws′ : List ℤ} (m i : ℕ) (d : ℤ) (p : Places m (edgesOf ws)) (h : i < edgesIn ws) (g : Between mostDelta mostDelta d) where
   pub done-within : Became (movingDone i d) ws ws′ → Places (m + mostDelta) (edgesOf ws′)
-  done-within b = subst (Places (m + mostDelta)) (sym (b .axis Dimensions.Horizontal)) (done-places m i (edgesOf ws) d p (of-axis ws i h) g)
+  done-within b = subst (Places (m + mostDelta)) (sym (b .table Dimensions.Horizontal)) (done-places m i (edgesOf ws) d p (of-axis ws i h) g)
 
   pub only-within : Became (movingOnly i d) ws ws′ → Places (m + mostDelta) (edgesOf ws′)
-  only-within b = subst (Places (m + mostDelta)) (sym (b .axis Dimensions.Horizontal)) (only-places m i (edgesOf ws) d p (of-axis ws i h) g)
+  only-within b = subst (Places (m + mostDelta)) (sym (b .table Dimensions.Horizontal)) (only-places m i (edgesOf ws) d p (of-axis ws i h) g)
 
 -- ---- the serifs
 pub serifs-stay : (ws : List ℤ) (d : ℤ) → Whole ws → (edgesIn ws ≡ 12 → ⊥) → Became (movingSerifs d) ws ws

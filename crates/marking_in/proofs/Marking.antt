@@ -70,13 +70,13 @@ module _ (next : List ℕ) (edge last first : ℕ) (ws₀ : List ℤ) where
             below = omega (arith, count-in b, q .below);
             stops = ap (λ (k : ℕ). ends (nextIn next) k last mostSegments (getD next ix 0)) (count-in b) ∙ q .on;
             rest =
-                ap (marks next edge (walk (nextIn next) last mostSegments (getD next ix 0))) (b .table)
+                ap (marks next edge (walk (nextIn next) last mostSegments (getD next ix 0))) (b .table tt)
                 ∙ mark-step next edge ix _ _ (flatSegments ws) (q .step) ∙ p .rest;
           }
 
       -- the last
       pub left-end : ix ≡ last → Became (marks next edge (walk (nextIn next) last mostSegments first)) ws₀ ws′
-      left-end e = record { whole = b .whole; long = b .long ∙ p .long; table = b .table ∙ mark-end next last edge ix (flatSegments ws) _ _ refl (p .rest) e }
+      left-end e = record { whole = b .whole; long = b .long ∙ p .long; table = λ d. b .table d ∙ mark-end next last edge ix (flatSegments ws) _ _ refl (p .rest) e }
 
 -- ---- edge after edge
 walked-none : (first last next : List ℕ) (t : Segments) → t ≡ walkedMarks first last next 0 t

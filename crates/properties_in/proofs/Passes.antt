@@ -31,14 +31,14 @@ module _ (t : Segments) (ws₀ : List ℤ) where
     pub pass-ready : Ready (edgesOf ws₀) t → k < edgesIn ws₀ → Whole ws × Ready (edgesOf ws) t × (k < edgesIn ws)
     pass-ready r h =
         let A = edgesOf ws₀ in
-        (a .whole, ready-kept A t r (edgesOf ws) (subst (Kept A) (sym (a .axis _)) (edges-kept A t r k (omega (arith, edges-len ws₀)))), below-in k a h)
+        (a .whole, ready-kept A t r (edgesOf ws) (subst (Kept A) (sym (a .table _)) (edges-kept A t r k (omega (arith, edges-len ws₀)))), below-in k a h)
 
     pub pass-next : {ws′ : List ℤ} → Became (visit t k (members (edgesOf ws) t k)) ws ws′ → Became (edges t (k + 1)) ws₀ ws′
     pass-next {ws′} b = record {
       whole = b .whole;
       long = b .long ∙ a .long;
-      axis = λ (d : Dimension).
-          edges-more t k (axisIn ws₀ d) (axisIn ws d) (axisIn ws′ d) (a .axis d) (b .axis d ∙ ap (λ ms. visit t k ms (axisIn ws d)) (members-same ws t k d));
+      table = λ (d : Dimension).
+          edges-more t k (axisIn ws₀ d) (axisIn ws d) (axisIn ws′ d) (a .table d) (b .table d ∙ ap (λ ms. visit t k ms (axisIn ws d)) (members-same ws t k d));
     }
 
     -- all of them are

@@ -118,7 +118,7 @@ module _ {sw : List ℤ} {k last first : ℕ} {ws₀ ws : List ℤ} {ix round st
       last-is = g .last-is;
       along = λ (d : Dimension).
           subst (λ (x : ℕ). Along t k last first (axisIn ws₀ d) (axisIn ws′ d) x round′ straight′) (sym (next-read sw (g .ready) ix (way .inside) last e))
-          (along-more t k last first (axisIn ws₀ d) (axisIn ws d) ix round straight (g .along d) (axisIn ws′ d) round′ straight′ (a .axis d) c h);
+          (along-more t k last first (axisIn ws₀ d) (axisIn ws d) ix round straight (g .along d) (axisIn ws′ d) round′ straight′ (a .table d) c h);
     }
 
     pub going-joined : Joined ws′ k
@@ -129,7 +129,7 @@ module _ {sw : List ℤ} {k last first : ℕ} {ws₀ ws : List ℤ} {ix round st
     going-ends {ws″} h b = record {
       whole = b .whole;
       long = b .long ∙ a .long ∙ g .long;
-      axis = λ (d : Dimension).
-          b .axis d ∙ along-end t k last first (axisIn ws₀ d) (axisIn ws d) ix round straight (g .along d) (axisIn ws′ d) round′ straight′ (a .axis d) c _ h refl
+      table = λ (d : Dimension).
+          b .table d ∙ along-end t k last first (axisIn ws₀ d) (axisIn ws d) ix round straight (g .along d) (axisIn ws′ d) round′ straight′ (a .table d) c _ h refl
           ∙ (λ n. visit t k (walk (nextOf t (g .last-is n)) (g .last-is n) mostSegments (g .first-is n)) (axisIn ws₀ d));
     }

@@ -25,7 +25,8 @@ use Rattle.words.specs.Edge.{edgeSize, flagsPlace, linkPlace, serifPlace, wordO
 use Rattle.lent.specs.Lent.{edgesOf}
 use Rattle.edges_in.specs.Whole.{Whole, axisIn, Became, flagging, linking, serifing}
 use Rattle.edges_in.proofs.Wholes.{edge-in}
-use Rattle.edges_in.proofs.Became.{became-then, became-as, flags-in, link-in, serif-in, put-again}
+use Rattle.edges_in.proofs.Reading.{flags-in, link-in, serif-in}
+use Rattle.edges_in.proofs.Became.{became-then, became-as, put-again}
 use Rattle.properties_in.specs.Steps.{Joined, takingSerif, takingLink, ending}
 
 -- ---- the edge that is to be had

@@ -43,7 +43,7 @@ module _ (sw ws : List ℤ) (k : ℕ) (w : Whole ws) (r : Ready (edgesOf ws) (fl
     pub member-ready : {ws′ : List ℤ} → Became (member t k ix) ws ws′ → Ready (edgesOf ws′) t
     member-ready {ws′} a =
         let A = edgesOf ws in
-        ready-kept A t r (edgesOf ws′) (subst (Kept A) (sym (a .axis _)) (member-kept A t r k (omega (arith, edges-len ws)) ix A inside (start-kept A t r)))
+        ready-kept A t r (edgesOf ws′) (subst (Kept A) (sym (a .table _)) (member-kept A t r k (omega (arith, edges-len ws)) ix A inside (start-kept A t r)))
 
     -- by what the segment asks for
     module _ {j : Join} (e : j ≡ joinIn sw k ix) where

@@ -8,7 +8,12 @@ use properties::join::join_of;
 use words::field::flags_of;
 use words::field::link_of;
 use words::field::short_of;
+use words::segment::EDGE_PLACE;
+use words::segment::LINK_PLACE;
+use words::segment::NEXT_PLACE;
+use words::segment::POS_PLACE;
 use words::segment::SEGMENT_WORDS;
+use words::segment::SERIF_PLACE;
 use words::word::word_in;
 ghost use mathlib.Core.Path.{_≡_};
 ghost use Prim.Native.Nat.{_<_};
@@ -26,18 +31,18 @@ fn segment_in(words: &[i32], i: u16) -> Segment
     Segment {
         flags: NORMAL,
         dir: Direction::None,
-        pos: short_of(word_in(words, at + 2)),
+        pos: short_of(word_in(words, at + POS_PLACE)),
         delta: 0,
         min_coord: 0,
         max_coord: 0,
         height: 0,
         score: 0,
         len: 0,
-        link: link_of(word_in(words, at + 9)),
-        serif: link_of(word_in(words, at + 10)),
+        link: link_of(word_in(words, at + LINK_PLACE)),
+        serif: link_of(word_in(words, at + SERIF_PLACE)),
         first: 0,
         last: 0,
-        edge: link_of(word_in(words, at + 13)),
+        edge: link_of(word_in(words, at + EDGE_PLACE)),
         next: Link::None,
     }
 }
@@ -80,7 +85,7 @@ pub fn next_in(words: &[i32], ix: u16, last: u16) -> u16
     requires { ⌜ ix < segmentsIn (now words) ⌝ }
     ensures { λ r. ⌜ r ≡ indexOr last (wordsOf (now (words .entry)) ix .next) ⌝ }
 {
-    let next = link_of(word_in(words, SEGMENT_WORDS * (ix as usize) + 14));
+    let next = link_of(word_in(words, SEGMENT_WORDS * (ix as usize) + NEXT_PLACE));
     match next {
         Link::None => last,
         Link::To(i) => i,

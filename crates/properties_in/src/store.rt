@@ -9,6 +9,8 @@ use edges_in::edge::serif_in;
 use properties::join::distance;
 use properties::outcome::with_properties;
 use words::edge::EDGE_WORDS;
+use words::edge::LINK_PLACE;
+use words::edge::SERIF_PLACE;
 use words::field::link_of;
 use words::field::short_of;
 use words::word::word_in;
@@ -53,7 +55,7 @@ pub fn take_serif(edges: &mut [i32], k: usize, delta: i32, asked: u16)
     requires { ⌜ Joined (now edges) k × (asked < edgesIn (now edges)) ⌝ }
     ensures { λ _. ⌜ Became (takingSerif k delta asked) (now (edges .entry)) (now (edges .exit)) ⌝ }
 {
-    let held = link_of(word_in(edges, EDGE_WORDS * k + 8));
+    let held = link_of(word_in(edges, EDGE_WORDS * k + SERIF_PLACE));
     let chosen = chosen_in(edges, k, delta, asked, held);
     serif_in(edges, k, Link::To(chosen));
     mark_in(edges, chosen as usize);
@@ -64,7 +66,7 @@ pub fn take_link(edges: &mut [i32], k: usize, delta: i32, asked: u16)
     requires { ⌜ Joined (now edges) k × (asked < edgesIn (now edges)) ⌝ }
     ensures { λ _. ⌜ Became (takingLink k delta asked) (now (edges .entry)) (now (edges .exit)) ⌝ }
 {
-    let held = link_of(word_in(edges, EDGE_WORDS * k + 7));
+    let held = link_of(word_in(edges, EDGE_WORDS * k + LINK_PLACE));
     let chosen = chosen_in(edges, k, delta, asked, held);
     link_in(edges, k, Link::To(chosen));
 }
@@ -74,8 +76,8 @@ pub fn end_in(edges: &mut [i32], k: usize, roundness: usize, straightness: usize
     requires { ⌜ Joined (now edges) k ⌝ }
     ensures { λ _. ⌜ Became (ending k roundness straightness) (now (edges .entry)) (now (edges .exit)) ⌝ }
 {
-    let link = link_of(word_in(edges, EDGE_WORDS * k + 7));
-    let serif = link_of(word_in(edges, EDGE_WORDS * k + 8));
+    let link = link_of(word_in(edges, EDGE_WORDS * k + LINK_PLACE));
+    let serif = link_of(word_in(edges, EDGE_WORDS * k + SERIF_PLACE));
     let edge = Edge {
         link,
         serif,

@@ -7,6 +7,8 @@ use super::store::take_link;
 use super::store::take_serif;
 use axis::kinds::Link;
 use words::edge::EDGE_WORDS;
+use words::edge::FIRST_PLACE;
+use words::edge::LAST_PLACE;
 use words::field::index_of;
 use words::word::word_in;
 ghost use Prim.Native.Nat.{_<_};
@@ -41,8 +43,8 @@ pub fn visit_in(segments: &[i32], edges: &mut [i32], k: usize)
     ensures { λ _. ⌜ Became (visit (flatSegments (now (segments .entry))) k (members (edgesOf (now (edges .entry))) (flatSegments (now (segments .entry))) k))
         (now (edges .entry)) (now (edges .exit)) ⌝ }
 {
-    let last = index_of(word_in(edges, EDGE_WORDS * k + 10));
-    let mut ix = index_of(word_in(edges, EDGE_WORDS * k + 9));
+    let last = index_of(word_in(edges, EDGE_WORDS * k + LAST_PLACE));
+    let mut ix = index_of(word_in(edges, EDGE_WORDS * k + FIRST_PLACE));
     let mut roundness: usize = 0;
     let mut straightness: usize = 0;
     loop {

@@ -1,9 +1,9 @@
 -- What the words of segments become by the stores of a call.
-use mathlib.Core.Path.{_≡_, refl, sym, ap, subst, _∙_}
+use mathlib.Core.Path.{_≡_, sym, ap, _∙_}
 use mathlib.Core.List.{List}
-use Prim.Native.Nat.{ℕ, _*_, _/_, _<_}
+use Prim.Native.Nat.{ℕ, _*_, _<_}
 use native.Mathlib.Omega.{arith}
-use lib.ListN.{length, set}
+use lib.ListN.{set}
 use lib.Seq.{set-set}
 use lib.IntN.{ℤ, pos}
 use Rattle.axis.specs.declared.kinds.Link.{Link}
@@ -17,81 +17,61 @@ use Rattle.axis.proofs.Acceptance.{below-none, below-to}
 use Rattle.linking_rounds.specs.Pairs.{relinked, serifOf, unlinked}
 use Rattle.linking_rounds.specs.Rounds.{unlink}
 use Rattle.marking.specs.Marks.{ringed}
-use Rattle.words.specs.Word.{joined}
 use Rattle.words.specs.Field.{linkWord}
-use Rattle.words.specs.Segment.{segmentSize, scorePlace, lenPlace, linkPlace, serifPlace, edgePlace, nextPlace, wordOfSegment, segmentFrom, segmentsIn, flatSegments, segmentWordsAt, segmentsOver}
+use Rattle.words.specs.Segment.{segmentSize, scorePlace, lenPlace, linkPlace, serifPlace, edgePlace, nextPlace, wordOfSegment, segmentFrom, segmentsIn, flatSegments, segmentsOver}
+use Rattle.words_record.specs.Record.{segmentLayout}
+use Rattle.words_record.proofs.Wholes.{still-below}
+use Rattle.words_record.proofs.Writes.{wrote-again, wrote-as, as-written, as-set, became}
+use Rattle.words_record.proofs.Became as Of
+pub use Rattle.words_record.proofs.Became.{count-in, below-in, became-then}
+use Rattle.words_record.proofs.Layouts.{segmentCodec}
 use Rattle.segments_in.specs.Whole.{Whole, Became, joining, loosing, leading, ringing}
-use Rattle.segments_in.proofs.Wholes.{segment-in, segments-over, words-joined}
-use Rattle.segments_in.proofs.Writes.{Wrote, wrote-again, wrote-as, score-wrote, len-wrote, link-wrote, serif-wrote, edge-wrote, next-wrote}
-
--- as many segments as before
-as-many : (ws ws′ : List ℤ) → length ws′ ≡ length ws → segmentsIn ws′ ≡ segmentsIn ws
-as-many ws ws′ e = ap (λ (k : ℕ). k / segmentSize) e
-
-still-below : (ws ws′ : List ℤ) (i : ℕ) → length ws′ ≡ length ws → i < segmentsIn ws → i < segmentsIn ws′
-still-below ws ws′ i e h = subst (λ (k : ℕ). i < k) (sym (as-many ws ws′ e)) h
-
-pub count-in : {f : Segments → Segments} {ws ws′ : List ℤ} → Became f ws ws′ → segmentsIn ws′ ≡ segmentsIn ws
-count-in {f} {ws} {ws′} a = as-many ws ws′ (a .long)
-
-pub below-in : {f : Segments → Segments} {ws ws′ : List ℤ} (i : ℕ) → Became f ws ws′ → i < segmentsIn ws → i < segmentsIn ws′
-below-in {f} {ws} {ws′} i a h = still-below ws ws′ i (a .long) h
+use Rattle.segments_in.proofs.Wholes.{segmentTable, segment-in}
+use Rattle.segments_in.proofs.Writes.{Wrote, score-wrote, len-wrote, link-wrote, serif-wrote, edge-wrote, next-wrote}
 
 -- ---- one store behind the other
 -- nothing is written
 pub stays : (f : Segments → Segments) {ws : List ℤ} → Whole ws → flatSegments ws ≡ f (flatSegments ws) → Became f ws ws
-stays f w e = record { whole = w; long = refl; table = e }
-
-pub became-then : {f g : Segments → Segments} {ws w1 w2 : List ℤ} → Became f ws w1 → Became g w1 w2 → Became (λ (t : Segments). g (f t)) ws w2
-became-then {f} {g} a b = record { whole = b .whole; long = b .long ∙ a .long; table = b .table ∙ ap g (a .table) }
+stays f w e = Of.stays f w (λ d. e)
 
 -- what is made of the table, by another name
 pub became-as : {f g : Segments → Segments} {ws w1 : List ℤ} → f (flatSegments ws) ≡ g (flatSegments ws) → Became f ws w1 → Became g ws w1
-became-as e a = record { whole = a .whole; long = a .long; table = a .table ∙ e }
+became-as e a = Of.became-as (λ d. e) a
 
 -- the words are then that table written over the words
 pub became-over : {f : Segments → Segments} {ws ws′ : List ℤ} → Whole ws → Became f ws ws′ → ws′ ≡ segmentsOver ws (f (flatSegments ws))
+unfolding segmentsOver
 became-over {f} {ws} {ws′} w a =
-    words-joined ws′ (a .whole) ∙ (λ k. joined (segmentWordsAt (a .table k)) (as-many ws ws′ (a .long) k)) ∙ sym (segments-over ws (f (flatSegments ws)) w)
+    Of.table-over segmentCodec ws ws′ (segmentAt (f (flatSegments ws))) w (a .whole) (a .long) (λ i h. ap (λ (t : Segments). segmentAt t i) (sym (a .table tt)) ∙ segment-in ws′ i (a .whole) h)
 
 -- ---- the stores
 -- the segment whose words stand in a place
 abbrev held : List ℤ → ℕ → Segment
 held ws i = segmentFrom ws (segmentSize * i)
 
--- one segment changed, by what it was
-became : (f : Segment → Segment) {ws ws′ : List ℤ} (i : ℕ) → Whole ws → i < segmentsIn ws → Wrote ws ws′ i (f (held ws i))
-    → Became (λ (t : Segments). putSegment t i (f (segmentAt t i))) ws ws′
-became f {ws} {ws′} i w h a =
-    record { whole = a .whole; long = a .long; table = a .table ∙ ap (λ (s : Segment). putSegment (flatSegments ws) i (f s)) (sym (segment-in ws i w h)) }
-
--- the words are others by an equation
-as-written : {ws ws′ ws″ : List ℤ} {i : ℕ} {s : Segment} → ws″ ≡ ws′ → Wrote ws ws′ i s → Wrote ws ws″ i s
-as-written {ws} {ws′} {ws″} {i} {s} e a = subst (λ (x : List ℤ). Wrote ws x i s) (sym e) a
-
 -- its score, its length and its link
 pub join-law : (ws w1 w2 w3 : List ℤ) (i : ℕ) (score len a b c : ℤ) (ix : ℕ) → Whole ws → i < segmentsIn ws → ix < 65536 → w1 ≡ set ws (wordOfSegment i scorePlace) a → a ≡ score
     → w2 ≡ set w1 (wordOfSegment i lenPlace) b → b ≡ len → w3 ≡ set w2 (wordOfSegment i linkPlace) c → c ≡ pos ix → Became (joining i score len ix) ws w3
 join-law ws w1 w2 w3 i score len a b c ix w h l p p′ q q′ r r′ =
-    became (λ (s : Segment). relinked s score len (Links.To ix) (s .serif)) i w h
-    (wrote-again one
-    (wrote-again two
+    became segmentTable (λ (s : Segment). relinked s score len (Links.To ix) (s .serif)) i w h
+    (wrote-again segmentTable one
+    (wrote-again segmentTable two
     (wrote-as (ap (λ (x : Segment). relinked x (x .score) (x .len) (Links.To ix) (x .serif)) (two .read)
     ∙ ap (λ (x : Segment). relinked x (x .score) len (Links.To ix) (x .serif)) (one .read)) three)))
   where
     one : Wrote ws w1 i (relinked (held ws i) score (held ws i .len) (held ws i .link) (held ws i .serif))
-    one = as-written (p ∙ ap (λ (z : ℤ). set ws (wordOfSegment i scorePlace) z) p′) (score-wrote ws i w h score)
+    one = as-set (wordOfSegment i scorePlace) p p′ (score-wrote ws i w h score)
 
     below1 : i < segmentsIn w1
-    below1 = still-below ws w1 i (one .long) h
+    below1 = still-below segmentLayout ws w1 i (one .long) h
 
     two : Wrote w1 w2 i (relinked (held w1 i) (held w1 i .score) len (held w1 i .link) (held w1 i .serif))
-    two = as-written (q ∙ ap (λ (z : ℤ). set w1 (wordOfSegment i lenPlace) z) q′) (len-wrote w1 i (one .whole) below1 len)
+    two = as-set (wordOfSegment i lenPlace) q q′ (len-wrote w1 i (one .whole) below1 len)
 
     three : Wrote w2 w3 i (relinked (held w2 i) (held w2 i .score) (held w2 i .len) (Links.To ix) (held w2 i .serif))
     three =
-        as-written (r ∙ ap (λ (z : ℤ). set w2 (wordOfSegment i linkPlace) z) r′)
-        (link-wrote w2 i (two .whole) (still-below w1 w2 i (two .long) below1) (Links.To ix) (below-to 65536 ix l))
+        as-set (wordOfSegment i linkPlace) r r′
+        (link-wrote w2 i (two .whole) (still-below segmentLayout w1 w2 i (two .long) below1) (Links.To ix) (below-to 65536 ix l))
 
 -- its link taken
 unlink-wrote : (ws ws′ : List ℤ) (i : ℕ) → Whole ws → i < segmentsIn ws → ws′ ≡ set ws (wordOfSegment i linkPlace) (linkWord Links.None)
@@ -100,39 +80,39 @@ unlink-wrote ws ws′ i w h e = as-written e (link-wrote ws i w h Links.None (be
 
 pub unlink-law : (ws ws′ : List ℤ) (i : ℕ) (z : ℤ) → Whole ws → i < segmentsIn ws → ws′ ≡ set ws (wordOfSegment i linkPlace) z → z ≡ linkWord Links.None → Became (unlink i) ws ws′
 unfolding unlink
-unlink-law ws ws′ i z w h e q = became unlinked i w h (unlink-wrote ws ws′ i w h (e ∙ ap (λ (x : ℤ). set ws (wordOfSegment i linkPlace) x) q))
+unlink-law ws ws′ i z w h e q = became segmentTable unlinked i w h (unlink-wrote ws ws′ i w h (e ∙ ap (λ (x : ℤ). set ws (wordOfSegment i linkPlace) x) q))
 
 -- behind that, its serif
 pub serif-law : (ws w1 w2 : List ℤ) (i : ℕ) (a b : ℤ) (serif : Link) → Whole ws → i < segmentsIn ws → Below mostSegments serif → w1 ≡ set ws (wordOfSegment i linkPlace) a → a ≡ linkWord Links.None
     → w2 ≡ set w1 (wordOfSegment i serifPlace) b → b ≡ linkWord serif → Became (loosing i serif) ws w2
 serif-law ws w1 w2 i a b serif w h l p p′ q q′ =
-    became (λ (s : Segment). serifOf s serif) i w h
-    (wrote-again one (wrote-as (ap (λ (x : Segment). relinked x (x .score) (x .len) (x .link) serif) (one .read)) two))
+    became segmentTable (λ (s : Segment). serifOf s serif) i w h
+    (wrote-again segmentTable one (wrote-as (ap (λ (x : Segment). relinked x (x .score) (x .len) (x .link) serif) (one .read)) two))
   where
     one : Wrote ws w1 i (unlinked (held ws i))
     one = unlink-wrote ws w1 i w h (p ∙ ap (λ (z : ℤ). set ws (wordOfSegment i linkPlace) z) p′)
 
     two : Wrote w1 w2 i (relinked (held w1 i) (held w1 i .score) (held w1 i .len) (held w1 i .link) serif)
     two =
-        as-written (q ∙ ap (λ (z : ℤ). set w1 (wordOfSegment i serifPlace) z) q′)
-        (serif-wrote w1 i (one .whole) (still-below ws w1 i (one .long) h) serif (record { at = λ (k : ℕ) (e : serif ≡ Links.To k). omega (arith, l .at k e) }))
+        as-set (wordOfSegment i serifPlace) q q′
+        (serif-wrote w1 i (one .whole) (still-below segmentLayout ws w1 i (one .long) h) serif (record { at = λ (k : ℕ) (e : serif ≡ Links.To k). omega (arith, l .at k e) }))
 
 -- its edge
 pub edge-law : (ws ws′ : List ℤ) (i : ℕ) (z : ℤ) (edge : Link) → Whole ws → i < segmentsIn ws → Below mostEdges edge → ws′ ≡ set ws (wordOfSegment i edgePlace) z → z ≡ linkWord edge
     → Became (leading i edge) ws ws′
 edge-law ws ws′ i z edge w h l e q =
-    became (λ (s : Segment). ringed s edge (s .next)) i w h
-    (as-written (e ∙ ap (λ (x : ℤ). set ws (wordOfSegment i edgePlace) x) q) (edge-wrote ws i w h edge (record { at = λ (k : ℕ) (r : edge ≡ Links.To k). omega (arith, l .at k r) })))
+    became segmentTable (λ (s : Segment). ringed s edge (s .next)) i w h
+    (as-set (wordOfSegment i edgePlace) e q (edge-wrote ws i w h edge (record { at = λ (k : ℕ) (r : edge ≡ Links.To k). omega (arith, l .at k r) })))
 
 -- its next
 next-written : (ws ws′ : List ℤ) (i : ℕ) (z : ℤ) (next : Link) → Whole ws → i < segmentsIn ws → Below 65536 next → ws′ ≡ set ws (wordOfSegment i nextPlace) z → z ≡ linkWord next
     → Wrote ws ws′ i (ringed (held ws i) (held ws i .edge) next)
-next-written ws ws′ i z next w h l e q = as-written (e ∙ ap (λ (x : ℤ). set ws (wordOfSegment i nextPlace) x) q) (next-wrote ws i w h next l)
+next-written ws ws′ i z next w h l e q = as-set (wordOfSegment i nextPlace) e q (next-wrote ws i w h next l)
 
 -- the words stay the words of their segments, as many
 pub next-law : (ws ws′ : List ℤ) (i : ℕ) (z : ℤ) (next : Link) → Whole ws → i < segmentsIn ws → Below 65536 next → ws′ ≡ set ws (wordOfSegment i nextPlace) z → z ≡ linkWord next
     → Whole ws′ × (i < segmentsIn ws′)
-next-law ws ws′ i z next w h l e q = let a = next-written ws ws′ i z next w h l e q in (a .whole, still-below ws ws′ i (a .long) h)
+next-law ws ws′ i z next w h l e q = let a = next-written ws ws′ i z next w h l e q in (a .whole, still-below segmentLayout ws ws′ i (a .long) h)
 
 -- behind that, its edge
 pub ring-law : (ws w1 w2 : List ℤ) (i : ℕ) (z : ℤ) (edge next : Link) → Whole ws → i < segmentsIn ws → Below 65536 next → w1 ≡ set ws (wordOfSegment i nextPlace) z → z ≡ linkWord next
@@ -140,8 +120,8 @@ pub ring-law : (ws w1 w2 : List ℤ) (i : ℕ) (z : ℤ) (edge next : Link) → 
 ring-law ws w1 w2 i z edge next w h l e q b = record {
   whole = b .whole;
   long = b .long ∙ a .long;
-  table =
-      b .table ∙ (λ k. putSegment (a .table k) i (ringed (own k) edge (own k .next)))
+  table = λ d.
+      b .table d ∙ (λ k. putSegment (a .table d k) i (ringed (own k) edge (own k .next)))
       ∙ ap (λ (ss : List Segment). record { segments = ss; len = flatSegments ws .len }) (set-set (flatSegments ws .segments) i _ _)
       ∙ ap (λ (s : Segment). putSegment (flatSegments ws) i (ringed s edge next)) (sym (segment-in ws i w h));
 }
@@ -151,4 +131,4 @@ ring-law ws w1 w2 i z edge next w h l e q b = record {
 
     -- the segment as the edge finds it
     own : segmentAt (flatSegments w1) i ≡ ringed (held ws i) (held ws i .edge) next
-    own = segment-in w1 i (a .whole) (still-below ws w1 i (a .long) h) ∙ a .read
+    own = segment-in w1 i (a .whole) (still-below segmentLayout ws w1 i (a .long) h) ∙ a .read

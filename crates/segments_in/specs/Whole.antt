@@ -1,8 +1,6 @@
 -- Lists of words that are the words of their segments, and what they become where a segment is written.
-use mathlib.Core.Path.{_≡_}
 use mathlib.Core.List.{List}
-use Prim.Native.Nat.{ℕ, _*_, _≤_, _<_}
-use lib.ListN.{length}
+use Prim.Native.Nat.{ℕ}
 use lib.IntN.{ℤ, pos}
 use Rattle.axis.specs.declared.kinds.Link.{Link}
 use Rattle.axis.specs.declared.kinds.Link.the-variants as Links
@@ -10,23 +8,22 @@ use Rattle.axis.specs.declared.segment.Segment.{Segment}
 use Rattle.axis.specs.declared.segment.Segments.{Segments}
 use Rattle.axis.specs.Flags.{normal}
 use Rattle.axis.specs.Segment.{segmentAt, putSegment}
-use Rattle.axis.specs.Limits.{mostSegments}
 use Rattle.linking_rounds.specs.Pairs.{relinked, serifOf}
 use Rattle.marking.specs.Marks.{ringed}
-use Rattle.words.specs.Word.{wordAt}
-use Rattle.words.specs.Segment.{segmentSize, wordOfSegment, segmentsIn, segmentFrom, flatSegments, segmentWords}
+use Rattle.words.specs.Segment.{flatSegments}
+use Rattle.words_record.specs.Record.{segmentLayout, WholeOf, BecameOf}
 
 -- no more than the table holds, nothing behind the last, and word for word those that the segments read from them are written as
-pub record Whole (ws : List ℤ) : Type 0 where
-  pub few : segmentsIn ws ≤ mostSegments
-  pub long : length ws ≡ segmentSize * segmentsIn ws
-  pub word : (i j : ℕ) → i < segmentsIn ws → j < segmentSize → wordAt (segmentWords (segmentFrom ws (segmentSize * i))) j ≡ wordAt ws (wordOfSegment i j)
+abbrev pub Whole : List ℤ → Type 0
+Whole = WholeOf segmentLayout
+
+-- the table of lent segments, which is read with nothing else
+abbrev pub tableIn : List ℤ → Unit {0} → Segments
+tableIn ws d = flatSegments ws
 
 -- they stay the words of their segments, as many, and the table is what f makes of it
-pub record Became (f : Segments → Segments) (ws ws′ : List ℤ) : Type 0 where
-  pub whole : Whole ws′
-  pub long : length ws′ ≡ length ws
-  pub table : flatSegments ws′ ≡ f (flatSegments ws)
+abbrev pub Became : (Segments → Segments) → List ℤ → List ℤ → Type 0
+Became = BecameOf segmentLayout tableIn
 
 -- segment i linked to another one by a stem of a score and a length; and without its link, a serif of what `serif` names
 abbrev pub joining : ℕ → ℤ → ℤ → ℕ → Segments → Segments

@@ -5,7 +5,17 @@ use axis::segment::Segment;
 use words::field::direction_at;
 use words::field::index_word;
 use words::field::link_word;
+use words::segment::DIR_PLACE;
+use words::segment::EDGE_PLACE;
+use words::segment::LEN_PLACE;
+use words::segment::LINK_PLACE;
+use words::segment::MAX_PLACE;
+use words::segment::MIN_PLACE;
+use words::segment::NEXT_PLACE;
+use words::segment::POS_PLACE;
+use words::segment::SCORE_PLACE;
 use words::segment::SEGMENT_WORDS;
+use words::segment::SERIF_PLACE;
 use words::word::size_of;
 use words::word::word_in;
 ghost use mathlib.Core.Path.{_≡_};
@@ -50,7 +60,7 @@ pub fn points_in(words: &[i32], i: usize, dir: i32) -> bool
     requires { ⌜ Whole (now words) × (i < segmentsIn (now words)) ⌝ }
     ensures { λ r. ⌜ r ≡ eqZ (directionWord (segmentAt (flatSegments (now (words .entry))) i .dir)) dir ⌝ }
 {
-    word_in(words, SEGMENT_WORDS * i + 1) == dir
+    word_in(words, SEGMENT_WORDS * i + DIR_PLACE) == dir
 }
 
 // What linking reads of a segment, its other fields empty.
@@ -61,16 +71,16 @@ pub fn seg_in(words: &[i32], i: usize) -> Segment
     let at = SEGMENT_WORDS * i;
     Segment {
         flags: NORMAL,
-        dir: direction_at(words, at + 1),
-        pos: short_in(words, at + 2),
+        dir: direction_at(words, at + DIR_PLACE),
+        pos: short_in(words, at + POS_PLACE),
         delta: 0,
-        min_coord: short_in(words, at + 4),
-        max_coord: short_in(words, at + 5),
+        min_coord: short_in(words, at + MIN_PLACE),
+        max_coord: short_in(words, at + MAX_PLACE),
         height: 0,
-        score: word_in(words, at + 7),
-        len: word_in(words, at + 8),
-        link: link_in(words, at + 9),
-        serif: link_in(words, at + 10),
+        score: word_in(words, at + SCORE_PLACE),
+        len: word_in(words, at + LEN_PLACE),
+        link: link_in(words, at + LINK_PLACE),
+        serif: link_in(words, at + SERIF_PLACE),
         first: 0,
         last: 0,
         edge: Link::None,
@@ -91,9 +101,9 @@ pub fn join_in(words: &mut [i32], i: usize, score: i32, len: i32, ix: u16)
     requires { ⌜ Whole (now words) × (i < segmentsIn (now words)) ⌝ }
     ensures { λ _. ⌜ Became (joining i score len ix) (now (words .entry)) (now (words .exit)) ⌝ }
 {
-    put_word(words, i, 7, score);
-    put_word(words, i, 8, len);
-    put_word(words, i, 9, index_word(ix));
+    put_word(words, i, SCORE_PLACE, score);
+    put_word(words, i, LEN_PLACE, len);
+    put_word(words, i, LINK_PLACE, index_word(ix));
 }
 
 // Takes the link of a segment.
@@ -101,7 +111,7 @@ pub fn unlink_in(words: &mut [i32], i: usize)
     requires { ⌜ Whole (now words) × (i < segmentsIn (now words)) ⌝ }
     ensures { λ _. ⌜ Became (unlink i) (now (words .entry)) (now (words .exit)) ⌝ }
 {
-    put_word(words, i, 9, -1);
+    put_word(words, i, LINK_PLACE, -1);
 }
 
 // Takes the link of a segment, and makes it a serif of what `serif` names.
@@ -109,8 +119,8 @@ pub fn serif_in(words: &mut [i32], i: usize, serif: Link)
     requires { ⌜ Whole (now words) × (i < segmentsIn (now words)) × Below mostSegments serif ⌝ }
     ensures { λ _. ⌜ Became (loosing i serif) (now (words .entry)) (now (words .exit)) ⌝ }
 {
-    put_word(words, i, 9, -1);
-    put_word(words, i, 10, link_word(serif));
+    put_word(words, i, LINK_PLACE, -1);
+    put_word(words, i, SERIF_PLACE, link_word(serif));
 }
 
 // Gives a segment the edge that `edge` names.
@@ -118,7 +128,7 @@ pub fn edge_in(words: &mut [i32], i: usize, edge: Link)
     requires { ⌜ Whole (now words) × (i < segmentsIn (now words)) × Below mostEdges edge ⌝ }
     ensures { λ _. ⌜ Became (leading i edge) (now (words .entry)) (now (words .exit)) ⌝ }
 {
-    put_word(words, i, 13, link_word(edge));
+    put_word(words, i, EDGE_PLACE, link_word(edge));
 }
 
 // Gives a segment the edge that `edge` names, and the next that `next` names.
@@ -126,6 +136,6 @@ pub fn ring_in(words: &mut [i32], i: usize, edge: Link, next: Link)
     requires { ⌜ Whole (now words) × (i < segmentsIn (now words)) × Below mostEdges edge × Below 65536 next ⌝ }
     ensures { λ _. ⌜ Became (ringing i edge next) (now (words .entry)) (now (words .exit)) ⌝ }
 {
-    put_word(words, i, 14, link_word(next));
+    put_word(words, i, NEXT_PLACE, link_word(next));
     edge_in(words, i, edge);
 }

@@ -1,70 +1,42 @@
 // Which test of segments fails, on their words: each test is that of the table that they are read as.
-use axis::accept::is_inside;
+use super::read::segment_from;
+use axis::accept::SegmentTest;
 use axis::accept::least;
-use axis::accept::link_holds;
-use axis::limits::MOST_SCORE;
+use axis::accept::segment_passes;
 use axis::limits::MOST_SEGMENTS;
-use words::field::link_at;
 use words::segment::SEGMENT_WORDS;
-use words::word::word_at;
 ghost use mathlib.Core.Path.{_≡_};
 ghost use mathlib.Core.Bool.{_&&_};
-ghost use Prim.Native.Nat.{_≤_, _+_};
-ghost use lib.IntN.{pos};
-ghost use Rattle.axis.specs.Limits.{mostScore};
-ghost use Rattle.axis.specs.Refusals.{inside, segmentIndices, segmentNext, segmentNumbers, segmentsIndices, segmentsNexts, segmentsNumbers};
-ghost use Rattle.words.specs.Word.{wordAt};
-ghost use Rattle.words.specs.Segment.{segmentFrom, flatSegments};
+ghost use Rattle.axis.specs.Refusals.{everySegment, segmentPasses, segmentsIndices, segmentsNexts, segmentsNumbers};
+ghost use Rattle.words.specs.Segment.{flatSegments};
 ghost use Rattle.segments_test.specs.Held.{nextsHold};
 
-// Whether link and serif of the segment at a place are segments.
-fn segment_indices_in(words: &[i32], at: usize, count: usize) -> bool
-    requires { ⌜ at ≤ 131072 ⌝ }
-    ensures { λ r. ⌜ r ≡ segmentIndices count (segmentFrom (now (words .entry)) at) ⌝ }
+// Whether every segment passes a test.
+pub fn every_segment_in(words: &[i32], test: SegmentTest) -> bool
+    ensures { λ r. ⌜ r ≡ everySegment (segmentPasses test) (flatSegments (now (words .entry))) ⌝ }
 {
-    let link = link_at(words, at + 9);
-    if link_holds(link, count) {
-        let serif = link_at(words, at + 10);
-        return link_holds(serif, count);
+    let n = least(words.len() / SEGMENT_WORDS, MOST_SEGMENTS);
+    for i in 0..n {
+        let segment = segment_from(words, SEGMENT_WORDS * i);
+        if !segment_passes(segment, test) {
+            return false;
+        }
     }
-    false
+    true
 }
 
 // Whether link and serif of every segment are segments.
 pub fn indices_in(words: &[i32]) -> bool
     ensures { λ r. ⌜ r ≡ segmentsIndices (flatSegments (now (words .entry))) ⌝ }
 {
-    let count = words.len() / SEGMENT_WORDS;
-    let n = least(count, MOST_SEGMENTS);
-    for i in 0..n {
-        if !segment_indices_in(words, SEGMENT_WORDS * i, count) {
-            return false;
-        }
-    }
-    true
-}
-
-// Whether the next of the segment at a place is a segment.
-fn segment_next_in(words: &[i32], at: usize, count: usize) -> bool
-    requires { ⌜ at ≤ 131072 ⌝ }
-    ensures { λ r. ⌜ r ≡ segmentNext count (segmentFrom (now (words .entry)) at) ⌝ }
-{
-    let next = link_at(words, at + 14);
-    link_holds(next, count)
+    every_segment_in(words, SegmentTest::Indices(words.len() / SEGMENT_WORDS))
 }
 
 // Whether the next of every segment is a segment.
 pub fn nexts_in(words: &[i32]) -> bool
     ensures { λ r. ⌜ r ≡ segmentsNexts (flatSegments (now (words .entry))) ⌝ }
 {
-    let count = words.len() / SEGMENT_WORDS;
-    let n = least(count, MOST_SEGMENTS);
-    for i in 0..n {
-        if !segment_next_in(words, SEGMENT_WORDS * i, count) {
-            return false;
-        }
-    }
-    true
+    every_segment_in(words, SegmentTest::Next(words.len() / SEGMENT_WORDS))
 }
 
 // Whether link and serif of every segment are segments, and so is each next where it is tested.
@@ -80,34 +52,9 @@ pub fn indexed_in(words: &[i32], nexts: bool) -> bool
     true
 }
 
-// Whether the word at a place is a score or a length that is accepted.
-fn score_holds(words: &[i32], at: usize) -> bool
-    ensures { λ r. ⌜ r ≡ inside (pos 0) (pos mostScore) (wordAt (now (words .entry)) at) ⌝ }
-{
-    is_inside(word_at(words, at), 0, MOST_SCORE)
-}
-
-// Whether score and length of the segment at a place are accepted.
-fn segment_numbers_in(words: &[i32], at: usize) -> bool
-    requires { ⌜ at ≤ 131072 ⌝ }
-    ensures { λ r. ⌜ r ≡ segmentNumbers (segmentFrom (now (words .entry)) at) ⌝ }
-{
-    if score_holds(words, at + 7) {
-        return score_holds(words, at + 8);
-    }
-    false
-}
-
-// Whether score and length of every segment are.
+// Whether score and len of every segment are accepted.
 pub fn numbers_in(words: &[i32]) -> bool
     ensures { λ r. ⌜ r ≡ segmentsNumbers (flatSegments (now (words .entry))) ⌝ }
 {
-    let count = words.len() / SEGMENT_WORDS;
-    let n = least(count, MOST_SEGMENTS);
-    for i in 0..n {
-        if !segment_numbers_in(words, SEGMENT_WORDS * i) {
-            return false;
-        }
-    }
-    true
+    every_segment_in(words, SegmentTest::Numbers)
 }

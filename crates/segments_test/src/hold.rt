@@ -1,89 +1,107 @@
 // Whether words are those of segments that a call accepts: one loop, and no segment made.
 use axis::limits::MOST_SCORE;
 use axis::limits::MOST_SEGMENTS;
-use edges_test::hold::in_at;
+use edges_test::hold::links_to;
+use shape::field::DIRECTION;
+use shape::field::FLAGS;
+use shape::field::INDEX;
+use shape::field::LINK;
+use shape::field::Range;
+use shape::field::SHORT;
+use shape::field::in_at;
+use words::segment::DELTA_PLACE;
+use words::segment::DIR_PLACE;
+use words::segment::EDGE_PLACE;
+use words::segment::FIRST_PLACE;
+use words::segment::HEIGHT_PLACE;
+use words::segment::LAST_PLACE;
+use words::segment::LEN_PLACE;
+use words::segment::LINK_PLACE;
+use words::segment::MAX_PLACE;
+use words::segment::MIN_PLACE;
+use words::segment::NEXT_PLACE;
+use words::segment::POS_PLACE;
+use words::segment::SCORE_PLACE;
 use words::segment::SEGMENT_WORDS;
+use words::segment::SERIF_PLACE;
 ghost use mathlib.Core.Path.{_≡_};
 ghost use mathlib.Core.Bool.{true};
 ghost use Prim.Native.Nat.{_≤_, _+_};
 ghost use lib.ListN.{length};
-ghost use lib.IntN.{pos, _-ℤ_};
 ghost use Rattle.axis.specs.Limits.{mostSegments};
 ghost use Rattle.words.specs.Segment.{segmentSize};
-ghost use Rattle.segments_test.specs.Held.{topOf, FrontHeld, BackHeld, Held};
+ghost use Rattle.segments_test.specs.Held.{linksWhere, FrontHeld, BackHeld, Held};
+
+// The scores and lengths that every call accepts.
+const SCORE: Range = Range {
+    low: 0,
+    high: MOST_SCORE,
+};
 
 // Whether the first nine words of a segment are accepted.
 fn front_holds(words: &[i32], at: usize) -> bool
     requires { ⌜ at + segmentSize ≤ length (now words) ⌝ }
     ensures { λ r. ⌜ (r ≡ true → FrontHeld (now (words .entry)) at) ⌝ }
 {
-    if !in_at(words, at, 0, 15) {
+    if !in_at(words, at, FLAGS) {
         return false;
     }
-    if !in_at(words, at + 1, 0, 4) {
+    if !in_at(words, at + DIR_PLACE, DIRECTION) {
         return false;
     }
-    if !in_at(words, at + 2, -32768, 32767) {
+    if !in_at(words, at + POS_PLACE, SHORT) {
         return false;
     }
-    if !in_at(words, at + 3, -32768, 32767) {
+    if !in_at(words, at + DELTA_PLACE, SHORT) {
         return false;
     }
-    if !in_at(words, at + 4, -32768, 32767) {
+    if !in_at(words, at + MIN_PLACE, SHORT) {
         return false;
     }
-    if !in_at(words, at + 5, -32768, 32767) {
+    if !in_at(words, at + MAX_PLACE, SHORT) {
         return false;
     }
-    if !in_at(words, at + 6, -32768, 32767) {
+    if !in_at(words, at + HEIGHT_PLACE, SHORT) {
         return false;
     }
-    if !in_at(words, at + 7, 0, MOST_SCORE) {
+    if !in_at(words, at + SCORE_PLACE, SCORE) {
         return false;
     }
-    in_at(words, at + 8, 0, MOST_SCORE)
+    in_at(words, at + LEN_PLACE, SCORE)
 }
 
-// Whether the other six are, where the last segment and the highest next are these.
-fn back_holds(words: &[i32], at: usize, last: i32, top: i32) -> bool
+// Whether the other six are, where link and serif have these values, and next has those.
+fn back_holds(words: &[i32], at: usize, links: Range, nexts: Range) -> bool
     requires { ⌜ at + segmentSize ≤ length (now words) ⌝ }
-    ensures { λ r. ⌜ (r ≡ true → BackHeld (now (words .entry)) at last top) ⌝ }
+    ensures { λ r. ⌜ (r ≡ true → BackHeld (now (words .entry)) at links nexts) ⌝ }
 {
-    if !in_at(words, at + 9, -1, last) {
+    if !in_at(words, at + LINK_PLACE, links) {
         return false;
     }
-    if !in_at(words, at + 10, -1, last) {
+    if !in_at(words, at + SERIF_PLACE, links) {
         return false;
     }
-    if !in_at(words, at + 11, 0, 65535) {
+    if !in_at(words, at + FIRST_PLACE, INDEX) {
         return false;
     }
-    if !in_at(words, at + 12, 0, 65535) {
+    if !in_at(words, at + LAST_PLACE, INDEX) {
         return false;
     }
-    if !in_at(words, at + 13, -1, 65535) {
+    if !in_at(words, at + EDGE_PLACE, LINK) {
         return false;
     }
-    in_at(words, at + 14, -1, top)
+    in_at(words, at + NEXT_PLACE, nexts)
 }
 
-// The last of so many segments, or -1.
-fn last_of(n: usize) -> i32
+// The values of a link that is tested, to one of so many or to none, and of one that is not.
+fn links_where(n: usize, tested: bool) -> Range
     requires { ⌜ n ≤ mostSegments ⌝ }
-    ensures { λ r. ⌜ r ≡ pos n -ℤ pos 1 ⌝ }
+    ensures { λ r. ⌜ r ≡ linksWhere n tested ⌝ }
 {
-    (n as i32) - 1
-}
-
-// The highest that a next may be: the last segment where it is tested, and else any index.
-fn top_of(n: usize, nexts: bool) -> i32
-    requires { ⌜ n ≤ mostSegments ⌝ }
-    ensures { λ r. ⌜ r ≡ topOf n nexts ⌝ }
-{
-    if nexts {
-        return last_of(n);
+    if tested {
+        return links_to(n);
     }
-    65535
+    LINK
 }
 
 // Whether the words are those of segments, and a call accepts them, which tests the next of each or not.
@@ -97,13 +115,13 @@ pub fn segments_hold(words: &[i32], nexts: bool) -> bool
     if SEGMENT_WORDS * n < words.len() {
         return false;
     }
-    let last = last_of(n);
-    let top = top_of(n, nexts);
+    let links = links_where(n, true);
+    let ways = links_where(n, nexts);
     for i in 0..n {
         if !front_holds(words, SEGMENT_WORDS * i) {
             return false;
         }
-        if !back_holds(words, SEGMENT_WORDS * i, last, top) {
+        if !back_holds(words, SEGMENT_WORDS * i, links, ways) {
             return false;
         }
     }

@@ -10,7 +10,9 @@ use super::field::Range;
 use super::field::SHORT;
 use super::field::WORD;
 use super::field::skip_field;
+use words::edge::BLUE_PLACE;
 use words::edge::EDGE_WORDS;
+use words::edge::FITTED_PLACE;
 use words::segment::SEGMENT_WORDS;
 use words::word::word_at;
 ghost use mathlib.Core.Path.{_≡_};
@@ -112,10 +114,10 @@ fn skip_edge(words: &[i32], at: usize) -> Place
     let Place::At(next) = skip_record(words, at, Record::Edge) else {
         return Place::Nowhere;
     };
-    if word_at(words, at + 5) == 1 {
+    if word_at(words, at + BLUE_PLACE) == 1 {
         return Place::At(next);
     }
-    if word_at(words, at + 6) == 0 {
+    if word_at(words, at + FITTED_PLACE) == 0 {
         return Place::At(next);
     }
     Place::Nowhere

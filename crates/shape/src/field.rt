@@ -1,5 +1,8 @@
 // A field of one word, its values, and the place behind it.
 ghost use mathlib.Core.Path.{_≡_};
+ghost use Prim.Native.Nat.{_<_};
+ghost use lib.ListN.{length};
+ghost use Rattle.words.specs.Word.{wordAt};
 ghost use Rattle.shape.specs.Shape.{isIn, field};
 
 // A place in a word list, or nowhere, where the words are not those that are read.
@@ -57,6 +60,15 @@ pub fn is_in(word: i32, range: Range) -> bool
     true
 }
 
+// Whether the word at a place is within a field's values.
+pub fn in_at(words: &[i32], at: usize, range: Range) -> bool
+    requires { ⌜ at < length (now words) ⌝ }
+    ensures { λ r. ⌜ r ≡ isIn range (wordAt (now (words .entry)) at) ⌝ }
+{
+    let word = words[at];
+    is_in(word, range)
+}
+
 // The place behind a field.
 pub fn skip_field(words: &[i32], at: usize, range: Range) -> Place
     ensures { λ r. ⌜ r ≡ field range (now (words .entry)) at ⌝ }
@@ -64,8 +76,7 @@ pub fn skip_field(words: &[i32], at: usize, range: Range) -> Place
     if words.len() <= at {
         return Place::Nowhere;
     }
-    let word = words[at];
-    if is_in(word, range) {
+    if in_at(words, at, range) {
         return Place::At(at + 1);
     }
     Place::Nowhere

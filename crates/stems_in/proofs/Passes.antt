@@ -77,7 +77,7 @@ module _ (fallback : Bool) (m : Mode) (xs : List ℤ) (start : Link) where
     pub aligning-ends : n ≤ i → StemsPassed m xs start (record { count = p .count; anchor = p .anchor }) ws₀ ws
     unfolding stemsOf
     aligning-ends h = record {
-      words = record { whole = g .whole; long = g .long; axis = λ (d : Dimension). ap (λ (s : State). s .axis) (whole-pass d) };
+      words = record { whole = g .whole; long = g .long; table = λ (d : Dimension). ap (λ (s : State). s .axis) (whole-pass d) };
       count = λ (d : Dimension). ap (λ (s : State). s .count) (whole-pass d);
       anchor = λ (d : Dimension). ap (λ (s : State). s .anchor) (whole-pass d);
     }

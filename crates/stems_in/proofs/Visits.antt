@@ -129,7 +129,7 @@ module _ {fallback : Bool} (m : Mode) (xs ws : List ℤ) (p : Progress) (i : ℕ
               let A = edgesOf ws in
               let h = within-more mostFitted c A (omega arith) (s .axis) in
               within-more c mostReach (edgesOf w2) (omega arith)
-              (subst (AxisWithin c) (sym (two-stores .axis Horizontal)) (second-put c k plan (firstPut plan i A) (first-put c i plan A h (s .below) planned) link-below planned))
+              (subst (AxisWithin c) (sym (two-stores .table Horizontal)) (second-put c k plan (firstPut plan i A) (first-put c i plan A h (s .below) planned) link-below planned))
 
           pub visited-stem : {w3 : List ℤ} {o : Bool} {n : Link} → o ≡ isBounded plan i → Became (holding o i k) w2 w3 → n ≡ anchorAfter plan (p .anchor) i
               → Visited stateOf (step m xs) i p (record { count = p .count; anchor = n; trail = plan .trail }) ws w3
@@ -157,4 +157,4 @@ module _ {fallback : Bool} (m : Mode) (xs ws : List ℤ) (p : Progress) (i : ℕ
           }
             where
               stored : (d : Dimension) → axisIn w3 d ≡ heldPut plan i k (secondPut plan k (firstPut plan i (axisIn ws d)))
-              stored d = r .axis d ∙ (λ c. holding (h c) i k (two-stores .axis d c))
+              stored d = r .table d ∙ (λ c. holding (h c) i k (two-stores .table d c))

@@ -8,7 +8,7 @@ use Rattle.axis.specs.declared.kinds.Blue.{Blue}
 use Rattle.axis.specs.declared.kinds.Blue.the-variants as Blues
 use Rattle.axis.specs.declared.kinds.Link.{Link}
 use Rattle.axis.specs.declared.edge.Edge.{Edge}
-use Rattle.zone.specs.Zones.{hasBlue}
+use Rattle.axis.specs.Edge.{hasBlue}
 use Rattle.stems_plan.specs.declared.kinds.Mode.{Mode}
 use Rattle.stems_plan.specs.declared.kinds.Trail.{Trail}
 use Rattle.stems_plan.specs.Plan.{linkedPlan, groupPlan, zonePlan}

@@ -6,16 +6,16 @@ use super::kinds::Trail;
 use super::latin::latin_plan;
 use super::linked::linked_plan;
 use axis::edge::Edge;
+use axis::edge::has_blue;
 use axis::kinds::Group;
 use axis::kinds::Link;
-use zone::zone::has_blue;
 ghost use mathlib.Core.Path.{_≡_};
 ghost use mathlib.Core.Bool.{true, _&&_};
 ghost use Rattle.signed.specs.Range.{Between};
 ghost use Rattle.axis.specs.Limits.{mostPassed};
+ghost use Rattle.axis.specs.Edge.{hasBlue};
 ghost use Rattle.fixed.specs.Width.{ruleHolds};
 ghost use Rattle.placing.specs.Steps.{InReach};
-ghost use Rattle.zone.specs.Zones.{hasBlue};
 ghost use Rattle.stems_plan.specs.Plan.{groupPlan, planOf};
 ghost use Rattle.stems_plan.specs.Steps.{BareWithout};
 

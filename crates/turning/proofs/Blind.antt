@@ -10,9 +10,9 @@ use Rattle.axis.specs.declared.segment.Segments.{Segments}
 use Rattle.axis.specs.Edge.{emptyEdge}
 use Rattle.axis.specs.Limits.{mostEdges}
 use Rattle.axis.specs.Mark.{unmarked, unmarkedAxis, Blind}
-use Rattle.axis.specs.Refusals.{every, edgesShort, segmentsShort, segmentsIndexed, segmentsInRange, segmentsNexts}
+use Rattle.axis.specs.Refusals.{every, edgesShort, segmentsShort, segmentsIndexed, segmentsInRange, segmentsNexts, edgeSegments}
 use Rattle.axis.proofs.Alike.{AlikeAxis, unmarked-alike, indices-alike, numbers-alike, blind}
-use Rattle.turning.specs.Indices.{segmentsEdges, edgeSegments, edgesSegments}
+use Rattle.turning.specs.Indices.{segmentsEdges, edgesSegments}
 use Rattle.turning.specs.Turning.{turnedEdge, turnedEdges, turnedAxis, turnedSegments, turningTests, beside, withoutMarks, turnOver}
 
 -- ---- lists

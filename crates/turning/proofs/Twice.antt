@@ -16,12 +16,12 @@ use Rattle.axis.specs.Accepted.{Below, AxisWithin, SegmentsWithin}
 use Rattle.axis.specs.Edge.{emptyEdge, edgeAt}
 use Rattle.axis.specs.Handed.{TypedAxis, Typed}
 use Rattle.axis.specs.Limits.{mostEdges, mostSegments, mostPos}
-use Rattle.axis.specs.Refusals.{linkHolds}
+use Rattle.axis.specs.Refusals.{linkHolds, segmentEdge, edgeSegments}
 use Rattle.axis.specs.Segment.{emptySegment, segmentAt}
 use Rattle.axis.proofs.Acceptance.{link-below, nexts-below}
 use Rattle.axis.proofs.Accepting.{every-holds, edges-accepted, edges-within, segments-accepted, segments-are-within, nexts-hold}
 use Rattle.axis.proofs.Tests.{every-at}
-use Rattle.turning.specs.Indices.{segmentEdge, edgeSegments, segmentsEdges, edgesSegments}
+use Rattle.turning.specs.Indices.{segmentsEdges, edgesSegments}
 use Rattle.turning.specs.Turning.{turnedIndex, turnedLink, turnedEdge, turnedSegment, turnedAxis, turnedSegments}
 use Rattle.turning.proofs.Calls.{Taken}
 use Rattle.turning.proofs.Places.{turned-edge-at, behind-edges, turned-edges-length, turned-segment-at, behind-segments, turned-segments-length}

@@ -14,10 +14,10 @@ use Rattle.axis.specs.declared.kinds.Mark.{Mark}
 use Rattle.axis.specs.declared.kinds.Mark.the-variants.{Blue, Stem}
 use Rattle.axis.specs.declared.segment.Segment.{Segment}
 use Rattle.axis.specs.Edge.{freshEdge, placed, joinedTo}
-use Rattle.axis.specs.Refusals.{linkHolds, blueHolds, every, edgeIndices, edgeNumbers, edgesIndices, edgesNumbers}
+use Rattle.axis.specs.Refusals.{linkHolds, blueHolds, every, edgeIndices, edgeNumbers, edgesIndices, edgesNumbers, segmentEdge, edgeSegments}
 use Rattle.axis.specs.Refusals.{segmentIndices, segmentNext, segmentNumbers, segmentsIndices, segmentsNexts, segmentsNumbers}
 use Rattle.axis.specs.Segment.{emptySegment}
-use Rattle.turning.specs.Indices.{segmentEdge, edgeSegments, segmentsEdges, edgesSegments}
+use Rattle.turning.specs.Indices.{segmentsEdges, edgesSegments}
 use Rattle.turning.specs.Turning.{turnedEdges, turnedSegment, turningTests}
 
 -- an edge at a font position with its only segment, a link and a serif

@@ -22,8 +22,8 @@ ghost use mathlib.Core.Bool.{true};
 ghost use Prim.Native.Nat.{_≤_};
 ghost use Rattle.refusals.specs.Refusal.{refusal};
 ghost use Rattle.axis.specs.Limits.{mostEdges, mostSegments};
-ghost use Rattle.axis.specs.Refusals.{linkHolds, edgeIndices, edgesIndices};
-ghost use Rattle.turning.specs.Indices.{segmentEdge, segmentsEdges};
+ghost use Rattle.axis.specs.Refusals.{linkHolds, edgeIndices, edgesIndices, segmentEdge};
+ghost use Rattle.turning.specs.Indices.{segmentsEdges};
 ghost use Rattle.turning.specs.Turning.{turnedLink, turnedEdge, turnedSegment, turnedAxis, turnedSegments, turningTests, TurnsOver};
 
 // The answer, 0 or document 01's number of the refusal, the axis and the segments.

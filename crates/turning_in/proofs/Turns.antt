@@ -1,6 +1,6 @@
--- Segments and edges tested and turned over where their words stand.
+-- Segments and edges turned over where their words stand.
 use mathlib.Core.Path.{_≡_, refl, sym, ap, _∙_}
-use mathlib.Core.Bool.{Bool, true}
+use mathlib.Core.Bool.{true}
 use mathlib.Core.List.{List}
 use Prim.Native.Nat.{ℕ, _+_, _-_, _*_, _≤_, _<_, min}
 use native.Mathlib.Omega.{arith}
@@ -16,11 +16,11 @@ use Rattle.axis.specs.declared.segment.Segments.{Segments}
 use Rattle.axis.specs.Accepted.{Below}
 use Rattle.axis.specs.Edge.{edgeAt}
 use Rattle.axis.specs.Limits.{mostEdges, mostSegments}
-use Rattle.axis.specs.Refusals.{linkHolds, edgeIndices, edgesIndices}
+use Rattle.axis.specs.Refusals.{linkHolds, edgeIndices, edgesIndices, segmentEdge}
 use Rattle.axis.specs.Segment.{segmentAt}
 use Rattle.axis.proofs.Acceptance.{link-below}
 use Rattle.axis.proofs.Tests.{every-at}
-use Rattle.turning.specs.Indices.{segmentEdge, edgeSegments, segmentsEdges}
+use Rattle.turning.specs.Indices.{segmentsEdges}
 use Rattle.turning.specs.Turning.{turnedIndex, turnedLink, turnedEdge, turnedAxis, turnedSegments}
 use Rattle.turning.proofs.Places.{segmentsTo, segments-more, segments-all, segments-left, turned-edge-at}
 use Rattle.turning.proofs.Twice.{turned-below}
@@ -35,13 +35,11 @@ use Rattle.lent.specs.Lent.{edgesOf}
 use Rattle.edges_in.specs.Whole as Edges
 use Rattle.edges_in.proofs.Wholes.{edges-len, axis-long, edge-in}
 use Rattle.edges_in.proofs.Writes.{edge-same}
-use Rattle.edges_test.proofs.Refusals.{edge-held}
 use Rattle.segments_in.specs.Whole.{Whole, Became, leading}
 use Rattle.segments_in.proofs.Wholes.{segments-len}
 use Rattle.segments_in.proofs.Became.{became-then, became-as, became-over, count-in}
 use Rattle.segments_test.proofs.Refusals.{segment-held}
 
--- ---- tests
 -- the edge of a segment is the one that its word names
 edge-from : (ws : List ℤ) (at : ℕ) → segmentFrom ws at .edge ≡ linkOf (wordAt ws (at + edgePlace))
 unfolding segmentFrom
@@ -49,17 +47,6 @@ edge-from ws at = refl
 
 edge-of : (ws : List ℤ) (i : ℕ) → i < min (segmentsIn ws) mostSegments → segmentAt (flatSegments ws) i .edge ≡ linkOf (wordAt ws (wordOfSegment i edgePlace))
 edge-of ws i h = ap (λ (s : Segment). s .edge) (segment-held ws i h) ∙ edge-from ws (segmentSize * i)
-
--- it is tested there
-pub edge-tested : (m : ℕ) (ws : List ℤ) (i : ℕ) (a : Link) (r v : Bool) → i < min (segmentsIn ws) mostSegments → a ≡ linkOf (wordAt ws (wordOfSegment i edgePlace)) → r ≡ linkHolds m a → r ≡ v
-    → segmentEdge m (segmentAt (flatSegments ws) i) ≡ v
-unfolding segmentEdge
-edge-tested m ws i a r v h p e g = ap (linkHolds m) (edge-of ws i h ∙ sym p) ∙ sym e ∙ g
-
--- and so are first and last of an edge that is read
-pub ends-tested : (n : ℕ) (ws : List ℤ) (i : ℕ) (a : Edge) (r v : Bool) → i < min (edgesIn ws) mostEdges → a ≡ edgeFrom ws (edgeSize * i) → r ≡ edgeSegments n a → r ≡ v
-    → edgeSegments n (edgeAt (edgesOf ws) i) ≡ v
-ends-tested n ws i a r v h p e g = ap (edgeSegments n) (edge-held ws i h ∙ sym p) ∙ sym e ∙ g
 
 -- ---- segments
 -- an edge renumbered is an edge
@@ -83,7 +70,7 @@ module _ (m : ℕ) (ws₀ : List ℤ) (w : Whole ws₀) where
     next-edge : (edge : Link) → edge ≡ linkOf (wordAt ws (wordOfSegment i edgePlace)) → edge ≡ segmentAt T i .edge
     next-edge edge e =
         e ∙ sym (edge-of ws i (omega (arith, count-in a, w .few)))
-        ∙ ap (λ (t : Segments). segmentAt t i .edge) (a .table) ∙ ap (λ (s : Segment). s .edge) left
+        ∙ ap (λ (t : Segments). segmentAt t i .edge) (a .table tt) ∙ ap (λ (s : Segment). s .edge) left
 
     -- its edge is an edge
     pub next-holds : (edge : Link) → segmentsEdges m T ≡ true → edge ≡ linkOf (wordAt ws (wordOfSegment i edgePlace)) → linkHolds m edge ≡ true

@@ -7,6 +7,7 @@ use words::edge::TABLE_WORDS;
 use words::edge::edge_from;
 use words::edge::edge_words;
 use words::field::link_at;
+use words::segment::EDGE_PLACE;
 use words::segment::SEGMENT_WORDS;
 use words::word::write_words;
 ghost use mathlib.Core.Path.{_≡_};
@@ -29,7 +30,7 @@ pub fn turn_segments_in(segments: &mut [i32], count: usize)
 {
     let n = segments.len() / SEGMENT_WORDS;
     for i in 0..n {
-        let edge = link_at(segments, SEGMENT_WORDS * i + 13);
+        let edge = link_at(segments, SEGMENT_WORDS * i + EDGE_PLACE);
         let turned = turned_link(edge, count);
         edge_in(segments, i, turned);
     }

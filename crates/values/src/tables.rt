@@ -9,24 +9,18 @@ use axis::limits::MOST_SEGMENTS;
 use axis::segment::Segment;
 use axis::segment::Segments;
 use axis::segment::empty_segments;
+use segments_test::read::segment_from;
 use words::edge::EDGE_WORDS;
 use words::edge::edge_from;
 use words::edge::edge_words;
-use words::field::direction_at;
 use words::field::direction_word;
-use words::field::flags_at;
 use words::field::flags_word;
-use words::field::index_at;
 use words::field::index_word;
-use words::field::link_at;
 use words::field::link_word;
-use words::field::short_at;
 use words::field::short_word;
 use words::segment::SEGMENT_WORDS;
-use words::word::word_at;
 use words::word::write_words;
 ghost use mathlib.Core.Path.{_≡_};
-ghost use Prim.Native.Nat.{_≤_};
 ghost use lib.ListN.{length};
 ghost use Rattle.words.specs.Segment.{segmentSize};
 
@@ -54,29 +48,6 @@ pub fn write_edges(out: &mut [i32], axis: Axis) {
         let edge = axis.edges[i];
         let words = edge_words(edge);
         write_words(out, EDGE_WORDS * i, &words);
-    }
-}
-
-// The segment whose words stand at a place.
-fn segment_from(words: &[i32], at: usize) -> Segment
-    requires { ⌜ at ≤ 131072 ⌝ }
-{
-    Segment {
-        flags: flags_at(words, at),
-        dir: direction_at(words, at + 1),
-        pos: short_at(words, at + 2),
-        delta: short_at(words, at + 3),
-        min_coord: short_at(words, at + 4),
-        max_coord: short_at(words, at + 5),
-        height: short_at(words, at + 6),
-        score: word_at(words, at + 7),
-        len: word_at(words, at + 8),
-        link: link_at(words, at + 9),
-        serif: link_at(words, at + 10),
-        first: index_at(words, at + 11),
-        last: index_at(words, at + 12),
-        edge: link_at(words, at + 13),
-        next: link_at(words, at + 14),
     }
 }
 

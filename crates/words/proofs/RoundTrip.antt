@@ -21,10 +21,10 @@ use Rattle.words.specs.Edge.{edgeFrom, edgeWords}
 use Rattle.words.proofs.Fields.{short-is}
 
 -- ---- fields
-short-back : (z : ℤ) → Short z → shortOf z ≡ z
+pub short-back : (z : ℤ) → Short z → shortOf z ≡ z
 short-back z h = sym (short-is z (h .low) (h .high))
 
-index-back : (k : ℕ) → k < 65536 → indexOf (pos k) ≡ k
+pub index-back : (k : ℕ) → k < 65536 → indexOf (pos k) ≡ k
 index-back k h = mod-eq-of-lt h
 
 pub link-back : (l : Link) → Below 65536 l → linkOf (linkWord l) ≡ l
@@ -32,7 +32,7 @@ unfolding linkOf
 link-back Links.None h = refl
 link-back (Links.To k) h = ap Links.To (index-back k (h .at k refl))
 
-direction-back : (d : Direction) → directionOf (directionWord d) ≡ d
+pub direction-back : (d : Direction) → directionOf (directionWord d) ≡ d
 unfolding directionOf
 direction-back Directions.None = refl
 direction-back Directions.Right = refl
@@ -53,7 +53,7 @@ mark-back Marks.Bound = refl
 mark-back Marks.Serif = refl
 mark-back Marks.LowercaseM = refl
 
-blue-back : (b : Blue) → blueOf (presentWord b) (fittedWord b) ≡ b
+pub blue-back : (b : Blue) → blueOf (presentWord b) (fittedWord b) ≡ b
 unfolding blueOf choiceOf
 blue-back Blues.None = refl
 blue-back (Blues.Fitted z) = refl

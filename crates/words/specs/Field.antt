@@ -24,8 +24,6 @@ use Rattle.axis.specs.declared.kinds.Mark.{Mark}
 use Rattle.axis.specs.declared.kinds.Mark.the-variants as Marks
 use Rattle.fixed.specs.declared.width.WidthRule.{WidthRule}
 use Rattle.fixed.specs.declared.width.WidthRule.the-variants.{Keep, Snap}
-use Rattle.placing.specs.declared.adjust.LinkDir.{LinkDir}
-use Rattle.placing.specs.declared.adjust.LinkDir.the-variants.{Prev, Next}
 
 -- ---- a word as a field
 -- a 16-bit number; a word that is none reads as 0
@@ -71,10 +69,6 @@ dimensionOf w = cond (choiceOf w) Dimensions.Vertical Dimensions.Horizontal
 -- a width rule: keep or snap
 unfoldable pub ruleOf : ℤ → WidthRule
 ruleOf w = cond (choiceOf w) Snap Keep
-
--- a neighbour: the previous edge or the next
-unfoldable pub linkDirOf : ℤ → LinkDir
-linkDirOf w = cond (choiceOf w) Next Prev
 
 -- a blue by two words, whether it is there and its fitted position
 unfoldable pub blueOf : ℤ → ℤ → Blue

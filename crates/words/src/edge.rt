@@ -24,6 +24,29 @@ ghost use Rattle.words.specs.Edge.{edgeFrom, edgeWords};
 // How many words an edge is.
 pub const EDGE_WORDS: usize = 12;
 
+// The places of the fields among the words of an edge, behind its original position in font units; a blue has two, whether it is there and its fitted position.
+pub const OPOS_PLACE: usize = 1;
+
+pub const POS_PLACE: usize = 2;
+
+pub const FLAGS_PLACE: usize = 3;
+
+pub const DIR_PLACE: usize = 4;
+
+pub const BLUE_PLACE: usize = 5;
+
+pub const FITTED_PLACE: usize = 6;
+
+pub const LINK_PLACE: usize = 7;
+
+pub const SERIF_PLACE: usize = 8;
+
+pub const FIRST_PLACE: usize = 9;
+
+pub const LAST_PLACE: usize = 10;
+
+pub const MARK_PLACE: usize = 11;
+
 // How many words the places of the working table are.
 pub const TABLE_WORDS: usize = EDGE_WORDS * MOST_EDGES;
 
@@ -34,16 +57,16 @@ pub fn edge_from(words: &[i32], at: usize) -> Edge
 {
     Edge {
         fpos: short_at(words, at),
-        opos: word_at(words, at + 1),
-        pos: word_at(words, at + 2),
-        flags: flags_at(words, at + 3),
-        dir: direction_at(words, at + 4),
-        blue: blue_at(words, at + 5),
-        link: link_at(words, at + 7),
-        serif: link_at(words, at + 8),
-        first: index_at(words, at + 9),
-        last: index_at(words, at + 10),
-        mark: mark_at(words, at + 11),
+        opos: word_at(words, at + OPOS_PLACE),
+        pos: word_at(words, at + POS_PLACE),
+        flags: flags_at(words, at + FLAGS_PLACE),
+        dir: direction_at(words, at + DIR_PLACE),
+        blue: blue_at(words, at + BLUE_PLACE),
+        link: link_at(words, at + LINK_PLACE),
+        serif: link_at(words, at + SERIF_PLACE),
+        first: index_at(words, at + FIRST_PLACE),
+        last: index_at(words, at + LAST_PLACE),
+        mark: mark_at(words, at + MARK_PLACE),
     }
 }
 

@@ -9,12 +9,11 @@ use axis::kinds::Group;
 use axis::kinds::Link;
 use axis::kinds::Mark;
 use fixed::width::WidthRule;
-use placing::adjust::LinkDir;
 ghost use mathlib.Core.Path.{_≡_};
 ghost use Prim.Native.Nat.{_+_, _≤_};
 ghost use lib.IntN.{pos};
 ghost use Rattle.words.specs.Word.{wordAt};
-ghost use Rattle.words.specs.Field.{shortOf, indexOf, linkOf, choiceOf, directionOf, markOf, groupOf, dimensionOf, ruleOf, linkDirOf, blueOf, flagsOf, oddOf, weightOf};
+ghost use Rattle.words.specs.Field.{shortOf, indexOf, linkOf, choiceOf, directionOf, markOf, groupOf, dimensionOf, ruleOf, blueOf, flagsOf, oddOf, weightOf};
 ghost use Rattle.words.specs.Field.{linkWord, directionWord, markWord, presentWord, fittedWord, flagsWord};
 
 // The marks, by their words.
@@ -161,16 +160,6 @@ pub fn rule_of(word: i32) -> WidthRule
         return WidthRule::Snap;
     }
     WidthRule::Keep
-}
-
-// The neighbour that a choice names.
-pub fn link_dir_of(word: i32) -> LinkDir
-    ensures { λ r. ⌜ r ≡ linkDirOf word ⌝ }
-{
-    if choice_of(word) {
-        return LinkDir::Next;
-    }
-    LinkDir::Prev
 }
 
 // A blue by two words, whether it is there and its fitted position.

@@ -11,10 +11,10 @@ use Rattle.axis.specs.declared.kinds.Blue.{Blue}
 use Rattle.axis.specs.declared.kinds.Blue.the-variants as Blues
 use Rattle.axis.specs.declared.edge.Edge.{Edge}
 use Rattle.axis.specs.declared.edge.Axis.{Axis}
-use Rattle.axis.specs.Edge.{edgeAt, putEdge}
+use Rattle.axis.specs.Edge.{edgeAt, putEdge, hasBlue}
 use Rattle.axis.proofs.Alike.{Alike, AlikeAxis, finished-alike, fixed-alike, at-alike, put-alike, cond-alike}
 use Rattle.placing.proofs.Alike.{linked-alike}
-use Rattle.zone.specs.Zones.{hasBlue, unzoned, skipped, onZone, linkAligned, State, anchorFirst, visitAlone, visitPair, visitLink, visit}
+use Rattle.zone.specs.Zones.{unzoned, skipped, onZone, linkAligned, State, anchorFirst, visitAlone, visitPair, visitLink, visit}
 
 -- two states are alike
 pub record AlikeState (s t : State) : Type 0 where

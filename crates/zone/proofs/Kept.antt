@@ -17,13 +17,13 @@ use Rattle.axis.specs.declared.kinds.Blue.the-variants as Blues
 use Rattle.axis.specs.declared.edge.Edge.{Edge}
 use Rattle.axis.specs.declared.edge.Axis.{Axis}
 use Rattle.axis.specs.Link.{indexOr}
-use Rattle.axis.specs.Edge.{emptyEdge, edgeAt, putEdge}
+use Rattle.axis.specs.Edge.{emptyEdge, edgeAt, putEdge, hasBlue}
 use Rattle.axis.specs.Limits.{mostUnits}
 use Rattle.axis.specs.Accepted.{Below, InZone, EdgeWithin, AxisWithin}
 use Rattle.placing.specs.Placing.{linkedPos}
 use Rattle.placing.specs.Steps.{mostWidth, mostReach, InReach}
 use Rattle.placing.proofs.Reach.{width-range}
-use Rattle.zone.specs.Zones.{hasBlue, zonedEdge}
+use Rattle.zone.specs.Zones.{zonedEdge}
 use Rattle.zone.specs.Steps.{thinned, zoneOf, linkedOrZoned}
 
 -- ---- edges

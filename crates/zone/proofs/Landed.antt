@@ -19,13 +19,13 @@ use Rattle.axis.specs.declared.kinds.Link.the-variants as Links
 use Rattle.axis.specs.declared.edge.Axis.{Axis}
 use Rattle.axis.specs.declared.edge.Edge.{Edge}
 use Rattle.axis.specs.Accepted.{Below, InZone, AxisWithin}
-use Rattle.axis.specs.Edge.{emptyEdge, edgeAt, putEdge}
+use Rattle.axis.specs.Edge.{emptyEdge, edgeAt, putEdge, hasBlue}
 use Rattle.axis.specs.Limits.{mostUnits, mostPos}
 use Rattle.axis.specs.Visits.{visits}
 use Rattle.placing.specs.Placing.{linkedPos}
 use Rattle.placing.proofs.Reach.{width-range}
 use Rattle.zone.specs.Landed.{mostZoned, Landed, AllLanded}
-use Rattle.zone.specs.Zones.{hasBlue, unzoned, skipped, zonedEdge, onZone, linkAligned, State, visitAlone, visitPair, visitLink, visit}
+use Rattle.zone.specs.Zones.{unzoned, skipped, zonedEdge, onZone, linkAligned, State, visitAlone, visitPair, visitLink, visit}
 use Rattle.zone.proofs.Kept.{no-zone}
 
 -- ---- a store

@@ -16,9 +16,9 @@ use Rattle.axis.specs.declared.kinds.Blue.{Blue}
 use Rattle.axis.specs.declared.kinds.Blue.the-variants as Blues
 use Rattle.axis.specs.declared.edge.Edge.{Edge}
 use Rattle.axis.specs.declared.edge.Axis.{Axis}
-use Rattle.axis.specs.Edge.{emptyEdge, edgeAt, putEdge}
+use Rattle.axis.specs.Edge.{emptyEdge, edgeAt, putEdge, hasBlue}
 use Rattle.axis.specs.Visits.{visits}
-use Rattle.zone.specs.Zones.{hasBlue, unzoned, skipped, onZone, linkAligned, State, visitAlone, visitPair, visitLink, visit}
+use Rattle.zone.specs.Zones.{unzoned, skipped, onZone, linkAligned, State, visitAlone, visitPair, visitLink, visit}
 use Rattle.zone.specs.Settled.{Settled}
 use Rattle.zone.proofs.Landed.{set-own}
 

@@ -14,10 +14,10 @@ use Rattle.axis.specs.declared.kinds.Blue.the-variants as Blues
 use Rattle.axis.specs.declared.edge.Edge.{Edge}
 use Rattle.axis.specs.declared.edge.Axis.{Axis}
 use Rattle.axis.specs.Link.{isLinked, indexOr}
-use Rattle.axis.specs.Edge.{emptyEdge, edgeAt, putEdge}
+use Rattle.axis.specs.Edge.{emptyEdge, edgeAt, putEdge, hasBlue}
 use Rattle.axis.specs.Visits.{visits}
 use Rattle.axis.proofs.Visits.{visits-same}
-use Rattle.zone.specs.Zones.{hasBlue, unzoned, skipped, zonedEdge, onZone, linkAligned, State, anchorFirst, visitAlone, visitPair, visitLink, visit}
+use Rattle.zone.specs.Zones.{unzoned, skipped, zonedEdge, onZone, linkAligned, State, anchorFirst, visitAlone, visitPair, visitLink, visit}
 use Rattle.zone.specs.Steps.{thinned, bothZoned, losesLink, losesOwn, zoneOf, linkedOrZoned, thinBoth, linkAt, byZone, stepBy, step}
 
 -- ---- stores that change nothing

@@ -12,8 +12,8 @@ use Rattle.axis.specs.declared.kinds.Blue.the-variants as Blues
 use Rattle.axis.specs.declared.edge.Edge.{Edge}
 use Rattle.axis.specs.declared.edge.Axis.{Axis}
 use Rattle.axis.specs.Link.{indexOr}
-use Rattle.axis.specs.Edge.{edgeAt, putEdge}
-use Rattle.zone.specs.Zones.{hasBlue, zonedEdge, onZone, State, anchorFirst}
+use Rattle.axis.specs.Edge.{edgeAt, putEdge, hasBlue}
+use Rattle.zone.specs.Zones.{zonedEdge, onZone, State, anchorFirst}
 use Rattle.zone.specs.Steps.{thinned, losesLink, losesOwn, zoneOf, linkedOrZoned, thinBoth, linkAt, byZone, stepBy, step}
 
 module _ (rule : WidthRule) (xs : List ℤ) (axis : Axis) (a : Link) (i : ℕ) where

@@ -10,9 +10,9 @@ use Rattle.axis.specs.declared.kinds.Blue.the-variants as Blues
 use Rattle.axis.specs.declared.edge.Edge.{Edge}
 use Rattle.axis.specs.declared.edge.Axis.{Axis}
 use Rattle.axis.specs.Link.{isLinked, indexOr}
-use Rattle.axis.specs.Edge.{edgeAt, putEdge, finished}
+use Rattle.axis.specs.Edge.{edgeAt, putEdge, finished, hasBlue}
 use Rattle.placing.specs.Placing.{linkedEdge}
-use Rattle.zone.specs.Zones.{hasBlue, unzoned, onZone, State, anchorFirst}
+use Rattle.zone.specs.Zones.{unzoned, onZone, State, anchorFirst}
 
 -- the edge, without its zone where that is skipped
 unfoldable pub thinned : Bool → Edge → Edge

@@ -13,15 +13,10 @@ use Rattle.axis.specs.declared.kinds.Mark.{Mark}
 use Rattle.axis.specs.declared.kinds.Mark.the-variants as Marks
 use Rattle.axis.specs.declared.edge.Edge.{Edge}
 use Rattle.axis.specs.declared.edge.Axis.{Axis}
-use Rattle.axis.specs.Edge.{edgeAt, putEdge, changed, finished, fixedAt}
+use Rattle.axis.specs.Edge.{edgeAt, putEdge, changed, finished, fixedAt, hasBlue}
 use Rattle.placing.specs.Placing.{linkedEdge}
 
 -- ---- zones
--- there is a zone
-unfoldable pub hasBlue : Blue → Bool
-hasBlue Blues.None = false
-hasBlue (Blues.Fitted z) = true
-
 -- the flags without `neutral`
 abbrev pub notNeutral : Flags → Flags
 notNeutral f = record { round = f .round; serif = f .serif; done = f .done; neutral = false }

@@ -1,6 +1,7 @@
 // What the pass asks of two edges and does to one.
 use axis::edge::Edge;
 use axis::edge::fix_at;
+use axis::edge::has_blue;
 use axis::edge::with_done_flag;
 use axis::kinds::Blue;
 use axis::kinds::Link;
@@ -14,19 +15,8 @@ ghost use Prim.Native.Nat.{_<_};
 ghost use Rattle.axis.specs.Limits.{mostEdges};
 ghost use Rattle.fixed.specs.Width.{ruleHolds};
 ghost use Rattle.placing.specs.Steps.{InReach};
-ghost use Rattle.zone.specs.Zones.{hasBlue, unzoned, zoneMark, zonedEdge, anchorFirst};
+ghost use Rattle.zone.specs.Zones.{unzoned, zoneMark, zonedEdge, anchorFirst};
 ghost use Rattle.zone.specs.Steps.{bothZoned, losesOwn, losesLink, thinned, zoneOf, linkedOrZoned};
-
-// Whether an edge has a blue zone.
-pub fn has_blue(edge: Edge) -> bool
-    ensures { λ r. ⌜ r ≡ hasBlue (edge .blue) ⌝ }
-{
-    let blue = edge.blue;
-    match blue {
-        Blue::None => false,
-        Blue::Fitted(z) => true,
-    }
-}
 
 // The edge without its zone, and no longer neutral.
 fn unzone(edge: Edge) -> Edge

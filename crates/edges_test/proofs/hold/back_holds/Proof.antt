@@ -33,32 +33,14 @@ zone-in-requires c κs = search needs
 returns-3 : tie.Need-returns-3
 returns-3 c = λ h. absurd (clash h)
 
-add-link-in : tie.Need-add-link-in
-add-link-in c = search needs
-
-link-in-requires : tie.Need-link-in-requires
-link-in-requires c κs = search needs
-
-returns-4 : tie.Need-returns-4
-returns-4 c = λ h. absurd (clash h)
-
-add-link-in-2 : tie.Need-add-link-in-2
-add-link-in-2 c = search needs
-
-link-in-requires-2 : tie.Need-link-in-requires-2
-link-in-requires-2 c κs = search needs
-
-returns-5 : tie.Need-returns-5
-returns-5 c = λ h. absurd (clash h)
-
 add-in-at-3 : tie.Need-add-in-at-3
 add-in-at-3 c = search needs
 
 in-at-requires-3 : tie.Need-in-at-requires-3
 in-at-requires-3 c κs = search needs
 
-returns-6 : tie.Need-returns-6
-returns-6 c = λ h. absurd (clash h)
+returns-4 : tie.Need-returns-4
+returns-4 c = λ h. absurd (clash h)
 
 add-in-at-4 : tie.Need-add-in-at-4
 add-in-at-4 c = search needs
@@ -66,14 +48,32 @@ add-in-at-4 c = search needs
 in-at-requires-4 : tie.Need-in-at-requires-4
 in-at-requires-4 c κs = search needs
 
-returns-7 : tie.Need-returns-7
-returns-7 c = λ h. absurd (clash h)
+returns-5 : tie.Need-returns-5
+returns-5 c = λ h. absurd (clash h)
 
 add-in-at-5 : tie.Need-add-in-at-5
 add-in-at-5 c = search needs
 
 in-at-requires-5 : tie.Need-in-at-requires-5
 in-at-requires-5 c κs = search needs
+
+returns-6 : tie.Need-returns-6
+returns-6 c = λ h. absurd (clash h)
+
+add-in-at-6 : tie.Need-add-in-at-6
+add-in-at-6 c = search needs
+
+in-at-requires-6 : tie.Need-in-at-requires-6
+in-at-requires-6 c κs = search needs
+
+returns-7 : tie.Need-returns-7
+returns-7 c = λ h. absurd (clash h)
+
+add-in-at-7 : tie.Need-add-in-at-7
+add-in-at-7 c = search needs
+
+in-at-requires-7 : tie.Need-in-at-requires-7
+in-at-requires-7 c κs = search needs
 
 returns-8 : tie.Need-returns-8
 returns-8 c =
@@ -96,11 +96,11 @@ returns-8 c =
       w4 = sym (a1 .in-at .ensures) ∙ not-false _ (e1 .if1 .left);
       w5 = sym (a2 .in-at2 .ensures) ∙ not-false _ (e2 .if2 .left);
       w6 = sym (a3 .zone-in .ensures ∙ zone-at (s .args .words .now) (s .args .at)) ∙ not-false _ (e3 .if3 .left);
-      w7 = sym (a4 .link-in .ensures) ∙ not-false _ (e4 .if4 .left);
-      w8 = sym (a5 .link-in2 .ensures) ∙ not-false _ (e5 .if5 .left);
-      w9 = sym (a6 .in-at3 .ensures) ∙ not-false _ (e6 .if6 .left);
-      w10 = sym (a7 .in-at4 .ensures) ∙ not-false _ (e7 .if7 .left);
-      w11 = sym (c .in-at5 .ensures) ∙ h;
+      w7 = sym (a4 .in-at3 .ensures) ∙ not-false _ (e4 .if4 .left);
+      w8 = sym (a5 .in-at4 .ensures) ∙ not-false _ (e5 .if5 .left);
+      w9 = sym (a6 .in-at5 .ensures) ∙ not-false _ (e6 .if6 .left);
+      w10 = sym (a7 .in-at6 .ensures) ∙ not-false _ (e7 .if7 .left);
+      w11 = sym (c .in-at7 .ensures) ∙ h;
     }
 
 pub back-holds-spec : {M : Type 1} → statement M
@@ -116,18 +116,18 @@ back-holds-spec =
     add-zone-in
     zone-in-requires
     returns-3
-    add-link-in
-    link-in-requires
-    returns-4
-    add-link-in-2
-    link-in-requires-2
-    returns-5
     add-in-at-3
     in-at-requires-3
-    returns-6
+    returns-4
     add-in-at-4
     in-at-requires-4
-    returns-7
+    returns-5
     add-in-at-5
     in-at-requires-5
+    returns-6
+    add-in-at-6
+    in-at-requires-6
+    returns-7
+    add-in-at-7
+    in-at-requires-7
     returns-8)

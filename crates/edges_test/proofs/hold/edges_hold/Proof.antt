@@ -1,17 +1,18 @@
 -- `edges_test::hold::edges_hold` meets its contract. Assumes nothing.
 use borrow.Author.Tests.{not-false}
-use mathlib.Core.Path.{refl}
+use mathlib.Core.Path.{_≡_, refl}
 use Prim.Native.Nat.{_-_}
 use native.Mathlib.Omega.{arith}
+use Rattle.edges_test.specs.Held.{linksTo}
 use Rattle.edges_test.proofs.Holding.{clash, Passed, passed-none, passed-more, passed-all}
 use Rattle.edges_test.proofs.hold.edges_hold.Statement.{statement}
 use Rattle.edges_test.proofs.hold.edges_hold.Tie as tie
 
 abbrev Inv-loop : tie.InvT-loop
-Inv-loop words n i₀ i = Passed words n i
+Inv-loop words n links i₀ i = (links ≡ linksTo n) × Passed words n i
 
 abbrev μ-loop : tie.MeasureT-loop
-μ-loop words n i₀ i = n - i
+μ-loop words n links i₀ i = n - i
 
 returns : tie.Need-returns Inv-loop μ-loop
 returns c = λ h. absurd (clash h)
@@ -22,29 +23,32 @@ mul-if2 c = omega arith
 returns-2 : tie.Need-returns-2 Inv-loop μ-loop
 returns-2 c = λ h. absurd (clash h)
 
+links-to-requires : tie.Need-links-to-requires Inv-loop μ-loop
+links-to-requires c κs = let h = c .before .if1 .left in omega (arith, h)
+
 loop-holds : tie.Need-loop-holds Inv-loop μ-loop
-loop-holds c = passed-none _ _ (c .before .if1 .left) refl (c .if2 .left)
+loop-holds c = let e = c .before in (c .links-to .ensures, passed-none _ _ (e .before .if1 .left) refl (e .if2 .left))
 
 mul-front-holds : tie.Need-mul-front-holds Inv-loop μ-loop
-mul-front-holds c = let p = c .before .loop .inv in let h = c .loop-test .taken in omega (arith, p .few, h)
+mul-front-holds c = let p = c .before .loop .inv .1 in let h = c .loop-test .taken in omega (arith, p .few, h)
 
 front-holds-requires : tie.Need-front-holds-requires Inv-loop μ-loop
-front-holds-requires c κs = let p = c .before .loop .inv in let h = c .loop-test .taken in omega (arith, p .count, h)
+front-holds-requires c κs = let p = c .before .loop .inv .1 in let h = c .loop-test .taken in omega (arith, p .count, h)
 
 returns-3 : tie.Need-returns-3 Inv-loop μ-loop
 returns-3 c = λ h. absurd (clash h)
 
 mul-back-holds : tie.Need-mul-back-holds Inv-loop μ-loop
-mul-back-holds c = let l = c .before .before in let p = l .before .loop .inv in let h = l .loop-test .taken in omega (arith, p .few, h)
+mul-back-holds c = let l = c .before .before in let p = l .before .loop .inv .1 in let h = l .loop-test .taken in omega (arith, p .few, h)
 
 back-holds-requires : tie.Need-back-holds-requires Inv-loop μ-loop
-back-holds-requires c κs = let l = c .before .before in let p = l .before .loop .inv in let h = l .loop-test .taken in (omega (arith, p .count, h), p .few)
+back-holds-requires c κs = let l = c .before .before in let p = l .before .loop .inv .1 in let h = l .loop-test .taken in omega (arith, p .count, h)
 
 returns-4 : tie.Need-returns-4 Inv-loop μ-loop
 returns-4 c = λ h. absurd (clash h)
 
 add-i : tie.Need-add-i Inv-loop μ-loop
-add-i c = let l = c .before .before .before .before in let p = l .before .loop .inv in let h = l .loop-test .taken in omega (arith, p .few, h)
+add-i c = let l = c .before .before .before .before in let p = l .before .loop .inv .1 in let h = l .loop-test .taken in omega (arith, p .few, h)
 
 loop-less : tie.Need-loop-less Inv-loop μ-loop
 loop-less c = let h = c .before .before .before .before .loop-test .taken in omega (arith, h)
@@ -55,10 +59,11 @@ loop-again c =
     let e = b .before in
     let f = e .before in
     let l = f .before in
-    passed-more _ _ _ (l .before .loop .inv) (l .loop-test .taken) (f .front-holds .ensures (not-false _ (e .if3 .left))) (b .back-holds .ensures (not-false _ (c .if4 .left)))
+    let v = l .before .loop .inv in
+    (v .0, passed-more _ _ _ _ (v .1) (l .loop-test .taken) (f .front-holds .ensures (not-false _ (e .if3 .left))) (b .back-holds .ensures (not-false _ (c .if4 .left))) (v .0))
 
 returns-5 : tie.Need-returns-5 Inv-loop μ-loop
-returns-5 c = λ h. passed-all _ _ _ (c .before .loop .inv) (c .loop-test .left)
+returns-5 c = λ h. passed-all _ _ _ (c .before .loop .inv .1) (c .loop-test .left)
 
 pub edges-hold-spec : {M : Type 1} → statement M
 edges-hold-spec =
@@ -69,6 +74,7 @@ edges-hold-spec =
     returns
     mul-if2
     returns-2
+    links-to-requires
     loop-holds
     mul-front-holds
     front-holds-requires

@@ -2,7 +2,8 @@
 use mathlib.Core.Path.{_≡_, refl, ap, _∙_}
 use Rattle.signed.proofs.Signed.{is}
 use Rattle.signed.proofs.By.{by₂}
-use Rattle.words.specs.Field.{choiceOf, linkDirOf}
+use Rattle.words.specs.Field.{choiceOf}
+use Rattle.flat.specs.Fit.{linkDirOf}
 use Rattle.shape.specs.Shape.{choice}
 use Rattle.lent.specs.Lent.{bothIn, namedEdge}
 use Rattle.flat.proofs.Lending.{ReadyOne, adjust-ready, adjust-refused, adjust-done}

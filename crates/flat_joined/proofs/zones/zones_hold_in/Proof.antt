@@ -1,6 +1,8 @@
 -- `flat_joined::zones::zones_hold_in` meets its contract. Assumes nothing.
+use Rattle.axis.specs.Refusals.{edgePasses}
 use Rattle.flat_joined.proofs.Zoning.{zones-there, zones-absent}
 use borrow.Author.Needs.{needs}
+use native.Mathlib.Omega.{arith}
 use Rattle.flat_joined.proofs.zones.zones_hold_in.Statement.{statement}
 use Rattle.flat_joined.proofs.zones.zones_hold_in.Tie as tie
 
@@ -10,15 +12,19 @@ has-blues-requires c κs = search needs
 returns : tie.Need-returns
 returns c few = let h = c .before in let a = h .before .args in zones-there (a .words .now) (a .dim) (a .group) (h .has-blues .ensures) (c .if1 .taken)
 
-none-zoned-in-requires : tie.Need-none-zoned-in-requires
-none-zoned-in-requires c κs = search needs
-
 returns-2 : tie.Need-returns-2
-returns-2 c few =
-    let o = c .before in
+returns-2 c few = absurd (omega (arith, few))
+
+every-edge-in-requires : tie.Need-every-edge-in-requires
+every-edge-in-requires c κs = search needs
+
+returns-3 : tie.Need-returns-3
+unfolding edgePasses
+returns-3 c few =
+    let o = c .before .before in
     let h = o .before in
     let a = h .before .args in
-    zones-absent (a .words .now) (a .dim) (a .group) (h .has-blues .ensures) (o .if1 .left) (c .none-zoned-in .ensures few)
+    zones-absent (a .words .now) (a .dim) (a .group) (h .has-blues .ensures) (o .if1 .left) (c .every-edge-in .ensures)
 
 pub zones-hold-in-spec : {M : Type 1} → statement M
-zones-hold-in-spec = tie.close (tie.spec has-blues-requires returns none-zoned-in-requires returns-2)
+zones-hold-in-spec = tie.close (tie.spec has-blues-requires returns returns-2 every-edge-in-requires returns-3)

@@ -1,12 +1,6 @@
 -- `segments_test::hold::back_holds` meets its contract. Assumes nothing.
 use borrow.Author.Tests.{not-false}
 use mathlib.Core.Path.{sym, _∙_}
-use Prim.Native.Nat.{_+_}
-use lib.IntN.{ℤ, negsuc}
-use Rattle.signed.proofs.Signed.{is}
-use Rattle.axis.specs.Refusals.{inside}
-use Rattle.axis.proofs.Tests.{tested}
-use Rattle.words.specs.Word.{wordAt}
 use Rattle.edges_test.proofs.Holding.{clash}
 use borrow.Author.Needs.{needs}
 use Rattle.segments_test.proofs.hold.back_holds.Statement.{statement}
@@ -75,14 +69,13 @@ returns-6 c =
     let a2 = e2 .before in
     let e1 = a2 .before in
     let a1 = e1 .before in
-    let s = a1 .before in
     λ h. record {
-      w9 = tested (λ (z : ℤ). inside (negsuc 0) z (wordAt (s .args .words .now) (s .args .at + 9))) _ _ _ _ (is (s .fits .last)) (a1 .in-at .ensures) (not-false _ (e1 .if1 .left));
-      w10 = tested (λ (z : ℤ). inside (negsuc 0) z (wordAt (s .args .words .now) (s .args .at + 10))) _ _ _ _ (is (s .fits .last)) (a2 .in-at2 .ensures) (not-false _ (e2 .if2 .left));
+      w9 = sym (a1 .in-at .ensures) ∙ not-false _ (e1 .if1 .left);
+      w10 = sym (a2 .in-at2 .ensures) ∙ not-false _ (e2 .if2 .left);
       w11 = sym (a3 .in-at3 .ensures) ∙ not-false _ (e3 .if3 .left);
       w12 = sym (a4 .in-at4 .ensures) ∙ not-false _ (e4 .if4 .left);
       w13 = sym (a5 .in-at5 .ensures) ∙ not-false _ (e5 .if5 .left);
-      w14 = tested (λ (z : ℤ). inside (negsuc 0) z (wordAt (s .args .words .now) (s .args .at + 14))) _ _ _ _ (is (s .fits .top)) (c .in-at6 .ensures) h;
+      w14 = sym (c .in-at6 .ensures) ∙ h;
     }
 
 pub back-holds-spec : {M : Type 1} → statement M

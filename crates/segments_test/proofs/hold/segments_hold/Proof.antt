@@ -1,23 +1,20 @@
 -- `segments_test::hold::segments_hold` meets its contract. Assumes nothing.
 use borrow.Author.Tests.{not-false}
-use mathlib.Core.Path.{_≡_, refl, _∙_}
+use mathlib.Core.Path.{_≡_, refl}
 use Prim.Native.Nat.{_-_}
 use native.Mathlib.Omega.{arith}
-use lib.IntN.{pos, _-ℤ_}
-use mir.Syntax.{w32}
-use mir.Val.{toZ}
-use Rattle.signed.proofs.Signed.{is, got}
 use Rattle.edges_test.proofs.Holding.{clash}
-use Rattle.segments_test.specs.Held.{topOf}
+use Rattle.edges_test.specs.Held.{linksTo}
+use Rattle.segments_test.specs.Held.{linksWhere}
 use Rattle.segments_test.proofs.Holding.{Passed, passed-none, passed-more, passed-all}
 use Rattle.segments_test.proofs.hold.segments_hold.Statement.{statement}
 use Rattle.segments_test.proofs.hold.segments_hold.Tie as tie
 
 abbrev Inv-loop : tie.InvT-loop
-Inv-loop words nexts n last top i₀ i = (toZ w32 last ≡ pos n -ℤ pos 1) × (toZ w32 top ≡ topOf n nexts) × Passed words nexts n i
+Inv-loop words nexts n links ways i₀ i = (links ≡ linksTo n) × (ways ≡ linksWhere n nexts) × Passed words nexts n i
 
 abbrev μ-loop : tie.MeasureT-loop
-μ-loop words nexts n last top i₀ i = n - i
+μ-loop words nexts n links ways i₀ i = n - i
 
 returns : tie.Need-returns Inv-loop μ-loop
 returns c = λ h. absurd (clash h)
@@ -28,20 +25,17 @@ mul-if2 c = omega arith
 returns-2 : tie.Need-returns-2 Inv-loop μ-loop
 returns-2 c = λ h. absurd (clash h)
 
-last-of-requires : tie.Need-last-of-requires Inv-loop μ-loop
-last-of-requires c κs = c .before .if1 .left
+links-where-requires : tie.Need-links-where-requires Inv-loop μ-loop
+links-where-requires c κs = c .before .if1 .left
 
-top-of-requires : tie.Need-top-of-requires Inv-loop μ-loop
-top-of-requires c κs = c .before .before .if1 .left
+links-where-requires-2 : tie.Need-links-where-requires-2 Inv-loop μ-loop
+links-where-requires-2 c κs = c .before .before .if1 .left
 
 loop-holds : tie.Need-loop-holds Inv-loop μ-loop
 loop-holds c =
     let l = c .before in
-    let e = l .before in (
-      is (got w32 (l .last-of .result) (l .last-of .ok)) ∙ l .last-of .ensures,
-      is (got w32 (c .top-of .result) (c .top-of .ok)) ∙ c .top-of .ensures,
-      passed-none _ _ _ (e .before .if1 .left) refl (e .if2 .left),
-    )
+    let e = l .before in
+    (l .links-where .ensures, c .links-where2 .ensures, passed-none _ _ _ (e .before .if1 .left) refl (e .if2 .left))
 
 mul-front-holds : tie.Need-mul-front-holds Inv-loop μ-loop
 mul-front-holds c = let p = c .before .loop .inv .2 in let h = c .loop-test .taken in omega (arith, p .few, h)
@@ -88,8 +82,8 @@ segments-hold-spec =
     returns
     mul-if2
     returns-2
-    last-of-requires
-    top-of-requires
+    links-where-requires
+    links-where-requires-2
     loop-holds
     mul-front-holds
     front-holds-requires

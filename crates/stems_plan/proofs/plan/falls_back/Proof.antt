@@ -1,7 +1,7 @@
 -- `stems_plan::plan::falls_back` meets its contract. Assumes nothing.
 use mathlib.Core.Path.{ap, sym, _∙_}
 use mathlib.Core.Bool.{Bool, _&&_}
-use Rattle.zone.specs.Zones.{hasBlue}
+use Rattle.axis.specs.Edge.{hasBlue}
 use borrow.Author.Needs.{needs}
 use Rattle.stems_plan.proofs.plan.falls_back.Statement.{statement}
 use Rattle.stems_plan.proofs.plan.falls_back.Tie as tie

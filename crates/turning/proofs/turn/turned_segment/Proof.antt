@@ -1,7 +1,7 @@
 -- `turning::turn::turned_segment` meets its contract: each number that is kept is read back. Assumes nothing.
 use mir.Syntax.{w16, w32}
 use Rattle.signed.proofs.Reading.{back}
-use Rattle.turning.specs.Indices.{segmentEdge}
+use Rattle.axis.specs.Refusals.{segmentEdge}
 use Rattle.turning.proofs.turn.turned_segment.Statement.{statement}
 use Rattle.turning.proofs.turn.turned_segment.Tie as tie
 

@@ -3,6 +3,8 @@ use borrow.Author.Needs.{needs}
 use mathlib.Core.Path.{refl}
 use Rattle.refusals.specs.Refusal.{tooLong, badIndex, outOfRange}
 use Rattle.refusals.proofs.Tests.{none-tested, then-tested}
+use Rattle.axis.specs.Refusals.{edgePasses, segmentPasses}
+use Rattle.turning.specs.Indices.{segmentsEdges, edgesSegments}
 use Rattle.words.specs.Edge.{axisRun, flatAxis}
 use Rattle.words.specs.Segment.{segmentsRun, flatSegments}
 use Rattle.turning_in.proofs.test.refusal_in.Statement.{statement}
@@ -32,8 +34,8 @@ nexts-in-requires c κs = search needs
 or-refused-requires-4 : tie.Need-or-refused-requires-4
 or-refused-requires-4 c κs = search needs
 
-segments-edges-in-requires : tie.Need-segments-edges-in-requires
-segments-edges-in-requires c κs = search needs
+every-segment-in-requires : tie.Need-every-segment-in-requires
+every-segment-in-requires c κs = search needs
 
 or-refused-requires-5 : tie.Need-or-refused-requires-5
 or-refused-requires-5 c κs = search needs
@@ -44,8 +46,8 @@ indices-in-requires-2 c κs = search needs
 or-refused-requires-6 : tie.Need-or-refused-requires-6
 or-refused-requires-6 c κs = search needs
 
-edges-segments-in-requires : tie.Need-edges-segments-in-requires
-edges-segments-in-requires c κs = search needs
+every-edge-in-requires : tie.Need-every-edge-in-requires
+every-edge-in-requires c κs = search needs
 
 or-refused-requires-7 : tie.Need-or-refused-requires-7
 or-refused-requires-7 c κs = search needs
@@ -63,7 +65,7 @@ or-refused-requires-9 : tie.Need-or-refused-requires-9
 or-refused-requires-9 c κs = search needs
 
 returns : tie.Need-returns
-unfolding flatSegments segmentsRun flatAxis axisRun
+unfolding segmentsEdges edgesSegments segmentPasses edgePasses flatSegments segmentsRun flatAxis axisRun
 returns c =
     let test9 = c .before in
     let eight = test9 .before in
@@ -86,9 +88,9 @@ returns c =
     let held2 = then-tested tooLong held1 refl (two .or-refused2 .ensures) (test2 .few-edges .ensures) in
     let held3 = then-tested badIndex held2 refl (three .or-refused3 .ensures) (test3 .indices-in .ensures) in
     let held4 = then-tested badIndex held3 refl (four .or-refused4 .ensures) (test4 .nexts-in .ensures) in
-    let held5 = then-tested badIndex held4 refl (five .or-refused5 .ensures) (test5 .segments-edges-in .ensures) in
+    let held5 = then-tested badIndex held4 refl (five .or-refused5 .ensures) (test5 .every-segment-in .ensures) in
     let held6 = then-tested badIndex held5 refl (six .or-refused6 .ensures) (test6 .indices-in2 .ensures) in
-    let held7 = then-tested badIndex held6 refl (seven .or-refused7 .ensures) (test7 .edges-segments-in .ensures) in
+    let held7 = then-tested badIndex held6 refl (seven .or-refused7 .ensures) (test7 .every-edge-in .ensures) in
     let held8 = then-tested outOfRange held7 refl (eight .or-refused8 .ensures) (test8 .numbers-in .ensures) in
     then-tested outOfRange held8 refl (c .or-refused9 .ensures) (test9 .numbers-in2 .ensures) .refused
 
@@ -104,11 +106,11 @@ refusal-in-spec =
     or-refused-requires-3
     nexts-in-requires
     or-refused-requires-4
-    segments-edges-in-requires
+    every-segment-in-requires
     or-refused-requires-5
     indices-in-requires-2
     or-refused-requires-6
-    edges-segments-in-requires
+    every-edge-in-requires
     or-refused-requires-7
     numbers-in-requires
     or-refused-requires-8

@@ -1,0 +1,2 @@
+-- What the contracts over lent edges and segments share.
+pub mod Record
