@@ -13,7 +13,7 @@ pub struct Bounds {
     pub upper: Link,
 }
 
-// The edges that an edge left over is kept between.
+// The neighbours of an edge left over in its list.
 pub fn latin_remaining_bounds(axis: Axis, edge: usize) -> Bounds
     ensures { λ r. ⌜ FindsLatinRemainingBounds axis edge r ⌝ }
 {
