@@ -4,7 +4,7 @@ use super::first::hint_first;
 use axis::accept::least;
 use axis::edge::EMPTY_EDGE;
 use axis::edge::Edge;
-use jobs_points::list::put;
+use tool_lists::list::put;
 use words::edge::EDGE_WORDS;
 use words::edge::edge_from;
 use words::edge::edge_words;

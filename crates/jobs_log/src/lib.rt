@@ -1,16 +1,16 @@
 // Jobs of frames, calls 25 and 26: from the words of their jobs to those of their answers. A tool, for comparisons: proved safe.
 use axis::accept::least;
 use frames::limits::MOST_COUNTED;
-use jobs_points::list::nth_list;
-use jobs_points::list::put;
-use jobs_points::list::put_list;
-use jobs_points::number::byte_word;
-use jobs_points::number::put_bytes;
-use jobs_points::number::read_bytes;
-use jobs_points::number::read_indices;
 use khsaemudol::khs_read_frame;
 use khsaemudol::khs_write_frame;
 use lines::limits::MOST_NUMBERS;
+use tool_lists::list::nth_list;
+use tool_lists::list::put;
+use tool_lists::list::put_list;
+use tool_lists::number::byte_word;
+use tool_lists::number::put_bytes;
+use tool_lists::number::read_bytes;
+use tool_lists::number::read_indices;
 use words::word::count_word;
 ghost use Prim.Native.Nat.{_≤_};
 ghost use lib.ListN.{length};

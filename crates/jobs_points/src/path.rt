@@ -1,15 +1,15 @@
 // Paths, calls 15 and 16: from the words of their jobs to those of their answers.
 use super::float::float_word;
-use super::list::nth_list;
-use super::list::put;
-use super::number::byte_word;
-use super::number::read_bytes;
-use super::number::read_indices;
 use khsaemudol::khs_path;
 use khsaemudol::khs_path_step;
 use lines::limits::MOST_NUMBERS;
 use middle::bits::bits_of;
 use middle::bits::signed_of;
+use tool_lists::list::nth_list;
+use tool_lists::list::put;
+use tool_lists::number::byte_word;
+use tool_lists::number::read_bytes;
+use tool_lists::number::read_indices;
 use words::word::word_at;
 ghost use Prim.Native.Nat.{_≤_};
 ghost use lib.ListN.{length};

@@ -1,15 +1,15 @@
 // Weak points, call 3: from the words of its job to those of its answer.
-use super::list::nth_list;
-use super::list::put;
-use super::list::put_list;
-use super::number::read_bytes;
-use super::number::read_indices;
 use khsaemudol::khs_align_weak_points;
 use lines::limits::MOST_NUMBERS;
+use tool_lists::list::nth_list;
+use tool_lists::list::put;
+use tool_lists::list::put_list;
+use tool_lists::number::read_bytes;
+use tool_lists::number::read_indices;
 ghost use Prim.Native.Nat.{_≤_};
 ghost use lib.ListN.{length};
 ghost use Rattle.lines.specs.Limits.{mostNumbers};
-ghost use Rattle.jobs_points.specs.Limits.{longest};
+ghost use Rattle.tool_lists.specs.Limits.{longest};
 
 // Aligns the outline that four lists give.
 fn ask(originals: &[i32], currents: &mut [i32], marks: &[i32], ends: &[i32]) -> u8

@@ -1,9 +1,9 @@
 // The guard, call 127: from the words of its job to those of its answer.
 use axis::accept::least;
 use axis::limits::MOST_EDGES;
-use jobs_points::list::part;
-use jobs_points::list::put;
 use khsaemudol::khs_lost_gaps;
+use tool_lists::list::part;
+use tool_lists::list::put;
 use values::guard::ask_guard;
 use words::edge::EDGE_WORDS;
 use words::word::count_at;

@@ -1,6 +1,6 @@
 -- The length of an answer's text.
 use Prim.Native.Nat.{ℕ, _+_, _*_}
-use Rattle.jobs_points.specs.Limits.{longest}
+use Rattle.tool_lists.specs.Limits.{longest}
 
 -- bytes of the longest answer: eight digits a word, and a line feed
 abbrev pub mostText : ℕ

@@ -2,7 +2,6 @@
 mod spell;
 
 use jobs::answer::answer_both;
-use jobs_points::limits::LONGEST;
 use libc::STDIN_FILENO;
 use libc::STDOUT_FILENO;
 use lines::limits::MOST_WORDS;
@@ -11,6 +10,7 @@ use lines::line::feed;
 use lines::line::words_of;
 use spell::MOST_TEXT;
 use spell::spell;
+use tool_lists::limits::LONGEST;
 ghost use Prim.Native.Nat.{_≤_};
 ghost use lib.ListN.{length};
 ghost use Rattle.lines.specs.Limits.{mostWords};

@@ -1,6 +1,6 @@
 // An answer as a line of text.
-use jobs_points::limits::LONGEST;
 use middle::bits::bits_of;
+use tool_lists::limits::LONGEST;
 ghost use Prim.Native.Nat.{_≤_, _+_};
 ghost use lib.ListN.{length};
 ghost use Rattle.replay.specs.Limits.{mostText};

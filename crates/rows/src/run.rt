@@ -1,9 +1,9 @@
 // A row's job, answered and compared.
 use super::number::numbers;
 use jobs::answer::answer;
-use jobs_points::limits::LONGEST;
-use jobs_points::list::part;
 use libc::STDOUT_FILENO;
+use tool_lists::limits::LONGEST;
+use tool_lists::list::part;
 use words::word::word_at;
 
 // The words of the longest job and of the longest answer that a row has.

@@ -3,7 +3,7 @@ use borrow.Author.Needs.{needs}
 use mathlib.Core.Path.{_≡_}
 use lib.ListN.{length}
 use Rattle.lines.specs.Limits.{mostWords}
-use Rattle.jobs_points.specs.Limits.{longest}
+use Rattle.tool_lists.specs.Limits.{longest}
 use Rattle.replay.specs.Limits.{mostText}
 use Rattle.replay.proofs.main.Statement.{statement}
 use Rattle.replay.proofs.main.Tie as tie

@@ -3,7 +3,7 @@ use native.Mathlib.Omega.{arith}
 use mathlib.Core.Path.{_≡_}
 use Prim.Native.Nat.{_≤_, _-_}
 use lib.ListN.{length, length-set}
-use Rattle.jobs_points.specs.Limits.{longest}
+use Rattle.tool_lists.specs.Limits.{longest}
 use Rattle.replay.proofs.spell.spell.Statement.{statement}
 use Rattle.replay.proofs.spell.spell.Tie as tie
 

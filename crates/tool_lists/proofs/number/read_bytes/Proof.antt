@@ -1,10 +1,10 @@
--- `jobs_points::number::read_bytes` is safe: every store keeps the length. Assumes nothing.
+-- `tool_lists::number::read_bytes` is safe: every store keeps the length. Assumes nothing.
 use borrow.Author.Needs.{needs}
 use Prim.Native.Nat.{_≤_, _-_}
 use lib.ListN.{length}
 use mathlib.Core.Path.{_≡_}
-use Rattle.jobs_points.proofs.number.read_bytes.Statement.{statement}
-use Rattle.jobs_points.proofs.number.read_bytes.Tie as tie
+use Rattle.tool_lists.proofs.number.read_bytes.Statement.{statement}
+use Rattle.tool_lists.proofs.number.read_bytes.Tie as tie
 
 abbrev Inv-loop : tie.InvT-loop
 Inv-loop numbers bytes₀ i₀ bytes i = (i ≤ length numbers) × (length bytes ≡ length bytes₀)

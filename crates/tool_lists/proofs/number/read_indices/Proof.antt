@@ -1,10 +1,10 @@
--- `jobs_points::number::read_indices` is safe: every store keeps the length. Assumes nothing.
+-- `tool_lists::number::read_indices` is safe: every store keeps the length. Assumes nothing.
 use borrow.Author.Needs.{needs}
 use Prim.Native.Nat.{_≤_, _-_}
 use lib.ListN.{length}
 use mathlib.Core.Path.{_≡_}
-use Rattle.jobs_points.proofs.number.read_indices.Statement.{statement}
-use Rattle.jobs_points.proofs.number.read_indices.Tie as tie
+use Rattle.tool_lists.proofs.number.read_indices.Statement.{statement}
+use Rattle.tool_lists.proofs.number.read_indices.Tie as tie
 
 abbrev Inv-loop : tie.InvT-loop
 Inv-loop numbers indices₀ i₀ indices i = (i ≤ length numbers) × (length indices ≡ length indices₀)

@@ -1,9 +1,9 @@
--- `jobs_points::list::nth_list` is safe: each list has at most so many numbers. Assumes nothing.
+-- `tool_lists::list::nth_list` is safe: each list has at most so many numbers. Assumes nothing.
 use borrow.Author.Needs.{needs}
 use Prim.Native.Nat.{_+_, _*_, _-_, _≤_}
 use Rattle.lines.specs.Limits.{mostNumbers}
-use Rattle.jobs_points.proofs.list.nth_list.Statement.{statement}
-use Rattle.jobs_points.proofs.list.nth_list.Tie as tie
+use Rattle.tool_lists.proofs.list.nth_list.Statement.{statement}
+use Rattle.tool_lists.proofs.list.nth_list.Tie as tie
 
 abbrev Inv-loop : tie.InvT-loop
 Inv-loop words k at₀ i₀ at i = (i ≤ k) × (at ≤ 1 + (1 + mostNumbers) * i)
