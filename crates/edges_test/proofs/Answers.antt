@@ -8,33 +8,18 @@ use borrow.Author.Tests.{eqb-true, eq-eqb}
 use lib.Dec.{eqb, leb}
 use lib.ListN.{length}
 use lib.IntN.{ℤ}
-use Rattle.refusals.specs.Refusal.{Test, _unless_, badIndex, outOfRange, refusal, answered}
+use Rattle.refusals.specs.Refusal.{_unless_, badIndex, outOfRange, refusal}
 use Rattle.refusals.proofs.Tests.{and-first, and-second, no-refusal}
 use Rattle.axis.specs.declared.edge.Axis.{Axis}
 use Rattle.axis.specs.Limits.{mostEdges}
 use Rattle.axis.specs.Refusals.{edgesIndices, edgesNumbers}
 use Rattle.words.specs.Edge.{edgeSize}
 use Rattle.lent.specs.Lent.{refusedOr, edgesFront, edgesOf}
+use Rattle.lent.proofs.Holding.{and-both}
+use Rattle.lent.proofs.Lents.{passed-first}
 use Rattle.lent.proofs.Whole.{edges-long}
 use Rattle.edges_in.proofs.Wholes.{edges-len}
 use Rattle.edges_test.specs.Held.{Held, tested}
-
--- ---- in front of the tests
-pub refused-first : (ts : List Test) (a : ℕ) {k : ℕ} → k ≡ refusal ts → 0 < k → k ≡ refusedOr ts a
-unfolding refusedOr
-refused-first ts a {k} e h = by (refusal ts) e
-  where
-    by : (j : ℕ) → k ≡ j → k ≡ answered j (λ (i : ℕ). i) a
-    by zero q = absurd (omega arith)
-    by (suc j) q = q
-
-pub passed-first : (ts : List Test) {a b k : ℕ} → k ≡ refusal ts → k ≤ 0 → b ≡ a → b ≡ refusedOr ts a
-unfolding refusedOr
-passed-first ts {a} {b} {k} e h q = by (refusal ts) e
-  where
-    by : (j : ℕ) → k ≡ j → b ≡ answered j (λ (i : ℕ). i) a
-    by zero z = q
-    by (suc j) z = absurd (omega arith)
 
 -- ---- the tests
 module _ (axis : Axis) (own : ℕ) (named passed : Bool) where
@@ -75,9 +60,6 @@ module _ (axis : Axis) (own : ℕ) (named passed : Bool) where
     tested-none f = sym (ap (λ (t : Bool). cond t 0 outOfRange) f) ∙ indexed
 
 -- ---- by the one loop
-and-both : {x y : Bool} → x ≡ true → y ≡ true → (x && y) ≡ true
-and-both p q = rw (p, q)
-
 module _ (ws : List ℤ) (others : Bool) (own : ℕ) (named passed : Bool) where
   pub held-tested : Held ws → (rest : Bool) → rest ≡ ((others && eqb own 0) && (named && passed)) → rest ≡ true → 0 ≡ refusedOr (edgesFront ws others) (tested (edgesOf ws) own named passed)
   unfolding edgesFront
@@ -87,9 +69,9 @@ module _ (ws : List ℤ) (others : Bool) (own : ℕ) (named passed : Bool) where
       let z = eqb-true own 0 (and-second others _ a) in
       let l = edges-long ws (h .shown) in
       passed-first (edgesFront ws others)
-      (sym (no-refusal (edgesFront ws others) (whole, (ap (λ (k : ℕ). leb k mostEdges) (sym (edges-len ws)) ∙ h .short, (and-both (h .shown) (and-first others _ a), refl)))))
+      (sym (no-refusal (edgesFront ws others) (whole, (ap (λ (k : ℕ). leb k mostEdges) (sym (edges-len ws)) ∙ h .short, (and-both _ _ (h .shown) (and-first others _ a), refl)))))
       (omega arith)
-      (tested-none (edgesOf ws) own named passed (omega (arith, z)) (and-both (h .indexed) (and-first named _ b)) (and-both (h .in-range) (and-second named _ b)))
+      (tested-none (edgesOf ws) own named passed (omega (arith, z)) (and-both _ _ (h .indexed) (and-first named _ b)) (and-both _ _ (h .in-range) (and-second named _ b)))
     where
       whole : eqb (length ws % edgeSize) 0 ≡ true
       whole = eq-eqb (length ws % edgeSize) 0 (let l = edges-long ws (h .shown) in omega (arith, l))

@@ -2,7 +2,7 @@
 use mathlib.Core.Path.{_≡_, refl, sym, ap, _∙_}
 use mathlib.Core.Bool.{Bool, true, false, cond}
 use mathlib.Core.List.{List, []}
-use Prim.Native.Nat.{ℕ, zero, suc, _<_}
+use Prim.Native.Nat.{ℕ, zero, suc, _≤_, _<_}
 use native.Mathlib.Omega.{arith}
 use borrow.Author.Tests.{ne-eqb}
 use lib.Dec.{eqb}
@@ -29,6 +29,23 @@ module _ (whole short shown : Bool) where
   pub all-shown : whole ≡ true → short ≡ true → shown ≡ true → 0 ≡ refusal (front whole short shown)
   unfolding refusal
   all-shown e f g = rw (e, f, g)
+
+-- they refuse, and what is behind them is not asked; they do not, and it is
+pub refused-first : (ts : List Test) (a : ℕ) {k : ℕ} → k ≡ refusal ts → 0 < k → k ≡ refusedOr ts a
+unfolding refusedOr
+refused-first ts a {k} e h = by (refusal ts) e
+  where
+    by : (j : ℕ) → k ≡ j → k ≡ answered j (λ (i : ℕ). i) a
+    by zero q = absurd (omega arith)
+    by (suc j) q = q
+
+pub passed-first : (ts : List Test) {a b k : ℕ} → k ≡ refusal ts → k ≤ 0 → b ≡ a → b ≡ refusedOr ts a
+unfolding refusedOr
+passed-first ts {a} {b} {k} e h q = by (refusal ts) e
+  where
+    by : (j : ℕ) → k ≡ j → b ≡ answered j (λ (i : ℕ). i) a
+    by zero z = q
+    by (suc j) z = absurd (omega arith)
 
 -- ---- a part of what is lent, behind the tests
 -- no test is left

@@ -1,6 +1,7 @@
 -- Laws on lent words.
 pub mod Lents
 pub mod Determined
+pub mod Holding
 pub mod Naming
 pub mod Counting
 pub mod Whole

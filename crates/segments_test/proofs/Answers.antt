@@ -15,9 +15,9 @@ use Rattle.axis.specs.Limits.{mostSegments}
 use Rattle.axis.specs.Refusals.{segmentsIndices, segmentsNumbers}
 use Rattle.words.specs.Segment.{segmentSize, flatSegments}
 use Rattle.lent.specs.Lent.{refusedOr, segmentsFront}
+use Rattle.lent.proofs.Holding.{and-both}
+use Rattle.lent.proofs.Lents.{passed-first}
 use Rattle.lent.proofs.Whole.{segments-long}
-use Rattle.edges_test.proofs.Answers.{passed-first}
-use Rattle.edges_test.proofs.Holding.{and-both}
 use Rattle.segments_in.proofs.Wholes.{segments-len}
 use Rattle.segments_test.specs.Held.{nextsHold, Held, tested}
 

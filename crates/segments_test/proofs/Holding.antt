@@ -21,7 +21,7 @@ use Rattle.shape.specs.declared.element.Record.the-variants as Records
 use Rattle.shape.specs.declared.element.Element.the-variants as Elements
 use Rattle.shape.specs.Shape as Shape
 use Rattle.edges_test.specs.Held.{linksTo}
-use Rattle.edges_test.proofs.Holding.{and-both, inside-more, link-word, link-holds, fields-make, elements-make}
+use Rattle.lent.proofs.Holding.{and-both, inside-more, link-word, link-holds, fields-make, elements-make}
 use Rattle.segments_in.proofs.Wholes.{segments-len}
 use Rattle.segments_test.specs.Held.{linksWhere, FrontHeld, BackHeld, nextsHold, Held}
 use Rattle.segments_test.proofs.Refusals.{segment-held}

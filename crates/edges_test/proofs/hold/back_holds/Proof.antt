@@ -1,7 +1,8 @@
 -- `edges_test::hold::back_holds` meets its contract. Assumes nothing.
 use borrow.Author.Tests.{not-false}
 use mathlib.Core.Path.{sym, _∙_}
-use Rattle.edges_test.proofs.Holding.{clash, zone-at}
+use Rattle.lent.proofs.Holding.{clash}
+use Rattle.edges_test.proofs.Holding.{zone-at}
 use borrow.Author.Needs.{needs}
 use Rattle.edges_test.proofs.hold.back_holds.Statement.{statement}
 use Rattle.edges_test.proofs.hold.back_holds.Tie as tie

@@ -4,7 +4,8 @@ use mathlib.Core.Path.{_≡_, refl}
 use Prim.Native.Nat.{_-_}
 use native.Mathlib.Omega.{arith}
 use Rattle.edges_test.specs.Held.{linksTo}
-use Rattle.edges_test.proofs.Holding.{clash, Passed, passed-none, passed-more, passed-all}
+use Rattle.lent.proofs.Holding.{clash}
+use Rattle.edges_test.proofs.Holding.{Passed, passed-none, passed-more, passed-all}
 use Rattle.edges_test.proofs.hold.edges_hold.Statement.{statement}
 use Rattle.edges_test.proofs.hold.edges_hold.Tie as tie
 

@@ -5,7 +5,8 @@ use borrow.Author.Tests.{not-true, not-false}
 use Rattle.axis.specs.Refusals.{edgesIndices, edgesNumbers}
 use Prim.Native.Nat.{ℕ}
 use Rattle.lent.specs.Lent.{refusedOr, edgesFront, edgesOf}
-use Rattle.edges_test.proofs.Answers.{refused-first, passed-first, tested-own, tested-index, tested-range, tested-none}
+use Rattle.lent.proofs.Lents.{refused-first, passed-first}
+use Rattle.edges_test.proofs.Answers.{tested-own, tested-index, tested-range, tested-none}
 use borrow.Author.Needs.{needs}
 use Rattle.edges_test.proofs.test.exact_refusal.Statement.{statement}
 use Rattle.edges_test.proofs.test.exact_refusal.Tie as tie

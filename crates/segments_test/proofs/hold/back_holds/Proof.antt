@@ -1,7 +1,7 @@
 -- `segments_test::hold::back_holds` meets its contract. Assumes nothing.
 use borrow.Author.Tests.{not-false}
 use mathlib.Core.Path.{sym, _∙_}
-use Rattle.edges_test.proofs.Holding.{clash}
+use Rattle.lent.proofs.Holding.{clash}
 use borrow.Author.Needs.{needs}
 use Rattle.segments_test.proofs.hold.back_holds.Statement.{statement}
 use Rattle.segments_test.proofs.hold.back_holds.Tie as tie

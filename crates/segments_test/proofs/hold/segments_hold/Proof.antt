@@ -3,7 +3,7 @@ use borrow.Author.Tests.{not-false}
 use mathlib.Core.Path.{_≡_, refl}
 use Prim.Native.Nat.{_-_}
 use native.Mathlib.Omega.{arith}
-use Rattle.edges_test.proofs.Holding.{clash}
+use Rattle.lent.proofs.Holding.{clash}
 use Rattle.edges_test.specs.Held.{linksTo}
 use Rattle.segments_test.specs.Held.{linksWhere}
 use Rattle.segments_test.proofs.Holding.{Passed, passed-none, passed-more, passed-all}

@@ -6,7 +6,7 @@ use borrow.Author.Tests.{not-true, not-false}
 use Rattle.axis.specs.Refusals.{segmentsNumbers}
 use Rattle.words.specs.Segment.{flatSegments}
 use Rattle.lent.specs.Lent.{refusedOr, segmentsFront}
-use Rattle.edges_test.proofs.Answers.{refused-first, passed-first}
+use Rattle.lent.proofs.Lents.{refused-first, passed-first}
 use Rattle.segments_test.proofs.Answers.{tested-own, tested-index, tested-range, tested-none}
 use borrow.Author.Needs.{needs}
 use Rattle.segments_test.proofs.test.exact_refusal.Statement.{statement}
