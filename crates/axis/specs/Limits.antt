@@ -9,9 +9,9 @@ mostSegments = 512
 abbrev pub mostEdges : ℕ
 mostEdges = 128
 
--- `opos` and a blue's `fitted`: -16,383 to 16,383 units
+-- `opos` and a blue's `fitted`, and building's product: -65,535 to 65,535 units
 abbrev pub mostUnits : ℕ
-mostUnits = 16383
+mostUnits = 65535
 
 -- the delta passed to the CJK stem: -16,383 to 16,383 units
 abbrev pub mostPassed : ℕ

@@ -6,10 +6,10 @@ pub const MOST_SEGMENTS: usize = 512;
 // Edges of an axis.
 pub const MOST_EDGES: usize = 128;
 
-// `opos` and a blue's `fitted`, in units.
-pub const LEAST_UNITS: i32 = -16383;
+// `opos`, a blue's `fitted` and building's product, in units.
+pub const LEAST_UNITS: i32 = -65535;
 
-pub const MOST_UNITS: i32 = 16383;
+pub const MOST_UNITS: i32 = 65535;
 
 // The delta passed to the CJK stem, in units.
 pub const LEAST_PASSED: i32 = -16383;

@@ -76,7 +76,7 @@ module _ (axis : Axis) (group : Group) (rule : WidthRule) (xs : List ℤ) where
     given : AxisWithin mostPos axis
     given = let t = all-hold (bluesTests axis rule xs) refl unrefused in edges-within axis (record { short = t .0; indexed = t .1 .1 .0; in-range = t .1 .1 .1 .0 })
 
-    -- with answer 0 the position of every edge is what it was, or at most 49,165 from 0
+    -- with answer 0 the position of every edge is what it was, or at most 196,621 from 0
     pub landed : AllLanded axis (alignEdgesToBlues axis group rule xs .axis)
     landed = rw (outcome unrefused) (worked-landed given)
 

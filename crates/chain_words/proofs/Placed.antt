@@ -20,7 +20,7 @@ use Rattle.axis.specs.declared.kinds.Link.the-variants as Links
 use Rattle.axis.specs.declared.edge.Axis.{Axis}
 use Rattle.axis.specs.Accepted.{Below, AxisWithin}
 use Rattle.axis.specs.Edge.{edgeAt, putEdge}
-use Rattle.axis.specs.Limits.{mostPos, mostUnits}
+use Rattle.axis.specs.Limits.{mostPos, mostPassed}
 use Rattle.axis.proofs.Acceptance.{within-between, axis-within}
 use Rattle.placing.specs.declared.adjust.LinkDir.{LinkDir}
 use Rattle.placing.specs.Placing.{linkedPos, linkedEdge, serifPos, serifEdge, isFar, hasPassed, neighbour, heldTo, boundBy, adjusted}
@@ -187,7 +187,7 @@ module _ (axis : Axis) (adjust : Bool) (rule : WidthRule) (xs : List ℤ) (i j :
       let w = axis-within axis (t .0) (t .1 .1 .0) (t .1 .1 .1 .1 .0) in
       let a : InReach (edgeAt axis i) = in-reach mostPos i axis (omega arith) w first-named in
       let b : InReach (edgeAt axis j) = in-reach mostPos j axis (omega arith) w second-named in
-      let p = stem-pos-range (axis .dim) adjust rule xs (edgeAt axis i) (edgeAt axis j) d a b (within-between mostUnits d (t .1 .1 .1 .1 .1 .0)) in
+      let p = stem-pos-range (axis .dim) adjust rule xs (edgeAt axis i) (edgeAt axis j) d a b (within-between mostPassed d (t .1 .1 .1 .1 .1 .0)) in
       let z = stem-width-range (axis .dim) adjust rule xs (edgeAt axis i) (edgeAt axis j) d a b in
       subst (λ (r : StemCjk). AxisWithin mostReach (r .axis)) (sym (worked (hinted axis (pos 0)) stemWork (refusal (stemTests axis rule xs i j d)) cjk-none))
       (hinted-within axis (within-more mostPos mostReach axis (omega arith) w) i j stem first-named second-named (omega (arith, p)) (omega (arith, p, z, add-law (stem .pos) (stem .width))))

@@ -93,7 +93,7 @@ delta-range adjust p w t l = clamp-range adjust _ (offsets-range (pixelOffset p)
 
 -- what the start of a stem can be before it is moved: a position, a passed delta and half a width
 abbrev pub mostUnmoved : ℕ
-mostUnmoved = 49157
+mostUnmoved = 147461
 
 pub start-range : (o1 o2 w d : ℤ) → Between mostUnits mostUnits o1 → Between mostUnits mostUnits o2 → Between mostWidth mostWidth w → Between mostPassed mostPassed d
     → Between mostUnmoved mostUnmoved (startOf o1 o2 w d)
@@ -132,7 +132,10 @@ pub stem-delta-range : (dim : Dimension) (adjust : Bool) (rule : WidthRule) (xs 
 unfolding stemOf stemAt
 stem-delta-range dim adjust rule xs e e2 d = delta-range adjust _ _ _ (threshold-range adjust dim (bothRound e e2))
 
--- a stem's numbers are read back from their bits
+-- a stem's numbers, and the delta passed to it, are read back from their bits
+pub passed-read : (z : ℤ) → Between mostPassed mostPassed z → toZ w32 (ofZ w32 z) ≡ z
+passed-read z h = is (fits-in w32 h tt tt)
+
 pub start-read : (z : ℤ) → Between mostCjkStart mostCjkStart z → toZ w32 (ofZ w32 z) ≡ z
 start-read z h = is (fits-in w32 h tt tt)
 

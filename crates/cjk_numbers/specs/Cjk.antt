@@ -75,7 +75,7 @@ offsetsDelta d1 d2 w t =
 -- ---- where the stem comes to lie
 -- what the start of a stem can be, before and after it is moved
 abbrev pub mostCjkStart : ℕ
-mostCjkStart = 65536
+mostCjkStart = 147589
 
 -- both edges are round
 abbrev pub bothRound : Edge → Edge → Bool

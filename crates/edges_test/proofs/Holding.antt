@@ -48,7 +48,7 @@ zone-word p v h = by (choiceOf p) h
     zero-word v h = let e : v ≡ pos 0 = eqZ-true v (pos 0) h in rw e
 
     by : (t : Bool) → cond t (within mostUnits v) (eqZ v (pos 0)) ≡ true → Shape.isIn Shape.word v ≡ true
-    by true h = inside-more (negsuc 16382) (pos 16383) (negsuc 2147483647) (pos 2147483647) v refl refl h
+    by true h = inside-more (negsuc 65534) (pos 65535) (negsuc 2147483647) (pos 2147483647) v refl refl h
     by false h = zero-word v h
 
 zone-holds : (p v : ℤ) → zoneTest p v ≡ true → blueHolds (blueOf p v) ≡ true
@@ -77,7 +77,7 @@ zone-none p v t r e g q = q ∙ ap (λ (x : Bool). cond x (within mostUnits v) (
 module _ (ws : List ℤ) (at n : ℕ) (few : n ≤ mostEdges) (room : at + edgeSize ≤ length ws) (f : FrontHeld ws at) (b : BackHeld ws at (linksTo n)) where
   words-hold : (k : ℕ) → k < edgeSize → Shape.isIn (getD (Shape.rangesOf Records.Edge) k Shape.noRange) (wordAt ws (at + k)) ≡ true
   words-hold zero h = let q : at + 0 ≡ at = omega arith in rw q (f .w0)
-  words-hold (suc zero) h = inside-more (negsuc 16382) (pos 16383) (negsuc 2147483647) (pos 2147483647) (wordAt ws (at + 1)) refl refl (f .w1)
+  words-hold (suc zero) h = inside-more (negsuc 65534) (pos 65535) (negsuc 2147483647) (pos 2147483647) (wordAt ws (at + 1)) refl refl (f .w1)
   words-hold (suc (suc zero)) h = inside-more (negsuc 16777215) (pos 16777216) (negsuc 2147483647) (pos 2147483647) (wordAt ws (at + 2)) refl refl (f .w2)
   words-hold (suc (suc (suc zero))) h = f .w3
   words-hold (suc (suc (suc (suc zero)))) h = b .w4

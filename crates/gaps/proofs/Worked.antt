@@ -190,12 +190,12 @@ whole = refl
 abbrev answer : ℕ → List Edge → ℕ
 answer least es = refusal (gapsTests (axisOf es) (pos least))
 
-taken : answer 16383 (set 0 10 ∷ set 20 5 ∷ []) ≡ 0
+taken : answer 65535 (set 0 10 ∷ set 20 5 ∷ []) ≡ 0
 unfolding refusal linkHolds blueHolds every edgeIndices edgeNumbers edgesIndices edgesNumbers
 taken = refl
 
 -- a width that is no width of units, a link beyond the edges, a position beyond its limit, and all of them
-too-wide : answer 16384 (set 0 10 ∷ set 20 5 ∷ []) ≡ 2
+too-wide : answer 65536 (set 0 10 ∷ set 20 5 ∷ []) ≡ 2
 unfolding refusal
 too-wide = refl
 
@@ -203,10 +203,10 @@ beyond : answer 0 (set 0 10 ∷ linkedTo 2 (set 20 5) ∷ []) ≡ 3
 unfolding refusal linkHolds every edgeIndices edgesIndices
 beyond = refl
 
-far : answer 0 (set 0 10 ∷ set 16384 5 ∷ []) ≡ 4
+far : answer 0 (set 0 10 ∷ set 65536 5 ∷ []) ≡ 4
 unfolding refusal linkHolds blueHolds every edgeIndices edgeNumbers edgesIndices edgesNumbers
 far = refl
 
-in-order : answer 16384 (set 0 10 ∷ linkedTo 2 (set 16384 5) ∷ []) ≡ 2
+in-order : answer 65536 (set 0 10 ∷ linkedTo 2 (set 65536 5) ∷ []) ≡ 2
 unfolding refusal
 in-order = refl

@@ -72,7 +72,7 @@ worked =
     ∷ same Default (replicate mostEdges emptyEdge) 2
     ∷ same Default (replicate 129 emptyEdge) 1
     ∷ same Default (six (To 6) (far 207)) 3
-    ∷ same Default (six None (far 16384)) 4
+    ∷ same Default (six None (far 65536)) 4
     -- a move by nothing marks the stem; the serifs are marked, and are not done
     ∷ row Default (six None (by Stem (edge 207 256 None))) 0 (six None (moved 207 256))
     ∷ row Default (twelve (far 207) (by Blue (edge 190 260 None)) (edge 230 300 None)) 0 (twelve (moved 207 256) (by LowercaseM (edge 190 246 None)) (by LowercaseM (edge 230 286 None)))

@@ -13,9 +13,9 @@ mostLength = mostUnits + mostUnits
 abbrev pub mostWidth : ℕ
 mostWidth = mostLength + mostAway
 
--- what an edge's position can come to while a pass places edges, twice document 01's limit: each of at most 128 visits adds at most 65,580
+-- what an edge's position can come to while a pass places edges, four times document 01's limit: each of at most 128 visits adds at most 262,188
 abbrev pub mostReach : ℕ
-mostReach = 33554432
+mostReach = 67108864
 
 -- an edge at an accepted original position, and within that reach
 pub record InReach (e : Edge) : Type 0 where

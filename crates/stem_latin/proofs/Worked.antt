@@ -65,8 +65,8 @@ rows =
     (anchoredFirst (pos 20) (pos 120) (pos 101) is pos 27) ∷
     (anchoredSecond (pos 20) (pos 120) (pos 101) is pos 128) ∷
     -- the limits
-    (anchoredFirst (pos mostStart) (pos mostLength) (pos mostWidth) is pos 33999986) ∷
-    (anchoredSecond (pos mostStart) (pos mostLength) (pos mostWidth) is pos 34032768) ∷
+    (anchoredFirst (pos mostStart) (pos mostLength) (pos mostWidth) is pos 67999986) ∷
+    (anchoredSecond (pos mostStart) (pos mostLength) (pos mostWidth) is pos 68131072) ∷
     -- without an anchor: a tie, an odd width, width 95 and 96, a negative one at its limit
     (freeFirst (pos 87) (pos 70) (pos 70) is pos 119) ∷
     (freeFirst (pos 100) (pos 61) (pos 61) is pos 130) ∷

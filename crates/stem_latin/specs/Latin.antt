@@ -12,7 +12,7 @@ pub use Rattle.placing.specs.Steps.{mostLength, mostWidth}
 -- ---- what the numbers of a stem can be
 -- the start that an anchor's shift gives it: an anchor within reach, and the distance of two original positions
 abbrev pub mostStart : ℕ
-mostStart = 34000000
+mostStart = 68000000
 
 -- its centre, at most half a length from the start
 abbrev pub mostCentre : ℕ

@@ -101,6 +101,6 @@ unfolding refusal linkHolds every edgeIndices edgesIndices segmentIndices segmen
 first-beyond = refl
 
 -- a position beyond its limit
-far : answer (edge 16384 0 None None ∷ edge 2 1 None None ∷ []) both ≡ 4
+far : answer (edge 65536 0 None None ∷ edge 2 1 None None ∷ []) both ≡ 4
 unfolding refusal linkHolds blueHolds every edgeIndices edgeNumbers edgesIndices edgesNumbers segmentIndices segmentNext segmentNumbers segmentsIndices segmentsNexts segmentsNumbers segmentEdge edgeSegments segmentsEdges edgesSegments
 far = refl

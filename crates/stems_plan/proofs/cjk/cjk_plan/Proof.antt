@@ -3,10 +3,10 @@ use mathlib.Core.Path.{_≡_}
 use lib.IntN.{ℤ}
 use mir.Syntax.{w32}
 use Rattle.signed.proofs.Signed.{is, got}
-use Rattle.placing.proofs.Reach.{units-read, reach-read}
+use Rattle.placing.proofs.Reach.{reach-read}
 use Rattle.cjk_numbers.specs.declared.stem.Stem.{Stem}
 use Rattle.cjk_numbers.specs.Cjk.{stemOf}
-use Rattle.cjk_numbers.proofs.Moves.{stem-pos-range, stem-width-range, stem-delta-range, move-read}
+use Rattle.cjk_numbers.proofs.Moves.{stem-pos-range, stem-width-range, stem-delta-range, passed-read, move-read}
 use Rattle.stems_plan.specs.Visit.{deltaAfter}
 use Rattle.stems_plan.specs.Plan.{cjkPlan}
 use borrow.Author.Needs.{needs}
@@ -21,7 +21,7 @@ unfolding cjkPlan
 returns c =
     let t = c .before .before .before in
     let s = t .before in
-    rw (t .if1 .taken) (rw (reach-read _ (s .pre .1 .0 .pos), units-read _ (s .pre .1 .2)) at (c .linked-plan .ensures))
+    rw (t .if1 .taken) (rw (reach-read _ (s .pre .1 .0 .pos), passed-read _ (s .pre .1 .2)) at (c .linked-plan .ensures))
 
 stem-of-requires : tie.Need-stem-of-requires
 stem-of-requires c κs = search needs
@@ -36,7 +36,7 @@ stemHere s = let m = s .args .mode in stemOf (m .dim) (m .«stem_adjust») (m .r
 
 -- the stem
 stem-is : (c : tie.After-stem-of) → c .stem-of .result ≡ stemHere (start c)
-stem-is c = rw (units-read _ (start c .pre .1 .2)) at (c .stem-of .ensures)
+stem-is c = rw (passed-read _ (start c .pre .1 .2)) at (c .stem-of .ensures)
 
 delta-after-requires : tie.Need-delta-after-requires
 delta-after-requires c κs = search needs
@@ -50,7 +50,7 @@ delta-is c =
     let m = c .before .before .before in
     let a = start m .args in
     let move = stem-delta-range (a .mode .dim) (a .mode .«stem_adjust») (a .mode .rule) (a .standards .now) (a .edge) (a .edge2) (a .trail .delta) in
-    rw (stem-is m, units-read _ (start m .pre .1 .2), move-read _ move) at (c .delta-after .ensures)
+    rw (stem-is m, passed-read _ (start m .pre .1 .2), move-read _ move) at (c .delta-after .ensures)
 
 stem-plan-requires : tie.Need-stem-plan-requires
 stem-plan-requires c κs =
