@@ -6,3 +6,5 @@ pub mod Searches
 pub mod References
 pub mod Points
 pub mod Stretch
+pub mod Steepness
+pub mod Worked

@@ -1,12 +1,13 @@
 -- What a point of a contour comes to, by its references.
 use mathlib.Core.Path.{_≡_, refl}
+use mathlib.Core.Bool.{false}
 use mathlib.Core.List.{List}
 use mathlib.Core.Option.{some, none}
 use Prim.Native.Nat.{ℕ, _<_}
 use borrow.Author.Tests.{eq-eqb, ne-eqb}
 use lib.ListN.{getD}
 use lib.IntN.{ℤ}
-use Rattle.contours.specs.Contour.{at, Contour, refs, references, betweenAt, shiftedAt, followed, weakAt}
+use Rattle.contours.specs.Contour.{at, Contour, refs, references, betweenAt, shiftedAt, followed, weakAt, steepBy, steepFollowed, steepAt}
 use Rattle.contours.proofs.Searches.{is-touched, not-touched}
 
 module _ (o c : List ℤ) (t : List ℕ) (k : Contour) (i : ℕ) where
@@ -29,3 +30,8 @@ module _ (o c : List ℤ) (t : List ℕ) (k : Contour) (i : ℕ) where
   pub weak-none : getD t i 0 ≡ 0 → references t k i ≡ none → weakAt o c t k i ≡ at c i
   unfolding weakAt followed
   weak-none z e = rw (not-touched t i z, e)
+
+  -- an untouched point by two references is too steep where it is by these
+  pub steep-two : (p q : ℕ) → getD t i 0 ≡ 0 → references t k i ≡ some (refs p q) → steepAt o c t k i ≡ false → steepBy o c (refs p q) i ≡ false
+  unfolding steepAt steepFollowed
+  steep-two p q z e h = rw (not-touched t i z, e) at h

@@ -5,14 +5,15 @@ use mathlib.Core.List.{List}
 use mathlib.Core.Logic.{⊎-elim}
 use Prim.Native.Nat.{ℕ, _+_, _≤_, _<_}
 use native.Mathlib.Omega.{arith}
-use lib.IntN.{ℤ, pos, _+ℤ_, _-ℤ_}
+use lib.IntN.{ℤ, pos, natAbs, _+ℤ_, _-ℤ_}
 use lib.Signed.{ltZ, _≤ℤ_}
 use Rattle.signed.specs.Parts.{up, dn}
-use Rattle.signed.proofs.Signed.{sub-law, one-zero, to-le-true, to-le-false, to-≡, lt-or-le, same, signed, eqZ-yes, eqZ-no, eqZ-true, eqZ-apart}
+use Rattle.signed.proofs.Signed.{natAbs-is, sub-law, one-zero, to-lt-true, to-le-true, to-le-false, to-≡, lt-or-le, same, signed, eqZ-yes, eqZ-no, eqZ-true, eqZ-apart}
 use Rattle.fixed.specs.Point.{mulFix, divFix}
-use Rattle.fixed.proofs.Interpolation.{Interpolation, interpolation}
+use Rattle.fixed.specs.Divide.{tooSteep}
+use Rattle.fixed.proofs.Interpolation.{AlongLine, along-line, Fitting, fitting}
 use Rattle.signed.specs.Equality.{eqZ}
-use Rattle.contours.specs.Contour.{at, refs, firstOf, secondOf, interpolated, betweenAt}
+use Rattle.contours.specs.Contour.{at, refs, firstOf, secondOf, interpolated, betweenAt, steepBetween, steepBy}
 use Rattle.contours.specs.Steps.{slope, Ordered, spanOf, SpanHolds, spannedAt}
 
 -- ---- the scale
@@ -27,10 +28,15 @@ module _ (v1 u1 v2 u2 : ℤ) where
   unfolding slope
   slope-upright n e = rw (eqZ-no u1 u2 n, eqZ-yes v1 v2 e)
 
-  -- otherwise
-  pub slope-is : (u1 ≡ u2 → ⊥) → (v1 ≡ v2 → ⊥) → slope v1 u1 v2 u2 ≡ divFix (u2 -ℤ u1) (v2 -ℤ v1)
+  -- too steep
+  pub slope-steep : (u1 ≡ u2 → ⊥) → (v1 ≡ v2 → ⊥) → tooSteep (u2 -ℤ u1) (v2 -ℤ v1) ≡ true → slope v1 u1 v2 u2 ≡ pos 0
   unfolding slope
-  slope-is n m = rw (eqZ-no u1 u2 n, eqZ-no v1 v2 m)
+  slope-steep n m e = rw (eqZ-no u1 u2 n, eqZ-no v1 v2 m, e)
+
+  -- otherwise
+  pub slope-is : (u1 ≡ u2 → ⊥) → (v1 ≡ v2 → ⊥) → tooSteep (u2 -ℤ u1) (v2 -ℤ v1) ≡ false → slope v1 u1 v2 u2 ≡ divFix (u2 -ℤ u1) (v2 -ℤ v1)
+  unfolding slope
+  slope-is n m e = rw (eqZ-no u1 u2 n, eqZ-no v1 v2 m, e)
 
   -- references in their order whose originals differ are a span apart
   pub apart : v1 ≤ℤ v2 → (v1 ≡ v2 → ⊥) → up v1 + dn v2 < up v2 + dn v1
@@ -60,10 +66,20 @@ module _ (v v1 u1 v2 u2 : ℤ) where
     interpolated-between n = rw (to-le-false v v1 low, to-le-false v2 v high, eqZ-no u1 u2 n)
 
     -- what the arithmetic owes there, also where the currents are equal
-    pub between-law : Ordered v1 u1 v2 u2 → Interpolation (v -ℤ v1) (u2 -ℤ u1) (v2 -ℤ v1)
-    between-law h =
-        interpolation (v -ℤ v1) (u2 -ℤ u1) (v2 -ℤ v1) (omega (arith, sub-law v v1)) (omega (arith, sub-law v v1, sub-law v2 v1)) (omega (arith, sub-law v2 v1))
-        (omega (arith, sub-law u2 u1))
+    pub along-law : Ordered v1 u1 v2 u2 → AlongLine (v -ℤ v1) (u2 -ℤ u1) (v2 -ℤ v1) (mulFix (v -ℤ v1) (divFix (u2 -ℤ u1) (v2 -ℤ v1)))
+    along-law h =
+        along-line (v -ℤ v1) (u2 -ℤ u1) (v2 -ℤ v1) (omega (arith, sub-law v v1)) (omega (arith, sub-law v v1, sub-law v2 v1)) (omega (arith, sub-law v2 v1, h .original1, h .original2))
+
+    -- and that it fits, where it is not too steep
+    pub fitting-law : Ordered v1 u1 v2 u2 → tooSteep (u2 -ℤ u1) (v2 -ℤ v1) ≡ false → Fitting (v -ℤ v1) (u2 -ℤ u1) (v2 -ℤ v1)
+    fitting-law h e =
+        fitting (v -ℤ v1) (u2 -ℤ u1) (v2 -ℤ v1) (omega (arith, sub-law v v1)) (omega (arith, sub-law v v1, sub-law v2 v1)) (omega (arith, sub-law v2 v1, h .original1, h .original2))
+        (omega (arith, sub-law u2 u1, h .current1, h .current2)) e
+
+    -- the quotient of an original that is not steep
+    pub gentle-law : steepBetween v v1 u1 v2 u2 ≡ false → tooSteep (u2 -ℤ u1) (v2 -ℤ v1) ≡ false
+    unfolding steepBetween
+    gentle-law e = rw (to-lt-true v1 v low, to-lt-true v v2 high) at e
 
     -- so that the two cases are one
     pub interpolated-is : Ordered v1 u1 v2 u2 → interpolated v v1 u1 v2 u2 ≡ u1 +ℤ mulFix (v -ℤ v1) (divFix (u2 -ℤ u1) (v2 -ℤ v1))
@@ -72,14 +88,13 @@ module _ (v v1 u1 v2 u2 : ℤ) where
         by : (b : Bool) → eqZ u1 u2 ≡ b → interpolated v v1 u1 v2 u2 ≡ u1 +ℤ mulFix (v -ℤ v1) (divFix (u2 -ℤ u1) (v2 -ℤ v1))
         by true e =
             let q = eqZ-true u1 u2 e in
-            let f = between-law h .along in
-            interpolated-level q ∙ same (omega (arith, signed, sub-law u2 u1, one-zero (u2 -ℤ u1), f .not-above, f .not-below))
+            let f = along-law h in
+            interpolated-level q ∙ same (omega (arith, signed, sub-law u2 u1, one-zero (u2 -ℤ u1), f .side-up, f .side-dn))
         by false e = interpolated-between (λ q. eqZ-apart u1 u2 e q)
 
--- what the arithmetic owes at the first original
-pub span-law : (v1 u1 v2 u2 : ℤ) → Ordered v1 u1 v2 u2 → up v1 + dn v2 < up v2 + dn v1 → Interpolation (pos 0) (u2 -ℤ u1) (v2 -ℤ v1)
-span-law v1 u1 v2 u2 h k =
-    interpolation (pos 0) (u2 -ℤ u1) (v2 -ℤ v1) (omega arith) (omega (arith, sub-law v2 v1)) (omega (arith, sub-law v2 v1)) (omega (arith, sub-law u2 u1))
+-- originals that differ are a divisor
+pub span-some : (v1 v2 : ℤ) → up v1 + dn v2 < up v2 + dn v1 → 0 < natAbs (v2 -ℤ v1)
+span-some v1 v2 k = omega (arith, sub-law v2 v1, natAbs-is (v2 -ℤ v1))
 
 -- ---- the references of a point in their order
 module _ (o c : List ℤ) (p q : ℕ) where
@@ -92,6 +107,15 @@ module _ (o c : List ℤ) (p q : ℕ) where
   pub between-more : ltZ (at o q) (at o p) ≡ false → (i : ℕ) → spannedAt o (spanOf (at o p) (at c p) (at o q) (at c q)) i ≡ betweenAt o c (refs p q) i
   unfolding betweenAt spannedAt firstOf secondOf
   between-more e i = rw e
+
+  -- and so it is with what is too steep
+  pub steep-less : ltZ (at o q) (at o p) ≡ true → (i : ℕ) → steepBetween (at o i) (at o q) (at c q) (at o p) (at c p) ≡ steepBy o c (refs p q) i
+  unfolding steepBy firstOf secondOf
+  steep-less e i = rw e
+
+  pub steep-more : ltZ (at o q) (at o p) ≡ false → (i : ℕ) → steepBetween (at o i) (at o p) (at c p) (at o q) (at c q) ≡ steepBy o c (refs p q) i
+  unfolding steepBy firstOf secondOf
+  steep-more e i = rw e
 
 -- references are ordered where equal ones are
 pub ordered-as : {v1 w1 u1 x1 v2 w2 u2 x2 : ℤ} → v1 ≡ w1 → u1 ≡ x1 → v2 ≡ w2 → u2 ≡ x2 → Ordered w1 x1 w2 x2 → Ordered v1 u1 v2 u2

@@ -10,10 +10,10 @@ use native.Mathlib.Omega.{arith}
 use lib.ListN.{length, getD}
 use lib.IntN.{ℤ}
 use lib.Signed.{ltZ}
-use Rattle.contours.specs.Contour.{at, refs, firstOf, secondOf, betweenAt, shiftedAt, weakAt}
-use Rattle.contours.specs.Steps.{whole, Next, Wrote, Shifted, Upto, Done}
+use Rattle.contours.specs.Contour.{at, refs, firstOf, secondOf, betweenAt, shiftedAt, weakAt, steepBy}
+use Rattle.contours.specs.Steps.{whole, Next, Wrote, Shifted, Upto, Done, Gentle, GentleRefs}
 use Rattle.contours.proofs.References.{refs-gap, refs-behind, refs-front, refs-none}
-use Rattle.contours.proofs.Points.{weak-touched, weak-two, weak-one, weak-none}
+use Rattle.contours.proofs.Points.{weak-touched, weak-two, weak-one, weak-none, steep-two}
 
 -- ---- the gaps between touched points
 -- at the first touched point nothing is left behind
@@ -38,6 +38,15 @@ between-by o c d p q i ep eq = by (ltZ (at o q) (at o p)) refl
     by true e = rw (e, ep, eq)
     by false e = rw (e, ep, eq)
 
+-- and so does `steepBy`
+steep-by : (o c d : List ℤ) (p q i : ℕ) → at d p ≡ at c p → at d q ≡ at c q → steepBy o d (refs p q) i ≡ steepBy o c (refs p q) i
+unfolding steepBy firstOf secondOf
+steep-by o c d p q i ep eq = by (ltZ (at o q) (at o p)) refl
+  where
+    by : (b : Bool) → ltZ (at o q) (at o p) ≡ b → steepBy o d (refs p q) i ≡ steepBy o c (refs p q) i
+    by true e = rw (e, ep, eq)
+    by false e = rw (e, ep, eq)
+
 -- from one touched point, p, to the next, q
 module _ (o c d : List ℤ) (t : List ℕ) (f p q : ℕ) (u : Upto o c t f p d) (x : Next t (p + 1) q) where
   -- their currents are as they came
@@ -46,6 +55,13 @@ module _ (o c d : List ℤ) (t : List ℕ) (f p q : ℕ) (u : Upto o c t f p d) 
 
   pub at-q : at d q ≡ at c q
   at-q = u .above q (omega (arith, x .low))
+
+  -- no point between them is too steep where no point of the contour is
+  pub gentle-gap : Gentle o c t → q < length t → GentleRefs o d (refs p q) (p + 1) q
+  gentle-gap g h i a b =
+      steep-by o c d p q i at-p at-q
+      ∙ steep-two o c t (whole t) i p q (x .clear i b a)
+      (refs-gap t (whole t) i (omega arith) (omega arith) p q (omega arith) (omega arith) b h (u .mark) (x .here h) (λ j y z. x .clear j y (omega arith))) (g i (omega arith))
 
   module _ (e : List ℤ) (h : q < length t) (w : Wrote (betweenAt o d (refs p q)) (p + 1) q d e) where
     -- the gap between them is written
@@ -115,10 +131,24 @@ module _ (o c : List ℤ) (t : List ℕ) where
     pub kept : (at d l ≡ at c l) × (at d f ≡ at c f)
     kept = (at-p o c d t f l (length t) u x1, u .inside f (le-refl f) (u .low) ∙ weak-touched o c t (whole t) f (x0 .here (omega (arith, u .low, u .high))))
 
+    -- no point behind the last is too steep
+    pub gentle-behind : Gentle o c t → GentleRefs o d (refs l f) (l + 1) (length t)
+    gentle-behind g i a b =
+        steep-by o c d l f i (kept .0) (kept .1)
+        ∙ steep-two o c t (whole t) i l f (x1 .clear i b a)
+        (refs-behind t (whole t) i (omega arith) (omega arith) f l (omega arith) (u .low) (u .high) (x0 .here (omega (arith, u .low, u .high))) (u .mark) (x0 .clear) (λ j y z. x1 .clear j y (omega arith)) (omega arith)) (g i b)
+
     module _ (e : List ℤ) (w1 : Wrote (betweenAt o d (refs l f)) (l + 1) (length t) d e) where
       -- after the points behind the last
       pub kept-behind : (at e l ≡ at c l) × (at e f ≡ at c f)
       kept-behind = (w1 .below l (omega arith) ∙ kept .0, w1 .below f (omega (arith, u .low)) ∙ kept .1)
+
+      -- no point in front of the first is too steep
+      pub gentle-front : Gentle o c t → GentleRefs o e (refs l f) 0 f
+      gentle-front g i a b =
+          steep-by o c e l f i (kept-behind .0) (kept-behind .1)
+          ∙ steep-two o c t (whole t) i l f (x0 .clear i b a)
+          (refs-front t (whole t) i (omega arith) (omega (arith, u .low, u .high)) f l (omega arith) (u .low) (u .high) (x0 .here (omega (arith, u .low, u .high))) (u .mark) (x0 .clear) (λ j y z. x1 .clear j y (omega arith)) b) (g i (omega (arith, u .low, u .high)))
 
       module _ (g : List ℤ) (lt : length t ≡ length c) (ne : l ≡ f → ⊥) (w2 : Wrote (betweenAt o e (refs l f)) 0 f e g) where
         mark-f : 0 < getD t f 0

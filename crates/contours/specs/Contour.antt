@@ -1,6 +1,6 @@
 -- The points of one contour (document 01, module 2): their references, and where each comes to. A contour is a stretch of an outline's originals o, currents c and
 -- touch marks t.
-use mathlib.Core.Bool.{Bool, cond}
+use mathlib.Core.Bool.{Bool, false, not, cond, _&&_}
 use mathlib.Core.List.{List}
 use mathlib.Core.Option.{Option, some, none}
 use Prim.Native.Nat.{ℕ, zero, suc, _+_, _-_}
@@ -10,6 +10,7 @@ use lib.IntN.{ℤ, pos, _+ℤ_, _-ℤ_}
 use lib.Signed.{ltZ, leZ}
 use Rattle.signed.specs.Equality.{eqZ}
 use Rattle.fixed.specs.Point.{mulFix, divFix}
+use Rattle.fixed.specs.Divide.{tooSteep}
 
 -- the coordinate of the point i
 abbrev pub at : List ℤ → ℕ → ℤ
@@ -101,3 +102,22 @@ followed o c (some r) i = cond (eqb (r .before) (r .behind)) (shiftedAt o c (r .
 -- the point i of the contour k: touched points stay
 unfoldable pub weakAt : List ℤ → List ℤ → List ℕ → Contour → ℕ → ℤ
 weakAt o c t k i = cond (isTouched t i) (at c i) (followed o c (references t k i) i)
+
+-- ---- which points are too steep (request #109)
+-- the original v lies strictly between the originals v1 and v2 of its references, and the quotient that it needs, of the currents' span by theirs, is too steep; where
+-- the currents are equal the quotient is 0, and at equal originals nothing lies between
+unfoldable pub steepBetween : ℤ → ℤ → ℤ → ℤ → ℤ → Bool
+steepBetween v v1 u1 v2 u2 = (ltZ v1 v && ltZ v v2) && tooSteep (u2 -ℤ u1) (v2 -ℤ v1)
+
+-- the point i by its two references
+unfoldable pub steepBy : List ℤ → List ℤ → References → ℕ → Bool
+steepBy o c r i = steepBetween (at o i) (at o (firstOf o r)) (at c (firstOf o r)) (at o (secondOf o r)) (at c (secondOf o r))
+
+-- the point i by its references, where it has any
+unfoldable pub steepFollowed : List ℤ → List ℤ → Option References → ℕ → Bool
+steepFollowed o c none i = false
+steepFollowed o c (some r) i = steepBy o c r i
+
+-- the point i of the contour k: touched points need no quotient
+unfoldable pub steepAt : List ℤ → List ℤ → List ℕ → Contour → ℕ → Bool
+steepAt o c t k i = not (isTouched t i) && steepFollowed o c (references t k i) i

@@ -5,14 +5,14 @@ use Prim.Native.Nat.{ℕ, _+_}
 abbrev pub mostPoints : ℕ
 mostPoints = 4096
 
--- original and current coordinates of points: -16,383 to 16,383 units
+-- original and current coordinates of points: -65,535 to 65,535 units
 abbrev pub mostCoordinate : ℕ
-mostCoordinate = 16383
+mostCoordinate = 65535
 
--- what a point's current less its original can be: -32,766 to 32,766 units
+-- what a point's current less its original can be: -131,070 to 131,070 units
 abbrev pub mostDelta : ℕ
 mostDelta = mostCoordinate + mostCoordinate
 
--- what a current can be after the call: -49,149 to 49,149 units
+-- what a current can be after the call: -196,605 to 196,605 units
 abbrev pub mostResult : ℕ
 mostResult = mostCoordinate + mostDelta

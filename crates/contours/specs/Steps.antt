@@ -1,16 +1,17 @@
 -- What the steps of `align_contour` promise each other. They work on one contour's stretch of the lists: originals o, currents c and marks t.
 use mathlib.Core.Path.{_≡_}
-use mathlib.Core.Bool.{cond}
+use mathlib.Core.Bool.{Bool, true, false, cond, _&&_}
 use mathlib.Core.List.{List}
 use Prim.Native.Nat.{ℕ, _≤_, _<_}
 use lib.ListN.{length, getD}
 use lib.IntN.{ℤ, pos, _+ℤ_, _-ℤ_}
-use lib.Signed.{_≤ℤ_}
+use lib.Signed.{ltZ, _≤ℤ_}
 use Rattle.signed.specs.Range.{Between}
 use Rattle.fixed.specs.Point.{divFix}
+use Rattle.fixed.specs.Divide.{tooSteep}
 use Rattle.contours.specs.Limits.{mostCoordinate}
 use Rattle.signed.specs.Equality.{eqZ}
-use Rattle.contours.specs.Contour.{at, Contour, interpolated, shiftedAt, weakAt}
+use Rattle.contours.specs.Contour.{at, Contour, References, interpolated, shiftedAt, weakAt, steepBetween, steepBy, steepAt}
 use Rattle.contours.specs.declared.iup.Span.{Span}
 
 -- z is an accepted coordinate
@@ -43,9 +44,9 @@ pub record Wrote (f : ℕ → ℤ) (a b : ℕ) (c d : List ℤ) : Type 0 where
   pub below : (i : ℕ) → i < a → at d i ≡ at c i
   pub above : (i : ℕ) → b ≤ i → at d i ≡ at c i
 
--- the fixed quotient of the spans between two references, 0 where it is not used
+-- the fixed quotient of the spans between two references, 0 where it is not used: at equal currents, at equal originals, and where it is too steep
 unfoldable pub slope : ℤ → ℤ → ℤ → ℤ → ℤ
-slope v1 u1 v2 u2 = cond (eqZ u1 u2) (pos 0) (cond (eqZ v1 v2) (pos 0) (divFix (u2 -ℤ u1) (v2 -ℤ v1)))
+slope v1 u1 v2 u2 = cond (eqZ u1 u2) (pos 0) (cond (eqZ v1 v2) (pos 0) (cond (tooSteep (u2 -ℤ u1) (v2 -ℤ v1)) (pos 0) (divFix (u2 -ℤ u1) (v2 -ℤ v1))))
 
 -- accepted coordinates of two references, the first of which has no larger original
 pub record Ordered (v1 u1 v2 u2 : ℤ) : Type 0 where
@@ -67,6 +68,18 @@ pub record SpanHolds (s : Span) : Type 0 where
 -- where the original of the point i comes to by the references of a span
 unfoldable pub spannedAt : List ℤ → Span → ℕ → ℤ
 spannedAt o s i = interpolated (at o i) (s .v1) (s .u1) (s .v2) (s .u2)
+
+-- none of the points from a on that are in front of b is too steep for the span s
+abbrev pub GentleSpan : List ℤ → Span → ℕ → ℕ → Type 0
+GentleSpan o s a b = (i : ℕ) → a ≤ i → i < b → steepBetween (at o i) (s .v1) (s .u1) (s .v2) (s .u2) ≡ false
+
+-- nor for the references r
+abbrev pub GentleRefs : List ℤ → List ℤ → References → ℕ → ℕ → Type 0
+GentleRefs o c r a b = (i : ℕ) → a ≤ i → i < b → steepBy o c r i ≡ false
+
+-- no point of the contour is too steep
+abbrev pub Gentle : List ℤ → List ℤ → List ℕ → Type 0
+Gentle o c t = (i : ℕ) → i < length t → steepAt o c t (whole t) i ≡ false
 
 -- the original of the point i, moved by delta
 unfoldable pub movedBy : List ℤ → ℤ → ℕ → ℤ
@@ -92,3 +105,28 @@ pub record Upto (o c : List ℤ) (t : List ℕ) (f p : ℕ) (d : List ℤ) : Typ
 pub record Done (o c : List ℤ) (t : List ℕ) (d : List ℤ) : Type 0 where
   pub len : length d ≡ length c
   pub each : (i : ℕ) → i < length c → at d i ≡ weakAt o c t (whole t) i
+
+-- ---- the search for a point that is too steep
+-- one of the points from a on that are in front of b has f
+pub record Somewhere (f : ℕ → Bool) (a b : ℕ) : Type 0 where
+  pub place : ℕ
+  pub low : a ≤ place
+  pub high : place < b
+  pub here : f place ≡ true
+
+-- r tells whether one of them has
+pub record Tells (f : ℕ → Bool) (a b : ℕ) (r : Bool) : Type 0 where
+  pub yes : r ≡ true → Somewhere f a b
+  pub no : r ≡ false → (i : ℕ) → a ≤ i → i < b → f i ≡ false
+
+-- the original v lies strictly between v1 and v2
+abbrev pub isBetween : ℤ → ℤ → ℤ → Bool
+isBetween v v1 v2 = ltZ v1 v && ltZ v v2
+
+-- so does that of the point i
+unfoldable pub betweenOriginals : List ℤ → ℤ → ℤ → ℕ → Bool
+betweenOriginals o v1 v2 i = isBetween (at o i) v1 v2
+
+-- the point i is too steep for references of these originals and currents
+unfoldable pub steepFor : List ℤ → ℤ → ℤ → ℤ → ℤ → ℕ → Bool
+steepFor o v1 u1 v2 u2 i = steepBetween (at o i) v1 u1 v2 u2

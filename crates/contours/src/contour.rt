@@ -4,10 +4,10 @@ use super::iup::iup_shift;
 ghost use mathlib.Core.Path.{_≡_};
 ghost use Prim.Native.Nat.{_+_, _≤_, _<_};
 ghost use lib.ListN.{length, getD};
-ghost use Rattle.contours.specs.Steps.{Coordinates, Next, Upto, Done};
+ghost use Rattle.contours.specs.Steps.{Coordinates, Next, Upto, Done, Gentle};
 
 // The first touched point at or behind `from`, or the number of points.
-fn next_touched(touched: &[u8], from: usize) -> usize
+pub fn next_touched(touched: &[u8], from: usize) -> usize
     requires { ⌜ from ≤ length (now touched) ⌝ }
     ensures { λ r. ⌜ Next (now (touched .entry)) from r ⌝ }
 {
@@ -25,7 +25,7 @@ fn next_touched(touched: &[u8], from: usize) -> usize
 fn align_gaps(originals: &[i32], currents: &mut [i32], touched: &[u8], first: usize) -> usize
     requires { ⌜ (length (now currents) ≡ length (now originals)) × (length (now touched) ≡ length (now originals)) ⌝ }
     requires { ⌜ (first < length (now originals)) × (0 < getD (now touched) first 0) ⌝ }
-    requires { ⌜ Coordinates (now originals) × Coordinates (now currents) ⌝ }
+    requires { ⌜ Coordinates (now originals) × Coordinates (now currents) × Gentle (now originals) (now currents) (now touched) ⌝ }
     ensures { λ r. ⌜ Upto (now (originals .entry)) (now (currents .entry)) (now (touched .entry)) first r (now (currents .exit))
         × Next (now (touched .entry)) (r + 1) (length (now (touched .entry))) ⌝ }
 {
@@ -43,7 +43,7 @@ fn align_gaps(originals: &[i32], currents: &mut [i32], touched: &[u8], first: us
 // Aligns the points of one contour: those between touched ones, then those around the contour's seam.
 pub fn align_contour(originals: &[i32], currents: &mut [i32], touched: &[u8])
     requires { ⌜ (length (now currents) ≡ length (now originals)) × (length (now touched) ≡ length (now originals)) ⌝ }
-    requires { ⌜ Coordinates (now originals) × Coordinates (now currents) ⌝ }
+    requires { ⌜ Coordinates (now originals) × Coordinates (now currents) × Gentle (now originals) (now currents) (now touched) ⌝ }
     ensures { λ _. ⌜ Done (now (originals .entry)) (now (currents .entry)) (now (touched .entry)) (now (currents .exit)) ⌝ }
 {
     let n = touched.len();

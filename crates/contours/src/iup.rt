@@ -1,14 +1,16 @@
 // The shift and the interpolation of untouched points (the Rust's `iup_shift` and `iup_interpolate`), on one contour's stretch of the lists.
+use fixed::point::Quotient;
 use fixed::point::fixed_div;
 use fixed::point::fixed_mul;
 ghost use mathlib.Core.Path.{_≡_};
 ghost use Prim.Native.Nat.{_≤_, _<_};
 ghost use lib.ListN.{length};
+ghost use mathlib.Core.Bool.{false};
 ghost use lib.Signed.{ltZ};
 ghost use Rattle.signed.specs.Range.{Between};
 ghost use Rattle.contours.specs.Limits.{mostDelta};
-ghost use Rattle.contours.specs.Contour.{at, refs, interpolated, betweenAt};
-ghost use Rattle.contours.specs.Steps.{Coordinate, Coordinates, Wrote, slope, Ordered, spanOf, SpanHolds, spannedAt, movedBy, Shifted};
+ghost use Rattle.contours.specs.Contour.{at, refs, interpolated, betweenAt, steepBetween};
+ghost use Rattle.contours.specs.Steps.{Coordinate, Coordinates, Wrote, slope, Ordered, spanOf, SpanHolds, spannedAt, movedBy, Shifted, GentleSpan, GentleRefs};
 
 // The originals v1, v2 and the currents u1, u2 of two references, and the scale from the originals to the currents.
 pub struct Span {
@@ -30,7 +32,11 @@ fn slope_of(v1: i32, u1: i32, v2: i32, u2: i32) -> i32
     if v1 == v2 {
         return 0;
     }
-    fixed_div(u2 - u1, v2 - v1)
+    let quotient = fixed_div(u2 - u1, v2 - v1);
+    let Quotient::Of(scale) = quotient else {
+        return 0;
+    };
+    scale
 }
 
 // The span between two references.
@@ -51,7 +57,7 @@ fn span_of(v1: i32, u1: i32, v2: i32, u2: i32) -> Span
 // Where an original comes to by two references.
 fn place(v: i32, span: Span) -> i32
     requires { ⌜ Coordinate v ⌝ }
-    requires { ⌜ SpanHolds span ⌝ }
+    requires { ⌜ SpanHolds span × (steepBetween v (span .v1) (span .u1) (span .v2) (span .u2) ≡ false) ⌝ }
     ensures { λ r. ⌜ r ≡ interpolated v (span .v1) (span .u1) (span .v2) (span .u2) ⌝ }
 {
     if v <= span.v1 {
@@ -69,7 +75,7 @@ fn place(v: i32, span: Span) -> i32
 // Places the points from `from` up to `to` by two references.
 fn fill(originals: &[i32], currents: &mut [i32], from: usize, to: usize, span: Span)
     requires { ⌜ (length (now currents) ≡ length (now originals)) × (from ≤ to) × (to ≤ length (now originals)) ⌝ }
-    requires { ⌜ Coordinates (now originals) × SpanHolds span ⌝ }
+    requires { ⌜ Coordinates (now originals) × SpanHolds span × GentleSpan (now originals) span from to ⌝ }
     ensures { λ _. ⌜ Wrote (spannedAt (now (originals .entry)) span) from to (now (currents .entry)) (now (currents .exit)) ⌝ }
 {
     let mut i = from;
@@ -81,7 +87,7 @@ fn fill(originals: &[i32], currents: &mut [i32], from: usize, to: usize, span: S
 }
 
 // Whether the reference behind is the first: its original is the smaller. At equal originals the one before is.
-fn behind_is_first(v1: i32, v2: i32) -> bool
+pub fn behind_is_first(v1: i32, v2: i32) -> bool
     ensures { λ r. ⌜ r ≡ ltZ v2 v1 ⌝ }
 {
     v2 < v1
@@ -98,7 +104,7 @@ pub fn iup_interpolate(
 )
     requires { ⌜ (length (now currents) ≡ length (now originals)) × (from ≤ to) × (to ≤ length (now originals)) ⌝ }
     requires { ⌜ (ref1 < length (now originals)) × (ref2 < length (now originals)) ⌝ }
-    requires { ⌜ Coordinates (now originals) × Coordinate (at (now currents) ref1) × Coordinate (at (now currents) ref2) ⌝ }
+    requires { ⌜ Coordinates (now originals) × Coordinate (at (now currents) ref1) × Coordinate (at (now currents) ref2) × GentleRefs (now originals) (now currents) (refs ref1 ref2) from to ⌝ }
     ensures { λ _. ⌜ Wrote (betweenAt (now (originals .entry)) (now (currents .entry)) (refs ref1 ref2)) from to (now (currents .entry)) (now (currents .exit)) ⌝ }
 {
     if to <= from {

@@ -3,5 +3,6 @@ pub mod Rounding
 pub mod Halves
 pub mod Pixels
 pub mod Widths
+pub mod Quotients
 pub mod Interpolation
 pub mod Worked

@@ -6,6 +6,7 @@ ghost use mir.Syntax.{w32};
 ghost use mir.Val.{SFits};
 ghost use Rattle.signed.specs.Range.{Between};
 ghost use Rattle.fixed.specs.Point.{rounded, mulFix, divFix, derived};
+ghost use Rattle.fixed.specs.Divide.{quotientOf};
 ghost use Rattle.fixed.specs.Steps.{mostConstant, mostEm, signedLike};
 
 // The magnitude of x.
@@ -74,13 +75,21 @@ pub fn wide_mul(a: i32, b: i32) -> i64
     with_sign(rounded_product(size(a), size(b)), a, b)
 }
 
+// The magnitude of the fixed quotient of every pair with a divisor.
+fn quotient_size(a: i32, b: i32) -> u64
+    requires { ⌜ 0 < natAbs b ⌝ }
+    ensures { λ r. ⌜ r ≡ rounded (natAbs a * 65536) (natAbs b) ⌝ }
+{
+    let n = magnitude(a as i64) * 65536;
+    rounded_quotient(n, magnitude(b as i64))
+}
+
 // Fixed divide in 64 bits, for every pair with a divisor.
 pub fn wide_div(a: i32, b: i32) -> i64
     requires { ⌜ 0 < natAbs b ⌝ }
     ensures { λ r. ⌜ r ≡ divFix a b ⌝ }
 {
-    let n = magnitude(a as i64) * 65536;
-    with_sign(rounded_quotient(n, magnitude(b as i64)), a, b)
+    with_sign(quotient_size(a, b), a, b)
 }
 
 // FreeType's FT_MulFix, where the answer fits: a·b / 65,536 rounded to nearest, halves away from zero.
@@ -91,13 +100,26 @@ pub fn fixed_mul(a: i32, b: i32) -> i32
     wide_mul(a, b) as i32
 }
 
-// FreeType's FT_DivFix, where the answer fits: a·65,536 / b rounded to nearest, halves away from zero.
-pub fn fixed_div(a: i32, b: i32) -> i32
+// The largest magnitude of a quotient that is an answer.
+const MOST_QUOTIENT: u64 = 2147483647;
+
+// What fixed divide answers: the quotient, or that its magnitude is beyond 2,147,483,647.
+pub enum Quotient {
+    Of(i32),
+    TooSteep,
+}
+
+// FreeType's FT_DivFix, an answer or too steep: a·65,536 / b rounded to nearest, halves away from zero.
+pub fn fixed_div(a: i32, b: i32) -> Quotient
     requires { ⌜ 0 < natAbs b ⌝ }
-    requires { ⌜ SFits w32 (divFix a b) ⌝ }
-    ensures { λ r. ⌜ r ≡ divFix a b ⌝ }
+    ensures { λ r. ⌜ r ≡ quotientOf a b ⌝ }
 {
-    wide_div(a, b) as i32
+    let size = quotient_size(a, b);
+    if MOST_QUOTIENT < size {
+        return Quotient::TooSteep;
+    }
+    let answer = with_sign(size, a, b) as i32;
+    Quotient::Of(answer)
 }
 
 // c · units per em / 2048, fraction dropped.

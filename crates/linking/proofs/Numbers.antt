@@ -1,6 +1,6 @@
 -- The thresholds of accepted numbers: they fit, and the overlap asked for is not negative.
 use mathlib.Core.Path.{_≡_}
-use mathlib.Core.Bool.{true}
+use mathlib.Core.Bool.{true, false}
 use Prim.Native.Nat.{_<_, _≤_, zero-le}
 use native.Mathlib.Omega.{arith}
 use lib.IntN.{ℤ, pos, negsuc, natAbs, _*ℤ_}
@@ -11,6 +11,8 @@ use Rattle.signed.specs.Parts.{up, dn}
 use Rattle.signed.specs.Range.{Between}
 use Rattle.signed.proofs.Signed.{signed, atmost, fits-abs, natAbs-is, times-up, times-dn}
 use Rattle.fixed.specs.Point.{divFix, derived}
+use borrow.Author.Tests.{le-ltb}
+use Rattle.fixed.specs.Divide.{steepest, tooSteep}
 use Rattle.fixed.proofs.Rounding.{div-abs}
 use Rattle.axis.specs.Limits.{leastUnitsPerEm, mostUnitsPerEm, leastScale, mostScore}
 use Rattle.axis.specs.Refusals.{inside}
@@ -43,6 +45,11 @@ module _ (upem scale : ℤ) (h : numbersHold upem scale ≡ true) where
       let k = and-second (inside (pos leastUnitsPerEm) (pos mostUnitsPerEm) upem) _ h in
       let a = and-first (leZ (pos leastScale) scale) _ k in
       omega (arith, signed, natAbs-is scale)
+
+  -- three pixels at the scale are not too steep
+  pub dist-gentle : tooSteep (pos 192) scale ≡ false
+  unfolding tooSteep
+  dist-gentle = le-ltb steepest (natAbs (divFix (pos 192) scale)) (omega (arith, div-abs (pos 192) scale scale-some))
 
   -- three pixels at the scale fit
   pub dist-fits : SFits w32 (divFix (pos 192) scale)

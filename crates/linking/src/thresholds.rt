@@ -4,6 +4,7 @@ use axis::limits::LEAST_SCALE;
 use axis::limits::LEAST_UNITS_PER_EM;
 use axis::limits::MOST_SCALE;
 use axis::limits::MOST_UNITS_PER_EM;
+use fixed::point::Quotient;
 use fixed::point::derived_constant;
 use fixed::point::fixed_div;
 use linking_rounds::thresholds::Thresholds;
@@ -27,6 +28,9 @@ pub fn thresholds_of(units_per_em: i32, scale: i32) -> Thresholds
     ensures { λ r. ⌜ r ≡ thresholdsOf «units_per_em» scale ⌝ }
 {
     let len = derived_constant(units_per_em, 8);
-    let dist = fixed_div(64 * 3, scale);
+    let quotient = fixed_div(64 * 3, scale);
+    let Quotient::Of(dist) = quotient else {
+        return Thresholds { len, dist: 0 };
+    };
     Thresholds { len, dist }
 }

@@ -54,7 +54,7 @@ unfolding resultsIn resultsBytes resultBytes
 results-back [] h = refl
 results-back (z ∷ zs) h = λ k. three-back z (h 0 (omega arith)) k ∷ results-back zs (λ i l. h (suc i) (omega arith)) k
 
--- every result lies within 49,149 either way
+-- every result lies within 196,605 either way
 result-small : (o c : List ℤ) (t es : List ℕ) → refusal (weakTests o c t es) ≡ 0 → (i : ℕ) → i < length (result o c t es) → ThreeBytes (at (result o c t es) i)
 result-small o c t es e i h =
     let b : Between mostResult mostResult (at (result o c t es) i) =

@@ -1,4 +1,4 @@
--- On an accepted outline every result lies within -49,149 to 49,149.
+-- On an accepted outline every result lies within -196,605 to 196,605.
 use mathlib.Core.Path.{_≡_, refl, sym, _∙_, ap}
 use mathlib.Core.Bool.{Bool, true, false}
 use mathlib.Core.List.{List}

@@ -53,12 +53,12 @@ module _ (s e : ℕ) (xs ys : List ℤ) (order : s ≤ e) (fits : e ≤ length x
 -- ---- the search for a point's contour
 module _ (s : ℕ) (es : List ℕ) (k i : ℕ) (more : k < length es) where
   -- a point that is not behind the end k is on the contour that ends there
-  contour-here : i ≤ getD es k 0 → contourOf s (drop k es) i ≡ some (record { start = s; end = suc (getD es k 0) })
+  pub contour-here : i ≤ getD es k 0 → contourOf s (drop k es) i ≡ some (record { start = s; end = suc (getD es k 0) })
   unfolding contourOf
   contour-here h = rw (drop-one es k 0 more, le-leb i (getD es k 0) h)
 
   -- a point behind it is on a later one
-  contour-later : getD es k 0 < i → contourOf s (drop k es) i ≡ contourOf (suc (getD es k 0)) (drop (k + 1) es) i
+  pub contour-later : getD es k 0 < i → contourOf s (drop k es) i ≡ contourOf (suc (getD es k 0)) (drop (k + 1) es) i
   unfolding contourOf
   contour-later h = rw (drop-one es k 0 more, lt-leb i (getD es k 0) h)
 

@@ -13,7 +13,7 @@ use Rattle.signed.proofs.Signed.{signed}
 use Rattle.contours.specs.Contour.{at, Contour, isTouched, References, refs, references, firstOf, secondOf, betweenAt, interpolated}
 use Rattle.outline.specs.Weak.{contourOf, onContour, alignedAt, Outcome}
 use Rattle.outline.specs.Steps.{Accepted}
-use Rattle.outline.specs.Faithful.{Led, Faithful, Follows, Amid, InOrder, Demand3}
+use Rattle.outline.specs.Faithful.{Led, Faithful, Follows, Amid, InOrder, KeepsOrder, Demand3}
 use Rattle.outline.proofs.Refusals.{accepted}
 use Rattle.contours.proofs.Searches.{unmarked}
 use Rattle.contours.proofs.Points.{weak-two}
@@ -82,8 +82,9 @@ module _ (o c d : List ℤ) (t es : List ℕ) (outcome : Outcome o c t es 0 d) w
         (λ e. rw (around o c p q ordered .0, around o c p q ordered .1) at (result-between i (a .contour) (refs q p) (a .on) (a .untouched) e (λ x. ordered .different (sym (ap (at o) x)))))
         (a .by)
 
-    -- none ends above one of higher original, since what is not higher ends not higher
-    in-order : (i j : ℕ) → Amid t es p q i → Amid t es p q j → at o i ≤ℤ at o j → at d i ≤ℤ at d j
+    -- none ends above one of higher original, since what is not higher ends not higher, but for the exception
+    in-order : (i j : ℕ) → Amid t es p q i → Amid t es p q j → at o i ≤ℤ at o j
+        → KeepsOrder (at o i) (at o j) (at o (low o p q)) (at o (high o p q)) (at d i) (at d j)
     in-order i j a b le =
         let refs-in-order = refs-ordered o c (refs p q) (good .originals) (good .currents) in
         rw (comes-to i a, comes-to j b)

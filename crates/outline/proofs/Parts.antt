@@ -13,7 +13,7 @@ use lib.Seq.{getD-take, getD-drop}
 use lib.IntN.{ℤ, pos}
 use lib.Signed.{ltZ}
 use Rattle.contours.specs.Contour.{at, isTouched, firstTouched, lastTouched, orElse, Contour, touchedBefore, touchedBehind}
-use Rattle.contours.specs.Contour.{References, refs, paired, references, firstOf, secondOf, betweenAt, shiftedAt, followed, weakAt}
+use Rattle.contours.specs.Contour.{References, refs, paired, references, firstOf, secondOf, betweenAt, shiftedAt, followed, weakAt, steepBy, steepFollowed, steepAt}
 use Rattle.contours.proofs.Searches.{last-is, first-is, found-by}
 
 -- the stretch of a list
@@ -179,3 +179,24 @@ module _ (s n : ℕ) (o c : List ℤ) where
       by false e =
           rw (touched-part s n t j h, e, refs-part s n t j h)
           (followed-part (references (part s n t) (alone n) j) j (refs-inside (part s n t) n j h) h)
+
+  -- ---- and so it is with what is too steep
+  steep-by-part : (p q j : ℕ) → p < n → q < n → j < n → steepBy o c (refs (s + p) (s + q)) (s + j) ≡ steepBy (part s n o) (part s n c) (refs p q) j
+  unfolding steepBy firstOf secondOf
+  steep-by-part p q j hp hq hj = by (ltZ (at o (s + q)) (at o (s + p))) refl
+    where
+      by : (b : Bool) → ltZ (at o (s + q)) (at o (s + p)) ≡ b → steepBy o c (refs (s + p) (s + q)) (s + j) ≡ steepBy (part s n o) (part s n c) (refs p q) j
+      by true e = rw (at-part s n o p hp, at-part s n o q hq, e, at-part s n o p hp, at-part s n c p hp, at-part s n o q hq, at-part s n c q hq, at-part s n o j hj)
+      by false e = rw (at-part s n o p hp, at-part s n o q hq, e, at-part s n o p hp, at-part s n c p hp, at-part s n o q hq, at-part s n c q hq, at-part s n o j hj)
+
+  steep-followed-part : (r : Option References) (j : ℕ) → ((x : References) → r ≡ some x → (x .before < n) × (x .behind < n)) → j < n
+      → steepFollowed o c (moved-refs s r) (s + j) ≡ steepFollowed (part s n o) (part s n c) r j
+  unfolding steepFollowed
+  steep-followed-part none j h hj = refl
+  steep-followed-part (some r) j h hj = steep-by-part (r .before) (r .behind) j (h r refl .0) (h r refl .1) hj
+
+  -- a point of the stretch is too steep in the stretch where it is in the whole
+  pub steep-part : (t : List ℕ) (j : ℕ) → j < n → steepAt o c t (stretch s n) (s + j) ≡ steepAt (part s n o) (part s n c) (part s n t) (alone n) j
+  unfolding steepAt
+  steep-part t j h =
+      rw (touched-part s n t j h, refs-part s n t j h, steep-followed-part (references (part s n t) (alone n) j) j (refs-inside (part s n t) n j h) h)

@@ -1,8 +1,9 @@
 -- The refusals: each test one element at a time, the answers in their order, and what an accepted outline is.
 use mathlib.Core.Path.{_≡_, refl, sym, ap, _∙_}
-use mathlib.Core.Bool.{Bool, true, false, cond, _&&_}
+use mathlib.Core.Bool.{Bool, true, false, not, cond, _&&_}
 use mathlib.Core.List.{List, [], _∷_}
 use Prim.Native.Nat.{ℕ, zero, suc, _+_, _≤_, _<_}
+use native.Mathlib.Decide.{decLt}
 use native.Mathlib.Numerals.{add-one}
 use native.Mathlib.Omega.{arith}
 use borrow.Author.Tests.{ltb-true, leb-true, eqb-true, lt-ltb, le-ltb, le-leb, lt-leb, eq-eqb, ne-eqb}
@@ -13,12 +14,12 @@ use lib.IntN.{ℤ, pos, natAbs, _-ℤ_}
 use lib.Signed.{ltZ, leZ, _≤ℤ_}
 use Rattle.signed.proofs.Signed.{natAbs-is, one-zero, sub-law, signed}
 use Rattle.signed.proofs.Choices.{cond-true, cond-false}
-use Rattle.refusals.specs.Refusal.{Test, _unless_, refusal, badIndex, outOfRange}
-use Rattle.refusals.proofs.Tests.{and-first, and-second, all-hold}
+use Rattle.refusals.specs.Refusal.{Test, _unless_, refusal, badIndex, outOfRange, steep}
+use Rattle.refusals.proofs.Tests.{and-first, and-second, all-hold, no-refusal}
 use Rattle.contours.specs.Limits.{mostPoints, mostCoordinate}
 use Rattle.contours.specs.Contour.{at}
-use Rattle.outline.specs.Weak.{endsHold, coordinateHolds, coordinatesHold, listTests, rangeTests, outlineTests, weakTests}
-use Rattle.outline.specs.Steps.{Accepted}
+use Rattle.outline.specs.Weak.{endsHold, coordinateHolds, coordinatesHold, listTests, rangeTests, outlineTests, contourOf, steepOn, gentleFrom, gentle, numberTests, weakTests}
+use Rattle.outline.specs.Steps.{Accepted, GentleAll}
 
 -- a list from its element i on
 pub drop-one {ℓ} : {A : Type ℓ} (l : List A) (i : ℕ) (d : A) → i < length l → drop i l ≡ getD l i d ∷ drop (i + 1) l
@@ -63,6 +64,17 @@ unfolding coordinatesHold
 coordinates-of most [] e i = omega arith
 coordinates-of most (x ∷ l) e zero = coordinate-of most x (and-first (coordinateHolds most x) (coordinatesHold most l) e)
 coordinates-of most (x ∷ l) e (suc i) = coordinates-of most l (and-second (coordinateHolds most x) (coordinatesHold most l) e) i
+
+-- what is within a limit is within a larger one
+holds-more : (m n : ℕ) (z : ℤ) → m ≤ n → coordinateHolds m z ≡ true → coordinateHolds n z ≡ true
+unfolding coordinateHolds
+holds-more m n z h e = let l = leb-true (natAbs z) m e in le-leb (natAbs z) n (omega arith)
+
+pub hold-more : (m n : ℕ) (l : List ℤ) → m ≤ n → coordinatesHold m l ≡ true → coordinatesHold n l ≡ true
+unfolding coordinatesHold
+hold-more m n [] h e = refl
+hold-more m n (z ∷ l) h e =
+    rw (holds-more m n z h (and-first (coordinateHolds m z) (coordinatesHold m l) e), hold-more m n l h (and-second (coordinateHolds m z) (coordinatesHold m l) e))
 
 -- ---- contour ends
 -- the test from the end k on, where the contour starts at s: an end in front of its start
@@ -151,6 +163,10 @@ module _ (most : ℕ) (o c : List ℤ) where
   currents-refuse b a r = test-holds _ _ _ a ∙ test-last outOfRange _ b r
 
 -- ---- what is not refused
+not-no : (b : Bool) → not b ≡ true → b ≡ false
+not-no true e = absurd (let z : _≡_ {A = ℕ} 0 1 = cc in omega arith)
+not-no false e = refl
+
 -- an outline of whose tests none fails
 pub record Passed (most : ℕ) (o c : List ℤ) (t es : List ℕ) : Type 0 where
   pub points : length o ≤ mostPoints
@@ -174,15 +190,59 @@ passed most o c t es e =
       seconds = coordinates-of most c (firsts .1 .0);
     }
 
+-- no point from i on is too steep where the test says so
+gentle-at : (f : ℕ → Bool) (i n : ℕ) → gentleFrom f i n ≡ true → (j : ℕ) → i ≤ j → j < i + n → f j ≡ false
+unfolding gentleFrom
+gentle-at f i zero e j l h = absurd (omega arith)
+gentle-at f i (suc n) e j l h = by (decLt i j) (λ m. gentle-at f (suc i) n (and-second (not (f i)) (gentleFrom f (suc i) n) e) j m (omega arith))
+  where
+    by : Dec (i < j) → (i < j → f j ≡ false) → f j ≡ false
+    by (yes m) rec = rec m
+    by (no m) rec = let q : j ≡ i = omega arith in rw q (not-no (f i) (and-first (not (f i)) (gentleFrom f (suc i) n) e))
+
+-- an outline that lists, contour ends and coordinates pass is accepted
+pub accepted-front : (o c : List ℤ) (t es : List ℕ) → refusal (listTests o c t es) ≡ 0 → coordinatesHold mostCoordinate o ≡ true → coordinatesHold mostCoordinate c ≡ true → Accepted o c t es
+accepted-front o c t es e originals currents =
+    let all = all-hold (listTests o c t es) refl e in
+    let ho = coordinates-of mostCoordinate o originals in
+    let hc = coordinates-of mostCoordinate c currents in
+    record {
+      points = leb-true (length o) mostPoints (all .0);
+      currents-length = eqb-true (length c) (length o) (all .1 .0);
+      marks-length = eqb-true (length t) (length o) (all .1 .1 .0);
+      ends = all .1 .1 .1 .0;
+      originals = λ i. omega (arith, natAbs-is (at o i), ho i);
+      currents = λ i. omega (arith, natAbs-is (at c i), hc i);
+    }
+
 -- an outline that is answered by 0 is accepted
 pub accepted : (o c : List ℤ) (t es : List ℕ) → refusal (weakTests o c t es) ≡ 0 → Accepted o c t es
 accepted o c t es e =
-    let p = passed mostCoordinate o c t es e in
-    record {
-      points = p .points;
-      currents-length = p .seconds-length;
-      marks-length = p .marks-length;
-      ends = p .ends;
-      originals = λ i. omega (arith, natAbs-is (at o i), p .firsts i);
-      currents = λ i. omega (arith, natAbs-is (at c i), p .seconds i);
-    }
+    let all = all-hold (weakTests o c t es) refl e in
+    let ends = all .1 .1 .1 in
+    accepted-front o c t es (no-refusal (listTests o c t es) (all .0, (all .1 .0, (all .1 .1 .0, (ends .0, refl))))) (ends .1 .0) (ends .1 .1 .0)
+
+-- and none of its points is too steep
+pub accepted-gentle : (o c : List ℤ) (t es : List ℕ) → refusal (weakTests o c t es) ≡ 0 → GentleAll o c t es
+unfolding gentle
+accepted-gentle o c t es e i h =
+    let all = all-hold (weakTests o c t es) refl e in
+    gentle-at (λ j. steepOn o c t (contourOf 0 es j) j) 0 (length o) (all .1 .1 .1 .1 .1 .1 .0) i (omega arith) (omega arith)
+
+-- ---- by the numbers of weak points
+module _ (o c : List ℤ) (t es : List ℕ) where
+  -- an original outside the range
+  pub number-originals : coordinatesHold mostCoordinate o ≡ false → refusal (numberTests o c t es) ≡ outOfRange
+  number-originals a = test-fails _ _ _ a
+
+  -- a current outside it
+  pub number-currents : coordinatesHold mostCoordinate o ≡ true → coordinatesHold mostCoordinate c ≡ false → refusal (numberTests o c t es) ≡ outOfRange
+  number-currents a b = test-holds _ _ _ a ∙ test-fails _ _ _ b
+
+  -- a point that is too steep, or none
+  pub number-steep : (b : Bool) → coordinatesHold mostCoordinate o ≡ true → coordinatesHold mostCoordinate c ≡ true → b ≡ not (gentle o c t es) → refusal (numberTests o c t es) ≡ cond b steep 0
+  number-steep b a r g = test-holds _ _ _ a ∙ test-holds _ _ _ r ∙ by (gentle o c t es) refl g
+    where
+      by : (h : Bool) → gentle o c t es ≡ h → b ≡ not h → refusal (steep unless gentle o c t es ∷ []) ≡ cond b steep 0
+      by true q e = test-last steep (gentle o c t es) true q ∙ rw e
+      by false q e = test-last steep (gentle o c t es) false q ∙ rw e

@@ -5,7 +5,7 @@ use mathlib.Core.List.{List}
 use mathlib.Core.Logic.{_⊎_}
 use mathlib.Core.Option.{some}
 use Prim.Native.Nat.{ℕ, _*_, _≤_, _<_}
-use lib.IntN.{ℤ, pos, natAbs, _-ℤ_, _*ℤ_}
+use lib.IntN.{ℤ, pos, natAbs, _+ℤ_, _-ℤ_, _*ℤ_}
 use lib.Signed.{_≤ℤ_, _<ℤ_}
 use Rattle.contours.specs.Contour.{at, Contour, isTouched, References, refs, references, firstOf, secondOf}
 use Rattle.outline.specs.Weak.{contourOf}
@@ -31,11 +31,39 @@ pub record Led (t es : List ℕ) (i : ℕ) : Type 0 where
   pub untouched : isTouched t i ≡ false
   pub more : TwoTouched t contour
 
--- the original v, strictly between the originals v1 and v2 of its references, whose currents are u1 and u2, comes to z: less than 3/4 unit from the straight
--- line, both sides times 4 spans, and not outside the references' currents
+-- the longest span of originals at which no point comes to lie outside its references
+abbrev pub mostInside : ℕ
+mostInside = 65536
+
+-- the longest one at which a point is less than 3/4 unit from the straight line
+abbrev pub mostOld : ℕ
+mostOld = 32768
+
+-- z is less than k/4 units from the straight line, both sides times 4 spans
+abbrev pub Within : ℕ → ℤ → ℤ → ℤ → ℤ → ℤ → ℤ → Type 0
+Within k v v1 u1 v2 u2 z = natAbs (pos 4 *ℤ (v2 -ℤ v1) *ℤ (z -ℤ u1) -ℤ pos 4 *ℤ (v -ℤ v1) *ℤ (u2 -ℤ u1)) < k * natAbs (v2 -ℤ v1)
+
+-- the original v, strictly between the originals v1 and v2 of its references, whose currents are u1 and u2, comes to z
 pub record Faithful (v v1 u1 v2 u2 z : ℤ) : Type 0 where
-  pub close : natAbs (pos 4 *ℤ (v2 -ℤ v1) *ℤ (z -ℤ u1) -ℤ pos 4 *ℤ (v -ℤ v1) *ℤ (u2 -ℤ u1)) < 3 * natAbs (v2 -ℤ v1)
-  pub inside : ((u1 ≤ℤ z) × (z ≤ℤ u2)) ⊎ ((u2 ≤ℤ z) × (z ≤ℤ u1))
+  -- less than one and a half units from the straight line
+  pub close : Within 6 v v1 u1 v2 u2 z
+  -- at most one unit outside the references' currents
+  pub beside : ((u1 ≤ℤ (z +ℤ pos 1)) × (z ≤ℤ (u2 +ℤ pos 1))) ⊎ ((u2 ≤ℤ (z +ℤ pos 1)) × (z ≤ℤ (u1 +ℤ pos 1)))
+  -- and not outside, where the originals are at most 65,536 apart
+  pub inside : natAbs (v2 -ℤ v1) ≤ mostInside → ((u1 ≤ℤ z) × (z ≤ℤ u2)) ⊎ ((u2 ≤ℤ z) × (z ≤ℤ u1))
+  -- where they are at most 32,768 apart, so on every outline of old, less than 3/4 unit from the line
+  pub closer : natAbs (v2 -ℤ v1) ≤ mostOld → Within 3 v v1 u1 v2 u2 z
+
+-- the one exception from the order: the originals of the references are more than 65,536 apart, v lies strictly between them, and w is the second's
+pub record Passes (v w v1 v2 : ℤ) : Type 0 where
+  pub long : mostInside < natAbs (v2 -ℤ v1)
+  pub above : v1 <ℤ v
+  pub below : v <ℤ v2
+  pub at-second : w ≡ v2
+
+-- v, which is not above w, comes to y, which is not above what w comes to, z; in the exception it may pass that by one unit
+abbrev pub KeepsOrder : ℤ → ℤ → ℤ → ℤ → ℤ → ℤ → Type 0
+KeepsOrder v w v1 v2 y z = (y ≤ℤ z) ⊎ (Passes v w v1 v2 × (y ≤ℤ (z +ℤ pos 1)))
 
 -- the point i of the contour k, which comes to z, has two references, different touched points of the contour, the nearest before and behind it around the
 -- contour, and where its original lies strictly between theirs it is faithful to them
@@ -66,7 +94,8 @@ pub record InOrder (o c : List ℤ) (p q : ℕ) : Type 0 where
 pub record Demand3 (o c : List ℤ) (t es : List ℕ) (d : List ℤ) : Type 0 where
   -- every untouched point on a contour with two or more touched points follows its references
   pub follows : (i : ℕ) (p : Led t es i) → Follows o c t (p .contour) i (at d i)
-  -- between neighbouring touched points in order none ends above one of higher original, since what is not higher ends not higher
-  pub in-order : (p q : ℕ) → InOrder o c p q → (i j : ℕ) → Amid t es p q i → Amid t es p q j → at o i ≤ℤ at o j → at d i ≤ℤ at d j
+  -- between neighbouring touched points in order none ends above one of higher original, since what is not higher ends not higher, but for the exception
+  pub in-order : (p q : ℕ) → InOrder o c p q → (i j : ℕ) → Amid t es p q i → Amid t es p q j → at o i ≤ℤ at o j
+      → KeepsOrder (at o i) (at o j) (at o (firstOf o (refs p q))) (at o (secondOf o (refs p q))) (at d i) (at d j)
   -- and equal originals end equal
   pub equal : (p q : ℕ) → InOrder o c p q → (i j : ℕ) → Amid t es p q i → Amid t es p q j → at o i ≡ at o j → at d i ≡ at d j

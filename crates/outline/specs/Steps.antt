@@ -1,14 +1,15 @@
 -- What the steps of `align_weak_points` promise each other.
 use mathlib.Core.Path.{_≡_}
-use mathlib.Core.Bool.{true}
+use mathlib.Core.Bool.{true, false}
 use mathlib.Core.List.{List}
 use Prim.Native.Nat.{ℕ, _≤_, _<_}
 use lib.ListN.{length}
-use lib.IntN.{ℤ}
+use lib.IntN.{ℤ, pos, natAbs, _-ℤ_}
+use lib.Signed.{_≤ℤ_}
 use Rattle.contours.specs.Limits.{mostPoints}
 use Rattle.contours.specs.Contour.{at}
 use Rattle.contours.specs.Steps.{Coordinates}
-use Rattle.outline.specs.Weak.{endsHold, alignedAt}
+use Rattle.outline.specs.Weak.{endsHold, contourOf, steepOn, alignedAt}
 
 -- an outline that is not refused
 pub record Accepted (o c : List ℤ) (t es : List ℕ) : Type 0 where
@@ -19,6 +20,26 @@ pub record Accepted (o c : List ℤ) (t es : List ℕ) : Type 0 where
   pub originals : Coordinates o
   pub currents : Coordinates c
 
+-- none of its points is too steep
+abbrev pub GentleAll : List ℤ → List ℤ → List ℕ → List ℕ → Type 0
+GentleAll o c t es = (i : ℕ) → i < length o → steepOn o c t (contourOf 0 es i) i ≡ false
+
+-- ---- the reach of a list's coordinates
+-- 0 and every coordinate of the list lie between `least` and `most`
+pub record Reaches (l : List ℤ) (least most : ℤ) : Type 0 where
+  pub low : least ≤ℤ pos 0
+  pub high : pos 0 ≤ℤ most
+  pub each : (i : ℕ) → i < length l → (least ≤ℤ at l i) × (at l i ≤ℤ most)
+
+-- how far apart two currents are at the least where a point between them is too steep
+abbrev pub leastFar : ℕ
+leastFar = 65536
+
+-- no two coordinates of the list are that far apart
+abbrev pub Calm : List ℤ → Type 0
+Calm l = (i j : ℕ) → natAbs (at l j -ℤ at l i) < leastFar
+
+-- ---- the alignment
 -- d is c with every contour of the outline aligned
 pub record AllDone (o c : List ℤ) (t es : List ℕ) (d : List ℤ) : Type 0 where
   pub len : length d ≡ length c

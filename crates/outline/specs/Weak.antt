@@ -1,16 +1,16 @@
 -- Weak points (document 01, module 2): which outlines are refused, and where each point of the others comes to. An outline is its points' originals o, currents
 -- c and touch marks t, and the ends es of its contours.
 use mathlib.Core.Path.{_≡_}
-use mathlib.Core.Bool.{Bool, true, cond, _&&_}
+use mathlib.Core.Bool.{Bool, true, false, not, cond, _&&_}
 use mathlib.Core.List.{List, [], _∷_, _++_}
 use mathlib.Core.Option.{Option, some, none}
 use Prim.Native.Nat.{ℕ, zero, suc}
 use lib.Dec.{leb, ltb, eqb}
 use lib.ListN.{length}
 use lib.IntN.{ℤ, natAbs}
-use Rattle.refusals.specs.Refusal.{Test, _unless_, refusal, answered, tooLong, badIndex, outOfRange}
+use Rattle.refusals.specs.Refusal.{Test, _unless_, refusal, answered, tooLong, badIndex, outOfRange, steep}
 use Rattle.contours.specs.Limits.{mostPoints, mostCoordinate}
-use Rattle.contours.specs.Contour.{at, Contour, weakAt}
+use Rattle.contours.specs.Contour.{at, Contour, weakAt, steepAt}
 
 -- ---- the refusals
 -- the ends rise strictly, the first from `start` on, and each is below the point count
@@ -44,16 +44,35 @@ rangeTests most o c = outOfRange unless coordinatesHold most o ∷ outOfRange un
 abbrev pub outlineTests : ℕ → List ℤ → List ℤ → List ℕ → List ℕ → List Test
 outlineTests most o c t es = listTests o c t es ++ rangeTests most o c
 
--- the tests of `align_weak_points`
-abbrev pub weakTests : List ℤ → List ℤ → List ℕ → List ℕ → List Test
-weakTests = outlineTests mostCoordinate
-
 -- ---- contours
 -- the contour of the point i, where the first of the contours with these ends starts at `start` and each other behind the one before it; the points behind
 -- the last belong to none
 unfoldable pub contourOf : ℕ → List ℕ → ℕ → Option Contour
 contourOf start [] i = none
 contourOf start (e ∷ es) i = cond (leb i e) (some (record { start = start; end = suc e })) (contourOf (suc e) es i)
+
+-- ---- which outlines are too steep (request #109)
+-- a point of a contour, or of none
+unfoldable pub steepOn : List ℤ → List ℤ → List ℕ → Option Contour → ℕ → Bool
+steepOn o c t none i = false
+steepOn o c t (some k) i = steepAt o c t k i
+
+-- none of the n points from i on is too steep
+unfoldable pub gentleFrom : (ℕ → Bool) → ℕ → ℕ → Bool
+gentleFrom f i zero = true
+gentleFrom f i (suc n) = not (f i) && gentleFrom f (suc i) n
+
+-- no point of the outline is
+unfoldable pub gentle : List ℤ → List ℤ → List ℕ → List ℕ → Bool
+gentle o c t es = gentleFrom (λ i. steepOn o c t (contourOf 0 es i) i) 0 (length o)
+
+-- the tests of an outline's numbers: its coordinates, and then that no point is too steep
+abbrev pub numberTests : List ℤ → List ℤ → List ℕ → List ℕ → List Test
+numberTests o c t es = rangeTests mostCoordinate o c ++ (steep unless gentle o c t es ∷ [])
+
+-- the tests of `align_weak_points`
+abbrev pub weakTests : List ℤ → List ℤ → List ℕ → List ℕ → List Test
+weakTests o c t es = listTests o c t es ++ numberTests o c t es
 
 -- ---- where a point comes to
 -- a point of a contour, or of none, which stays

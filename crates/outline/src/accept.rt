@@ -1,13 +1,20 @@
-// Which outlines are refused: the tests that weak points and the path share.
+// Which outlines are refused: the tests that weak points and the path share, and those of weak points.
+use super::limits::MOST_COORDINATE;
+use super::limits::MOST_NEAR;
 use super::limits::MOST_POINTS;
+use super::reach::coordinates_hold;
+use super::reach::is_calm;
+use super::reach::reach_of;
+use super::steep::too_steep;
 use refusals::order::BAD_INDEX;
 use refusals::order::OUT_OF_RANGE;
 use refusals::order::TOO_LONG;
+use refusals::order::TOO_STEEP;
 ghost use mathlib.Core.Path.{_≡_};
 ghost use lib.IntN.{pos, natAbs};
 ghost use lib.Signed.{_≤ℤ_};
 ghost use Rattle.refusals.specs.Refusal.{refusal};
-ghost use Rattle.outline.specs.Weak.{endsHold, coordinateHolds, coordinatesHold, listTests, rangeTests, outlineTests};
+ghost use Rattle.outline.specs.Weak.{endsHold, listTests, rangeTests, outlineTests, numberTests, weakTests};
 
 // A contour end as an index.
 pub fn wide(x: u16) -> usize
@@ -34,32 +41,6 @@ fn ends_hold(ends: &[u16], count: usize) -> bool
         k += 1;
     }
     true
-}
-
-// Whether a coordinate is at most `most` either way.
-fn coordinate_holds(x: i32, most: i32) -> bool
-    requires { ⌜ pos 0 ≤ℤ most ⌝ }
-    ensures { λ r. ⌜ r ≡ coordinateHolds (natAbs most) x ⌝ }
-{
-    if x < 0 - most {
-        return false;
-    }
-    x <= most
-}
-
-// Whether every coordinate of a list is.
-fn coordinates_hold(list: &[i32], most: i32) -> bool
-    requires { ⌜ pos 0 ≤ℤ most ⌝ }
-    ensures { λ r. ⌜ r ≡ coordinatesHold (natAbs most) (now (list .entry)) ⌝ }
-{
-    let mut all = true;
-    let mut i: usize = 0;
-    while i < list.len() {
-        let holds = coordinate_holds(list[i], most);
-        all = all & holds;
-        i += 1;
-    }
-    all
 }
 
 // The refusal of an outline by its lists and contour ends, or 0.
@@ -111,4 +92,39 @@ pub fn outline_refusal(
         return answer;
     }
     range_refusal(originals, currents, most)
+}
+
+// The refusal of an outline that its lists and contour ends pass, by the coordinates of weak points and by a point that is too steep, or 0. Where all currents are near 0
+// one test of them is enough, and where no two are far apart no contour is walked.
+pub fn number_refusal(originals: &[i32], currents: &[i32], touched: &[u8], ends: &[u16]) -> u8
+    requires { ⌜ refusal (listTests (now originals) (now currents) (now touched) (now ends)) ≡ 0 ⌝ }
+    ensures { λ r. ⌜ r ≡ refusal (numberTests (now (originals .entry)) (now (currents .entry)) (now (touched .entry)) (now (ends .entry))) ⌝ }
+{
+    if !coordinates_hold(originals, MOST_COORDINATE) {
+        return OUT_OF_RANGE;
+    }
+    if coordinates_hold(currents, MOST_NEAR) {
+        return 0;
+    }
+    if !coordinates_hold(currents, MOST_COORDINATE) {
+        return OUT_OF_RANGE;
+    }
+    if is_calm(reach_of(currents)) {
+        return 0;
+    }
+    if too_steep(originals, currents, touched, ends) {
+        return TOO_STEEP;
+    }
+    0
+}
+
+// The refusal of weak points, or 0.
+pub fn weak_refusal(originals: &[i32], currents: &[i32], touched: &[u8], ends: &[u16]) -> u8
+    ensures { λ r. ⌜ r ≡ refusal (weakTests (now (originals .entry)) (now (currents .entry)) (now (touched .entry)) (now (ends .entry))) ⌝ }
+{
+    let answer = list_refusal(originals, currents, touched, ends);
+    if 0 < answer {
+        return answer;
+    }
+    number_refusal(originals, currents, touched, ends)
 }

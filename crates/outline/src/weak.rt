@@ -1,14 +1,14 @@
 // The public call (the Rust's `align_weak_points`, for one axis).
-use super::accept::outline_refusal;
+use super::accept::weak_refusal;
 use super::accept::wide;
-use super::limits::MOST_COORDINATE;
 use contours::contour::align_contour;
 ghost use Rattle.outline.specs.Weak.{Outcome};
-ghost use Rattle.outline.specs.Steps.{Accepted, AllDone};
+ghost use Rattle.outline.specs.Steps.{Accepted, GentleAll, AllDone};
 
 // Aligns each contour on its own stretch of the lists.
 fn align_contours(originals: &[i32], currents: &mut [i32], touched: &[u8], ends: &[u16])
     requires { ⌜ Accepted (now originals) (now currents) (now touched) (now ends) ⌝ }
+    requires { ⌜ GentleAll (now originals) (now currents) (now touched) (now ends) ⌝ }
     ensures { λ _. ⌜ AllDone (now (originals .entry)) (now (currents .entry)) (now (touched .entry)) (now (ends .entry)) (now (currents .exit)) ⌝ }
 {
     let mut start: usize = 0;
@@ -25,7 +25,7 @@ fn align_contours(originals: &[i32], currents: &mut [i32], touched: &[u8], ends:
     }
 }
 
-// Aligns the weak points of one axis. The answer is 0, or document 01's number of the refusal, 1, 3 or 4, which writes nothing.
+// Aligns the weak points of one axis. The answer is 0, or document 01's number of the refusal, 1, 3, 4 or 8, which writes nothing.
 pub fn align_weak_points(
     originals: &[i32],
     currents: &mut [i32],
@@ -34,7 +34,7 @@ pub fn align_weak_points(
 ) -> u8
     ensures { λ r. ⌜ Outcome (now (originals .entry)) (now (currents .entry)) (now (touched .entry)) (now (ends .entry)) r (now (currents .exit)) ⌝ }
 {
-    let answer = outline_refusal(originals, currents, touched, ends, MOST_COORDINATE);
+    let answer = weak_refusal(originals, currents, touched, ends);
     if 0 < answer {
         return answer;
     }

@@ -6,13 +6,13 @@ use Rattle.refusals.specs.Refusal.{refusal}
 use Rattle.outline.specs.Weak.{endsHold, coordinateHolds, coordinatesHold}
 use Rattle.path.specs.Handing.{pathTests}
 
--- 49,149 either way is accepted
-most : refusal (pathTests (pos 49149 ∷ []) (negsuc 49148 ∷ []) (1 ∷ []) (0 ∷ [])) ≡ 0
+-- 196,605 either way is accepted
+most : refusal (pathTests (pos 196605 ∷ []) (negsuc 196604 ∷ []) (1 ∷ []) (0 ∷ [])) ≡ 0
 unfolding refusal endsHold coordinateHolds coordinatesHold
 most = refl
 
 -- one unit more is refused by 4, of a point of no contour too
-more : refusal (pathTests (pos 0 ∷ []) (negsuc 49149 ∷ []) (1 ∷ []) []) ≡ 4
+more : refusal (pathTests (pos 0 ∷ []) (negsuc 196605 ∷ []) (1 ∷ []) []) ≡ 4
 unfolding refusal endsHold coordinateHolds coordinatesHold
 more = refl
 

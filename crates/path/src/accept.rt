@@ -5,7 +5,7 @@ ghost use Rattle.refusals.specs.Refusal.{refusal};
 ghost use Rattle.path.specs.Handing.{pathTests};
 
 // Coordinates either way, in units: what weak points can leave.
-const MOST_RESULT: i32 = 49149;
+const MOST_RESULT: i32 = 196605;
 
 // The refusal of an outline of fitted points, or 0.
 pub fn path_refusal(xs: &[i32], ys: &[i32], marks: &[u8], ends: &[u16]) -> u8

@@ -25,6 +25,10 @@ outOfRange = 4
 abbrev pub noRoom : ℕ
 noRoom = 5
 
+-- a point between its references needs a quotient that is too steep (request #109); the tests have it behind 4
+abbrev pub steep : ℕ
+steep = 8
+
 -- an order of edges is asked for that is retired (request #114); the tests have it right behind 1
 abbrev pub retired : ℕ
 retired = 10

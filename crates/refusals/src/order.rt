@@ -13,6 +13,9 @@ pub const OUT_OF_RANGE: u8 = 4;
 
 pub const NO_ROOM: u8 = 5;
 
+// Request #109's, of a point that needs a quotient which is too steep.
+pub const TOO_STEEP: u8 = 8;
+
 // Request #114's, of an order of edges that is retired.
 pub const RETIRED: u8 = 10;
 

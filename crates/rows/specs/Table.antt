@@ -9,8 +9,9 @@ use Rattle.fixed.specs.declared.width.WidthRule.the-variants.{Keep}
 use Rattle.fixed.specs.Pixel.{pixFloor, pixRound}
 use Rattle.fixed.specs.Width.{ruleHolds, fittedWidth}
 use Rattle.fixed.specs.Point.{rounded, roundedZ, mulFix, divFix, derived}
-use Rattle.contours.specs.Contour.{firstTouched, lastTouched, touchedBefore, touchedBehind, references, firstOf, secondOf, interpolated, betweenAt, shiftedAt, followed, weakAt}
-use Rattle.outline.specs.Weak.{endsHold, coordinateHolds, coordinatesHold, contourOf, onContour, alignedAt, listOf, result}
+use Rattle.fixed.specs.Divide.{tooSteep}
+use Rattle.contours.specs.Contour.{firstTouched, lastTouched, touchedBefore, touchedBehind, references, firstOf, secondOf, interpolated, betweenAt, shiftedAt, followed, weakAt, steepBetween, steepBy, steepFollowed, steepAt}
+use Rattle.outline.specs.Weak.{endsHold, coordinateHolds, coordinatesHold, contourOf, steepOn, gentleFrom, gentle, onContour, alignedAt, listOf, result}
 use Rattle.axis.specs.declared.kinds.Dimension.the-variants.{Vertical}
 use Rattle.axis.specs.declared.kinds.Direction.{Direction}
 use Rattle.axis.specs.declared.kinds.Direction.the-variants as Directions
@@ -123,7 +124,7 @@ unfolding
     rounded roundedZ mulFix divFix derived pixFloor pixRound ruleHolds fittedWidth
     refusal linkHolds blueHolds every edgeIndices edgeNumbers edgesIndices edgesNumbers segmentIndices segmentNext segmentNumbers segmentsIndices segmentsNexts segmentsNumbers
     endsHold coordinateHolds coordinatesHold contourOf firstTouched lastTouched touchedBefore touchedBehind references firstOf secondOf interpolated betweenAt shiftedAt followed
-    weakAt onContour alignedAt listOf result
+    weakAt onContour alignedAt listOf result gentle gentleFrom steepOn steepAt steepFollowed steepBy steepBetween tooSteep
     distanceThreshold
     linkedOn groupHolds applies moveDone moveOnly moveLink moveSerifs moveStem aligned hintLowercaseM
     D.same D.opposite linksTo turns till P.maxZ P.minZ P.gapOf P.facing P.checkSeg P.improvedBy P.nearStem P.encloses P.muchLonger P.rewritten P.staysSerif P.settled

@@ -39,13 +39,13 @@ pub fn weak_rows() {
         b"0 | 3 5 15 25",
     );
     row(
-        b"weak    coordinate 16,383: accepted",
-        b"3 | 1 16383 | 1 16383 | 1 1 | 1 0",
-        b"0 | 1 16383",
+        b"weak    coordinate 65,535: accepted",
+        b"3 | 1 65535 | 1 65535 | 1 1 | 1 0",
+        b"0 | 1 65535",
     );
     row(
-        b"weak    coordinate 16,384: refusal 4",
-        b"3 | 1 16384 | 1 16384 | 1 1 | 1 0",
-        b"4 | 1 16384",
+        b"weak    coordinate 65,536: refusal 4",
+        b"3 | 1 65536 | 1 65536 | 1 1 | 1 0",
+        b"4 | 1 65536",
     );
 }

@@ -3,7 +3,7 @@ use borrow.Author.Needs.{needs}
 use native.Mathlib.Omega.{arith}
 use mathlib.Core.Path.{_≡_, _∙_}
 use lib.ListN.{length}
-use Rattle.contours.proofs.Stretch.{done-none, done-one, done-more, kept, kept-behind}
+use Rattle.contours.proofs.Stretch.{done-none, done-one, done-more, kept, kept-behind, gentle-behind, gentle-front}
 use Rattle.contours.proofs.contour.align_contour.Statement.{statement}
 use Rattle.contours.proofs.contour.align_contour.Tie as tie
 
@@ -54,7 +54,7 @@ iup-interpolate-requires c κs =
     let u = g .align-gaps .ensures .0 in
     let k = kept (s .args .originals .now) (s .args .currents .now) (s .args .touched .now) _ _ _ (n .next-touched .ensures) u (g .align-gaps .ensures .1) in (
       (u .len ∙ s .pre .0 .0, omega (arith, u .high), omega arith),
-      ((omega (arith, u .high), omega (arith, u .low, u .high)), (s .pre .1 .0, rw (k .0) (s .pre .1 .1 (g .align-gaps .result)), rw (k .1) (s .pre .1 .1 (n .next-touched .result)))),
+      ((omega (arith, u .high), omega (arith, u .low, u .high)), (s .pre .1 .0, rw (k .0) (s .pre .1 .1 (g .align-gaps .result)), rw (k .1) (s .pre .1 .1 (n .next-touched .result)), gentle-behind (s .args .originals .now) (s .args .currents .now) (s .args .touched .now) _ _ _ (n .next-touched .ensures) u (g .align-gaps .ensures .1) (s .pre .1 .2))),
     )
 
 iup-interpolate-requires-2 : tie.Need-iup-interpolate-requires-2
@@ -67,7 +67,7 @@ iup-interpolate-requires-2 c κs =
     let w = i .iup-interpolate .ensures in
     let k = kept-behind (s .args .originals .now) (s .args .currents .now) (s .args .touched .now) _ _ _ (n .next-touched .ensures) u (g .align-gaps .ensures .1) _ w in (
       (w .len ∙ u .len ∙ s .pre .0 .0, omega arith, omega (arith, u .low, u .high)),
-      ((omega (arith, u .high), omega (arith, u .low, u .high)), (s .pre .1 .0, rw (k .0) (s .pre .1 .1 (g .align-gaps .result)), rw (k .1) (s .pre .1 .1 (n .next-touched .result)))),
+      ((omega (arith, u .high), omega (arith, u .low, u .high)), (s .pre .1 .0, rw (k .0) (s .pre .1 .1 (g .align-gaps .result)), rw (k .1) (s .pre .1 .1 (n .next-touched .result)), gentle-front (s .args .originals .now) (s .args .currents .now) (s .args .touched .now) _ _ _ (n .next-touched .ensures) u (g .align-gaps .ensures .1) _ w (s .pre .1 .2))),
     )
 
 same-length-2 : tie.Need-same-length-2

@@ -5,7 +5,7 @@ use mathlib.Core.Path.{_≡_, _∙_}
 use Prim.Native.Nat.{_+_, _-_}
 use lib.ListN.{length}
 use Rattle.contours.specs.Steps.{Next, Upto}
-use Rattle.contours.proofs.Stretch.{upto-first, upto-next, at-p, at-q}
+use Rattle.contours.proofs.Stretch.{upto-first, upto-next, at-p, at-q, gentle-gap}
 use Rattle.contours.proofs.contour.align_gaps.Statement.{statement}
 use Rattle.contours.proofs.contour.align_gaps.Tie as tie
 
@@ -37,7 +37,7 @@ iup-interpolate-requires c κs =
     let x = l .inv .1 in
     let r = s .pre .1 .1 in (
       (u .len ∙ s .pre .0 .0, x .low, omega arith),
-      ((omega (arith, u .high), omega arith), (r .0, rw (at-p _ _ _ _ _ _ _ u x) (r .1 (l .last)), rw (at-q _ _ _ _ _ _ _ u x) (r .1 (l .next)))),
+      ((omega (arith, u .high), omega arith), (r .0, rw (at-p _ _ _ _ _ _ _ u x) (r .1 (l .last)), rw (at-q _ _ _ _ _ _ _ u x) (r .1 (l .next)), gentle-gap _ _ _ _ _ _ _ u x (r .2) (omega arith))),
     )
 
 add-next-touched-2 : tie.Need-add-next-touched-2 Inv-loop μ-loop

@@ -2,6 +2,7 @@
 use borrow.Author.Needs.{needs}
 use native.Mathlib.Omega.{arith}
 use mathlib.Core.Path.{_≡_, sym, ap, subst, _∙_}
+use mathlib.Core.Bool.{false}
 use Prim.Native.Nat.{_≤_, _-_}
 use lib.IntN.{ℤ}
 use mir.Syntax.{w32}
@@ -9,7 +10,7 @@ use mir.Val.{SFits}
 use Rattle.signed.specs.Range.{Between}
 use Rattle.signed.proofs.Signed.{is, got, fits-in}
 use Rattle.contours.specs.Limits.{mostCoordinate}
-use Rattle.contours.specs.Contour.{at, interpolated}
+use Rattle.contours.specs.Contour.{at, interpolated, steepBetween}
 use Rattle.contours.specs.Steps.{Wrote, spannedAt}
 use Rattle.contours.proofs.Writing.{wrote-none, wrote-more}
 use Rattle.contours.proofs.iup.fill.Statement.{statement}
@@ -40,7 +41,10 @@ whole c = fits-in w32 (c .before .before .before .pre .1 .0 (c .before .before .
 place-requires : tie.Need-place-requires Inv-loop μ-loop
 place-requires c κs =
     let p = c .before .before .before .pre .1 in
-    (subst (Between mostCoordinate mostCoordinate) (sym (is (whole c))) (p .0 (c .before .before .loop .i)), p .1)
+    let l = c .before .before .loop in
+    let s = c .before .before .before .args .span in
+    let e : steepBetween (original c) (s .v1) (s .u1) (s .v2) (s .u2) ≡ false = p .2 (l .i) (l .inv .0) (omega arith) in
+    (subst (Between mostCoordinate mostCoordinate) (sym (is (whole c))) (p .0 (l .i)), (p .1, ap (λ (z : ℤ). steepBetween z (s .v1) (s .u1) (s .v2) (s .u2)) (is (whole c)) ∙ e))
 
 mul-u : tie.Need-mul-u Inv-loop μ-loop
 mul-u c = search needs

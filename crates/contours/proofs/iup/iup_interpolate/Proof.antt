@@ -8,12 +8,12 @@ use lib.Signed.{ltZ}
 use mir.Syntax.{w32}
 use mir.Val.{toZ, ofZ}
 use Rattle.signed.proofs.Signed.{signed, atmost, is, fits-in}
-use Rattle.contours.specs.Contour.{at}
+use Rattle.contours.specs.Contour.{at, steepBetween}
 use Rattle.contours.specs.Steps.{Ordered, spanOf, SpanHolds, spannedAt}
 use Rattle.contours.specs.declared.iup.Span.{Span}
 use Rattle.signed.proofs.By.{by₂}
 use Rattle.contours.proofs.Writing.{wrote-none, wrote-as}
-use Rattle.contours.proofs.Spans.{ordered-as, between-less, between-more, span-holds}
+use Rattle.contours.proofs.Spans.{ordered-as, between-less, between-more, steep-less, steep-more, span-holds}
 use Rattle.contours.proofs.iup.iup_interpolate.Statement.{statement}
 use Rattle.contours.proofs.iup.iup_interpolate.Tie as tie
 
@@ -111,7 +111,16 @@ span-is c = let s = start (c .before .before .before) in c .span-of .ensures ∙
 fill-requires : tie.Need-fill-requires
 fill-requires c κs =
     let s = start (c .before .before .before) in
-    (s .pre .0, (s .pre .1 .1 .0, subst SpanHolds (sym (span-is c)) (span-holds _ _ _ _ (less s (tested (c .before .before .before) true (c .before .before .if2 .taken))))))
+    let a = s .args in
+    let e = tested (c .before .before .before) true (c .before .before .if2 .taken) in (
+      s .pre .0,
+      (
+        s .pre .1 .1 .0,
+        subst SpanHolds (sym (span-is c)) (span-holds _ _ _ _ (less s e)),
+        λ i l h. ap (λ (z : Span). steepBetween (at (a .originals .now) i) (z .v1) (z .u1) (z .v2) (z .u2)) (span-is c)
+            ∙ steep-less (a .originals .now) (a .currents .now) (a .ref1) (a .ref2) e i ∙ s .pre .1 .1 .3 i l h,
+      ),
+    )
 
 span-of-requires-2 : tie.Need-span-of-requires-2
 span-of-requires-2 c κs =
@@ -126,7 +135,16 @@ span-is-2 c = let s = start (c .before .before .before) in c .span-of2 .ensures 
 fill-requires-2 : tie.Need-fill-requires-2
 fill-requires-2 c κs =
     let s = start (c .before .before .before) in
-    (s .pre .0, (s .pre .1 .1 .0, subst SpanHolds (sym (span-is-2 c)) (span-holds _ _ _ _ (more s (tested (c .before .before .before) false (c .before .before .if2 .left))))))
+    let a = s .args in
+    let e = tested (c .before .before .before) false (c .before .before .if2 .left) in (
+      s .pre .0,
+      (
+        s .pre .1 .1 .0,
+        subst SpanHolds (sym (span-is-2 c)) (span-holds _ _ _ _ (more s e)),
+        λ i l h. ap (λ (z : Span). steepBetween (at (a .originals .now) i) (z .v1) (z .u1) (z .v2) (z .u2)) (span-is-2 c)
+            ∙ steep-more (a .originals .now) (a .currents .now) (a .ref1) (a .ref2) e i ∙ s .pre .1 .1 .3 i l h,
+      ),
+    )
 
 same-length : tie.Need-same-length
 same-length c = search needs

@@ -1,6 +1,7 @@
 -- `contours::iup::place` meets its contract: each sum fits, and so does the product, as the arithmetic's law says. Assumes nothing.
 use native.Mathlib.Omega.{arith}
 use mathlib.Core.Path.{_≡_, refl, sym, ap, subst, _∙_}
+use mathlib.Core.Bool.{false}
 use Prim.Native.Nat.{_+_, _<_}
 use lib.IntN.{ℤ, _+ℤ_, _-ℤ_}
 use mir.Syntax.{w32}
@@ -8,9 +9,10 @@ use mir.Val.{toZ, ofZ, SFits}
 use Rattle.signed.specs.Parts.{up, dn}
 use Rattle.signed.proofs.Signed.{signed, fits, is, got, fits-in, sub-law, one-zero, _also_}
 use Rattle.fixed.specs.Point.{mulFix, divFix}
-use Rattle.fixed.proofs.Interpolation.{Interpolation}
+use Rattle.fixed.specs.Divide.{tooSteep}
+use Rattle.fixed.proofs.Interpolation.{AlongLine, Fitting}
 use Rattle.signed.proofs.By.{by₂}
-use Rattle.contours.proofs.Spans.{slope-is, interpolated-low, interpolated-high, interpolated-level, interpolated-between, between-law}
+use Rattle.contours.proofs.Spans.{slope-is, interpolated-low, interpolated-high, interpolated-level, interpolated-between, along-law, fitting-law, gentle-law}
 use Rattle.contours.proofs.iup.place.Statement.{statement}
 use Rattle.contours.proofs.iup.place.Tie as tie
 
@@ -43,7 +45,7 @@ pub record Whole (s : tie.Start) : Type 0 where
 
 whole : (s : tie.Start) → Whole s
 whole s =
-    let h = s .pre .1 .ordered in
+    let h = s .pre .1 .0 .ordered in
     record { w1 = fits-in w32 (h .original1) tt tt; x1 = fits-in w32 (h .current1) tt tt; w2 = fits-in w32 (h .original2) tt tt; x2 = fits-in w32 (h .current2) tt tt }
 
 -- the function's entry, from where the original is above the first, where it is below the second too, and where the currents differ
@@ -108,15 +110,21 @@ module _ (e : tie.Else3) where
   differ : u1 (start3 e) ≡ u2 (start3 e) → ⊥
   differ q = e .if3 .left (ap (ofZ w32) q)
 
-  law : Interpolation (v (start3 e) -ℤ v1 (start3 e)) (u2 (start3 e) -ℤ u1 (start3 e)) (v2 (start3 e) -ℤ v1 (start3 e))
-  law = let s = start3 e in between-law (v s) (v1 s) (u1 s) (v2 s) (u2 s) low high (s .pre .1 .ordered)
+  gentle : tooSteep (u2 (start3 e) -ℤ u1 (start3 e)) (v2 (start3 e) -ℤ v1 (start3 e)) ≡ false
+  gentle = let s = start3 e in gentle-law (v s) (v1 s) (u1 s) (v2 s) (u2 s) low high (s .pre .1 .1)
+
+  law : Fitting (v (start3 e) -ℤ v1 (start3 e)) (u2 (start3 e) -ℤ u1 (start3 e)) (v2 (start3 e) -ℤ v1 (start3 e))
+  law = let s = start3 e in fitting-law (v s) (v1 s) (u1 s) (v2 s) (u2 s) low high (s .pre .1 .0 .ordered) gentle
+
+  line : AlongLine (v (start3 e) -ℤ v1 (start3 e)) (u2 (start3 e) -ℤ u1 (start3 e)) (v2 (start3 e) -ℤ v1 (start3 e)) (step (start3 e))
+  line = let s = start3 e in along-law (v s) (v1 s) (u1 s) (v2 s) (u2 s) low high (s .pre .1 .0 .ordered)
 
   scaled : start3 e .args .span .scale ≡ divFix (u2 (start3 e) -ℤ u1 (start3 e)) (v2 (start3 e) -ℤ v1 (start3 e))
   scaled =
       let s = start3 e in
       let l = low in
       let h = high in
-      s .pre .1 .scaled ∙ slope-is (v1 s) (u1 s) (v2 s) (u2 s) differ (λ q. absurd (omega (arith, signed)))
+      s .pre .1 .0 .scaled ∙ slope-is (v1 s) (u1 s) (v2 s) (u2 s) differ (λ q. absurd (omega (arith, signed))) gentle
 
 sub-fixed-mul : tie.Need-sub-fixed-mul
 sub-fixed-mul c = let k = whole (start3 (c .before .before)) in fits (omega (arith, signed))
@@ -145,8 +153,8 @@ add-result-3 c =
     let e = m .before .before .before .before in
     let s = start3 e in
     let k = whole s also got w32 (m .fixed-mul .result) (m .fixed-mul .ok) in
-    let f = law e .along in
-    fits (omega (arith, signed, ap up (product m), ap dn (product m), f .not-above, f .not-below, sub-law (u2 s) (u1 s), one-zero (u2 s -ℤ u1 s), s .pre .1 .ordered))
+    let f = line e in
+    fits (omega (arith, signed, ap up (product m), ap dn (product m), f .not-above, f .not-below, sub-law (u2 s) (u1 s), one-zero (u2 s -ℤ u1 s), s .pre .1 .0 .ordered))
 
 returns-4 : tie.Need-returns-4
 returns-4 c =

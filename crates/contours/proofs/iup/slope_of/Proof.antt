@@ -8,7 +8,10 @@ use mir.Val.{toZ, ofZ, SFits}
 use Rattle.signed.proofs.Signed.{signed, fits, is, got}
 use Rattle.fixed.specs.Point.{divFix}
 use Rattle.signed.proofs.By.{by₂}
-use Rattle.contours.proofs.Spans.{slope-level, slope-upright, slope-is, apart, span-law}
+use Rattle.fixed.specs.Divide.{quotientOf}
+use Rattle.fixed.proofs.Quotients.{told-steep, told-of}
+use borrow.Author.Needs.{needs}
+use Rattle.contours.proofs.Spans.{slope-level, slope-upright, slope-steep, slope-is, apart, span-some}
 use Rattle.contours.proofs.iup.slope_of.Statement.{statement}
 use Rattle.contours.proofs.iup.slope_of.Tie as tie
 
@@ -50,15 +53,45 @@ fixed-div-requires : tie.Need-fixed-div-requires
 fixed-div-requires c κs =
     let s = c .before .before in
     let a = s .args in
-    let k = span-law (a .v1) (a .u1) (a .v2) (a .u2) (s .pre) (apart (a .v1) (a .u1) (a .v2) (a .u2) (s .pre .order) (distinct c)) in
-    (subst (λ (z : ℤ). 0 < natAbs z) (sym (originals c)) (k .divisor), subst (SFits w32) (sym (by₂ divFix refl (currents c) (originals c))) (k .quotient))
+    subst (λ (z : ℤ). 0 < natAbs z) (sym (originals c)) (span-some (a .v1) (a .v2) (apart (a .v1) (a .u1) (a .v2) (a .u2) (s .pre .order) (distinct c)))
+
+enum-known-quotient : tie.Need-enum-known-quotient
+enum-known-quotient c = search needs
+
+enum-told : tie.Need-enum-told
+enum-told c = search needs
+
+-- what fixed divide answers
+told : (c : tie.After-fixed-div)
+    → c .fixed-div .result ≡ quotientOf (c .before .before .before .args .u2 -ℤ c .before .before .before .args .u1) (c .before .before .before .args .v2 -ℤ c .before .before .before .args .v1)
+told c = by₂ quotientOf (c .fixed-div .ensures) (currents (c .before)) (originals (c .before))
 
 returns-3 : tie.Need-returns-3
 returns-3 c =
-    let e = c .before in
+    let d = c .before .before in
+    let e = d .before in
     let a = e .before .before .args in
-    is (got w32 (c .fixed-div .result) (c .fixed-div .ok)) ∙ by₂ divFix (c .fixed-div .ensures) (currents e) (originals e)
-    ∙ sym (slope-is (a .v1) (a .u1) (a .v2) (a .u2) (differ (e .before)) (distinct e))
+    sym (slope-steep (a .v1) (a .u1) (a .v2) (a .u2) (differ (e .before)) (distinct e) (told-steep _ _ (sym (told d) ∙ c .enum-told .given .1)))
+
+returns-4 : tie.Need-returns-4
+returns-4 c =
+    let d = c .before .before .before in
+    let e = d .before in
+    let a = e .before .before .args in
+    let z = c .before .quotient .given .0 .0 in
+    let t = told-of (a .u2 -ℤ a .u1) (a .v2 -ℤ a .v1) z (sym (told d) ∙ c .before .quotient .given .1) in
+    is (got w32 z (c .known-told .given .0 .1)) ∙ t .1 ∙ sym (slope-is (a .v1) (a .u1) (a .v2) (a .u2) (differ (e .before)) (distinct e) (t .0))
 
 pub slope-of-spec : {M : Type 1} → statement M
-slope-of-spec = tie.close (tie.spec returns returns-2 sub-fixed-div sub-fixed-div-2 fixed-div-requires returns-3)
+slope-of-spec =
+    tie.close
+    (tie.spec
+    returns
+    returns-2
+    sub-fixed-div
+    sub-fixed-div-2
+    fixed-div-requires
+    enum-known-quotient
+    enum-told
+    returns-3
+    returns-4)

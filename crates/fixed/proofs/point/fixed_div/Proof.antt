@@ -1,28 +1,49 @@
--- `fixed::point::fixed_div` meets its contract: the answer fits, as its caller shows. Assumes nothing.
-use mathlib.Core.Path.{_≡_, sym, subst, _∙_}
+-- `fixed::point::fixed_div` meets its contract: the quotient where its magnitude is an answer's, and else too steep. Assumes nothing.
+use native.Mathlib.Omega.{arith}
+use mathlib.Core.Path.{_≡_, sym, ap, subst, _∙_}
+use Prim.Native.Nat.{ℕ, _*_}
+use lib.IntN.{natAbs}
 use mir.Syntax.{w32, w64}
-use mir.Val.{toZ, ofZ, SFits}
-use Rattle.signed.proofs.Signed.{is, got}
-use Rattle.fixed.specs.Point.{divFix}
-use Rattle.signed.proofs.By.{by₂}
+use mir.Val.{SFits, toZ, ofZ}
+use Rattle.signed.proofs.Signed.{is, got, fits-in, abs-of, between-sfits}
+use Rattle.signed.proofs.By.{by₂, by₃}
+use Rattle.fixed.specs.Point.{rounded, divFix}
+use Rattle.fixed.specs.Steps.{signedLike}
+use Rattle.fixed.specs.declared.point.Quotient.the-variants.{Of}
+use Rattle.fixed.proofs.Rounding.{div-sign}
+use Rattle.fixed.proofs.Quotients.{steep-of, not-steep-of, quotient-fits}
 use Rattle.fixed.proofs.point.fixed_div.Statement.{statement}
 use Rattle.fixed.proofs.point.fixed_div.Tie as tie
 
-wide-div-requires : tie.Need-wide-div-requires
-wide-div-requires c κs = rw (is (c .fits .b)) (c .pre .0)
+quotient-size-requires : tie.Need-quotient-size-requires
+quotient-size-requires c κs = rw (is (c .fits .b)) (c .pre)
 
-answer-is : (c : tie.After-wide-div) → c .wide-div .result ≡ divFix (c .before .args .a) (c .before .args .b)
-answer-is c = by₂ divFix (c .wide-div .ensures) (is (c .before .fits .a)) (is (c .before .fits .b))
-
--- the machine reads it whole
-whole : (c : tie.After-wide-div) → toZ w64 (ofZ w64 (c .wide-div .result)) ≡ divFix (c .before .args .a) (c .before .args .b)
-whole c = is (got w64 (c .wide-div .result) (c .wide-div .ok)) ∙ answer-is c
-
-cast-result : tie.Need-cast-result
-cast-result c = subst (SFits w32) (sym (whole c)) (c .before .pre .1)
+-- the magnitude of the quotient
+size-is : (c : tie.After-quotient-size) → c .quotient-size .result ≡ rounded (natAbs (c .before .args .a) * 65536) (natAbs (c .before .args .b))
+size-is c = by₂ rounded (c .quotient-size .ensures) (ap (λ z. natAbs z * 65536) (is (c .before .fits .a))) (ap natAbs (is (c .before .fits .b)))
 
 returns : tie.Need-returns
-returns c = is (cast-result c) ∙ whole c
+returns c = let s = c .before .before in steep-of (s .args .a) (s .args .b) _ (s .pre) (size-is (c .before)) (omega arith)
+
+with-sign-requires : tie.Need-with-sign-requires
+with-sign-requires c κs = omega arith
+
+-- the quotient, as the code has it in 64 bits
+whole : (c : tie.After-with-sign) → toZ w64 (ofZ w64 (c .with-sign .result)) ≡ divFix (c .before .before .before .args .a) (c .before .before .before .args .b)
+whole c =
+    let s = c .before .before .before in
+    is (got w64 (c .with-sign .result) (c .with-sign .ok))
+    ∙ by₃ signedLike (c .with-sign .ensures) (size-is (c .before .before)) (is (s .fits .a)) (is (s .fits .b)) ∙ sym (div-sign (s .args .a) (s .args .b) (s .pre))
+
+cast-answer : tie.Need-cast-answer
+cast-answer c =
+    let s = c .before .before .before in
+    subst (SFits w32) (sym (whole c)) (fits-in w32 (quotient-fits (s .args .a) (s .args .b) _ (s .pre) (size-is (c .before .before)) (omega arith)) tt tt)
+
+returns-2 : tie.Need-returns-2
+returns-2 c =
+    let s = c .before .before .before in
+    ap Of (is (cast-answer c) ∙ whole c) ∙ not-steep-of (s .args .a) (s .args .b) _ (s .pre) (size-is (c .before .before)) (omega arith)
 
 pub fixed-div-spec : {M : Type 1} → statement M
-fixed-div-spec = tie.close (tie.spec wide-div-requires cast-result returns)
+fixed-div-spec = tie.close (tie.spec quotient-size-requires returns with-sign-requires cast-answer returns-2)

@@ -6,6 +6,7 @@ use Prim.Native.Nat.{_+_, _-_, _≤_, _<_}
 use lib.ListN.{length}
 use Rattle.outline.proofs.Refusals.{end-at}
 use Rattle.outline.proofs.Contours.{Sofar, sofar-none, sofar-next, sofar-all, part-length, coordinates-part}
+use Rattle.outline.proofs.Steepness.{own-gentle}
 use Rattle.outline.proofs.weak.align_contours.Statement.{statement}
 use Rattle.outline.proofs.weak.align_contours.Tie as tie
 
@@ -33,12 +34,12 @@ within c =
     record {
       low = omega (arith, c .wide .ensures, r .low);
       high = omega (arith, c .wide .ensures, r .high);
-      now-length = j .len ∙ entry c .pre .currents-length;
-      marks-length = entry c .pre .marks-length;
+      now-length = j .len ∙ entry c .pre .0 .currents-length;
+      marks-length = entry c .pre .0 .marks-length;
     }
 
 loop-holds : tie.Need-loop-holds Inv-loop μ-loop
-loop-holds c = sofar-none _ _ _ _ (c .before .before .pre .ends)
+loop-holds c = sofar-none _ _ _ _ (c .before .before .pre .0 .ends)
 
 mul-wide : tie.Need-mul-wide Inv-loop μ-loop
 mul-wide c = search needs
@@ -92,7 +93,11 @@ align-contour-requires c κs =
     let l = w .before .before .before .loop in
     let n = w .wide .result + 1 - l .start in (
       (part-length (l .currents) (s .args .originals .now) n (l .start) (within w .now-length), part-length (s .args .touched .now) (s .args .originals .now) n (l .start) (within w .marks-length)),
-      (coordinates-part (s .args .originals .now) n (l .start) (s .pre .originals), λ i. rw (l .inv .rest) (coordinates-part (s .args .currents .now) n (l .start) (s .pre .currents) i)),
+      (
+        coordinates-part (s .args .originals .now) n (l .start) (s .pre .0 .originals),
+        λ i. rw (l .inv .rest) (coordinates-part (s .args .currents .now) n (l .start) (s .pre .0 .currents) i),
+        rw (l .inv .rest) (own-gentle (s .args .originals .now) (s .args .currents .now) (s .args .touched .now) (s .args .ends .now) (s .pre .0 .marks-length) (l .k) (l .start) (w .wide .result) (w .wide .ensures) (w .before .before .loop-test .taken) (l .inv .search) (l .inv .ends) (s .pre .1)),
+      ),
     )
 
 add-k : tie.Need-add-k Inv-loop μ-loop
@@ -107,7 +112,7 @@ loop-again c =
     let s = entry w in
     let l = w .before .before .before .loop in
     let a = s .args in
-    sofar-next (a .originals .now) (a .currents .now) (a .touched .now) (a .ends .now) (s .pre .currents-length) (s .pre .marks-length) (l .k) (l .start) (w .wide .result) (l .currents) _
+    sofar-next (a .originals .now) (a .currents .now) (a .touched .now) (a .ends .now) (s .pre .0 .currents-length) (s .pre .0 .marks-length) (l .k) (l .start) (w .wide .result) (l .currents) _
     (w .wide .ensures) (w .before .before .loop-test .taken) (l .inv) (c .before .align-contour .ensures)
 
 same-length : tie.Need-same-length Inv-loop μ-loop

@@ -1,4 +1,4 @@
--- `outline::accept::coordinate_holds` meets its contract. Assumes nothing.
+-- `outline::reach::coordinate_holds` meets its contract. Assumes nothing.
 use mathlib.Core.Path.{sym}
 use native.Mathlib.Omega.{arith}
 use lib.IntN.{pos, _-ℤ_}
@@ -6,8 +6,8 @@ use mir.Syntax.{w32}
 use mir.Val.{SFits}
 use Rattle.signed.proofs.Signed.{is, fits, range, sub-law, signed}
 use Rattle.outline.proofs.Refusals.{coordinate-low, coordinate-high}
-use Rattle.outline.proofs.accept.coordinate_holds.Statement.{statement}
-use Rattle.outline.proofs.accept.coordinate_holds.Tie as tie
+use Rattle.outline.proofs.reach.coordinate_holds.Statement.{statement}
+use Rattle.outline.proofs.reach.coordinate_holds.Tie as tie
 
 -- the least coordinate
 least-fits : (s : tie.Start) → SFits w32 (pos 0 -ℤ s .args .most)

@@ -1,4 +1,4 @@
--- `outline::accept::coordinates_hold` meets its contract. The invariant: the list holds where what was tested and what is left of it do. Assumes nothing.
+-- `outline::reach::coordinates_hold` meets its contract. The invariant: the list holds where what was tested and what is left of it do. Assumes nothing.
 use borrow.Author.Needs.{needs}
 use mathlib.Core.Bool.{_&&_}
 use native.Mathlib.Omega.{arith}
@@ -12,8 +12,8 @@ use Rattle.signed.proofs.Signed.{is, got}
 use Rattle.contours.specs.Contour.{at}
 use Rattle.outline.specs.Weak.{coordinateHolds, coordinatesHold}
 use Rattle.outline.proofs.Refusals.{coordinates-next, coordinates-end}
-use Rattle.outline.proofs.accept.coordinates_hold.Statement.{statement}
-use Rattle.outline.proofs.accept.coordinates_hold.Tie as tie
+use Rattle.outline.proofs.reach.coordinates_hold.Statement.{statement}
+use Rattle.outline.proofs.reach.coordinates_hold.Tie as tie
 
 abbrev Inv-loop : tie.InvT-loop
 Inv-loop list most all₀ i₀ all i = (i ≤ length list) × (coordinatesHold (natAbs (toZ w32 most)) list ≡ (all && coordinatesHold (natAbs (toZ w32 most)) (drop i list)))
