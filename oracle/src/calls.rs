@@ -19,7 +19,9 @@ use crate::{
     joined::Fitted,
     limits::EDGES,
     path::{self, Step},
+    ranges,
     refusals::{self, Answer, Refusal},
+    weak,
 };
 use std::mem::take;
 
@@ -38,10 +40,19 @@ pub fn compute_mid_delta(min: i32, max: i32) -> i16 {
 /// The given Rust is run on both axes, each of an outline of its own, and must answer alike.
 pub fn align_weak_points(points: &mut Points) -> Answer<()> {
     refusals::weak(points)?;
-    let currents = aligned(points, Dimension::Horizontal);
-    assert_eq!(currents, aligned(points, Dimension::Vertical));
+    let currents = fitted(points, Dimension::Horizontal);
+    assert_eq!(currents, fitted(points, Dimension::Vertical));
     points.currents = currents;
     Ok(())
+}
+
+/// The currents that an accepted outline comes to on one axis: by the given Rust in the old range, beyond it by the second writing.
+pub(crate) fn fitted(points: &Points, dim: Dimension) -> Vec<i32> {
+    if ranges::is_old(points) {
+        aligned(points, dim)
+    } else {
+        weak::aligned(points)
+    }
 }
 
 /// The currents that the given Rust makes of these points on one axis.
@@ -341,23 +352,34 @@ pub fn path_step(walk: &Walk, cursor: u32) -> Answer<Option<Step>> {
 /// Call 17: currents and answers are lent; each outline is aligned as by call 3.
 pub fn align_catalogue(catalogue: &mut Catalogue) -> Answer<()> {
     refusals::catalogue(catalogue)?;
-    let (mut point, mut contour) = (0, 0);
-    for ix in 0..catalogue.answers.len() {
-        let points = point..point + usize::from(catalogue.point_counts[ix]);
-        let contours = contour..contour + usize::from(catalogue.contour_counts[ix]);
-        let shared = &catalogue.shared;
-        let mut own = Points {
-            originals: shared.originals[points.clone()].to_vec(),
-            currents: shared.currents[points.clone()].to_vec(),
-            touches: shared.touches[points.clone()].to_vec(),
-            ends: shared.ends[contours.clone()].to_vec(),
-        };
+    let mut first = 0;
+    for (ix, mut own) in outlines(catalogue).into_iter().enumerate() {
         let answer = align_weak_points(&mut own);
         catalogue.answers[ix] = answer.map_or_else(|refusal| refusal.0 as u8, |()| 0);
-        (point, contour) = (points.end, contours.end);
-        catalogue.shared.currents[points].copy_from_slice(&own.currents);
+        let behind = first + own.currents.len();
+        catalogue.shared.currents[first..behind].copy_from_slice(&own.currents);
+        first = behind;
     }
     Ok(())
+}
+
+/// The outlines of a catalogue whose counts add up, each for itself.
+pub fn outlines(catalogue: &Catalogue) -> Vec<Points> {
+    let shared = &catalogue.shared;
+    let (mut point, mut contour) = (0, 0);
+    let mut outlines = Vec::new();
+    for (count, contours) in catalogue.point_counts.iter().zip(&catalogue.contour_counts) {
+        let points = point..point + usize::from(*count);
+        let contours = contour..contour + usize::from(*contours);
+        (point, contour) = (points.end, contours.end);
+        outlines.push(Points {
+            originals: shared.originals[points.clone()].to_vec(),
+            currents: shared.currents[points.clone()].to_vec(),
+            touches: shared.touches[points].to_vec(),
+            ends: shared.ends[contours].to_vec(),
+        });
+    }
+    outlines
 }
 
 /// Runs a part of the given Rust on an axis that holds these edges, and marks them as it was recorded.

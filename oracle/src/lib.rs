@@ -17,10 +17,12 @@ pub mod log;
 pub mod path;
 pub mod plain;
 pub mod prepared;
+pub mod ranges;
 pub mod refusals;
 pub mod streams;
 pub mod text;
 pub mod turn;
+pub mod weak;
 pub mod words;
 
 #[cfg(test)]

@@ -8,10 +8,14 @@ pub const POINTS: usize = 4_096;
 pub const SEGMENTS: usize = 512;
 /// Edges of an axis.
 pub const EDGES: usize = 128;
-/// Original and current coordinates of points, `opos`, blue `fitted`, passed delta, building's products.
-pub const COORDINATE: RangeInclusive<i32> = -16_383..=16_383;
+/// Original and current coordinates of points, `opos`, blue `fitted`, building's products.
+pub const COORDINATE: RangeInclusive<i32> = -65_535..=65_535;
+/// The same before request #109: equality with the given Rust is claimed within it.
+pub const OLD_COORDINATE: RangeInclusive<i32> = -16_383..=16_383;
+/// The delta passed to the CJK stem.
+pub const DELTA: RangeInclusive<i32> = -16_383..=16_383;
 /// Coordinates of the path: what weak points can reach.
-pub const RESULT: RangeInclusive<i32> = -49_149..=49_149;
+pub const RESULT: RangeInclusive<i32> = -196_605..=196_605;
 /// `pos` of an edge.
 pub const POSITION: RangeInclusive<i32> = -16_777_216..=16_777_216;
 /// Scale, 16.16.
@@ -27,7 +31,7 @@ pub const STANDARDS: usize = 16;
 /// One standard.
 pub const STANDARD: RangeInclusive<i32> = 1..=16_383;
 /// The least width of a gap that the guard asks about.
-pub const LEAST: RangeInclusive<i32> = 0..=16_383;
+pub const LEAST: RangeInclusive<i32> = 0..=65_535;
 /// Points of a frame, its contours, and a contour's end in it: one byte each.
 pub const FRAME_BYTE: usize = 255;
 /// A coordinate of a frame: two signed bytes.

@@ -38,10 +38,10 @@ pub fn reply(line: &[u8]) -> Vec<u8> {
     hexadecimal(&bytes)
 }
 
-/// What the weak points of a job come to: call 3 on one axis alone, as the given Rust is run in use.
+/// What the weak points of a job come to: call 3 on one axis alone, as the given Rust is run in use. The numbers of a frame are never too steep.
 fn results(points: Points) -> Answer<Vec<i32>> {
-    refusals::weak(&points)?;
-    Ok(calls::aligned(&points, Dimension::Horizontal))
+    refusals::outline(&points)?;
+    Ok(calls::fitted(&points, Dimension::Horizontal))
 }
 
 /// A result as three signed bytes, the high one first.

@@ -9,7 +9,9 @@ use oracle::{
     explain,
     generate::{self, Profile, Random, PROFILES},
     job::{name_of, Job},
-    joined, log, streams, text,
+    joined, log,
+    ranges::Ranges,
+    streams, text,
     words::encode,
 };
 use std::{
@@ -28,6 +30,7 @@ const USAGE: &str = "usage:
   oracle diff JOBS FIRST SECOND compares two files of answers to the jobs
   oracle tally                  job lines on stdin: answers per call and number
   oracle fallback               jobs of stems and of blues and stems on stdin: how many had zones, and took the fallback
+  oracle ranges --call N        jobs of outlines or of an axis on stdin: how many were done in the old range and beyond it, and refused by 8
   oracle refit                  a log of frames on stdin to its replies on stdout
   oracle stream --count C --seed S   prints a made-up log of good frames
   oracle log --count C --seed S PROGRAM [WORD..]   compares what a program replies to made-up logs
@@ -45,6 +48,7 @@ fn main() -> ExitCode {
         ["diff", jobs, first, second] => return diff(jobs, first, second),
         ["tally"] => tally(),
         ["fallback"] => return fallback(),
+        ["ranges", "--call", call] => ranges(call),
         ["refit"] => Some(refit()),
         ["stream", "--count", count, "--seed", seed] => stream(count, seed),
         ["log", "--count", count, "--seed", seed, program @ ..] => {
@@ -220,6 +224,29 @@ fn fallback() -> ExitCode {
         println!("{name:30} {all:>9} done, {with_zone} with a zone, {by_fallback} by the fallback");
     }
     ExitCode::from(u8::from(counts[1].1[2] > 0))
+}
+
+/// Counts of a call's jobs what was done in the old range, by the given Rust, and beyond it, and what was refused by 8.
+fn ranges(call: &str) -> Done {
+    let call = call.parse().ok().filter(|call| name_of(*call).is_some())?;
+    let mut ranges = Ranges::default();
+    let counted = each_line(|line, _| {
+        let job = text::parse(line).and_then(|words| decode(&words));
+        if let Some(job) = job.filter(|_| call_of(line) == call) {
+            ranges.count(job);
+        }
+        Ok(())
+    });
+    let Ranges {
+        old,
+        beyond,
+        too_steep,
+    } = ranges;
+    println!(
+        "{:30} {old:>9} done in the old range, {beyond} beyond it, {too_steep} refused by 8",
+        name(call)
+    );
+    Some(counted)
 }
 
 /// The title of an answer's column.

@@ -9,6 +9,7 @@ use crate::{
         Table, Walk, WidthRule,
     },
     limits::*,
+    weak,
 };
 
 /// A refusal, by its number.
@@ -29,6 +30,12 @@ fn refuse(number: i32, fault: bool) -> Answer<()> {
 
 /// Weak points.
 pub fn weak(points: &Points) -> Answer<()> {
+    outline(points)?;
+    refuse(8, weak::is_too_steep(points))
+}
+
+/// Weak points, but for refusal 8.
+pub fn outline(points: &Points) -> Answer<()> {
     let Points {
         originals,
         currents,
@@ -134,7 +141,7 @@ pub fn edges_and_rule(table: &Table<Edge>, rule: &WidthRule, named: &[u16]) -> A
 /// The CJK stem.
 pub fn cjk_stem(edges: &Table<Edge>, given: &CjkStem) -> Answer<()> {
     edges_and_rule(edges, &given.rule, &[given.edge, given.edge2])?;
-    refuse(4, !COORDINATE.contains(&given.delta))
+    refuse(4, !DELTA.contains(&given.delta))
 }
 
 /// `adjust_link`.

@@ -56,7 +56,7 @@ fn made(small: bool, random: &mut Random) -> (Vec<Segment>, Vec<Edge>) {
     }
     for (ix, edge) in edges.iter_mut().enumerate() {
         edge.fpos = ix as i16 * random.pick(&[-3, 0, 3]);
-        edge.opos = random.between(-16_383, 16_383);
+        edge.opos = edges::opos(random);
         edge.first_ix = random.below(count) as u16;
         edge.last_ix = random.below(count) as u16;
     }

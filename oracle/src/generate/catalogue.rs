@@ -1,6 +1,6 @@
 //! Outlines one behind another.
 
-use super::{points, Random};
+use super::{limits::side, points, Random};
 use crate::job::{Catalogue, Job, Points};
 
 /// A job of call 17: some outlines are empty, some refused, and now and then the counts do not add up.
@@ -67,7 +67,8 @@ fn fault(outline: &mut Points, random: &mut Random) {
             } else {
                 &mut outline.currents
             };
-            coordinates[random.below(count)] = random.pick(&[16_383, -16_383, 16_384, -16_384]);
+            let limit = random.pick(&[16_383, 16_384, 65_535, 65_536]);
+            coordinates[random.below(count)] = side(limit, true, random);
         }
     }
 }

@@ -4,7 +4,7 @@ use super::{group, segments, Random};
 use crate::{
     calls,
     job::{Direction, Edge, Mark, ScaledWidth, ScriptGroup, Table, TopoFlags, WidthRule},
-    limits::POSITION,
+    limits::{COORDINATE, OLD_COORDINATE, POSITION},
 };
 
 /// The rounds in which edges get flags, blues and links, and how often each.
@@ -33,7 +33,8 @@ pub fn edges(small: bool, random: &mut Random) -> Vec<Edge> {
 /// Edges that linking and building make of made-up segments.
 fn built(random: &mut Random) -> Vec<Edge> {
     let mut given = segments::building(random);
-    given.scale = random.between(1_000, 32_000);
+    let most = random.pick(&[32_000, 262_144]);
+    given.scale = random.between(1_000, most);
     given.top_to_bottom = false;
     let mut made = segments::linked(&mut given, random);
     let mut edges = Table::of(Vec::new());
@@ -43,16 +44,33 @@ fn built(random: &mut Random) -> Vec<Edge> {
     }
 }
 
+/// Where edges begin: this far from 0 at most, or, once in four times, anywhere.
+fn start(near: i32, random: &mut Random) -> i32 {
+    if random.once_in(4) {
+        return opos(random).clamp(-FAR, FAR);
+    }
+    random.between(-near, near)
+}
+
+/// How far from 0 a list of edges begins at most, so that its last one is within the limit.
+const FAR: i32 = 60_000;
+
+/// A scaled position, in the old range or to the limit.
+pub fn opos(random: &mut Random) -> i32 {
+    let most = random.pick(&[*OLD_COORDINATE.end(), *COORDINATE.end()]);
+    random.between(-most, most)
+}
+
 /// Edges at positions, without links.
 fn placed(count: usize, random: &mut Random) -> Vec<Edge> {
     let (kind, gap) = (random.below(5), random.pick(&[2, 17, 64, 100, 300]));
-    let mut at = random.between(-200, 200);
+    let mut at = start(200, random);
     let mut edges: Vec<Edge> = Vec::new();
     for _ in 0..count {
         at = match kind {
             0 => random.between(-gap, gap),
-            1 => random.between(-16_383, 16_383),
-            _ => (at + random.between(0, gap)).min(16_383),
+            1 => opos(random),
+            _ => (at + random.between(0, gap)).min(*COORDINATE.end()),
         };
         edges.push(Edge {
             fpos: (at * random.pick(&[1, 1, 1, 2])).clamp(-32_768, 32_767) as i16,
@@ -124,7 +142,7 @@ pub fn stem(random: &mut Random) -> Vec<Edge> {
     let count = random.below(2) + 2;
     let mut edges = placed(count, random);
     dress(&mut edges, random);
-    edges[0].opos = random.between(-128, 128);
+    edges[0].opos = start(128, random);
     edges[1].opos = edges[0].opos + random.between(-20, 150);
     edges
 }
@@ -153,7 +171,7 @@ pub fn stems(random: &mut Random) -> Vec<Edge> {
     let mut edges = placed(2 * pairs, random);
     dress(&mut edges, random);
     let moves = random.pick(&[0, 0, 20, 200]);
-    let mut at = random.between(-200, 200);
+    let mut at = start(200, random);
     for pair in edges.chunks_exact_mut(2) {
         let (least, most) =
             random.pick(&[(0, 64), (60, 70), (65, 95), (90, 100), (97, 300), (-70, 0)]);
@@ -185,7 +203,8 @@ pub fn zoned(small: bool, random: &mut Random) -> Vec<Edge> {
 
 /// A zone near a position: at a pixel, or a unit beside it.
 fn zone(opos: i32, random: &mut Random) -> ScaledWidth {
-    let fitted = (opos / 64 * 64 + random.between(-1, 1)).clamp(-16_383, 16_383);
+    let near = opos / 64 * 64 + random.between(-1, 1);
+    let fitted = near.clamp(*COORDINATE.start(), *COORDINATE.end());
     ScaledWidth { fitted }
 }
 
@@ -197,7 +216,7 @@ pub fn gapped(small: bool, random: &mut Random) -> Vec<Edge> {
     let falls = random.pick(&[0, 0, 1, gap]);
     let strays = random.pick(&[0, 1, gap, 2 * gap, 8_000_000]);
     let near = random.coin();
-    let start = random.between(-500, 500);
+    let start = start(500, random);
     let count = edges.len();
     let mut before = Edge {
         opos: start,
@@ -295,7 +314,7 @@ pub fn lowercase_m(random: &mut Random) -> (Vec<Edge>, ScriptGroup) {
     let mut edges = placed(count, random);
     dress(&mut edges, random);
     let group = group(random);
-    let (start, distance) = (random.between(-300, 300), random.between(-300, 300));
+    let (start, distance) = (start(300, random), random.between(-300, 300));
     edges[stems[0]].opos = start;
     edges[stems[1]].opos = start + distance;
     edges[stems[2]].opos = start + 2 * distance + random.between(-9, 9);

@@ -4,7 +4,7 @@ use super::{points, Random};
 use crate::{
     frames::write_frame,
     job::{Job, Points},
-    limits::{FRAME_BYTE, NUMBERS},
+    limits::{FRAME_BYTE, FRAME_NUMBER, NUMBERS},
     refusals::{frame_digits, FRAME_DIGITS},
 };
 
@@ -34,7 +34,7 @@ pub fn read(small: bool, random: &mut Random) -> Job {
 
 /// Points that a frame holds: like a glyph's, or any numbers and ends of their bytes.
 pub fn framed(small: bool, random: &mut Random) -> Points {
-    let mut points = points::points(small, random);
+    let mut points = points::within(*FRAME_NUMBER.end(), small, random);
     if random.coin() {
         return points;
     }
@@ -53,7 +53,7 @@ pub fn framed(small: bool, random: &mut Random) -> Points {
     points
 }
 
-/// A number of two signed bytes, often at an end of them, or where document 01's limit or a byte's sign is.
+/// A number of two signed bytes, often at an end of them, or where the old range ends or a byte's sign is.
 fn coordinate(random: &mut Random) -> i32 {
     match random.below(3) {
         0 => random.pick(&[-32_768, 32_767, 16_383, 16_384, -16_383, -16_384]),

@@ -65,23 +65,29 @@ fn index(words: &Words, list: &str, may_be_none: bool, random: &mut Random) -> i
     index.clamp(if may_be_none { -1 } else { 0 }, 65_535)
 }
 
-/// Positions whose product with a scale of 1, 2 or a half is at the limit.
-const POSITIONS: [i32; 8] = [
-    8_191, 8_192, 16_383, 16_384, 32_765, 32_766, 32_767, -32_768,
+/// Positions whose product with some scale of the next list is at the limit, or was before request #109.
+const POSITIONS: [i32; 10] = [
+    8_191, 8_192, 16_383, 16_384, 21_845, 21_846, 32_765, 32_766, 32_767, -32_768,
+];
+
+/// A half and 1 to 4, and scales about 2 at which the positions farthest from 0 are at the limit.
+const SCALES: [i32; 9] = [
+    32_768, 65_536, 131_070, 131_071, 131_072, 131_075, 131_076, 196_608, 262_144,
 ];
 
 /// A limit of a field, or the word that was there.
 fn limit(name: &str, word: i32, random: &mut Random) -> i32 {
     let ends: &[i32] = match name {
-        "original" | "current" | "edge.opos" | "edge.fitted" | "delta" => &[16_383],
-        "x" | "y" => &[49_149],
+        "original" | "current" | "edge.opos" | "edge.fitted" => &[16_383, 65_535, 65_535, 65_535],
+        "delta" => &[16_383],
+        "x" | "y" => &[49_149, 196_605],
         "edge.pos" => &[16_777_216],
         "segment.score" | "segment.len" => &[0, 65_535],
         "distance threshold" | "length threshold" | "width threshold" => &[0, 65_535],
         "scale" => &[1, 16_777_216],
         "units per em" => &[16, 16_384],
         "standard" => &[1, 16_383],
-        "least" => &[0, 16_383],
+        "least" => &[0, 65_535],
         "touch" | "mark" | "own answer" => return random.pick(&[0, 1, 255]),
         "points" | "contours" => return random.pick(&[0, 1, word + 1, 4_096, 65_535]).min(65_535),
         "cursor" => return random.pick(&[0, word.saturating_add(1), i32::MAX - 1, i32::MAX]),
@@ -90,7 +96,10 @@ fn limit(name: &str, word: i32, random: &mut Random) -> i32 {
         | "edge.fpos" => return random.pick(&[-32_768, 32_767, 0]),
         _ => return word,
     };
-    let two_sided = matches!(ends[0], 16_383 | 49_149 | 16_777_216) && ends.len() == 1;
+    let two_sided = matches!(
+        name,
+        "original" | "current" | "edge.opos" | "edge.fitted" | "delta" | "x" | "y" | "edge.pos"
+    );
     let end = random.pick(ends);
     match random.below(8) {
         0 => random.pick(&[i32::MIN, i32::MAX, -1, 0]),
@@ -100,7 +109,7 @@ fn limit(name: &str, word: i32, random: &mut Random) -> i32 {
 }
 
 /// A value, or its negative where the range has both.
-fn side(value: i32, two_sided: bool, random: &mut Random) -> i32 {
+pub fn side(value: i32, two_sided: bool, random: &mut Random) -> i32 {
     if two_sided && random.coin() {
         -value
     } else {
@@ -227,7 +236,7 @@ fn resize_walk(walk: &mut Walk, random: &mut Random) {
 /// Puts all places at the limits, so that halfway points are there too.
 fn far_apart(walk: &mut Walk, random: &mut Random) {
     for coordinate in walk.xs.iter_mut().chain(&mut walk.ys) {
-        *coordinate = random.pick(&[49_149, 49_148, -49_148, -49_149]);
+        *coordinate = random.pick(&[196_605, 196_604, -196_604, -196_605]);
     }
 }
 
@@ -263,7 +272,7 @@ fn long(count: usize, random: &mut Random) -> Points {
     touches[random.below(count)] = 1;
     Points {
         originals: vec![5; count],
-        currents: vec![random.pick(&[6, 16_384]); count],
+        currents: vec![random.pick(&[6, 65_536]); count],
         touches,
         ends: vec![count as u16 - 1],
     }
@@ -284,7 +293,7 @@ fn resize_building(
             *segments = apart(random);
         }
         3..=5 => {
-            given.scale = random.pick(&[32_768, 65_536, 131_072]);
+            given.scale = random.pick(&SCALES);
             let pos = side(random.pick(&POSITIONS), true, random);
             segments.items[0].pos = pos.clamp(-32_768, 32_767) as i16;
         }

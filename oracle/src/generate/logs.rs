@@ -4,7 +4,7 @@ use super::{
     frames::{damage, digits, framed, longest},
     points, Random,
 };
-use crate::refusals::FRAME_DIGITS;
+use crate::{job::Points, limits::OLD_COORDINATE, refusals::FRAME_DIGITS};
 
 /// A log of about so many lines, the last one now and then without its line feed.
 pub fn log(lines: usize, random: &mut Random) -> Vec<u8> {
@@ -30,10 +30,15 @@ pub fn log(lines: usize, random: &mut Random) -> Vec<u8> {
 pub fn good_log(lines: usize, random: &mut Random) -> Vec<u8> {
     let mut log = Vec::new();
     for _ in 0..lines {
-        log.append(&mut digits(&points::points(false, random)));
+        log.append(&mut digits(&old(false, random)));
         log.push(b'\n');
     }
     log
+}
+
+/// An outline in the old range, which the given Rust answers.
+fn old(small: bool, random: &mut Random) -> Points {
+    points::within(*OLD_COORDINATE.end(), small, random)
 }
 
 /// How many kinds of lines there are.
@@ -44,7 +49,7 @@ fn line(kind: usize, random: &mut Random) -> Vec<u8> {
     let small = random.coin();
     let mut line = digits(&framed(small, random));
     match kind {
-        0 => line = digits(&points::points(small, random)),
+        0 => line = digits(&old(small, random)),
         1 => {}
         2 => damage(&mut line, random),
         3 => return overlong(random),

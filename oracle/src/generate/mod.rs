@@ -18,7 +18,9 @@ pub use random::Random;
 
 use crate::{
     job::{CjkStem, Dimension, Edge, Job, Joined, ScriptGroup, Stems, Table, WidthRule},
-    joined, text,
+    joined,
+    limits::{DELTA, LEAST},
+    text,
     words::encode,
 };
 
@@ -176,9 +178,9 @@ fn gaps(small: bool, random: &mut Random) -> Job {
     let ix = random.below(edges.len());
     let width = edges[ix].opos - edges[ix.saturating_sub(random.below(3) + 1)].opos;
     let least = match random.below(3) {
-        0 => random.pick(&[0, 1, 31, 32, 33, 64, 16_383]),
+        0 => random.pick(&[0, 1, 31, 32, 33, 64, *LEAST.end()]),
         1 => 0,
-        _ => (width + random.between(-1, 1)).clamp(0, 16_383),
+        _ => (width + random.between(-1, 1)).clamp(*LEAST.start(), *LEAST.end()),
     };
     Job::Gaps(Table::of(edges), least, random.coin())
 }
@@ -239,7 +241,7 @@ fn delta(random: &mut Random) -> i32 {
         0 => 0,
         1 => random.between(-14, 14),
         2 => random.between(-80, 80),
-        _ => random.between(-16_383, 16_383),
+        _ => random.between(*DELTA.start(), *DELTA.end()),
     }
 }
 

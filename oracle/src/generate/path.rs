@@ -28,7 +28,7 @@ pub fn walk(small: bool, random: &mut Random) -> Walk {
     let span = if small {
         random.pick(&[0, 1, 3, 70])
     } else {
-        random.pick(&[200, 2_000, 49_149])
+        random.pick(&[200, 2_000, 49_149, 196_605])
     };
     let ends = points::ends(count, random);
     Walk {

@@ -5,6 +5,7 @@ use crate::{
     calls,
     given::metrics::{derived_constant, fixed_div},
     job::{Building, Direction, Job, Segment, Table, TopoFlags},
+    limits::COORDINATE,
 };
 
 /// Directions that may be the major one, with their opposites.
@@ -268,15 +269,18 @@ fn height(threshold: i32, random: &mut Random) -> i16 {
 
 /// How far a position may be from 0 at this scale.
 fn reach(scale: i32) -> i32 {
-    ((16_383 << 16) / scale.max(1)).min(32_767)
+    let reach = (i64::from(*COORDINATE.end()) << 16) / i64::from(scale.max(1));
+    reach.min(32_767) as i32
 }
 
 /// What building is told.
 pub fn building(random: &mut Random) -> Building {
-    let scale = match random.below(4) {
+    let scale = match random.below(5) {
         0 => random.pick(&[1_000, 16_384, 32_768]),
         1 => 65_536,
-        2 => random.between(20_000, 200_000),
+        2 => random.between(20_000, 131_072),
+        // 2 to 4, at which positions reach the limit
+        3 => random.between(131_072, 262_144),
         _ => random.between(1, 16_777_216),
     };
     let distance = match random.below(3) {

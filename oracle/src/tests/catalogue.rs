@@ -12,7 +12,7 @@ use crate::{
 fn four() -> Catalogue {
     Catalogue {
         shared: Points {
-            originals: vec![0, 10, 20, 16_384, 1, 0, 7],
+            originals: vec![0, 10, 20, 65_536, 1, 0, 7],
             currents: vec![5, 99, 20, 3, 4, 2, 8],
             touches: vec![1, 0, 0, 1, 0, 1, 0],
             ends: vec![2, 0, 1, 0],

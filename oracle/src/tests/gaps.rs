@@ -160,7 +160,7 @@ fn a_gap_is_lost_where_it_is_turned_or_has_no_row() {
             true => [0, 0, 1, before, after, 1, 0],
             false => nothing(0),
         };
-        for least in [0, 32, 65, 16_383] {
+        for least in [0, 32, 65, 65_535] {
             assert_eq!(lost(&stem, least, true), expected, "{before} to {after}");
         }
     }
@@ -171,8 +171,8 @@ fn a_gap_counts_from_the_least_width_on() {
     let edges = [placed(0, 0), placed(32, -5)];
     assert_eq!(lost(&edges, 32, false), [1, 0, 1, 32, -5, 0, 0]);
     assert_eq!(lost(&edges, 33, false), nothing(0));
-    let edges = [placed(-16_383, 7), placed(16_383, 7)];
-    assert_eq!(lost(&edges, 16_383, false), [1, 0, 1, 32_766, 0, 0, 0]);
+    let edges = [placed(-65_535, 7), placed(65_535, 7)];
+    assert_eq!(lost(&edges, 65_535, false), [1, 0, 1, 131_070, 0, 0, 0]);
     let far = [placed(0, 16_777_216), placed(1, -16_777_216)];
     assert_eq!(lost(&far, 1, false), [1, 0, 1, 1, -33_554_432, 0, 0]);
 }
@@ -290,15 +290,15 @@ fn changed(least: i32, change: impl Fn(&mut Table<Edge>)) -> i32 {
 #[test]
 fn the_guard_refuses() {
     assert_eq!(changed(0, |_| {}), 0);
-    assert_eq!(changed(16_383, |_| {}), 0);
-    for least in [-1, 16_384, i32::MIN, i32::MAX] {
+    assert_eq!(changed(65_535, |_| {}), 0);
+    for least in [-1, 65_536, i32::MIN, i32::MAX] {
         assert_eq!(changed(least, |_| {}), 2);
         assert_eq!(changed(least, |edges| edges.count = 129), 1);
         assert_eq!(changed(least, |edges| edges.items[0].link_ix = Some(3)), 2);
     }
     assert_eq!(changed(0, |edges| edges.items[0].link_ix = Some(3)), 3);
     assert_eq!(changed(0, |edges| edges.items[2].serif_ix = Some(9)), 3);
-    let far = |edges: &mut Table<Edge>| edges.items[2].opos = 16_384;
+    let far = |edges: &mut Table<Edge>| edges.items[2].opos = 65_536;
     assert_eq!(changed(0, far), 4);
     assert_eq!(changed(0, |edges| edges.items[2].pos = -16_777_217), 4);
     let zone = |fitted| {
@@ -306,7 +306,7 @@ fn the_guard_refuses() {
             edges.items[2].blue_edge = Some(ScaledWidth { fitted });
         }
     };
-    assert_eq!((changed(0, zone(16_383)), changed(0, zone(16_384))), (0, 4));
+    assert_eq!((changed(0, zone(65_535)), changed(0, zone(65_536))), (0, 4));
     let both = |edges: &mut Table<Edge>| {
         far(edges);
         edges.items[0].serif_ix = Some(3);
@@ -741,7 +741,7 @@ fn slips_of_the_guard() {
     }));
     assert!(shows(&|(edges, least, linked)| {
         match lost_gaps(edges, *least, *linked) {
-            Err(Refusal(2)) => lost_gaps(edges, (*least).clamp(0, 16_383), *linked),
+            Err(Refusal(2)) => lost_gaps(edges, (*least).clamp(0, 65_535), *linked),
             other => other,
         }
     }));
@@ -787,7 +787,7 @@ fn the_words_of_the_guard() {
     );
     assert_eq!(answer(job(41, false)).values, [0, 0, -1, -1, 0, 0, 0, 0]);
     assert_eq!(answer(job(-1, true)).values, [2, 0, -1, -1, 0, 0, 0, 0]);
-    let far = vec![placed(0, 5), edge(-16_384)];
+    let far = vec![placed(0, 5), edge(-65_536)];
     let far = answer(Job::Gaps(Table::of(far), 0, false)).values;
     assert_eq!(far, [4, 0, -1, -1, 0, 0, 0, 0]);
 }

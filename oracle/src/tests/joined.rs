@@ -118,7 +118,7 @@ const FAULTS: [(i32, Fault); 8] = [
     (2, |edges, _| edges.items[2] = zoned(64, edges.items[2])),
     (3, |edges, _| edges.items[0].link_ix = Some(3)),
     (3, |edges, _| edges.items[0].serif_ix = Some(65_535)),
-    (4, |edges, _| edges.items[1].opos = 16_384),
+    (4, |edges, _| edges.items[1].opos = 65_536),
     (4, |edges, _| edges.items[1].pos = -16_777_217),
 ];
 
@@ -141,7 +141,7 @@ fn a_blue_is_refused_where_blues_are_skipped() {
         2
     );
     assert_eq!(
-        changed(|edges, _| edges.items[2] = zoned(20_000, edge(9))),
+        changed(|edges, _| edges.items[2] = zoned(70_000, edge(9))),
         2
     );
     // on the other axes it is taken
@@ -152,7 +152,7 @@ fn a_blue_is_refused_where_blues_are_skipped() {
                 *given = on(dim, group);
             })
         };
-        assert_eq!((with(64), with(16_384)), (0, 4));
+        assert_eq!((with(64), with(65_536)), (0, 4));
     }
     // and blues alone leave it as it is
     let mut edges = Table::of(vec![zoned(64, edge(70))]);

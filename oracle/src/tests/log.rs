@@ -33,14 +33,20 @@ fn each_line_is_answered_once() {
 
 #[test]
 fn answers_of_lines() {
-    // no points and no contours; a contour without a point; a number of 16,384, refused and not broken
+    // no points and no contours; a contour without a point; a number beyond 16,383, and the one farthest from 0
     assert_eq!(reply(b"010000\n"), b"8100");
     assert_eq!(reply(b"01000100\n"), b"8203");
-    assert_eq!(reply(b"010100004000C000\n"), b"8204");
+    assert_eq!(reply(b"010100004000C000\n"), b"8101FFC000");
+    assert_eq!(reply(b"0101000080008000\n"), b"8101FF8000");
     assert_eq!(reply(b"01010100FFFBFFFB00\n"), b"8101FFFFFB");
     // 16,383, shifted by 32,766
     let shifted = b"01020101C0013FFF003FFF000001\n";
     assert_eq!(reply(shifted), b"8102003FFF00BFFD");
+    // as far as a frame's results go: 32,767, shifted by 65,535, and -32,768 by as much the other way
+    let far = b"0102010180007FFF007FFF000001\n";
+    assert_eq!(reply(far), b"8102007FFF017FFE");
+    let far = b"010201017FFF8000008000000001\n";
+    assert_eq!(reply(far), b"8102FF8000FE8001");
 }
 
 /// Whether some made-up log is answered otherwise by a wrong program.
@@ -131,11 +137,7 @@ fn slips_of_a_reply() {
     };
     assert!(!shows(|log| replies_as(log, <[u8]>::to_vec)));
     assert!(shows(|log| replies_as(log, narrowed)));
-    // a refusal by 4, or by 3, answered as a broken frame
-    assert!(shows(|log| replies_as(log, |reply| match reply {
-        b"8204" => b"8206".to_vec(),
-        _ => reply.to_vec(),
-    })));
+    // a refusal by 3 answered as a broken frame
     assert!(shows(|log| replies_as(log, |reply| match reply {
         b"8203" => b"8206".to_vec(),
         _ => reply.to_vec(),

@@ -341,7 +341,7 @@ fn marks_go_with_their_edges_when_turned_over() {
 fn a_refusal_leaves_marks() {
     let edges = [
         marked(Serif, zoned(64, edge(0))),
-        marked(Stem, edge(16_384)),
+        marked(Stem, edge(65_536)),
     ];
     let mut table = Table::of(edges.to_vec());
     let refused = calls::align_edges_to_blues(&mut table, Dimension::Vertical, Latin, &keep());

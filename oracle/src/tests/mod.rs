@@ -9,6 +9,7 @@ mod log;
 mod marks;
 mod marks_slips;
 mod order;
+mod panels;
 mod path;
 mod path_slips;
 mod refusals;

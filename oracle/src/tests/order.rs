@@ -117,10 +117,10 @@ fn turning_refuses() {
     assert_eq!(changed(|s, _| *s = Table::of(Vec::new())), 3);
     assert_eq!(changed(|s, _| s.items[3].score = 65_536), 4);
     assert_eq!(changed(|s, _| s.items[3].len = -1), 4);
-    assert_eq!(changed(|_, e| e.items[0].opos = 16_384), 4);
+    assert_eq!(changed(|_, e| e.items[0].opos = 65_536), 4);
     assert_eq!(changed(|_, e| e.items[0].pos = -16_777_217), 4);
     let fitted = |fitted| changed(|_, e| e.items[0].blue_edge = Some(ScaledWidth { fitted }));
-    assert_eq!((fitted(16_383), fitted(16_384)), (0, 4));
+    assert_eq!((fitted(65_535), fitted(65_536)), (0, 4));
     assert_eq!(
         changed(|s, e| {
             s.items[3].score = -1;

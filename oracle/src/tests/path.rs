@@ -116,14 +116,14 @@ fn contours_follow_each_other_and_the_rest_gives_none() {
 
 #[test]
 fn places_are_exact_at_the_limit_and_zero_has_no_sign() {
-    let most = 49_149;
+    let most = 196_605;
     let given = walk(&[most, most - 1, -most], &[-5, 5, 0], &[0, 0, 0], &[2]);
     let steps = calls::path(&given).expect("at the limit");
     let Step::Curve(control, end) = steps[1] else {
         panic!("a curve")
     };
-    assert_eq!(f64::from(control.x), 767.953_125);
-    assert_eq!(f64::from(end.x), 767.945_312_5);
+    assert_eq!(f64::from(control.x), 3_071.953_125);
+    assert_eq!(f64::from(end.x), 3_071.945_312_5);
     assert_eq!(end.y.to_bits(), 0);
     assert_eq!(
         steps[0],
@@ -136,17 +136,17 @@ fn places_are_exact_at_the_limit_and_zero_has_no_sign() {
 
 #[test]
 fn the_path_refuses_in_order() {
-    let mut given = walk(&[0, 0], &[49_150], &[1, 1], &[2, 0]);
+    let mut given = walk(&[0, 0], &[196_606], &[1, 1], &[2, 0]);
     assert_eq!(calls::path(&given), Err(Refusal(1)));
     assert_eq!(calls::path_step(&given, u32::MAX), Err(Refusal(1)));
-    given.ys.push(-49_150);
+    given.ys.push(-196_606);
     assert_eq!(calls::path(&given), Err(Refusal(3)));
     given.ends = vec![0];
     assert_eq!(calls::path(&given), Err(Refusal(4)));
-    given.ys[0] = 49_149;
+    given.ys[0] = 196_605;
     // A point of no contour is tested too.
     assert_eq!(calls::path(&given), Err(Refusal(4)));
-    given.ys[1] = -49_149;
+    given.ys[1] = -196_605;
     assert!(calls::path(&given).is_ok());
 }
 

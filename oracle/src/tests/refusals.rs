@@ -70,10 +70,10 @@ fn building_refuses_in_order() {
     for mend in 0..6 {
         match mend {
             1 => segments = Table::of(vec![faulty]),
-            2 => given.scale = 65_536,
+            2 => given.scale = 131_076,
             3 => segments.items[0].link_ix = Some(0),
             4 => segments.items[0].score = 0,
-            5 => segments.items[0].pos = 16_383,
+            5 => segments.items[0].pos = 32_766,
             _ => {}
         }
         let result = calls::compute_edges(&mut segments, &mut edges, &given);
@@ -85,7 +85,7 @@ fn building_refuses_in_order() {
 #[test]
 fn weak_points_refuse_in_order() {
     let mut points = Points {
-        originals: vec![20_000],
+        originals: vec![70_000],
         currents: vec![0],
         touches: vec![],
         ends: vec![0, 0],
@@ -95,7 +95,7 @@ fn weak_points_refuse_in_order() {
     assert_eq!(calls::align_weak_points(&mut points), Err(Refusal(3)));
     points.ends.pop();
     assert_eq!(calls::align_weak_points(&mut points), Err(Refusal(4)));
-    points.originals[0] = -16_383;
+    points.originals[0] = -65_535;
     assert_eq!(calls::align_weak_points(&mut points), Ok(()));
 }
 

@@ -52,7 +52,7 @@ fn one_touched_point_shifts_the_others() {
 
 #[test]
 fn coordinate_limit() {
-    for (coordinate, answer) in [(16_383, Ok(())), (16_384, Err(Refusal(4)))] {
+    for (coordinate, answer) in [(65_535, Ok(())), (65_536, Err(Refusal(4)))] {
         let mut points = Points {
             originals: vec![coordinate],
             currents: vec![0],
