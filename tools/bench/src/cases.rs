@@ -22,12 +22,12 @@ pub struct Case {
     pub size: usize,
     /// Jobs that are done.
     pub jobs: Vec<Vec<i32>>,
-    /// The same, refused by their last test; none for a call that refuses nothing.
+    /// The same, refused by the last test that every one of them meets; none for a call that refuses nothing.
     pub refused: Vec<Vec<i32>>,
     pub role: Role,
 }
 
-/// Damages a job of a size so that its last test refuses it.
+/// Damages a job of a size so that that test refuses it.
 pub type Damage = fn(&mut [i32], usize);
 
 impl Case {
@@ -137,7 +137,7 @@ fn weak() -> Vec<Case> {
 
 /// Sets the last original out of range.
 pub fn far_point(job: &mut [i32], size: usize) {
-    job[1 + size] = 16_384;
+    job[1 + size] = 65_536;
 }
 
 /// Outlines whose points are on the curve once in so many, each with what a job of a path has behind its lists.
@@ -171,7 +171,7 @@ fn paths(
 
 /// Sets the last y of a path out of range.
 pub fn far_place(job: &mut [i32], size: usize) {
-    job[2 * size + 2] = 49_150;
+    job[2 * size + 2] = 196_606;
 }
 
 /// Whole paths.
@@ -255,7 +255,7 @@ fn over_edges(
 
 /// Sets the position of the last edge out of range.
 pub fn far_edge(job: &mut [i32], size: usize) {
-    job[2 + EDGE_WORDS * (size - 1) + 1] = 16_384;
+    job[2 + EDGE_WORDS * (size - 1) + 1] = 65_536;
 }
 
 /// A pass over edges, for each group.

@@ -9,15 +9,21 @@ pub enum Outlines {
     Scattered(usize),
     /// Points that rise and fall around each contour, touched in pairs at its extrema.
     Glyph,
+    /// The same, as large as a panel of 1,000 pixels.
+    Panel,
+    /// The same, so large that currents are 65,536 and more apart.
+    Largest,
 }
 
 impl Outlines {
     /// All kinds, in the order of the tables.
-    pub const ALL: [Self; 4] = [
+    pub const ALL: [Self; 6] = [
         Self::Scattered(2),
         Self::Scattered(4),
         Self::Scattered(16),
         Self::Glyph,
+        Self::Panel,
+        Self::Largest,
     ];
 
     /// What stands above its table.
@@ -25,6 +31,8 @@ impl Outlines {
         match self {
             Self::Scattered(times) => format!("scattered points, one in {times} touched"),
             Self::Glyph => "like a glyph's, touched at the extrema".to_string(),
+            Self::Panel => "the same on a panel of 1,000 pixels".to_string(),
+            Self::Largest => "the same, currents 65,536 apart".to_string(),
         }
     }
 }
@@ -66,13 +74,29 @@ fn contour(kind: Outlines, count: usize, random: &mut Random, points: &mut Point
         }
         Outlines::Glyph => {
             let (low, high) = (random.between(-200, 0), random.between(300, 900));
-            let wave = 4 + random.below(12);
-            for ix in 0..count {
-                let phase = ix % wave;
-                let extremum = phase < 2 || (wave / 2..wave / 2 + 2).contains(&phase);
-                add(height(phase, wave, low, high), extremum, points);
-            }
+            waves(low, high, count, random, points);
         }
+        Outlines::Panel => {
+            let (low, high) = (random.between(0, 9_000), random.between(30_000, 64_000));
+            waves(low, high, count, random, points);
+        }
+        Outlines::Largest => {
+            let (low, high) = (
+                -random.between(40_000, 65_000),
+                random.between(40_000, 65_000),
+            );
+            waves(low, high, count, random, points);
+        }
+    }
+}
+
+/// Adds so many points that rise and fall between two heights, touched in pairs at both.
+fn waves(low: i32, high: i32, count: usize, random: &mut Random, points: &mut Points) {
+    let wave = 4 + random.below(12);
+    for ix in 0..count {
+        let phase = ix % wave;
+        let extremum = phase < 2 || (wave / 2..wave / 2 + 2).contains(&phase);
+        add(height(phase, wave, low, high), extremum, points);
     }
 }
 

@@ -95,7 +95,7 @@ fn catalogue(random: &mut Random) -> Catalogue {
 fn damage(given: &mut Catalogue, random: &mut Random) {
     let outline = random.below(given.point_counts.len().max(1));
     let point = random.below(given.shared.originals.len().max(1));
-    let beyond = random.pick(&[i32::MIN, -16_384, 16_384, i32::MAX]);
+    let beyond = random.pick(&[i32::MIN, -65_536, 65_536, i32::MAX]);
     let step = random.pick(&[1, 2, u16::MAX, u16::MAX - 1]);
     let add = |counts: &mut [u16], ix: usize, step: u16| {
         if let Some(count) = counts.get_mut(ix) {

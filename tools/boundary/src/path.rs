@@ -261,7 +261,7 @@ fn outline(random: &mut Random) -> (Walk, u32) {
 /// Damages one list: its length, or an entry.
 fn damage(walk: &mut Walk, random: &mut Random) {
     let at = random.below(walk.xs.len().max(1));
-    let beyond = random.pick(&[i32::MIN, -49_150, 49_150, i32::MAX]);
+    let beyond = random.pick(&[i32::MIN, -196_606, 196_606, i32::MAX]);
     match random.below(8) {
         0 => walk.xs.resize(random.pick(&[0, 4_096, 4_097, 5_000]), 3),
         1 => drop(walk.ys.pop()),
@@ -292,7 +292,7 @@ fn damage(walk: &mut Walk, random: &mut Random) {
 
 /// Outlines of up to four points with every mark and every set of contour ends, and lists of every length up to three.
 fn small(mut compare: impl FnMut(&Walk)) {
-    const PLACES: [i32; 4] = [0, -3, 64, 49_149];
+    const PLACES: [i32; 4] = [0, -3, 64, 196_605];
     for points in 0..=4usize {
         for number in 0..1usize << (2 * points) {
             let bit = |ix: usize| number >> ix & 1 == 1;

@@ -148,7 +148,7 @@ fn outline(random: &mut Random) -> Points {
 /// Damages one list: its length, or an entry.
 fn damage(points: &mut Points, random: &mut Random) {
     let at = random.below(points.originals.len().max(1));
-    let beyond = random.pick(&[i32::MIN, -16_384, 16_384, i32::MAX]);
+    let beyond = random.pick(&[i32::MIN, -65_536, 65_536, i32::MAX]);
     match random.below(8) {
         0 => points
             .originals
@@ -179,27 +179,17 @@ fn damage(points: &mut Points, random: &mut Random) {
     }
 }
 
+/// The places of small outlines: those of originals, and of currents; at two of these lines some are too steep.
+const PLACES: [[[i32; 3]; 2]; 3] = [
+    [[-3, 0, 4]; 2],
+    [[0, 1, 2], [-32_768, 0, 32_768]],
+    [[0, 1, 3], [-49_152, 0, 49_152]],
+];
+
 /// Outlines of up to three points on few places with every mark and contour, and lists of every length up to three.
 fn small(mut compare: impl FnMut(&Points)) {
-    const PLACES: [i32; 3] = [-3, 0, 4];
-    for points in 0..=3u32 {
-        let places = 3usize.pow(points);
-        let spread = |number: usize| {
-            (0..points)
-                .map(move |ix| PLACES[number / 3usize.pow(ix) % 3])
-                .collect()
-        };
-        let bits = |set: usize| (0..points).filter(move |ix| set >> ix & 1 == 1);
-        for number in 0..(places * places) << (2 * points) {
-            let (rest, marks) = (number >> points, number % (1 << points));
-            let (rest, ends) = (rest >> points, rest % (1 << points));
-            compare(&Points {
-                originals: spread(rest / places),
-                currents: spread(rest % places),
-                touches: (0..points).map(|ix| (marks >> ix & 1) as u8).collect(),
-                ends: bits(ends).map(|ix| ix as u16).collect(),
-            });
-        }
+    for places in &PLACES {
+        on_places(places, &mut compare);
     }
     for lengths in 0..256usize {
         let len = |ix: usize| lengths >> (2 * ix) & 3;
@@ -209,5 +199,28 @@ fn small(mut compare: impl FnMut(&Points)) {
             touches: vec![0; len(2)],
             ends: (0..len(3) as u16).collect(),
         });
+    }
+}
+
+/// Outlines of up to three points on these places with every mark and contour.
+fn on_places([originals, currents]: &[[i32; 3]; 2], compare: &mut impl FnMut(&Points)) {
+    for points in 0..=3u32 {
+        let places = 3usize.pow(points);
+        let spread = |on: &[i32; 3], number: usize| {
+            (0..points)
+                .map(|ix| on[number / 3usize.pow(ix) % 3])
+                .collect()
+        };
+        let bits = |set: usize| (0..points).filter(move |ix| set >> ix & 1 == 1);
+        for number in 0..(places * places) << (2 * points) {
+            let (rest, marks) = (number >> points, number % (1 << points));
+            let (rest, ends) = (rest >> points, rest % (1 << points));
+            compare(&Points {
+                originals: spread(originals, rest / places),
+                currents: spread(currents, rest % places),
+                touches: (0..points).map(|ix| (marks >> ix & 1) as u8).collect(),
+                ends: bits(ends).map(|ix| ix as u16).collect(),
+            });
+        }
     }
 }

@@ -37,7 +37,7 @@ const USAGE: &str = "usage: ./specimen [--check] [--sizes N,N,..] [--em N] [-o P
 /// The sizes, in pixels to the em.
 const SIZES: [i32; 4] = [11, 12, 16, 24];
 
-/// The sizes that can be asked for: at the largest the coordinates of an em reach the library's limit.
+/// The sizes that can be asked for: at the largest the check fills an em of 4,080 times 4,080 pixels.
 const ASKED_SIZES: RangeInclusive<i32> = 1..=255;
 
 /// The units to the em where the label does not tell.
