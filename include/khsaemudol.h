@@ -89,7 +89,8 @@
  * Every other number of a call takes every word: an edge named in a call, and an anchor other than KHS_NONE, is KHS_BAD_INDEX where it is not below the count
  * of edges, whatever its word; scale, units per em, thresholds, standards and a gap's least width are KHS_BAD_PARAMETER and a delta KHS_OUT_OF_RANGE outside of their
  * limits.
- * The calls over points have no such fields, and test KHS_TOO_LONG, KHS_BAD_INDEX and KHS_OUT_OF_RANGE in this order; khs_align_catalogue so of each outline.
+ * The calls over points have no such fields, and test KHS_TOO_LONG, KHS_BAD_INDEX, KHS_OUT_OF_RANGE and, where they align, KHS_TOO_STEEP in this order;
+ * khs_align_catalogue so of each outline.
  * khs_read_frame tests KHS_NOT_WORDS, a room of another length, and then KHS_NOT_FRAME.
  *
  * A refused call writes nothing: every list and every place holds what it held, marks too. With KHS_DONE a list of edges or segments that is not const holds what
@@ -124,6 +125,7 @@ enum khs_answer {
     KHS_OUT_OF_RANGE = 4,  /* a coordinate, position, score, len or passed delta is outside its limits; in building also a scaled position */
     KHS_NO_ROOM = 5,       /* building calls for one edge more than 128 */
     KHS_NOT_FRAME = 6,     /* a line of a log is not a whole frame */
+    KHS_TOO_STEEP = 8,     /* an untouched point lies between two touched ones that were 2 units apart and are 65,536 or more, or were 3 and are 98,304 or more */
     KHS_RETIRED = 10,      /* the order from top to bottom is asked for, which is retired: on either axis and for either group */
     KHS_NOT_WORDS = 255    /* a length is not that of whole records, a room has not exactly its length, or a word is none of its field's values */
 };
@@ -162,12 +164,12 @@ enum { KHS_FRAME_PLACES = 255, KHS_MOST_DIGITS = 3066 }; /* the most points, and
  * a segment, they name record 0 and are accepted so: write KHS_NONE where there is none. */
 struct khs_edge {
     int32_t fpos;        /* position in design units, 16-bit signed */
-    int32_t opos;        /* scaled position in units; accepted from -16,383 to 16,383 */
+    int32_t opos;        /* scaled position in units; accepted from -65,535 to 65,535 */
     int32_t pos;         /* fitted position in units; accepted from -16,777,216 to 16,777,216 */
     int32_t flags;       /* 0 to 15; KHS_FLAG_ROUND is read for CJK stems, KHS_FLAG_NEUTRAL for zones, KHS_FLAG_SERIF by no call */
     int32_t dir;         /* a direction */
     int32_t blue;        /* 1 where the edge has a blue zone, 0 where not */
-    int32_t blue_fitted; /* the zone's fitted position in units, accepted from -16,383 to 16,383; 0 where blue is 0, else KHS_NOT_WORDS */
+    int32_t blue_fitted; /* the zone's fitted position in units, accepted from -65,535 to 65,535; 0 where blue is 0, else KHS_NOT_WORDS */
     int32_t link;        /* link: the edge on the other side of the stem */
     int32_t serif;       /* link: the edge that this one is a serif of */
     int32_t first;       /* index of its first segment, as building wrote it; held against no list but by khs_turn_over */
@@ -210,11 +212,14 @@ int16_t khs_compute_mid_delta(int32_t min, int32_t max);
 
 /* Moves the untouched points of one axis of an outline with the touched ones around them.
  * originals, currents, touched: one entry for each point, at most 4,096, else KHS_TOO_LONG, and so it is where the three differ in length. Originals are the scaled
- * coordinates in units, currents where the points are now, both from -16,383 to 16,383; any nonzero mark means touched.
+ * coordinates in units, currents where the points are now, both from -65,535 to 65,535; any nonzero mark means touched.
  * ends: the index of the last point of each contour, strictly rising, each below the count of points. A contour starts behind the one before; points behind the
  * last contour stay where they are, and so do those of a contour without a touched point, or with one alone whose current is its original. So the current of a point
  * that is not touched is to be its original; everywhere else it is written over.
- * Writes currents. Answers: KHS_DONE, KHS_TOO_LONG, KHS_BAD_INDEX, KHS_OUT_OF_RANGE. */
+ * Two touched points that were close and are far apart have no slope of 32 bits for a point between them: KHS_TOO_STEEP, behind the other answers, where the original of
+ * some untouched point lies strictly between those of the touched ones nearest before and behind it around the contour, and these are 2 apart and their currents 65,536 or
+ * more, or 3 and 98,304 or more. So an outline whose currents are less than 65,536 apart never is.
+ * Writes currents. Answers: KHS_DONE, KHS_TOO_LONG, KHS_BAD_INDEX, KHS_OUT_OF_RANGE, KHS_TOO_STEEP. */
 uint8_t khs_align_weak_points(const int32_t *originals, khs_length originals_len, int32_t *currents, khs_length currents_len, const uint8_t *touched,
                               khs_length touched_len, const uint16_t *ends, khs_length ends_len);
 
@@ -226,9 +231,9 @@ uint8_t khs_align_weak_points(const int32_t *originals, khs_length originals_len
  * answers: one place for each outline; what it holds is not read.
  * Refused, and then nothing is written, are a catalogue whose point counts do not add up to the length of originals, of currents and of touched, one whose contour
  * counts do not add up to that of ends, and one whose lists of counts and of answers differ in length. Each sum is tested without wrapping around.
- * Writes answers and currents, else: the answer of each outline is that of khs_align_weak_points on its own entries, KHS_DONE, KHS_TOO_LONG, KHS_BAD_INDEX or
- * KHS_OUT_OF_RANGE, and its currents are what that call leaves. So a refused outline keeps its currents, and those behind it are aligned all the same; an outline of
- * no points and no contours is KHS_DONE. No refusal of an outline shows in the answer of the whole call.
+ * Writes answers and currents, else: the answer of each outline is that of khs_align_weak_points on its own entries, KHS_DONE, KHS_TOO_LONG, KHS_BAD_INDEX,
+ * KHS_OUT_OF_RANGE or KHS_TOO_STEEP, and its currents are what that call leaves. So a refused outline keeps its currents, and those behind it are aligned all the
+ * same; an outline of no points and no contours is KHS_DONE. No refusal of an outline shows in the answer of the whole call.
  * Answers: KHS_DONE, KHS_TOO_LONG. */
 uint8_t khs_align_catalogue(const int32_t *originals, khs_length originals_len, int32_t *currents, khs_length currents_len, const uint8_t *touched,
                             khs_length touched_len, const uint16_t *ends, khs_length ends_len, const uint16_t *point_counts, khs_length point_counts_len,
@@ -242,7 +247,7 @@ uint8_t khs_link_segments_cjk(int32_t *segments, khs_length segments_len, int32_
 /* Builds the edges of segments.
  * segments: at most 512; their old edge and next are forgotten, and may be any link. edges: room for exactly KHS_MOST_EDGES edges, not read.
  * dim: a dimension. major_dir: a direction; of edges with the same fpos a new one goes behind the others where it has that direction, and else in front of them.
- * group: a group. scale: 1 to 16,777,216; every segment's pos at that scale must be from -16,383 to 16,383 units.
+ * group: a group. scale: 1 to 16,777,216; every segment's pos at that scale must be from -65,535 to 65,535 units.
  * top_to_bottom: 0; 1 is KHS_RETIRED. Edges stand by rising positions.
  * distance, length, width: thresholds in design units, 0 to 65,535. One segment after the other joins the first edge of its direction whose fpos is less than distance
  * from its pos; where there is none it makes one. Of distance at most a quarter of a pixel counts, and for KHS_LATIN it is rounded to units and back. For KHS_CJK the
@@ -346,7 +351,7 @@ uint8_t khs_hint_lowercase_m(int32_t *edges, khs_length edges_len, int32_t group
  * counts between them in the list; it is a stem where one names the other by link, else a gap. Its width before is the second's opos less the first's, and its width after
  * the same of pos. A gap is lost where it was at least `least` wide, and is now turned, below 0, or without a row though it was above 0 wide; a stem, whatever its width,
  * where it is turned, or without a row though it was above 0 wide.
- * least: 0 to 16,383 units, else KHS_BAD_PARAMETER. 32 is half a pixel. Where nothing is lost every gap that was at least that wide, and above 0, has a row, and so has every
+ * least: 0 to 65,535 units, else KHS_BAD_PARAMETER. 32 is half a pixel. Where nothing is lost every gap that was at least that wide, and above 0, has a row, and so has every
  * stem that was above 0 wide.
  * linked: 0 or 1. An edge without a link may stand inside a stem, as the end of an open stroke does, and is no side of a gap there: with 1 it makes no false alarm, and a gap
  * that it is a side of is not seen. With 0, and 0 for least, and nothing lost, on edges whose opos do not fall, as building leaves them, all done edges stand in their order,
@@ -364,7 +369,7 @@ uint8_t khs_lost_gaps(const int32_t *edges, khs_length edges_len, int32_t least,
  * point. Two points in a row that are off the curve have one on it halfway between them. Points behind the last contour give no step.
  * A step has up to two places, x and y of each, in pixels: KHS_MOVE and KHS_LINE where they go, KHS_CURVE its control point and then its end, KHS_CLOSE none.
  * Every place is exact: units divided by 64, or the sum of two divided by 128; a zero is never negative.
- * xs, ys, marks: one entry for each point, at most 4,096. xs and ys are the fitted coordinates in units, each from -49,149 to 49,149, which is as far as
+ * xs, ys, marks: one entry for each point, at most 4,096. xs and ys are the fitted coordinates in units, each from -196,605 to 196,605, which is as far as
  * khs_align_weak_points goes; any nonzero mark means on the curve. ends: as in khs_align_weak_points. */
 
 /* One step of a path. cursor: its number, counted from 0.

@@ -31,7 +31,7 @@ pub struct LostPair {
 /// Tells what fitting lost: gaps and stems that have no pixel row left on a display that colours a pixel by its centre, or that are turned.
 ///
 /// A pair is two edges that count with none that counts between them in the list. Those count that are done, and with `linked` only those of them that have a link. The
-/// pair is a stem where one names the other by link, else a gap. A gap is lost where it was at least `least` wide, 0 to 16,383 units, and is now turned, or without a pixel
+/// pair is a stem where one names the other by link, else a gap. A gap is lost where it was at least `least` wide, 0 to 65,535 units, and is now turned, or without a pixel
 /// row though it was above 0 wide; a stem, whatever its width. Rows are the centres 64 k + 32 from the first position on and below the second.
 ///
 /// ```

@@ -41,7 +41,7 @@ impl PathStep {
 /// A fitted outline: the coordinates of its points in units, which of them are on the curve (any nonzero mark), and the last point of each contour.
 #[derive(Clone, Copy, Debug, PartialEq, Eq)]
 pub struct Outline<'a> {
-    /// The x coordinates, -49,149 to 49,149.
+    /// The x coordinates, -196,605 to 196,605.
     pub xs: &'a [i32],
     /// The y coordinates, the same.
     pub ys: &'a [i32],

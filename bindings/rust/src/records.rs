@@ -90,7 +90,7 @@ record! {
     Edge, EDGE_WORDS,
     /// The position, in design units.
     0 fpos: i16, set_fpos, with_fpos;
-    /// The scaled position, in units; accepted from -16,383 to 16,383.
+    /// The scaled position, in units; accepted from -65,535 to 65,535.
     1 opos: i32, set_opos, with_opos;
     /// The fitted position, in units; accepted from -16,777,216 to 16,777,216.
     2 pos: i32, set_pos, with_pos;
@@ -98,7 +98,7 @@ record! {
     3 flags: Flags, set_flags, with_flags;
     /// Where its segments run to.
     4 dir: Direction, set_dir, with_dir;
-    /// The fitted position of its blue zone, in units, where it has one; accepted from -16,383 to 16,383.
+    /// The fitted position of its blue zone, in units, where it has one; accepted from -65,535 to 65,535.
     5 blue: Option<i32>, set_blue, with_blue;
     /// The edge on the other side of its stem.
     7 link: Option<u16>, set_link, with_link;

@@ -33,6 +33,8 @@ pub enum Refusal {
     NoRoom,
     /// 6: a line of a log is not a whole frame.
     NotFrame,
+    /// 8: an untouched point lies between two touched ones that were 2 units apart and are 65,536 or more, or were 3 and are 98,304 or more.
+    TooSteep,
     /// 10: the order from top to bottom is asked for, which is retired.
     Retired,
     /// 255: a word is none of its field's values. Records made by this crate have no such words, and no call of it answers so.
@@ -52,6 +54,7 @@ impl Refusal {
             4 => Self::OutOfRange,
             5 => Self::NoRoom,
             6 => Self::NotFrame,
+            8 => Self::TooSteep,
             10 => Self::Retired,
             255 => Self::NotWords,
             other => Self::Other(other),
@@ -67,6 +70,7 @@ impl Refusal {
             Self::OutOfRange => 4,
             Self::NoRoom => 5,
             Self::NotFrame => 6,
+            Self::TooSteep => 8,
             Self::Retired => 10,
             Self::NotWords => 255,
             Self::Other(number) => number,
@@ -84,6 +88,7 @@ impl Refusal {
             Self::OutOfRange => "a coordinate, position, score, len or delta is outside its limits",
             Self::NoRoom => "the segments make more edges than there is room for",
             Self::NotFrame => "the line is not a whole frame",
+            Self::TooSteep => "two touched points that were close are too far apart for one between them",
             Self::Retired => "the order from top to bottom is retired",
             Self::NotWords => "a word is none of its field's values",
             Self::Other(_) => "this number is not known here",

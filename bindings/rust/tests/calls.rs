@@ -99,7 +99,7 @@ fn refuses_edges<T>(edges: &[Edge], call: impl Fn(&mut [Edge]) -> Result<T, Refu
         &call,
     );
     refused(
-        &with(edges[0].with_opos(16_384)),
+        &with(edges[0].with_opos(65_536)),
         Refusal::OutOfRange,
         &call,
     );
@@ -109,7 +109,7 @@ fn refuses_edges<T>(edges: &[Edge], call: impl Fn(&mut [Edge]) -> Result<T, Refu
         &call,
     );
     refused(
-        &with(edges[0].with_blue(Some(-16_384))),
+        &with(edges[0].with_blue(Some(-65_536))),
         Refusal::OutOfRange,
         &call,
     );
@@ -197,10 +197,11 @@ fn refusals_have_numbers_and_one_line() {
         OutOfRange,
         NoRoom,
         NotFrame,
+        TooSteep,
         NotWords,
         Other(7),
     ];
-    assert_eq!(all.map(Refusal::number), [1, 2, 3, 4, 5, 6, 255, 7]);
+    assert_eq!(all.map(Refusal::number), [1, 2, 3, 4, 5, 6, 8, 255, 7]);
     for refusal in all {
         let text = refusal.to_string();
         assert!(text.starts_with(&format!("refused by {}: ", refusal.number())));
@@ -232,13 +233,27 @@ fn weak_points() {
     };
     refused(&[0, 0], &[0], Refusal::TooLong);
     refused(&[0], &[1], Refusal::BadIndex);
-    refused(&[16_384], &[0], Refusal::OutOfRange);
+    refused(&[65_536], &[0], Refusal::OutOfRange);
+}
+
+#[test]
+fn weak_points_that_are_too_steep() {
+    let align = |span: i32, rise: i32| {
+        let mut currents = [-65_535, 7, rise - 65_535];
+        let answer = align_weak_points(&[0, 1, span], &mut currents, &[1, 0, 1], &[2]);
+        (answer, currents[1])
+    };
+    assert_eq!(align(2, 65_536), (Err(Refusal::TooSteep), 7));
+    assert_eq!(align(3, 98_304), (Err(Refusal::TooSteep), 7));
+    assert_eq!(align(2, 65_535), (Ok(()), -32_767));
+    assert_eq!(align(3, 98_303), (Ok(()), -32_767));
+    assert_eq!(align(4, 131_070), (Ok(()), -32_767));
 }
 
 #[test]
 fn catalogue() {
     let catalogue = Catalogue {
-        originals: &[0, 1, 2, 3, 16_384, 0, 10, 20],
+        originals: &[0, 1, 2, 3, 65_536, 0, 10, 20],
         touched: &[1, 0, 0, 1, 0, 1, 0, 0],
         ends: &[3, 0, 2],
         point_counts: &[4, 0, 1, 3],
@@ -379,7 +394,12 @@ fn building_refused() {
         Refusal::BadParameter,
     );
     refused(&[one.with_link(Some(1))], &BUILDING, Refusal::BadIndex);
-    refused(&[one.with_pos(16_384)], &BUILDING, Refusal::OutOfRange);
+    let scale = 131_076;
+    refused(
+        &[one.with_pos(i16::MAX)],
+        &Building { scale, ..BUILDING },
+        Refusal::OutOfRange,
+    );
     let apart: Vec<Segment> = (0..=128).map(|ix| side(Direction::Right, 9 * ix)).collect();
     refused(&apart, &BUILDING, Refusal::NoRoom);
 }
@@ -755,7 +775,7 @@ fn guard() {
     // a stem, whatever its width
     let stem = [tied(0, 33, 1), placed(1, 96)];
     let vanished = lost(0, 1, [0, 1], [1, 63], 0);
-    assert_eq!(lost_gaps(&stem, 16_383, false), vanished);
+    assert_eq!(lost_gaps(&stem, 65_535, false), vanished);
     assert_eq!(lost_gaps(&stem, 0, true), nothing(0));
     // two edges at one place lose nothing while they are not turned
     let same = [placed(9, 70), placed(9, 70), placed(9, 69)];
@@ -767,7 +787,7 @@ fn guard() {
     let far = lost(1, 0, [0, 1], [1, -33_554_432], 0);
     assert_eq!(lost_gaps(&apart, 0, false), far);
     refuses_edges(&edges, |edges| lost_gaps(edges, 0, true));
-    for least in [-1, 16_384] {
+    for least in [-1, 65_536] {
         refused(&edges, Refusal::BadParameter, |edges| {
             lost_gaps(edges, least, false)
         });
@@ -846,7 +866,7 @@ fn path_refuses() {
         (late, Refusal::BadIndex),
         (
             Outline {
-                ys: &[0, 0, 0, 0, 49_150],
+                ys: &[0, 0, 0, 0, 196_606],
                 ..OUTLINE
             },
             Refusal::OutOfRange,
@@ -973,5 +993,5 @@ fn turning_over_refused() {
     refused(&[segment], &[edge.with_last(1)], Refusal::BadIndex);
     refused(&[], &[edge], Refusal::BadIndex);
     refused(&[segment.with_score(-1)], &[edge], Refusal::OutOfRange);
-    refused(&[segment], &[edge.with_opos(16_384)], Refusal::OutOfRange);
+    refused(&[segment], &[edge.with_opos(65_536)], Refusal::OutOfRange);
 }
