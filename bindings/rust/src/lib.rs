@@ -65,7 +65,7 @@ pub fn compute_mid_delta(min: i32, max: i32) -> i16 {
 
 /// Aligns the weak points of one axis: the currents of untouched points follow the touched ones around their contour.
 ///
-/// The lists have one entry for each point, and any nonzero mark means touched; `ends` are the last points of the contours.
+/// The lists have one entry for each point, coordinates from -65,535 to 65,535 units, and any nonzero mark means touched; `ends` are the last points of the contours.
 pub fn align_weak_points(
     originals: &[i32],
     currents: &mut [i32],
