@@ -15,13 +15,13 @@ use Rattle.outline.specs.Steps.{AllDone}
 
 -- ---- `listOf`
 -- its length
-length-listOf : (f : ℕ → ℤ) (i n : ℕ) → length (listOf f i n) ≡ n
+pub length-listOf : (f : ℕ → ℤ) (i n : ℕ) → length (listOf f i n) ≡ n
 unfolding listOf
 length-listOf f i zero = refl
 length-listOf f i (suc n) = ap suc (length-listOf f (suc i) n)
 
 -- its places
-at-listOf : (f : ℕ → ℤ) (i n k : ℕ) → k < n → at (listOf f i n) k ≡ f (i + k)
+pub at-listOf : (f : ℕ → ℤ) (i n k : ℕ) → k < n → at (listOf f i n) k ≡ f (i + k)
 unfolding listOf
 at-listOf f i zero k h = absurd (lt-irrefl k (omega arith))
 at-listOf f i (suc n) zero h = ap f (sym (add-zero i))

@@ -24,7 +24,7 @@ pub fn wide(x: u16) -> usize
 }
 
 // Whether the contour ends rise strictly, each below the point count.
-fn ends_hold(ends: &[u16], count: usize) -> bool
+pub fn ends_hold(ends: &[u16], count: usize) -> bool
     ensures { λ r. ⌜ r ≡ endsHold 0 count (now (ends .entry)) ⌝ }
 {
     let mut start: usize = 0;

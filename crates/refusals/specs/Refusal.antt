@@ -25,9 +25,17 @@ outOfRange = 4
 abbrev pub noRoom : ℕ
 noRoom = 5
 
+-- an edge has no segment, or a ring that is not sound (requests #107 and #113); the tests have it last
+abbrev pub brokenRing : ℕ
+brokenRing = 7
+
 -- a point between its references needs a quotient that is too steep (request #109); the tests have it behind 4
 abbrev pub steep : ℕ
 steep = 8
+
+-- a list of references does not match touch marks and contours (request #110); the tests have it behind 3
+abbrev pub unmatched : ℕ
+unmatched = 9
 
 -- an order of edges is asked for that is retired (request #114); the tests have it right behind 1
 abbrev pub retired : ℕ

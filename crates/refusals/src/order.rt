@@ -13,8 +13,14 @@ pub const OUT_OF_RANGE: u8 = 4;
 
 pub const NO_ROOM: u8 = 5;
 
+// That of requests #107 and #113, of an edge without a segment or with a ring that is not sound.
+pub const BROKEN_RING: u8 = 7;
+
 // Request #109's, of a point that needs a quotient which is too steep.
 pub const TOO_STEEP: u8 = 8;
+
+// Request #110's, of a list of references that does not match.
+pub const UNMATCHED: u8 = 9;
 
 // Request #114's, of an order of edges that is retired.
 pub const RETIRED: u8 = 10;
