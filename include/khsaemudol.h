@@ -37,7 +37,8 @@
  *      is followed by its first. A segment may run over that place, and its last is below its first then. (Points of KHS_CJK the Rust code moves by the edge's
  *      pos - opos, where it is not told to snap.) Strong points are the caller's too: those that are not touched now and not weak, which a point is that is very near
  *      another one or has no clear direction. The Rust code places them by the edges around them, and touches them; left out, they go with the weak ones.
- *      khs_align_weak_points moves the points that are not touched then, and khs_align_catalogue those of many outlines at once.
+ *      khs_align_weak_points moves the points that are not touched then, and khs_align_catalogue those of many outlines at once. Where one touched point is moved by hand
+ *      afterwards, khs_drag_point moves those that depend on it.
  *   7. When both axes are fitted, khs_path makes the path for a rasteriser of the points, in pixels.
  * Edges stand by rising positions. Tables that were built and saved the other way, from top to bottom, go through khs_turn_over once.
  *
@@ -90,7 +91,7 @@
  * of edges, whatever its word; scale, units per em, thresholds, standards and a gap's least width are KHS_BAD_PARAMETER and a delta KHS_OUT_OF_RANGE outside of their
  * limits.
  * The calls over points have no such fields, and test KHS_TOO_LONG, KHS_BAD_INDEX, KHS_OUT_OF_RANGE and, where they align, KHS_TOO_STEEP in this order;
- * khs_align_catalogue so of each outline.
+ * khs_align_catalogue so of each outline. khs_align_with_references tests KHS_NOT_MATCHING behind KHS_BAD_INDEX.
  * khs_read_frame tests KHS_NOT_WORDS, a room of another length, and then KHS_NOT_FRAME.
  *
  * A refused call writes nothing: every list and every place holds what it held, marks too. With KHS_DONE a list of edges or segments that is not const holds what
@@ -126,6 +127,7 @@ enum khs_answer {
     KHS_NO_ROOM = 5,       /* building calls for one edge more than 128 */
     KHS_NOT_FRAME = 6,     /* a line of a log is not a whole frame */
     KHS_TOO_STEEP = 8,     /* an untouched point lies between two touched ones that were 2 units apart and are 65,536 or more, or were 3 and are 98,304 or more */
+    KHS_NOT_MATCHING = 9,  /* the lists of khs_align_with_references are not what khs_remember_references writes for these marks and contours */
     KHS_RETIRED = 10,      /* the order from top to bottom is asked for, which is retired: on either axis and for either group */
     KHS_NOT_WORDS = 255    /* a length is not that of whole records, a room has not exactly its length, or a word is none of its field's values */
 };
@@ -222,6 +224,38 @@ int16_t khs_compute_mid_delta(int32_t min, int32_t max);
  * Writes currents. Answers: KHS_DONE, KHS_TOO_LONG, KHS_BAD_INDEX, KHS_OUT_OF_RANGE, KHS_TOO_STEEP. */
 uint8_t khs_align_weak_points(const int32_t *originals, khs_length originals_len, int32_t *currents, khs_length currents_len, const uint8_t *touched,
                               khs_length touched_len, const uint16_t *ends, khs_length ends_len);
+
+/* Writes who refers to whom, found once for an outline that is fitted at many sizes with the same touched points: for each point the index of the nearest touched point
+ * before it around its contour, and of the nearest behind it; or, the same number in both lists, 65,535 where it is touched, whatever else holds, 65,534 where it has no
+ * contour, and 65,533 where its contour has one touched point or none.
+ * touched, ends: as in khs_align_weak_points. before, behind: one place for each point, else KHS_TOO_LONG; what they hold is not read.
+ * Writes before and behind. Answers: KHS_DONE, KHS_TOO_LONG, KHS_BAD_INDEX. */
+uint8_t khs_remember_references(const uint8_t *touched, khs_length touched_len, const uint16_t *ends, khs_length ends_len, uint16_t *before, khs_length before_len,
+                                uint16_t *behind, khs_length behind_len);
+
+/* Moves the untouched points of one axis of an outline by these lists: the currents are those that khs_align_weak_points leaves, at every size.
+ * originals, currents, touched, ends: as there. before, behind: one entry for each point, else KHS_TOO_LONG. They are to be what khs_remember_references writes for these
+ * marks and ends: every entry is tested, those of touched points too, and KHS_NOT_MATCHING is answered where one is another, behind KHS_BAD_INDEX and in front of
+ * KHS_OUT_OF_RANGE. Other marks of the same touched points match. A list that was written for these touched points and ends is never refused so.
+ * The test reads every mark, which is all that the search without lists reads, so the lists do not pay in time: on outlines of 1,024 and 4,096 points, one point in 4 or
+ * in 16 touched, this call takes 0.98 to 1.05 of the time of khs_align_weak_points, at 256 points 1.09 to 1.24, at 64 1.25 to 1.46 and at 16 1.29 to 1.66. They pay
+ * where a caller reads them: who refers to whom is known without a search.
+ * Writes currents. Answers: KHS_DONE, KHS_TOO_LONG, KHS_BAD_INDEX, KHS_NOT_MATCHING, KHS_OUT_OF_RANGE, KHS_TOO_STEEP. */
+uint8_t khs_align_with_references(const int32_t *originals, khs_length originals_len, int32_t *currents, khs_length currents_len, const uint8_t *touched,
+                                  khs_length touched_len, const uint16_t *ends, khs_length ends_len, const uint16_t *before, khs_length before_len,
+                                  const uint16_t *behind, khs_length behind_len);
+
+/* Moves what depends on one touched point, whose current the caller has set: the untouched points of its contour of which it is the nearest touched one before or behind,
+ * so all of them where it is the only one. Each gets what khs_align_weak_points would give it; nothing else is written, the point's own current neither.
+ * originals, currents, touched, ends: as there, and with its answers for the whole of them. point: the index of the touched point; one that is not below the count of
+ * points, whatever its word, or not touched, is KHS_BAD_INDEX. A touched point of no contour moves nothing.
+ * On the currents that khs_align_weak_points left, with this one then set, the call leaves what khs_align_weak_points would leave. Currents that it left may be beyond what
+ * is accepted, and are KHS_OUT_OF_RANGE then.
+ * A surprise: where the only touched point of a contour is set back on its original, the others do not come back: they keep what they held, since a point that has not
+ * moved moves nothing. To bring them back set their currents to their originals too.
+ * Writes currents. Answers: KHS_DONE, KHS_TOO_LONG, KHS_BAD_INDEX, KHS_OUT_OF_RANGE, KHS_TOO_STEEP. */
+uint8_t khs_drag_point(const int32_t *originals, khs_length originals_len, int32_t *currents, khs_length currents_len, const uint8_t *touched, khs_length touched_len,
+                       const uint16_t *ends, khs_length ends_len, uint32_t point);
 
 /* Moves the untouched points of one axis of every outline of a catalogue, as khs_align_weak_points does those of one. The outlines stand one behind another in
  * shared lists, which have no limit.

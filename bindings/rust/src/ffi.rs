@@ -28,6 +28,44 @@ extern "C" {
         ends_len: Length,
     ) -> u8;
 
+    fn khs_remember_references(
+        touched: *const u8,
+        touched_len: Length,
+        ends: *const u16,
+        ends_len: Length,
+        before: *mut u16,
+        before_len: Length,
+        behind: *mut u16,
+        behind_len: Length,
+    ) -> u8;
+
+    fn khs_align_with_references(
+        originals: *const i32,
+        originals_len: Length,
+        currents: *mut i32,
+        currents_len: Length,
+        touched: *const u8,
+        touched_len: Length,
+        ends: *const u16,
+        ends_len: Length,
+        before: *const u16,
+        before_len: Length,
+        behind: *const u16,
+        behind_len: Length,
+    ) -> u8;
+
+    fn khs_drag_point(
+        originals: *const i32,
+        originals_len: Length,
+        currents: *mut i32,
+        currents_len: Length,
+        touched: *const u8,
+        touched_len: Length,
+        ends: *const u16,
+        ends_len: Length,
+        point: u32,
+    ) -> u8;
+
     fn khs_align_catalogue(
         originals: *const i32,
         originals_len: Length,
@@ -283,6 +321,77 @@ pub fn align_weak_points(
             length(touched),
             ends.as_ptr(),
             length(ends),
+        )
+    }
+}
+
+pub fn remember_references(
+    touched: &[u8],
+    ends: &[u16],
+    before: &mut [u16],
+    behind: &mut [u16],
+) -> u8 {
+    // SAFETY: four slices, of which `before` and `behind` are lent to this call alone.
+    unsafe {
+        khs_remember_references(
+            touched.as_ptr(),
+            length(touched),
+            ends.as_ptr(),
+            length(ends),
+            before.as_mut_ptr(),
+            length(before),
+            behind.as_mut_ptr(),
+            length(behind),
+        )
+    }
+}
+
+pub fn align_with_references(
+    originals: &[i32],
+    currents: &mut [i32],
+    touched: &[u8],
+    ends: &[u16],
+    before: &[u16],
+    behind: &[u16],
+) -> u8 {
+    // SAFETY: six slices, of which `currents` is lent to this call alone.
+    unsafe {
+        khs_align_with_references(
+            originals.as_ptr(),
+            length(originals),
+            currents.as_mut_ptr(),
+            length(currents),
+            touched.as_ptr(),
+            length(touched),
+            ends.as_ptr(),
+            length(ends),
+            before.as_ptr(),
+            length(before),
+            behind.as_ptr(),
+            length(behind),
+        )
+    }
+}
+
+pub fn drag_point(
+    originals: &[i32],
+    currents: &mut [i32],
+    touched: &[u8],
+    ends: &[u16],
+    point: u32,
+) -> u8 {
+    // SAFETY: four slices, of which `currents` is lent to this call alone.
+    unsafe {
+        khs_drag_point(
+            originals.as_ptr(),
+            length(originals),
+            currents.as_mut_ptr(),
+            length(currents),
+            touched.as_ptr(),
+            length(touched),
+            ends.as_ptr(),
+            length(ends),
+            point,
         )
     }
 }

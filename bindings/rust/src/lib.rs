@@ -28,6 +28,7 @@ mod joined;
 mod log;
 mod path;
 mod records;
+mod references;
 mod refusal;
 
 pub use choices::{Dimension, Group, Neighbour, Order, WidthRule};
@@ -37,6 +38,7 @@ pub use joined::{align_blues_and_stems, BluesAndStems};
 pub use log::{Job, MOST_DIGITS};
 pub use path::{path, path_step, Outline, Path, PathStep, PixelPoint};
 pub use records::{Edge, Segment, EDGE_WORDS, SEGMENT_WORDS};
+pub use references::{drag_point, References};
 pub use refusal::Refusal;
 
 /// The most edges of an axis.

@@ -24,7 +24,7 @@ pub enum Refusal {
     /// 2: a scale, units per em, a threshold, a gap's least width or the edge count of the m rule is outside its limits, the standards of a width rule break its rule, or
     /// an edge has a zone on an axis that blues and stems in one call take none on.
     BadParameter,
-    /// 3: a contour end breaks its rule, or a link, a serif, an anchor or an edge named in the call is not below its list's length; in turning over also any other
+    /// 3: a contour end breaks its rule, or a link, a serif, an anchor or an edge named in the call is not below its list's length, or a dragged point is not there or not touched; in turning over also any other
     /// index.
     BadIndex,
     /// 4: a coordinate, position, score, len or delta is outside its limits; in building also a scaled position.
@@ -35,6 +35,8 @@ pub enum Refusal {
     NotFrame,
     /// 8: an untouched point lies between two touched ones that were 2 units apart and are 65,536 or more, or were 3 and are 98,304 or more.
     TooSteep,
+    /// 9: remembered references are not those of these marks and contours.
+    NotMatching,
     /// 10: the order from top to bottom is asked for, which is retired.
     Retired,
     /// 255: a word is none of its field's values. Records made by this crate have no such words, and no call of it answers so.
@@ -55,6 +57,7 @@ impl Refusal {
             5 => Self::NoRoom,
             6 => Self::NotFrame,
             8 => Self::TooSteep,
+            9 => Self::NotMatching,
             10 => Self::Retired,
             255 => Self::NotWords,
             other => Self::Other(other),
@@ -71,6 +74,7 @@ impl Refusal {
             Self::NoRoom => 5,
             Self::NotFrame => 6,
             Self::TooSteep => 8,
+            Self::NotMatching => 9,
             Self::Retired => 10,
             Self::NotWords => 255,
             Self::Other(number) => number,
@@ -89,6 +93,7 @@ impl Refusal {
             Self::NoRoom => "the segments make more edges than there is room for",
             Self::NotFrame => "the line is not a whole frame",
             Self::TooSteep => "two touched points that were close are too far apart for one between them",
+            Self::NotMatching => "the references are not those of these marks and contours",
             Self::Retired => "the order from top to bottom is retired",
             Self::NotWords => "a word is none of its field's values",
             Self::Other(_) => "this number is not known here",

@@ -198,10 +198,11 @@ fn refusals_have_numbers_and_one_line() {
         NoRoom,
         NotFrame,
         TooSteep,
+        NotMatching,
         NotWords,
         Other(7),
     ];
-    assert_eq!(all.map(Refusal::number), [1, 2, 3, 4, 5, 6, 8, 255, 7]);
+    assert_eq!(all.map(Refusal::number), [1, 2, 3, 4, 5, 6, 8, 9, 255, 7]);
     for refusal in all {
         let text = refusal.to_string();
         assert!(text.starts_with(&format!("refused by {}: ", refusal.number())));
@@ -248,6 +249,54 @@ fn weak_points_that_are_too_steep() {
     assert_eq!(align(2, 65_535), (Ok(()), -32_767));
     assert_eq!(align(3, 98_303), (Ok(()), -32_767));
     assert_eq!(align(4, 131_070), (Ok(()), -32_767));
+}
+
+#[test]
+fn references_at_two_sizes() {
+    let (touched, ends) = ([0, 1, 0, 255, 0, 0], [4]);
+    let references = References::of(&touched, &ends).unwrap();
+    assert_eq!(references.before(), [3, 65_535, 1, 65_535, 3, 65_534]);
+    assert_eq!(references.behind(), [1, 65_535, 3, 65_535, 1, 65_534]);
+    for originals in [[0, 10, 20, 30, 40, 50], [0, 5, 5, 5, 9, 0]] {
+        let given = [1, 12, 2, 45, 3, 4];
+        let (mut with, mut without) = (given, given);
+        references
+            .align(&originals, &mut with, &touched, &ends)
+            .unwrap();
+        align_weak_points(&originals, &mut without, &touched, &ends).unwrap();
+        assert_eq!(with, without);
+    }
+    let refused = |touched: &[u8], ends: &[u16], why| {
+        let mut currents = [65_536; 6];
+        let answer = references.align(&[0; 6], &mut currents, touched, ends);
+        assert_eq!((answer, currents), (Err(why), [65_536; 6]));
+    };
+    refused(&[0, 7, 0, 1, 0, 0], &ends, Refusal::OutOfRange);
+    refused(&[0, 1, 0, 1, 1, 0], &ends, Refusal::NotMatching);
+    refused(&touched, &[3], Refusal::NotMatching);
+    refused(&touched, &[6], Refusal::BadIndex);
+    refused(&touched[1..], &ends, Refusal::TooLong);
+    assert_eq!(References::of(&touched, &[6]), Err(Refusal::BadIndex));
+    assert_eq!(References::of(&[0; 4_097], &[]), Err(Refusal::TooLong));
+}
+
+#[test]
+fn one_point_dragged() {
+    let (originals, touched, ends) = ([0, 10, 20, 30, 40], [0, 1, 0, 255, 0], [4]);
+    let mut currents = [99, 30, 20, 30, 40];
+    drag_point(&originals, &mut currents, &touched, &ends, 1).unwrap();
+    assert_eq!(currents, [20, 30, 30, 30, 40]);
+    let mut full = currents;
+    full[3] = 50;
+    let mut dragged = full;
+    align_weak_points(&originals, &mut full, &touched, &ends).unwrap();
+    drag_point(&originals, &mut dragged, &touched, &ends, 3).unwrap();
+    assert_eq!(dragged, full);
+    for point in [0, 2, 5, u32::MAX] {
+        let mut currents = full;
+        let answer = drag_point(&originals, &mut currents, &touched, &ends, point);
+        assert_eq!((answer, currents), (Err(Refusal::BadIndex), full));
+    }
 }
 
 #[test]

@@ -7,6 +7,10 @@ use lib.IntN.{ℤ}
 use Rattle.middle.specs.Middle.{ComputesMidPos, ComputesMidDelta}
 use Rattle.outline.specs.Weak.{Outcome}
 use Rattle.outline.proofs.Outcomes as Weak
+use Rattle.weak_references.specs.References.{Remembered, AlignedWith}
+use Rattle.weak_references.proofs.Equal as References
+use Rattle.weak_drag.specs.Drag.{Dragged}
+use Rattle.weak_drag.proofs.Drags as Drag
 use Rattle.catalogue.specs.Catalogue.{Catalogued}
 use Rattle.catalogue.proofs.Outcomes as Whole
 use Rattle.building.specs.declared.numbers.Thresholds.{Thresholds}
@@ -40,6 +44,21 @@ mid-delta-determined min max a b = a ∙ sym b
 -- `khs_align_weak_points`
 pub weak-determined : (o c : List ℤ) (t es : List ℕ) {r r′ : ℕ} {now now′ : List ℤ} → Outcome o c t es r now → Outcome o c t es r′ now′ → (r ≡ r′) × (now ≡ now′)
 weak-determined o c t es {r} {r′} {now} {now′} a b = Weak.determined o c t es r r′ now now′ a b
+
+-- `khs_remember_references`
+pub remembered-determined :
+    (t es b h : List ℕ) {r r′ : ℕ} {before before′ behind behind′ : List ℕ}
+    → Remembered t es b h r before behind → Remembered t es b h r′ before′ behind′ → (r ≡ r′) × ((before ≡ before′) × (behind ≡ behind′))
+remembered-determined t es b h x y = References.remembered-determined t es b h x y
+
+-- `khs_align_with_references`
+pub with-determined :
+    (o c : List ℤ) (t es b h : List ℕ) {r r′ : ℕ} {now now′ : List ℤ} → AlignedWith o c t es b h r now → AlignedWith o c t es b h r′ now′ → (r ≡ r′) × (now ≡ now′)
+with-determined o c t es b h x y = References.aligned-determined o c t es b h x y
+
+-- `khs_drag_point`
+pub drag-determined : (o c : List ℤ) (t es : List ℕ) (p : ℕ) {r r′ : ℕ} {now now′ : List ℤ} → Dragged o c t es p r now → Dragged o c t es p r′ now′ → (r ≡ r′) × (now ≡ now′)
+drag-determined o c t es p {r} {r′} {now} {now′} a b = Drag.determined o c t es p r r′ now now′ a b
 
 -- `khs_align_catalogue`
 pub catalogue-determined :

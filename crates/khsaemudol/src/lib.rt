@@ -22,8 +22,13 @@ use middle::compute_mid_pos;
 use outline::weak::align_weak_points;
 use path::lend::lend_step;
 use path_whole::whole::path;
+use weak_drag::drag::lend_drag;
+use weak_references::align::align_with_references;
+use weak_references::remember::remember_references;
 ghost use Rattle.middle.specs.Middle.{ComputesMidPos, ComputesMidDelta};
 ghost use Rattle.outline.specs.Weak.{Outcome};
+ghost use Rattle.weak_references.specs.References.{Remembered, AlignedWith};
+ghost use Rattle.weak_drag.specs.Drag.{Dragged};
 ghost use Rattle.catalogue.specs.Catalogue.{Catalogued};
 ghost use Rattle.frames.specs.Frame.{frameOf};
 ghost use Rattle.frames_lent.specs.Lent.{WritesLent, ReadsLent};
@@ -68,6 +73,48 @@ pub extern "C" fn khs_align_weak_points(
     ensures { λ r. ⌜ Outcome (now (originals .entry)) (now (currents .entry)) (now (touched .entry)) (now (ends .entry)) r (now (currents .exit)) ⌝ }
 {
     align_weak_points(originals, currents, touched, ends)
+}
+
+// Writes who refers to whom into two lists. The answer is 0, or the number of the refusal, 1 or 3, which writes nothing.
+#[no_mangle]
+pub extern "C" fn khs_remember_references(
+    touched: &[u8],
+    ends: &[u16],
+    before: &mut [u16],
+    behind: &mut [u16],
+) -> u8
+    ensures { λ r. ⌜ Remembered (now (touched .entry)) (now (ends .entry)) (now (before .entry)) (now (behind .entry)) r (now (before .exit)) (now (behind .exit)) ⌝ }
+{
+    remember_references(touched, ends, before, behind)
+}
+
+// Aligns the weak points of one axis by these lists. The answer is 0, or the number of the refusal, 1, 3, 9, 4 or 8, which writes nothing.
+#[no_mangle]
+pub extern "C" fn khs_align_with_references(
+    originals: &[i32],
+    currents: &mut [i32],
+    touched: &[u8],
+    ends: &[u16],
+    before: &[u16],
+    behind: &[u16],
+) -> u8
+    ensures { λ r. ⌜ AlignedWith (now (originals .entry)) (now (currents .entry)) (now (touched .entry)) (now (ends .entry)) (now (before .entry)) (now (behind .entry)) r (now (currents .exit)) ⌝ }
+{
+    align_with_references(originals, currents, touched, ends, before, behind)
+}
+
+// Fits again what depends on one touched point, whose current is set. The answer is 0, or the number of the refusal, 1, 3, 4 or 8, which writes nothing.
+#[no_mangle]
+pub extern "C" fn khs_drag_point(
+    originals: &[i32],
+    currents: &mut [i32],
+    touched: &[u8],
+    ends: &[u16],
+    point: u32,
+) -> u8
+    ensures { λ r. ⌜ Dragged (now (originals .entry)) (now (currents .entry)) (now (touched .entry)) (now (ends .entry)) point r (now (currents .exit)) ⌝ }
+{
+    lend_drag(originals, currents, touched, ends, point)
 }
 
 // Aligns the weak points of every outline of a catalogue. The answer is 1, and nothing is written, where the counts do not add up; else 0, and each outline has its own.
