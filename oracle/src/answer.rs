@@ -3,10 +3,11 @@
 use crate::{
     calls,
     decode::decode,
-    frames, gaps,
+    drag, frames, gaps,
     job::{Job, Points},
     joined,
     path::Step,
+    references,
     refusals::{Answer, Refusal},
     text, turn,
     words::{self, Words},
@@ -50,6 +51,9 @@ pub fn answer(job: Job) -> Words {
         Job::Path(_)
         | Job::PathStep(..)
         | Job::Catalogue(_)
+        | Job::Remember(..)
+        | Job::WithReferences(..)
+        | Job::Drag(..)
         | Job::TurnOver(..)
         | Job::Gaps(..)
         | Job::WriteFrame(..)
@@ -88,6 +92,19 @@ fn of_requests(w: &mut Words, job: Job) {
             done(w, calls::align_catalogue(&mut given));
             w.numbers("currents", "current", &given.shared.currents);
             w.numbers("answers", "own answer", &given.answers);
+        }
+        Job::Remember(touches, ends, mut list) => {
+            let result = references::remember_references(&touches, &ends, &mut list);
+            done(w, result);
+            words::references(w, &list);
+        }
+        Job::WithReferences(mut points, list) => {
+            done(w, references::align_with_references(&mut points, &list));
+            w.numbers("currents", "current", &points.currents);
+        }
+        Job::Drag(mut points, point) => {
+            done(w, drag::drag_point(&mut points, point.into()));
+            w.numbers("currents", "current", &points.currents);
         }
         Job::TurnOver(mut segments, mut edges) => {
             done(w, turn::turn_over(&mut segments, &mut edges));

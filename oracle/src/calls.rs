@@ -382,6 +382,19 @@ pub fn outlines(catalogue: &Catalogue) -> Vec<Points> {
     outlines
 }
 
+/// The currents that call 3 makes of these points, for a call with a test of its own right behind 1 and 3.
+pub(crate) fn aligned_behind(
+    points: &Points,
+    test: impl FnOnce() -> Answer<()>,
+) -> Answer<Vec<i32>> {
+    let mut aligned = points.clone();
+    let answer = align_weak_points(&mut aligned);
+    if !matches!(answer, Err(Refusal(1 | 3))) {
+        test()?;
+    }
+    answer.map(|()| aligned.currents)
+}
+
 /// Runs a part of the given Rust on an axis that holds these edges, and marks them as it was recorded.
 fn on_axis<T>(
     edges: &mut Table<Edge>,

@@ -3,7 +3,7 @@
 use crate::{
     job::{
         Building, Catalogue, CjkStem, Dimension, Direction, Edge, Job, Joined, Mark, Points,
-        ScaledWidth, ScriptGroup, Segment, Stems, Table, TopoFlags, Walk, WidthRule,
+        References, ScaledWidth, ScriptGroup, Segment, Stems, Table, TopoFlags, Walk, WidthRule,
     },
     limits::{EDGES, LENT, NUMBERS, SEGMENTS},
 };
@@ -195,6 +195,9 @@ impl Reader<'_> {
             15 => Job::Path(self.walk()?),
             16 => Job::PathStep(self.walk()?, self.number()?),
             17 => Job::Catalogue(self.catalogue()?),
+            18 => Job::Remember(self.numbers()?, self.numbers()?, self.references()?),
+            19 => Job::WithReferences(self.points()?, self.references()?),
+            20 => Job::Drag(self.points()?, self.number()?),
             25 => Job::WriteFrame(self.points()?, self.numbers()?),
             26 => Job::ReadFrame(self.numbers()?),
             105 => Job::Build(self.segments()?, self.edges()?, self.building()?),
@@ -231,6 +234,14 @@ impl Reader<'_> {
             currents: self.numbers()?,
             touches: self.numbers()?,
             ends: self.numbers()?,
+        })
+    }
+
+    /// The list beside an outline.
+    fn references(&mut self) -> Option<References> {
+        Some(References {
+            before: self.numbers()?,
+            behind: self.numbers()?,
         })
     }
 

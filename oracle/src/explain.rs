@@ -90,7 +90,7 @@ fn field(name: &str, value: i32) -> String {
     match name {
         "call" => String::new(),
         "original" | "current" | "touch" | "end" | "standard" | "x" | "y" | "mark" | "points"
-        | "contours" | "own answer" => format!(" {value}"),
+        | "contours" | "own answer" | "number before" | "number behind" => format!(" {value}"),
         "place.x" => format!(" ({}", f32::from_bits(value as u32)),
         "place.y" => format!(" {})", f32::from_bits(value as u32)),
         "no place" if value == 0 => String::new(),

@@ -46,6 +46,13 @@ impl Points {
     }
 }
 
+/// The list beside an outline: two numbers for each point, which say what is known of its references.
+#[derive(Clone, PartialEq, Debug)]
+pub struct References {
+    pub before: Vec<u16>,
+    pub behind: Vec<u16>,
+}
+
 /// Both axes of an outline with its on-curve marks, to be walked.
 #[derive(Clone, PartialEq, Debug)]
 pub struct Walk {
@@ -129,6 +136,9 @@ pub enum Job {
     Path(Walk),
     PathStep(Walk, u32),
     Catalogue(Catalogue),
+    Remember(Vec<u8>, Vec<u16>, References),
+    WithReferences(Points, References),
+    Drag(Points, u16),
     Joined(Table<Edge>, Joined),
     TurnOver(Table<Segment>, Table<Edge>),
     Gaps(Table<Edge>, i32, bool),
@@ -145,6 +155,9 @@ pub const CALLS: &[(usize, &str)] = &[
     (15, "path"),
     (16, "path_step"),
     (17, "align_catalogue"),
+    (18, "remember_references"),
+    (19, "align_with_references"),
+    (20, "drag_point"),
     (25, "write_frame"),
     (26, "read_frame"),
     (105, "compute_edges"),

@@ -5,6 +5,7 @@ pub mod calls;
 #[cfg(feature = "count")]
 pub mod count;
 pub mod decode;
+pub mod drag;
 pub mod explain;
 pub mod frames;
 pub mod gaps;
@@ -18,6 +19,7 @@ pub mod path;
 pub mod plain;
 pub mod prepared;
 pub mod ranges;
+pub mod references;
 pub mod refusals;
 pub mod streams;
 pub mod text;

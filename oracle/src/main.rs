@@ -26,6 +26,7 @@ const USAGE: &str = "usage:
   oracle answer                 job lines on stdin to answer lines on stdout
   oracle gen --call N --count C --seed S --profile mixed|small|limits|damaged
   oracle patterns --call 15|16  paths of every mark pattern up to 12 points
+  oracle patterns --call 18|19|20   references and drags of every outline up to 4 points
   oracle explain                job lines on stdin, decoded with their answers
   oracle diff JOBS FIRST SECOND compares two files of answers to the jobs
   oracle tally                  job lines on stdin: answers per call and number
@@ -140,16 +141,18 @@ fn print(call: usize, count: u64, profile: Profile, random: &mut Random) -> io::
     output.flush()
 }
 
-/// Prints the path's jobs of every mark pattern.
+/// Prints the path's jobs of every mark pattern, or the jobs of every outline of few points.
 fn patterns(options: &[&str]) -> Done {
-    let step = match options {
-        ["--call", "15"] => false,
-        ["--call", "16"] => true,
-        _ => return None,
-    };
     let mut output = BufWriter::with_capacity(1 << 16, io::stdout().lock());
     let mut print = |job: &Job| writeln!(output, "{}", text::write(&encode(job).values));
-    let printed = generate::patterns::jobs(step, &mut print);
+    let printed = match options {
+        ["--call", "15"] => generate::patterns::jobs(false, &mut print),
+        ["--call", "16"] => generate::patterns::jobs(true, &mut print),
+        ["--call", "18"] => generate::few::remember(&mut print),
+        ["--call", "19"] => generate::few::align(&mut print),
+        ["--call", "20"] => generate::few::drag(&mut print),
+        _ => return None,
+    };
     Some(printed.and_then(|()| output.flush()))
 }
 

@@ -54,7 +54,9 @@ impl Prepared {
         match job {
             Job::MidPos(min, max) => Self::Middle(topo_segments::compute_mid_pos, min, max),
             Job::MidDelta(min, max) => Self::Middle(topo_segments::compute_mid_delta, min, max),
-            Job::Weak(points) => Self::weak(points),
+            Job::Weak(points) | Job::WithReferences(points, _) | Job::Drag(points, _) => {
+                Self::weak(points)
+            }
             Job::Link(segments, major, units_per_em, scale) => {
                 let outline = Outline {
                     units_per_em,

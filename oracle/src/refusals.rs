@@ -5,8 +5,8 @@
 use crate::{
     given::metrics::fixed_mul,
     job::{
-        Building, Catalogue, CjkStem, Dimension, Edge, Joined, Points, ScriptGroup, Segment, Stems,
-        Table, Walk, WidthRule,
+        Building, Catalogue, CjkStem, Dimension, Edge, Joined, Points, References, ScriptGroup,
+        Segment, Stems, Table, Walk, WidthRule,
     },
     limits::*,
     weak,
@@ -20,7 +20,7 @@ pub struct Refusal(pub i32);
 pub type Answer<T> = Result<T, Refusal>;
 
 /// Refuses by this number when the fault is there.
-fn refuse(number: i32, fault: bool) -> Answer<()> {
+pub fn refuse(number: i32, fault: bool) -> Answer<()> {
     if fault {
         Err(Refusal(number))
     } else {
@@ -218,6 +218,19 @@ pub fn catalogue(catalogue: &Catalogue) -> Answer<()> {
             || catalogue.contour_counts.len() != outlines
             || catalogue.answers.len() != outlines,
     )
+}
+
+/// Remembering references.
+pub fn remember(touches: &[u8], ends: &[u16], list: &References) -> Answer<()> {
+    let count = touches.len();
+    refuse(1, count > POINTS)?;
+    as_long_as(count, list)?;
+    refuse(3, !are_contour_ends(ends, count))
+}
+
+/// Refusal 1: a list of another length than the outline that it stands beside.
+pub fn as_long_as(count: usize, list: &References) -> Answer<()> {
+    refuse(1, list.before.len() != count || list.behind.len() != count)
 }
 
 /// What counts add up to.

@@ -2,8 +2,8 @@
 
 use crate::{
     job::{
-        Building, Catalogue, CjkStem, Dimension, Direction, Edge, Job, Joined, Points, ScriptGroup,
-        Segment, Stems, Table, Walk, WidthRule,
+        Building, Catalogue, CjkStem, Dimension, Direction, Edge, Job, Joined, Points, References,
+        ScriptGroup, Segment, Stems, Table, Walk, WidthRule,
     },
     path::Place,
 };
@@ -199,6 +199,23 @@ fn of_requests(w: &mut Words, job: &Job) {
             w.put("cursor", *cursor as i32);
         }
         Job::Catalogue(given) => catalogue(w, given),
+        Job::Remember(touches, ends, list) => {
+            w.put("call", 18);
+            w.numbers("touch marks", "touch", touches);
+            w.numbers("contour ends", "end", ends);
+            references(w, list);
+        }
+        Job::WithReferences(points, list) => {
+            w.put("call", 19);
+            outline(w, points);
+            references(w, list);
+        }
+        Job::Drag(points, point) => {
+            w.put("call", 20);
+            outline(w, points);
+            w.rest();
+            w.put("point", (*point).into());
+        }
         Job::TurnOver(segments, edges) => {
             w.put("call", 124);
             w.segments(segments);
@@ -230,6 +247,12 @@ pub fn outline(w: &mut Words, points: &Points) {
     w.numbers("currents", "current", &points.currents);
     w.numbers("touch marks", "touch", &points.touches);
     w.numbers("contour ends", "end", &points.ends);
+}
+
+/// The list beside an outline.
+pub fn references(w: &mut Words, list: &References) {
+    w.numbers("before", "number before", &list.before);
+    w.numbers("behind", "number behind", &list.behind);
 }
 
 /// Calls 15 and 16 up to their contour ends.

@@ -1,8 +1,11 @@
 //! Jobs at document 01's limits, and just beyond.
 
-use super::{catalogue, edges, frames, job, path, segments, Random};
+use super::{catalogue, drag, edges, frames, job, path, references, segments, Random};
 use crate::{
-    job::{Building, Catalogue, Direction, Edge, Job, Points, Segment, Table, Walk, WidthRule},
+    job::{
+        Building, Catalogue, Direction, Edge, Job, Points, References, Segment, Table, Walk,
+        WidthRule,
+    },
     limits::{EDGES, LENT, NUMBERS, POINTS, SEGMENTS},
     text,
     words::{encode, Words},
@@ -52,7 +55,11 @@ fn spike(words: &mut Words, random: &mut Random) {
         }
         "end" if words.values[0] == WRITE_FRAME => random.pick(&[0, 254, 255, 256, 65_535]),
         "byte" => i32::from(frames::character(random)),
-        "end" => index(words, words.names[1], false, random),
+        "end" | "point" => index(words, words.names[1], false, random),
+        "number before" | "number behind" => {
+            let count = words.values[1].max(1) as usize;
+            references::number(count, random).into()
+        }
         _ => limit(name, words.values[ix], random),
     };
 }
@@ -143,6 +150,21 @@ fn resize(job: &mut Job, random: &mut Random) {
             *cursor = path::cursor(walk, random);
         }
         Job::Catalogue(catalogue) => resize_catalogue(catalogue, random),
+        Job::Remember(touches, ends, list) => resize_remembered(touches, ends, list, random),
+        Job::WithReferences(points, list) => {
+            resize_points(points, random);
+            if random.coin() {
+                *list = references::list_of(points);
+            } else if random.coin() {
+                references::unlike(list, random);
+            }
+        }
+        Job::Drag(points, point) => {
+            resize_points(points, random);
+            if random.coin() {
+                *point = drag::point(points, random);
+            }
+        }
         Job::WriteFrame(points, line) => frames::resize(points, line, random),
         Job::ReadFrame(line) => frames::lengthen(line, random),
         _ => resize_on_edges(job, random),
@@ -204,6 +226,28 @@ fn resize_points(points: &mut Points, random: &mut Random) {
         13..=18 => points.touches.push(1),
         19..=24 => points.ends.extend(points.ends.last().copied()),
         _ => points.ends.reverse(),
+    }
+}
+
+/// Makes marks and lists long, breaks the contour ends' rule, or makes the lists unlike.
+fn resize_remembered(
+    touches: &mut Vec<u8>,
+    ends: &mut Vec<u16>,
+    list: &mut References,
+    random: &mut Random,
+) {
+    match random.below(20) {
+        0 => {
+            let count = random.pick(&[POINTS - 1, POINTS, POINTS + 1, 2 * POINTS - 1]);
+            touches.resize(count, random.pick(&[0, 1]));
+            list.before.resize(count, 7);
+            list.behind.resize(count, 8);
+            ends.push(count as u16 - 1);
+        }
+        1..=4 => ends.extend(ends.last().copied()),
+        5..=8 => ends.reverse(),
+        9..=12 => touches.push(1),
+        _ => references::unlike(list, random),
     }
 }
 

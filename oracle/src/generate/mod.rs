@@ -3,7 +3,9 @@
 mod axes;
 mod catalogue;
 mod damage;
+mod drag;
 mod edges;
+pub mod few;
 mod frames;
 mod limits;
 mod logs;
@@ -11,6 +13,7 @@ mod path;
 pub mod patterns;
 mod points;
 mod random;
+mod references;
 mod segments;
 
 pub use logs::{good_log, log};
@@ -84,6 +87,9 @@ fn job(call: usize, small: bool, random: &mut Random) -> Job {
         4 => segments::link(small, random),
         15 | 16 => path::job(call, small, random),
         17 => catalogue::job(small, random),
+        18 => references::remember(small, random),
+        19 => references::align(small, random),
+        20 => drag::job(small, random),
         25 => frames::write(small, random),
         26 => frames::read(small, random),
         105 => segments::build(small, random),

@@ -2,6 +2,8 @@
 
 mod catalogue;
 mod catalogue_slips;
+mod drag;
+mod drag_slips;
 mod frames;
 mod gaps;
 mod joined;
@@ -12,6 +14,8 @@ mod order;
 mod panels;
 mod path;
 mod path_slips;
+mod references;
+mod references_slips;
 mod refusals;
 mod rows;
 mod slips;
