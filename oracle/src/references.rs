@@ -38,17 +38,15 @@ impl Known {
 pub fn known(touches: &[u8], ends: &[u16]) -> Vec<Known> {
     let is_touched = |ix: &usize| touches[*ix] != 0;
     let mut known = Vec::new();
-    for end in ends {
-        let contour = known.len()..=usize::from(*end);
-        let touched: Vec<usize> = contour.clone().filter(is_touched).collect();
-        known.extend(contour.map(|ix| on_contour(ix, &touched)));
-    }
-    for ix in known.len()..touches.len() {
-        known.push(if is_touched(&ix) {
-            Known::Touched
-        } else {
-            Known::NoContour
-        });
+    while known.len() < touches.len() {
+        match contour_of(ends, known.len()) {
+            Some(contour) => {
+                let touched: Vec<usize> = contour.clone().filter(is_touched).collect();
+                known.extend(contour.map(|ix| on_contour(ix, &touched)));
+            }
+            None if is_touched(&known.len()) => known.push(Known::Touched),
+            None => known.push(Known::NoContour),
+        }
     }
     known
 }
