@@ -1,6 +1,6 @@
 //! Outlines of which a point is dragged.
 
-use super::{references, Random};
+use super::{points, references, Random};
 use crate::{
     calls,
     job::{Job, Points},
@@ -9,7 +9,7 @@ use crate::{
 
 /// A job of call 20: two buffers in three are what the full alignment left, with the dragged point's current then set.
 pub fn job(small: bool, random: &mut Random) -> Job {
-    let mut points = references::outline(small, random);
+    let mut points = points::points(small, random);
     touch_one(&mut points.touches, random);
     if random.below(3) > 0 {
         let _ = calls::align_weak_points(&mut points);

@@ -23,7 +23,7 @@ pub fn remember(small: bool, random: &mut Random) -> Job {
 
 /// A job of call 19: half of the lists are right, the others wrong in one way; now and then a coordinate is out of range too.
 pub fn align(small: bool, random: &mut Random) -> Job {
-    let mut points = outline(small, random);
+    let mut points = points::points(small, random);
     let mut list = list_of(&points);
     match random.below(8) {
         0..=3 => {}
@@ -39,15 +39,6 @@ pub fn align(small: bool, random: &mut Random) -> Job {
     Job::WithReferences(points, list)
 }
 
-/// An outline, now and then with a steep place.
-pub fn outline(small: bool, random: &mut Random) -> Points {
-    let mut points = points::points(small, random);
-    if random.once_in(6) {
-        steepen(&mut points, random);
-    }
-    points
-}
-
 /// The right list of an outline; of one that is refused, zeros.
 pub fn list_of(points: &Points) -> References {
     let zeros = vec![0; points.touches.len()];
@@ -57,26 +48,6 @@ pub fn list_of(points: &Points) -> References {
     };
     let _ = remember_references(&points.touches, &points.ends, &mut list);
     list
-}
-
-/// Puts an untouched point between two touched ones, over a short span that rises or falls about as much as is accepted.
-fn steepen(points: &mut Points, random: &mut Random) {
-    let Some(places) = points.originals.len().checked_sub(2).filter(|n| *n > 0) else {
-        return;
-    };
-    let at = random.below(places);
-    let (span, most) = random.pick(&[(2, 65_536), (3, 98_304), (4, 131_070), (2, 16_383)]);
-    let rise = most + random.between(-2, 2);
-    let low = -rise / 2;
-    let first = random.between(-20, 20);
-    let (from, to) = random.pick(&[(0, 2), (2, 0)]);
-    points.originals[at + from] = first;
-    points.originals[at + 1] = first + random.between(0, span);
-    points.originals[at + to] = first + span;
-    let (from, to) = random.pick(&[(0, 2), (2, 0)]);
-    points.currents[at + from] = low;
-    points.currents[at + to] = low + rise;
-    points.touches[at..at + 3].copy_from_slice(&[1, 0, 255]);
 }
 
 /// The outline with one mark or one contour other than the list knows.

@@ -132,6 +132,23 @@ fn dragging_refuses_in_order_and_writes_nothing() {
 }
 
 #[test]
+fn a_steep_place_is_refused_whether_it_depends_on_the_point_or_not() {
+    let mut points = unmoved(&[0, 1, 2, 5, 6], &[1, 0, 1, 1, 0], &[2, 4]);
+    (points.currents[0], points.currents[2]) = (-1, 65_535);
+    for point in [0, 2, 3] {
+        let mut lent = points.clone();
+        assert_eq!(drag_point(&mut lent, point), Err(Refusal(8)));
+        assert_eq!(lent, points);
+    }
+    assert_eq!(drag_point(&mut points, 1), Err(Refusal(3)));
+    assert_eq!(drag_point(&mut points, 5), Err(Refusal(3)));
+    points.currents[4] = 65_536;
+    assert_eq!(drag_point(&mut points, 0), Err(Refusal(4)));
+    points.currents[4] = 6;
+    assert_eq!(dragged(points, 0, 0), [0, 32_768, 65_535, 5, 6]);
+}
+
+#[test]
 fn a_far_point_of_another_contour_is_refused_too() {
     let mut points = unmoved(&[0, 10, 20, 30], &[1, 0, 0, 0], &[1, 2]);
     points.currents[3] = COORDINATE.end() + 1;
@@ -232,7 +249,7 @@ fn made_up_outlines_on_any_buffer_and_on_aligned_ones() {
             }
         }
     }
-    for number in [0, 1, 3, 4] {
+    for number in [0, 1, 3, 4, 8] {
         assert!(answers[number] > 100, "{answers:?}");
     }
     assert!(aligned[0] > 20 && aligned[1] > 2_000, "{aligned:?}");

@@ -188,6 +188,23 @@ fn aligning_refuses_in_order_and_writes_nothing() {
 }
 
 #[test]
+fn too_steep_comes_last() {
+    // A span of 2 that rises by 65,536: its quotient is 2,147,483,648.
+    let steep = three([0, 1, 2], [-1, 1, 65_535]);
+    let far = three([0, 1, 65_536], [-1, 1, 65_535]);
+    let right = remembered(&steep.touches, &steep.ends);
+    let wrong = list(&[TOUCHED, [2, 0], TOUCHED]);
+    for (points, list, answer) in [(&steep, &wrong, 9), (&far, &right, 4), (&steep, &right, 8)] {
+        let mut lent = points.clone();
+        assert_eq!(align_with_references(&mut lent, list), Err(Refusal(answer)));
+        assert_eq!(lent, *points);
+    }
+    let mut less = three([0, 1, 2], [0, 1, 65_535]);
+    assert_eq!(align_with_references(&mut less, &right), Ok(()));
+    assert_eq!(less.currents, [0, 32_768, 65_535]);
+}
+
+#[test]
 fn a_list_of_another_length_is_refused_by_1_though_it_could_match() {
     let mut points = three([0, 1, 3], [0, 1, 64]);
     for (before, behind) in [(2, 3), (3, 2), (4, 3), (3, 4), (0, 0), (4, 4)] {
@@ -332,7 +349,7 @@ fn made_up_lists_are_answered_by_9_or_as_without() {
             answers[answer.map_or_else(|refusal| refusal.0 as usize, |()| 0)] += 1;
         }
     }
-    for number in [0, 1, 3, 4, 9] {
+    for number in [0, 1, 3, 4, 8, 9] {
         assert!(answers[number] > 100, "{answers:?}");
     }
 }
