@@ -29,6 +29,41 @@ extern "C" {
         answers: *mut u8,
         answers_len: usize,
     ) -> u8;
+    pub fn khs_remember_references(
+        touched: *const u8,
+        touched_len: usize,
+        ends: *const u16,
+        ends_len: usize,
+        before: *mut u16,
+        before_len: usize,
+        behind: *mut u16,
+        behind_len: usize,
+    ) -> u8;
+    pub fn khs_align_with_references(
+        originals: *const i32,
+        originals_len: usize,
+        currents: *mut i32,
+        currents_len: usize,
+        touched: *const u8,
+        touched_len: usize,
+        ends: *const u16,
+        ends_len: usize,
+        before: *const u16,
+        before_len: usize,
+        behind: *const u16,
+        behind_len: usize,
+    ) -> u8;
+    pub fn khs_drag_point(
+        originals: *const i32,
+        originals_len: usize,
+        currents: *mut i32,
+        currents_len: usize,
+        touched: *const u8,
+        touched_len: usize,
+        ends: *const u16,
+        ends_len: usize,
+        point: u32,
+    ) -> u8;
     pub fn khs_link_segments_cjk(
         segments: *mut i32,
         segments_len: usize,

@@ -4,6 +4,7 @@
 
 mod cases;
 mod catalogues;
+mod drag;
 mod ffi;
 mod frames;
 mod function;
@@ -11,6 +12,7 @@ mod memory;
 mod model;
 mod path;
 mod points;
+mod references;
 mod tally;
 
 use function::{Function, Given, Memories, Outcome, FUNCTIONS};
@@ -32,6 +34,8 @@ fn main() -> ExitCode {
     tallies.push(points::weak(count as usize, random));
     tallies.extend(path::paths(count as usize, random));
     tallies.push(catalogues::catalogues(count as usize, random));
+    tallies.extend(references::references(count as usize, random));
+    tallies.push(drag::drags(count as usize, random));
     tallies.extend(frames::frames(count as usize, random));
     for function in &FUNCTIONS {
         tallies.push(compare(function, count as usize, random));

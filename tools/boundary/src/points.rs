@@ -62,16 +62,28 @@ pub fn middles(count: usize, random: &mut Random) -> Vec<Tally> {
 }
 
 /// The memory of an outline's lists.
-struct Memories {
+pub struct Memories {
     originals: Memory,
     currents: Memory,
     touches: Memory,
     ends: Memory,
 }
 
+/// An outline as it is lent: where each list stands, and how long it is.
+pub struct Lent {
+    pub originals: *mut i32,
+    pub originals_len: usize,
+    pub currents: *mut i32,
+    pub currents_len: usize,
+    pub touches: *mut u8,
+    pub touches_len: usize,
+    pub ends: *mut u16,
+    pub ends_len: usize,
+}
+
 impl Memories {
     /// Memory of its own for each list.
-    fn new() -> Self {
+    pub fn new() -> Self {
         Self {
             originals: Memory::new(),
             currents: Memory::new(),
@@ -80,25 +92,23 @@ impl Memories {
         }
     }
 
-    /// The answer to an outline and what its lists hold; none where something beside them was written.
-    fn run(&mut self, points: &Points, side: Side) -> Option<(u8, Points)> {
-        let originals = self.originals.lend(&points.originals, side);
-        let currents = self.currents.lend(&points.currents, side);
-        let touches = self.touches.lend(&points.touches, side);
-        let ends = self.ends.lend(&points.ends, side);
-        // SAFETY: each pointer and length is of one list in memory of its own.
-        let answer = unsafe {
-            ffi::khs_align_weak_points(
-                originals,
-                points.originals.len(),
-                currents,
-                points.currents.len(),
-                touches,
-                points.touches.len(),
-                ends,
-                points.ends.len(),
-            )
-        };
+    /// A call's answer to an outline and what its lists then hold; none where something beside them was written.
+    pub fn run(
+        &mut self,
+        points: &Points,
+        side: Side,
+        call: impl FnOnce(&Lent) -> u8,
+    ) -> Option<(u8, Points)> {
+        let answer = call(&Lent {
+            originals: self.originals.lend(&points.originals, side),
+            originals_len: points.originals.len(),
+            currents: self.currents.lend(&points.currents, side),
+            currents_len: points.currents.len(),
+            touches: self.touches.lend(&points.touches, side),
+            touches_len: points.touches.len(),
+            ends: self.ends.lend(&points.ends, side),
+            ends_len: points.ends.len(),
+        });
         let lists = [&self.originals, &self.currents, &self.touches, &self.ends];
         lists.into_iter().all(Memory::is_guarded).then(|| {
             let held = Points {
@@ -112,6 +122,23 @@ impl Memories {
     }
 }
 
+/// Calls the weak points.
+fn align(lent: &Lent) -> u8 {
+    // SAFETY: each pointer and length is of one list in memory of its own.
+    unsafe {
+        ffi::khs_align_weak_points(
+            lent.originals,
+            lent.originals_len,
+            lent.currents,
+            lent.currents_len,
+            lent.touches,
+            lent.touches_len,
+            lent.ends,
+            lent.ends_len,
+        )
+    }
+}
+
 /// Compares the weak points on so many random outlines, and on small ones one after the other.
 pub fn weak(count: usize, random: &mut Random) -> Tally {
     let mut memories = Memories::new();
@@ -119,7 +146,7 @@ pub fn weak(count: usize, random: &mut Random) -> Tally {
     let mut compare = |points: &Points, side: Side| {
         with_and_without(side, |side| {
             tally.compare(points, calls::align_weak_points, || {
-                memories.run(points, side)
+                memories.run(points, side, align)
             });
         });
     };
