@@ -26,6 +26,9 @@ static const char *const formats[] = {
     [15] = "NNBI",        /* path: x coordinates, y coordinates, on-curve marks, contour ends */
     [16] = "NNBIk",       /* path_step: the same, cursor */
     [17] = "NNBIIIB",     /* align_catalogue: outlines as of align_weak_points, point counts, contour counts, answers */
+    [18] = "BIII",        /* remember_references: touch marks, contour ends, the list: before, behind */
+    [19] = "NNBIII",      /* align_with_references: an outline as of align_weak_points, the list */
+    [20] = "NNBIi",       /* drag_point: an outline as of align_weak_points, point */
     [25] = "NNBIB",       /* write_frame: an outline as of align_weak_points, line */
     [26] = "B",           /* read_frame: line */
     [105] = "SEcdccwwww", /* compute_edges: segments, old edges, dimension, major direction, group, top to bottom, scale, thresholds */
@@ -175,6 +178,14 @@ static void say_bytes(const uint8_t *bytes, size_t len)
         say(bytes[i]);
 }
 
+/* Says a count and indices. */
+static void say_indices(const uint16_t *indices, size_t len)
+{
+    say((int32_t)len);
+    for (size_t i = 0; i < len; i++)
+        say(indices[i]);
+}
+
 /* Fills the table with that of a job, whose records have a size, and tells its length: of more records than its limit it has one more than that, which is empty. */
 static khs_length lend(const struct list *list, size_t size, size_t most)
 {
@@ -205,6 +216,40 @@ static void answer_weak(const struct job *job)
 {
     const struct list *list = job->list;
     say(khs_align_weak_points(WORDS(list[0]), WORDS(list[1]), READ(marks, list[2]), READ(ends, list[3])));
+    say_list(list[1].count, list[1].words, list[1].size);
+}
+
+/* The list beside an outline. */
+static uint16_t before[MOST_NUMBERS], behind[MOST_NUMBERS];
+
+/* Remembering references, whose job has no coordinates. */
+static void answer_remember(const struct job *job)
+{
+    const struct list *list = job->list;
+    read_bytes(&list[0], marks);
+    read_indices(&list[1], ends);
+    read_indices(&list[2], before);
+    read_indices(&list[3], behind);
+    say(khs_remember_references(READ(marks, list[0]), READ(ends, list[1]), READ(before, list[2]), READ(behind, list[3])));
+    say_indices(before, list[2].size);
+    say_indices(behind, list[3].size);
+}
+
+/* Weak points with the list. */
+static void answer_with(const struct job *job)
+{
+    const struct list *list = job->list;
+    read_indices(&list[4], before);
+    read_indices(&list[5], behind);
+    say(khs_align_with_references(WORDS(list[0]), WORDS(list[1]), READ(marks, list[2]), READ(ends, list[3]), READ(before, list[4]), READ(behind, list[5])));
+    say_list(list[1].count, list[1].words, list[1].size);
+}
+
+/* One point dragged. */
+static void answer_drag(const struct job *job)
+{
+    const struct list *list = job->list;
+    say(khs_drag_point(WORDS(list[0]), WORDS(list[1]), READ(marks, list[2]), READ(ends, list[3]), (uint32_t)job->number[0]));
     say_list(list[1].count, list[1].words, list[1].size);
 }
 
@@ -288,6 +333,8 @@ static void answer_outline(const struct job *job)
     case 3: answer_weak(job); break;
     case 15: answer_path(job); break;
     case 16: answer_step(job); break;
+    case 19: answer_with(job); break;
+    case 20: answer_drag(job); break;
     case 25: answer_write(job); break;
     default: answer_catalogue(job);
     }
@@ -304,9 +351,7 @@ static void answer_read(const struct job *job)
     say_list((int32_t)points, originals, points);
     say_list((int32_t)points, currents, points);
     say_bytes(marks, points);
-    say((int32_t)contours);
-    for (size_t i = 0; i < contours; i++)
-        say(ends[i]);
+    say_indices(ends, contours);
 }
 
 /* Linking and building. Building has no old table in C: one that is too long is refused here, and what a refusal leaves is handed back. */
@@ -421,7 +466,10 @@ static void answer_line(size_t len)
     case 15:
     case 16:
     case 17:
+    case 19:
+    case 20:
     case 25: answer_outline(&job); break;
+    case 18: answer_remember(&job); break;
     case 26: answer_read(&job); break;
     case 4:
     case 105: answer_segments(&job); break;

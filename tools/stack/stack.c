@@ -12,6 +12,7 @@ static struct khs_edge edges[KHS_MOST_EDGES];
 static int32_t originals[POINTS], currents[POINTS], standards[STANDARDS];
 static uint8_t touched[POINTS];
 static uint16_t ends[POINTS / 4], point_counts[] = {POINTS}, contour_counts[] = {POINTS / 4};
+static uint16_t before[POINTS], behind[POINTS];
 static uint8_t own_answer;
 static int32_t first, second, third, fourth, fifth, sixth, seventh;
 static uint8_t kinds[POINTS + 2 * (POINTS / 4)];
@@ -31,6 +32,12 @@ static uint8_t weak(void) { return khs_align_weak_points(originals, POINTS, curr
 static uint8_t catalogue(void) {
     return khs_align_catalogue(originals, POINTS, currents, POINTS, touched, POINTS, ends, POINTS / 4, point_counts, 1, contour_counts, 1, &own_answer, 1);
 }
+static uint8_t remember(void) { return khs_remember_references(touched, POINTS, ends, POINTS / 4, before, POINTS, behind, POINTS); }
+/* The list is that of the outline, which `remember` leaves. */
+static uint8_t with_references(void) {
+    return khs_align_with_references(originals, POINTS, currents, POINTS, touched, POINTS, ends, POINTS / 4, before, POINTS, behind, POINTS);
+}
+static uint8_t drag(void) { return khs_drag_point(originals, POINTS, currents, POINTS, touched, POINTS, ends, POINTS / 4, 3 * (POINTS / 6)); }
 static uint8_t linking(void) { return khs_link_segments_cjk(segment_words(), SEGMENT_LIST, KHS_DIR_UP, 1000, 65536); }
 static uint8_t building(void) {
     return khs_compute_edges(segment_words(), SEGMENT_LIST, edge_words(), EDGE_LIST, dim, KHS_DIR_UP, group, 0, 65536, 3, 0, 65535, &first);
@@ -66,7 +73,8 @@ static uint8_t lowercase_m(void) { return khs_hint_lowercase_m(edge_words(), 12 
 static const struct {
     const char *name;
     uint8_t (*call)(void);
-} calls[] = {{"khs_align_weak_points", weak}, {"khs_align_catalogue", catalogue}, {"khs_link_segments_cjk", linking}, {"khs_compute_edges", building}, {"khs_align_edges_to_blues", blues},
+} calls[] = {{"khs_align_weak_points", weak}, {"khs_align_catalogue", catalogue}, {"khs_remember_references", remember},
+             {"khs_align_with_references", with_references}, {"khs_drag_point", drag}, {"khs_link_segments_cjk", linking}, {"khs_compute_edges", building}, {"khs_align_edges_to_blues", blues},
              {"khs_align_linked_edge", linked}, {"khs_align_serif_edge", serif}, {"khs_adjust_link", adjust}, {"khs_latin_remaining_bounds", bounds},
              {"khs_hint_normal_stem_cjk", stem}, {"khs_align_stem_edges", stems}, {"khs_align_blues_and_stems", joined}, {"khs_hint_lowercase_m", lowercase_m}, {"khs_lost_gaps", guard},
              {"khs_path_step", step}, {"khs_path", path}, {"khs_turn_over", turn}, {"khs_write_frame", write_frame}, {"khs_read_frame", read_frame}};
