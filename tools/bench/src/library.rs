@@ -22,7 +22,12 @@ pub fn answer(words: &[i32]) -> Vec<i32> {
     };
     if matches!(
         job,
-        Job::TurnOver(..) | Job::WriteFrame(..) | Job::ReadFrame(..)
+        Job::Remember(..)
+            | Job::WithReferences(..)
+            | Job::Drag(..)
+            | Job::TurnOver(..)
+            | Job::WriteFrame(..)
+            | Job::ReadFrame(..)
     ) {
         return port::answer(words);
     }

@@ -1,6 +1,7 @@
 //! The port, compiled for this machine, as tools use it. `bench all` or `bench CALL..` times it and the given Rust side by side on the same inputs and counts
 //! instructions; `bench answer` answers job lines by `jobs`, which asks the library's functions, `bench values` with the calls on tables by value, and `bench library` by
-//! the library as its Rust wrapper calls it; `bench catalogue` times catalogues of outlines in one call, `bench chain` the chain of a glyph step by step, and
+//! the library as its Rust wrapper calls it; `bench catalogue` times catalogues of outlines in one call, `bench references` alignment with remembered references,
+//! `bench drag` one point dragged, `bench chain` the chain of a glyph step by step, and
 //! `bench freetype`, built with the feature of that name, FreeType's own routines beside both.
 
 mod answer;
@@ -8,6 +9,7 @@ mod cases;
 mod catalogue;
 mod chain;
 mod count;
+mod drag;
 mod edges;
 #[cfg(feature = "freetype")]
 mod freetype;
@@ -17,6 +19,7 @@ mod outlines;
 mod plot;
 mod port;
 mod records;
+mod references;
 mod segments;
 mod table;
 mod time;
@@ -38,9 +41,15 @@ fn main() -> ExitCode {
             println!();
             catalogue::run();
             println!();
+            references::run();
+            println!();
+            drag::run();
+            println!();
             chain::run();
         }
         ["catalogue"] => catalogue::run(),
+        ["references"] => references::run(),
+        ["drag"] => drag::run(),
         ["chain"] => {
             table::explain();
             chain::run();
@@ -52,7 +61,7 @@ fn main() -> ExitCode {
         }
         _ => {
             eprintln!(
-                "usage: bench answer | values | library | all | catalogue | chain | freetype | {}",
+                "usage: bench answer | values | library | all | catalogue | references | drag | chain | freetype | {}",
                 cases::NAMES.join(" | ")
             );
             return ExitCode::from(2);

@@ -53,6 +53,16 @@ pub fn outline(kind: Outlines, count: usize, random: &mut Random) -> Points {
     points
 }
 
+/// An accepted outline of so many points in so many contours of one length.
+pub fn in_contours(kind: Outlines, count: usize, contours: usize, random: &mut Random) -> Points {
+    let mut points = Points::none();
+    for _ in 0..contours {
+        contour(kind, count / contours, random, &mut points);
+        points.ends.push((points.originals.len() - 1) as u16);
+    }
+    points
+}
+
 /// How many of the points that are left the next contour has.
 fn contour_length(left: usize, random: &mut Random) -> usize {
     let length = 4 + random.below(45);

@@ -271,9 +271,12 @@ impl Prepared {
             }
             Job::PathStep(walk, cursor) => return Self::PathStep(walk, cursor, None),
             Job::Catalogue(given) => return Self::Catalogue(given, Vec::new(), Vec::new()),
-            Job::TurnOver(..) | Job::WriteFrame(..) | Job::ReadFrame(..) => {
-                return Self::by_job(words)
-            }
+            Job::Remember(..)
+            | Job::WithReferences(..)
+            | Job::Drag(..)
+            | Job::TurnOver(..)
+            | Job::WriteFrame(..)
+            | Job::ReadFrame(..) => return Self::by_job(words),
         };
         Self::Edges(records::given(words, EDGES), Vec::new(), call)
     }
