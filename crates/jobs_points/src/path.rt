@@ -5,12 +5,12 @@ use khsaemudol::khs_path_step;
 use lines::limits::MOST_NUMBERS;
 use middle::bits::bits_of;
 use middle::bits::signed_of;
+use tool_lists::list::last_word;
 use tool_lists::list::nth_list;
 use tool_lists::list::put;
 use tool_lists::number::byte_word;
 use tool_lists::number::read_bytes;
 use tool_lists::number::read_indices;
-use words::word::word_at;
 ghost use Prim.Native.Nat.{_≤_};
 ghost use lib.ListN.{length};
 
@@ -120,14 +120,6 @@ pub fn answer_path(words: &[i32], out: &mut [i32]) -> usize
     put_steps(out, &kinds, &places, steps.count)
 }
 
-// The place of the cursor in a job of a step, behind its four lists.
-fn cursor_of(words: &[i32]) -> i32 {
-    if words.len() == 0 {
-        return 0;
-    }
-    word_at(words, words.len() - 1)
-}
-
 // The answer to a job of one step.
 pub fn answer_step(words: &[i32], out: &mut [i32]) -> usize
     ensures { λ r. ⌜ r ≤ length (now (out .entry)) ⌝ }
@@ -138,7 +130,7 @@ pub fn answer_step(words: &[i32], out: &mut [i32]) -> usize
     let mut contours = [0u16; MOST_NUMBERS];
     read_bytes(marks, &mut on);
     read_indices(ends, &mut contours);
-    let cursor = bits_of(cursor_of(words));
+    let cursor = bits_of(last_word(words));
     let mut kind = 0;
     let mut places = [0.0f32; 4];
     let mut next = cursor;

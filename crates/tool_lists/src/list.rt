@@ -3,6 +3,7 @@ use axis::accept::least;
 use lines::limits::MOST_NUMBERS;
 use words::word::count_at;
 use words::word::count_word;
+use words::word::word_at;
 use words::word::write_words;
 ghost use Prim.Native.Nat.{_≤_};
 ghost use lib.ListN.{length};
@@ -49,6 +50,14 @@ pub fn nth_list(words: &[i32], k: usize) -> &[i32]
         i += 1;
     }
     list_at(words, at)
+}
+
+// The last word of a job, and 0 where it has none.
+pub fn last_word(words: &[i32]) -> i32 {
+    if words.len() == 0 {
+        return 0;
+    }
+    word_at(words, words.len() - 1)
 }
 
 // Writes words from a place on, and tells the place behind them; where there is no room it writes nothing and tells 0.

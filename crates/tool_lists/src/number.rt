@@ -49,3 +49,25 @@ pub fn put_bytes(out: &mut [i32], at: usize, bytes: &[u8]) -> usize
     }
     next + bytes.len()
 }
+
+// An index as a word.
+fn index_word(index: u16) -> i32 {
+    index as i32
+}
+
+// Writes a count and as many indices, a word each, from a place on, and tells the place behind them; where there is no room it tells 0.
+pub fn put_indices(out: &mut [i32], at: usize, indices: &[u16]) -> usize
+    ensures { λ r. ⌜ r ≤ length (now (out .entry)) ⌝ }
+{
+    let counted = [count_word(indices.len())];
+    let next = put(out, at, &counted);
+    if out.len() - next < indices.len() {
+        return 0;
+    }
+    let mut i = 0;
+    while i < indices.len() {
+        out[next + i] = index_word(indices[i]);
+        i += 1;
+    }
+    next + indices.len()
+}
