@@ -59,6 +59,8 @@ pub struct FittedAxis {
     pub placing: Vec<Placing>,
     /// The segment that each is on.
     pub segment_of: Vec<Option<usize>>,
+    /// The last point of each contour.
+    pub ends: Vec<u16>,
 }
 
 /// What placed a point on an axis.
@@ -109,6 +111,12 @@ impl FittedAxis {
             .map(usize::from)
     }
 
+    /// The touch marks of the points.
+    pub fn touched(&self) -> Vec<u8> {
+        let mark = |placing: &Placing| u8::from(*placing == Placing::Touched);
+        self.placing.iter().map(mark).collect()
+    }
+
     /// The points of an edge.
     pub fn points_of(&self, edge: usize) -> Vec<usize> {
         (0..self.before.len())
@@ -127,8 +135,9 @@ pub fn extent(points: &[usize], coordinates: &[i32]) -> Option<RangeInclusive<i3
 pub fn fit(glyph: &Glyph) -> Result<Fitted, Refused> {
     let heights = fit_axis(&glyph.heights)?;
     let widths = fit_axis(&glyph.widths)?;
-    let before = steps(glyph, &widths.before, &heights.before).map_err(at("path before"))?;
-    let after = steps(glyph, &widths.after, &heights.after).map_err(at("path"))?;
+    let path = |xs: &[i32], ys: &[i32]| steps(&glyph.on_curve, &glyph.ends, xs, ys);
+    let before = path(&widths.before, &heights.before).map_err(at("path before"))?;
+    let after = path(&widths.after, &heights.after).map_err(at("path"))?;
     Ok(Fitted {
         heights,
         widths,
@@ -139,7 +148,8 @@ pub fn fit(glyph: &Glyph) -> Result<Fitted, Refused> {
 
 /// The path of a glyph that is not fitted.
 pub fn unfitted(glyph: &Glyph) -> Result<Vec<PathStep>, Refusal> {
-    steps(glyph, &glyph.widths.originals, &glyph.heights.originals)
+    let (xs, ys) = (&glyph.widths.originals, &glyph.heights.originals);
+    steps(&glyph.on_curve, &glyph.ends, xs, ys)
 }
 
 /// A refusal with its step.
@@ -185,6 +195,7 @@ fn fit_axis(axis: &Axis) -> Result<FittedAxis, Refused> {
         after,
         placing,
         segment_of: axis.segment_of.clone(),
+        ends: axis.ends.clone(),
     })
 }
 
@@ -234,13 +245,13 @@ fn placings(touched: &[u8], ends: &[u16]) -> Vec<Placing> {
     placings
 }
 
-/// The path of a glyph's points at these coordinates.
-fn steps(glyph: &Glyph, xs: &[i32], ys: &[i32]) -> Result<Vec<PathStep>, Refusal> {
+/// The path of points at these coordinates, with their on-curve marks and contour ends.
+pub fn steps(marks: &[u8], ends: &[u16], xs: &[i32], ys: &[i32]) -> Result<Vec<PathStep>, Refusal> {
     let outline = Outline {
         xs,
         ys,
-        marks: &glyph.on_curve,
-        ends: &glyph.ends,
+        marks,
+        ends,
     };
     let mut kinds = vec![0; outline.most_steps()];
     let mut places = vec![0.0; 4 * outline.most_steps()];

@@ -1,6 +1,7 @@
 //! The specimen page of a label, and the check of its glyphs. `specimen SAMPLE PAGE ..` is ./specimen with the sample label and the usual page in front of its words.
 
 mod chain;
+mod drag;
 mod fill;
 mod findings;
 mod label;

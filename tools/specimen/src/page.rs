@@ -15,6 +15,7 @@ const OVERVIEW: i32 = 3;
 
 /// How to use the page, and what it cannot show.
 const NOTE: &str = "Point at an edge or a point for its numbers, or go through those of a drawing by the arrow keys; keys b and a switch to before and after. \
+    Drag a touched point of a fitted drawing, or move the one that is pointed at by Shift and an arrow key, to see what follows; Escape puts it back. The only touched point of a contour that is set on its original moves nothing. \
     Below a drawing stand the pieces and holes of its pixels, and the edges and points that nothing placed: remaining edges and strong points are no part of the product.";
 
 /// The whole page of a label that has this name.

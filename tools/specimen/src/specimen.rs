@@ -20,6 +20,8 @@ pub struct Row {
     pub name: String,
     /// The outline's points that are on the curve.
     pub on_curve: Vec<u8>,
+    /// The last point of each of its contours.
+    pub ends: Vec<u16>,
     pub cells: Vec<Cell>,
 }
 
@@ -91,6 +93,7 @@ impl Row {
         Ok(Self {
             name: name_of(&glyph.title).into(),
             on_curve: glyph.on_curve.clone(),
+            ends: glyph.ends.clone(),
             cells: sizes.iter().map(cell).collect::<Result<_, String>>()?,
         })
     }

@@ -2,6 +2,7 @@
 
 use crate::{
     chain::{extent, Fitted, FittedAxis},
+    drag::{drags, text},
     fill::{fill, Bitmap},
     findings::{Finding, Judged},
     numbers::{edge_numbers, point_numbers},
@@ -329,9 +330,15 @@ impl Drawing {
             row.on_curve[point] != 0,
         );
         self.put(format_args!(
-            r#"<g class="p" data-n="{}">"#,
+            r#"<g class="p" data-n="{}""#,
             point_numbers(row, fitted, point)
         ));
+        for (letter, axis) in [("x", &fitted.widths), ("y", &fitted.heights)] {
+            if let Some(moving) = drags(row, fitted, axis, point) {
+                self.put(format_args!(r#" data-{letter}="{}""#, text(&moving)));
+            }
+        }
+        self.put(format_args!(">"));
         for view in View::BOTH {
             let (x, y) = (
                 self.x(view.points(&fitted.widths)[point]),

@@ -7,7 +7,7 @@ use crate::{
 };
 use khsaemudol::{PathStep, Refusal};
 
-const LABEL: &[u8] = include_bytes!("../../../../crates/label/stdin");
+pub const LABEL: &[u8] = include_bytes!("../../../../crates/label/stdin");
 const WRITTEN: &str = include_str!("../../../../crates/label/stdout");
 
 /// The paths that the program wrote, by title: the words of their steps.

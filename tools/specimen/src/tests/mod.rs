@@ -1,5 +1,6 @@
-//! Worked shapes, stems and the sample label.
+//! Worked shapes, stems, the sample label, and its points dragged.
 
+mod drag;
 mod label;
 mod shapes;
 mod stems;

@@ -36,6 +36,7 @@ fn axis(
         segment_of: (0..before.len())
             .map(|point| sides.iter().position(|side| side.contains(&point)))
             .collect(),
+        ends: vec![before.len() as u16 - 1],
     }
 }
 
