@@ -2,20 +2,20 @@
 use mathlib.Core.Path.{_≡_, refl, sym, ap, subst, _∙_}
 use mathlib.Core.Bool.{Bool, true}
 use mathlib.Core.List.{List, []}
-use Prim.Native.Nat.{ℕ, suc, _≤_, _<_, min}
+use Prim.Native.Nat.{ℕ, zero, suc, _≤_, _<_, min}
 use native.Mathlib.Omega.{arith}
 use borrow.Author.Tests.{leb-true, ltb-true}
 use lib.Dec.{ltb}
 use lib.ListN.{length}
-use Rattle.refusals.specs.Refusal.{refusal}
+use Rattle.refusals.specs.Refusal.{refusal, answered}
 use Rattle.refusals.proofs.Tests.{all-hold, no-refusal}
 use Rattle.axis.specs.declared.edge.Axis.{Axis}
 use Rattle.axis.specs.declared.edge.Edge.{Edge}
 use Rattle.axis.specs.declared.segment.Segment.{Segment}
 use Rattle.axis.specs.declared.segment.Segments.{Segments}
 use Rattle.axis.specs.Edge.{edgeAt}
-use Rattle.axis.specs.Refusals.{linkHolds, edgeNumbers, edgesNumbers, segmentNumbers, segmentsNumbers, segmentEdge}
-use Rattle.axis.specs.Handed.{TypedAxis, Typed}
+use Rattle.axis.specs.Refusals.{linkHolds, edgeNumbers, edgesNumbers, segmentNumbers, segmentsNumbers, segmentsNexts, segmentEdge}
+use Rattle.axis.specs.Handed.{TypedAxis, Typed, EdgesAccepted, SegmentsAccepted}
 use Rattle.axis.specs.Limits.{mostEdges, mostSegments}
 use Rattle.axis.specs.Segment.{segmentAt}
 use Rattle.axis.proofs.Acceptance.{link-below}
@@ -45,6 +45,18 @@ module _ (axis : Axis) (t : Segments) where
       → mend axis t ≡ record { answer = 0; axis = mendedAxis axis t; segments = mendedSegments axis t; altered = alterations axis t (mendedAxis axis t) (mendedSegments axis t) }
   unfolding mend
   when-accepted e = rw e
+
+  -- the answer 0 says that no test refuses
+  pub accepted : mend axis t .answer ≡ 0 → refusal (mendingTests axis t) ≡ 0
+  unfolding mend
+  accepted e = by (refusal (mendingTests axis t)) refl e
+    where
+      by : (k : ℕ) → refusal (mendingTests axis t) ≡ k
+          → answered {A = Mended} k (λ (j : ℕ). record { answer = j; axis = axis; segments = t; altered = [] })
+          (record { answer = 0; axis = mendedAxis axis t; segments = mendedSegments axis t; altered = alterations axis t (mendedAxis axis t) (mendedSegments axis t) }) .answer ≡ 0
+          → refusal (mendingTests axis t) ≡ 0
+      by zero q e = q
+      by (suc k) q e = absurd (omega arith)
 
   good-outcome : refusal (mendingTests axis t) ≡ 0 → Good axis t → mend axis t ≡ record { answer = 0; axis = axis; segments = t; altered = [] }
   good-outcome e g =
@@ -133,17 +145,34 @@ module _ (axis : Axis) (t : Segments) (w : TypedAxis axis) (v : Typed t) (e : re
   pub twice : mend (mendedAxis axis t) (mendedSegments axis t) ≡ record { answer = 0; axis = mendedAxis axis t; segments = mendedSegments axis t; altered = [] }
   twice = good-outcome (mendedAxis axis t) (mendedSegments axis t) taken-again handed-on
 
-  -- what is handed on passes every index test that document 01 has: the converter takes it
+  -- what is handed on passes the tests of every call over edges, of linking and of building
+  pub edges-handed-on : EdgesAccepted (mendedAxis axis t)
+  unfolding mendedAxis
+  edges-handed-on = record {
+    short = all-hold (mendingTests axis t) refl e .1 .0;
+    indexed = edges-indexed (mendedAxis axis t) (mendedSegments axis t) handed-on;
+    in-range = edges-in-range;
+  }
+
+  pub segments-handed-on : SegmentsAccepted (mendedSegments axis t)
+  unfolding mendedSegments
+  segments-handed-on = record {
+    short = all-hold (mendingTests axis t) refl e .0;
+    indexed = segments-indexed (mendedAxis axis t) (mendedSegments axis t) handed-on;
+    in-range = segments-in-range;
+  }
+
+  pub nexts-handed-on : segmentsNexts (mendedSegments axis t) ≡ true
+  nexts-handed-on = nexts-indexed (mendedAxis axis t) (mendedSegments axis t) handed-on
+
+  -- and every index test that document 01 has: the converter takes it
   pub turns : refusal (turningTests (mendedAxis axis t) (mendedSegments axis t)) ≡ 0
-  unfolding mendedAxis mendedSegments
   turns =
-      let h = all-hold (mendingTests axis t) refl e in
-      let g = handed-on in
       not-refused (mendedAxis axis t) (mendedSegments axis t)
       (record {
-        edges = record { short = h .1 .0; indexed = edges-indexed (mendedAxis axis t) (mendedSegments axis t) g; in-range = edges-in-range };
-        segments = record { short = h .0; indexed = segments-indexed (mendedAxis axis t) (mendedSegments axis t) g; in-range = segments-in-range };
-        nexts = nexts-indexed (mendedAxis axis t) (mendedSegments axis t) g;
-        to-edges = edges-of-segments (mendedAxis axis t) (mendedSegments axis t) g;
-        to-segments = segments-of-edges (mendedAxis axis t) (mendedSegments axis t) g;
+        edges = edges-handed-on;
+        segments = segments-handed-on;
+        nexts = nexts-handed-on;
+        to-edges = edges-of-segments (mendedAxis axis t) (mendedSegments axis t) handed-on;
+        to-segments = segments-of-edges (mendedAxis axis t) (mendedSegments axis t) handed-on;
       })

@@ -3,7 +3,7 @@ use mathlib.Core.Path.{_≡_, refl, sym, ap, subst, _∙_}
 use mathlib.Core.Bool.{Bool, true, false, cond, not, _&&_}
 use mathlib.Core.List.{List, _++_}
 use mathlib.Core.Logic.{⊎-elim}
-use Prim.Native.Nat.{ℕ, zero, suc, _+_, _-_, _≤_, _<_}
+use Prim.Native.Nat.{ℕ, zero, suc, _+_, _-_, _≤_, _<_, min}
 use native.Mathlib.Omega.{arith}
 use borrow.Author.Tests.{ne-eqb, eq-eqb, lt-ltb, le-ltb}
 use lib.Dec.{eqb, ltb}
@@ -17,6 +17,7 @@ use Rattle.axis.specs.Accepted.{Below}
 use Rattle.axis.specs.Edge.{emptyEdge, edgeAt}
 use Rattle.axis.specs.Limits.{mostEdges, mostSegments}
 use Rattle.axis.specs.Link.{linksTo, indexOr}
+use Rattle.axis.specs.Refusals.{every}
 use Rattle.axis.specs.Segment.{emptySegment, segmentAt}
 use Rattle.mend.specs.Following.{total, count, closes, ownIn, nextIn}
 use Rattle.mend.specs.Rebuilt.{firstFrom, lastBelow, lowest, highest, behind, Tallied, Led}
@@ -28,12 +29,21 @@ use Rattle.mend.proofs.Tallies.{lowest-again}
 use Rattle.axis.specs.Ring.{isOf, ledTo, isSound}
 use Rattle.mend.specs.Mended.{kept, segmentWith, edgeWith, mendedNext, mendedSegment, mendedEdge, mendedSegments, mendedAxis}
 use Rattle.mend.specs.Altered.{ofSegment, ofEdge, alterations}
+use Rattle.mend.specs.Mend.{edgesNamed}
 use Rattle.mend.specs.Plan.{Gathered, Told, plannedNext, segmentBy, edgeBy, plannedSegments, plannedAxis, segmentsListed, edgesListed}
 use Rattle.mend.proofs.Lists.{order-same}
 use Rattle.mend.proofs.Places.{fronts-same, mended-segment-at, mended-edge-at}
 use Rattle.mend.proofs.Sound.{Mendable}
 
 -- ---- tests that agree below n
+every-same : (p q : ℕ → Bool) (n : ℕ) → ((i : ℕ) → i < n → p i ≡ q i) → every p n ≡ every q n
+unfolding every
+every-same p q zero h = refl
+every-same p q (suc n) h =
+    let a = every-same p q n (λ i l. h i (omega arith)) in
+    let b = h n (omega arith) in
+    λ j. a j && b j
+
 module _ (own own′ : ℕ → Bool) (n : ℕ) (same : (i : ℕ) → i < n → own i ≡ own′ i) where
   count-agrees : count own n ≡ count own′ n
   count-agrees = total-same (λ (i : ℕ). cond (own i) 1 0) (λ (i : ℕ). cond (own′ i) 1 0) n (λ i h. ap (λ (b : Bool). cond b 1 0) (same i h))
@@ -100,6 +110,14 @@ module _ (axis : Axis) (t : Segments) (edges next : List ℕ) (few : t .len ≤ 
 
   pub high-is : (k : ℕ) → k < axis .len → highest (ownIn edges k) n ≡ highest (isOf t k) n
   high-is k l = highest-agrees (ownIn edges k) (isOf t k) n (λ i h. own-is k i (omega arith) h)
+
+  -- each edge has a segment by the counts
+  pub named-told : (counts lows highs : List ℕ) → Tallied edges n counts lows highs → every (λ (k : ℕ). ltb 0 (getD counts k 0)) (axis .len) ≡ edgesNamed axis t
+  unfolding edgesNamed
+  named-told counts lows highs a =
+      every-same _ _ (axis .len)
+      (λ (k : ℕ) (h : k < axis .len). ap (ltb 0) (a .counted k (omega arith) ∙ count-agrees (ownIn edges k) (isOf t k) n (λ i l. own-is k i (omega arith) l)))
+      ∙ ap (every (λ (k : ℕ). ltb 0 (count (isOf t k) n))) (let z : axis .len ≡ min (axis .len) mostEdges = omega arith in z)
 
   -- ---- what was led is what mending says
   module _ (broken : List Bool) (counts lows highs seen next′ : List ℕ) (b : Told axis t broken) (a : Tallied edges n counts lows highs) (l : Led edges n broken lows next seen next′) where

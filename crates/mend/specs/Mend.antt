@@ -1,7 +1,7 @@
 -- Request #107: the call.
 use mathlib.Core.Path.{_≡_}
 use mathlib.Core.Bool.{Bool, _&&_}
-use mathlib.Core.List.{List, [], _∷_}
+use mathlib.Core.List.{List, [], _∷_, _++_}
 use Prim.Native.Nat.{ℕ, min}
 use lib.Dec.{ltb}
 use Rattle.refusals.specs.Refusal.{Test, _unless_, refusal, answered, badIndex}
@@ -23,16 +23,13 @@ brokenRing = 7
 unfoldable pub edgesNamed : Axis → Segments → Bool
 edgesNamed axis t = every (λ (k : ℕ). ltb 0 (count (isOf t k) (t .len))) (min (axis .len) mostEdges)
 
--- the tests of the call: 1 and 4 first; 3 for an edge index beyond the table alone; 7 last
+-- the tests of the tables: 1 and 4 first; 3 for an edge index beyond the table alone
+abbrev pub tableTests : Axis → Segments → List Test
+tableTests axis t = segmentsShort t ∷ edgesShort axis ∷ segmentsInRange t ∷ edgesInRange axis ∷ badIndex unless segmentsEdges (axis .len) t ∷ []
+
+-- the tests of the call: 7 last
 abbrev pub mendingTests : Axis → Segments → List Test
-mendingTests axis t =
-    segmentsShort t
-    ∷ edgesShort axis
-    ∷ segmentsInRange t
-    ∷ edgesInRange axis
-    ∷ badIndex unless segmentsEdges (axis .len) t
-    ∷ brokenRing unless edgesNamed axis t
-    ∷ []
+mendingTests axis t = tableTests axis t ++ (brokenRing unless edgesNamed axis t ∷ [])
 
 -- what the call hands back
 pub record Mended : Type 0 where
