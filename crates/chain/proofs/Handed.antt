@@ -1,20 +1,25 @@
--- What a call hands back with answer 0 is accepted by the calls behind it, whose own parameters are right: linking, building, blue zones, stems, the two in one call, and the others beside.
-use mathlib.Core.Path.{_≡_, refl}
+-- What a call hands back with answer 0 is accepted by the calls behind it, whose own parameters are right: linking, building, blue zones, stems, the two in one call, and the others beside; and what mending hands back.
+use mathlib.Core.Path.{_≡_, refl, sym, ap, subst, _∙_}
 use mathlib.Core.Bool.{Bool, true, false, cond}
 use mathlib.Core.List.{List}
 use mathlib.Core.Logic.{_⊎_, inl, inr}
 use Prim.Native.Nat.{ℕ}
 use lib.Dec.{leb}
 use lib.IntN.{ℤ}
-use Rattle.refusals.specs.Refusal.{noRoom}
+use Rattle.refusals.specs.Refusal.{noRoom, refusal}
 use Rattle.fixed.specs.declared.width.WidthRule.{WidthRule}
 use Rattle.fixed.specs.Width.{ruleHolds}
 use Rattle.axis.specs.declared.edge.Axis.{Axis}
 use Rattle.axis.specs.declared.kinds.Direction.{Direction}
 use Rattle.axis.specs.declared.kinds.Group.{Group}
 use Rattle.axis.specs.declared.segment.Segments.{Segments}
-use Rattle.axis.specs.Handed.{EdgesAccepted, Typed}
+use Rattle.axis.specs.Handed.{EdgesAccepted, Typed, TypedAxis}
 use Rattle.axis.specs.Limits.{mostEdges}
+use Rattle.mend.specs.Altered.{alterations}
+use Rattle.mend.specs.Mend.{Mended, mendingTests, mend}
+use Rattle.mend.specs.Mended.{mendedAxis, mendedSegments}
+use Rattle.mend.proofs.Outcomes as Mending
+use Rattle.turning.specs.Turning.{turningTests}
 use Rattle.linking.specs.Linking.{linkSegmentsCjk}
 use Rattle.linking.specs.Linking as L
 use Rattle.linking.proofs.Handed as Linking
@@ -90,3 +95,28 @@ module _ (axis : Axis) (group : Group) (rule : WidthRule) (xs : List ℤ) (e : a
   pub zoned-stems : (g : Group) (adjust : Bool) (by : WidthRule) (ys : List ℤ) → ruleHolds by ys ≡ true
       → alignStemEdges (alignEdgesToBlues axis group rule xs .axis) g adjust false (alignEdgesToBlues axis group rule xs .anchor) by ys .answer ≡ 0
   zoned-stems g adjust by ys r = zoned-accepted .stems g adjust _ by ys (Blues.anchor-handed-on axis group rule xs e) r
+
+-- ---- mending
+module _ (axis : Axis) (t : Segments) (w : TypedAxis axis) (v : Typed t) (e : mend axis t .answer ≡ 0) where
+  none-refused : refusal (mendingTests axis t) ≡ 0
+  none-refused = Mending.accepted axis t e
+
+  abbrev handed : Mended
+  handed = record { answer = 0; axis = mendedAxis axis t; segments = mendedSegments axis t; altered = alterations axis t (mendedAxis axis t) (mendedSegments axis t) }
+
+  outcome : mend axis t ≡ handed
+  outcome = Mending.when-accepted axis t none-refused
+
+  -- the edges that mending hands back, every call over edges accepts
+  pub mended-accepted : Accepts (mend axis t .axis)
+  mended-accepted = subst (λ (x : Mended). Accepts (x .axis)) (sym outcome) (accepts _ (Mending.edges-handed-on axis t w v none-refused))
+
+  -- its segments linking
+  pub mended-linked : (major : Direction) (em at : ℤ) → L.numbersHold em at ≡ true → linkSegmentsCjk (mend axis t .segments) major em at .answer ≡ 0
+  mended-linked major em at n =
+      ap (λ (x : Mended). linkSegmentsCjk (x .segments) major em at .answer) outcome
+      ∙ Linking.accepts _ major em at (Mending.segments-handed-on axis t w v none-refused) (Mending.nexts-handed-on axis t w v none-refused) n
+
+  -- and both the converter
+  pub mended-turned : refusal (turningTests (mend axis t .axis) (mend axis t .segments)) ≡ 0
+  mended-turned = ap (λ (x : Mended). refusal (turningTests (x .axis) (x .segments))) outcome ∙ Mending.turns axis t w v none-refused

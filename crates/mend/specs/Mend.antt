@@ -4,7 +4,7 @@ use mathlib.Core.Bool.{Bool, _&&_}
 use mathlib.Core.List.{List, [], _∷_, _++_}
 use Prim.Native.Nat.{ℕ, min}
 use lib.Dec.{ltb}
-use Rattle.refusals.specs.Refusal.{Test, _unless_, refusal, answered, badIndex}
+use Rattle.refusals.specs.Refusal.{Test, _unless_, refusal, answered, badIndex, brokenRing}
 use Rattle.axis.specs.declared.edge.Axis.{Axis}
 use Rattle.axis.specs.declared.segment.Segments.{Segments}
 use Rattle.axis.specs.Limits.{mostEdges}
@@ -14,10 +14,6 @@ use Rattle.turning.specs.Indices.{segmentsEdges}
 use Rattle.axis.specs.Ring.{isOf}
 use Rattle.mend.specs.Mended.{mendedAxis, mendedSegments}
 use Rattle.mend.specs.Altered.{Alteration, alterations}
-
--- no ring can be made of an edge, or its ring is not sound
-abbrev pub brokenRing : ℕ
-brokenRing = 7
 
 -- every edge is named by a segment
 unfoldable pub edgesNamed : Axis → Segments → Bool

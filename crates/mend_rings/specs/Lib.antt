@@ -1,0 +1,2 @@
+-- What the contracts of `mend_rings` cite.
+pub mod Followed
