@@ -40,7 +40,8 @@
  *      khs_align_weak_points moves the points that are not touched then, and khs_align_catalogue those of many outlines at once. Where one touched point is moved by hand
  *      afterwards, khs_drag_point moves those that depend on it.
  *   7. When both axes are fitted, khs_path makes the path for a rasteriser of the points, in pixels.
- * Edges stand by rising positions. Tables that were built and saved the other way, from top to bottom, go through khs_turn_over once.
+ * Edges stand by rising positions. Tables that were built and saved the other way, from top to bottom, go through khs_turn_over once. Saved axes with indices of
+ * records that are gone, or with rings that do not close, go through khs_mend first: khs_turn_over takes what that hands on.
  *
  * An example: a bar from 0 to 80 of 1,000 design units to the em, at 12 pixels to the em, whose foot has a zone at 0; it goes clockwise, its upper side runs over the
  * contour's start, and its point 1 lies at 40 between the sides. It leaves 64 33 0 0 64 in currents. In the repository examples/three.c fits a figure 3 so.
@@ -82,11 +83,12 @@
  *
  * Answers. Every call but khs_compute_mid_pos and khs_compute_mid_delta returns a number of enum khs_answer: KHS_DONE, or why it refused. A call over edges or
  * segments tests in this order:
- *   1. KHS_NOT_WORDS: the length of edges or segments is not that of whole records, or the room for built edges has not exactly its length.
+ *   1. KHS_NOT_WORDS: the length of edges or segments is not that of whole records, or a room, for built edges or for alterations, has not exactly its length.
  *   2. KHS_TOO_LONG: there are more edges or segments than their limit. None of their words has been read then.
  *   3. KHS_NOT_WORDS: a word is none of its field's values. The fields are those of the two structs, and also these numbers of a call: a direction, dimension,
  *      group, rule or neighbour, and a number that is 0 or 1. So dim 2 and stem_adjust -1 are KHS_NOT_WORDS.
- *   4. KHS_RETIRED, then KHS_BAD_PARAMETER, KHS_BAD_INDEX, KHS_OUT_OF_RANGE and KHS_NO_ROOM.
+ *   4. KHS_RETIRED, then KHS_BAD_PARAMETER, KHS_BAD_INDEX, KHS_OUT_OF_RANGE and KHS_NO_ROOM; but khs_mend tests KHS_OUT_OF_RANGE, then KHS_BAD_INDEX and
+ *      KHS_BROKEN_RING.
  * Every other number of a call takes every word: an edge named in a call, and an anchor other than KHS_NONE, is KHS_BAD_INDEX where it is not below the count
  * of edges, whatever its word; scale, units per em, thresholds, standards and a gap's least width are KHS_BAD_PARAMETER and a delta KHS_OUT_OF_RANGE outside of their
  * limits.
@@ -126,6 +128,7 @@ enum khs_answer {
     KHS_OUT_OF_RANGE = 4,  /* a coordinate, position, score, len or passed delta is outside its limits; in building also a scaled position */
     KHS_NO_ROOM = 5,       /* building calls for one edge more than 128 */
     KHS_NOT_FRAME = 6,     /* a line of a log is not a whole frame */
+    KHS_BROKEN_RING = 7,   /* the segments of an edge are no sound ring; in khs_mend: none can be made of them, since there is none */
     KHS_TOO_STEEP = 8,     /* an untouched point lies between two touched ones that were 2 units apart and are 65,536 or more, or were 3 and are 98,304 or more */
     KHS_NOT_MATCHING = 9,  /* the lists of khs_align_with_references are not what khs_remember_references writes for these marks and contours */
     KHS_RETIRED = 10,      /* the order from top to bottom is asked for, which is retired: on either axis and for either group */
@@ -197,6 +200,18 @@ struct khs_segment {
     int32_t edge;      /* link: the edge that it belongs to, or KHS_NONE where building left it out */
     int32_t next;      /* link: the next segment of its edge, which form a ring */
 };
+
+/* The words of an alteration, which khs_mend lists. */
+struct khs_alteration {
+    int32_t table; /* KHS_SEGMENTS or KHS_EDGES */
+    int32_t index; /* of the record in its list */
+    int32_t field; /* which field of it, of enum khs_field */
+    int32_t was;   /* the index that it held, or KHS_NONE */
+    int32_t is;    /* the index that it holds now, or KHS_NONE */
+};
+enum { KHS_SEGMENTS = 0, KHS_EDGES = 1 };
+enum khs_field { KHS_LINK = 0, KHS_SERIF = 1, KHS_RING_NEXT = 2, KHS_RING_FIRST = 3, KHS_RING_LAST = 4 };
+enum { KHS_ALTERATION_WORDS = 5, KHS_MOST_ALTERED = 2048 }; /* the most are 3 of each of 512 segments and 4 of each of 128 edges */
 
 /* The width rule of the calls below is `rule`, KHS_KEEP or KHS_SNAP, with `standards`, the standard widths in units. Keep takes widths as they are and does
  * not read the standards: their list may be of any length, and is NULL at length 0 alone. Snap wants 0 to 16 of them, strictly rising, each 1 to 16,383, else
@@ -451,6 +466,19 @@ uint8_t khs_read_frame(const uint8_t *line, khs_length line_len, int32_t *origin
  * segments, renumbered.
  * Answers: KHS_DONE, KHS_TOO_LONG, KHS_BAD_INDEX, KHS_OUT_OF_RANGE, KHS_NOT_WORDS. */
 uint8_t khs_turn_over(int32_t *segments, khs_length segments_len, int32_t *edges, khs_length edges_len);
+
+/* Mends an axis that was saved with indices of records that are gone, or with rings that do not close.
+ * A link or serif, of segments and of edges, that is not below its list's count becomes KHS_NONE, and so does such a next of a segment without an edge. The ring of an
+ * edge is sound when following next from its first segment meets each segment whose edge it is once, no other, and ends at its last, whose next is its first. Where it is
+ * not, first becomes the lowest of these segments, last the highest, and each leads to the next higher one, the last to the first. Nothing else is altered: a sound ring
+ * stays in any order, and so does a next of a segment without an edge that is below the count. Mended again, nothing is altered.
+ * segments: at most 512. edges: at most 128. altered: a room of exactly KHS_MOST_ALTERED * KHS_ALTERATION_WORDS words, else KHS_NOT_WORDS.
+ * Writes link, serif and next of segments, link, serif, first and last of edges; altered, from the front on, a struct khs_alteration for each of these fields that is not
+ * what it was, segments before edges, by index, and in a record in the order of this line; what stands behind them stays; count, how many there are: 0 where there was
+ * nothing to mend.
+ * Answers: KHS_DONE, KHS_TOO_LONG, KHS_OUT_OF_RANGE, KHS_BAD_INDEX (a segment's edge is not below the count of edges), KHS_BROKEN_RING (an edge is no segment's),
+ * KHS_NOT_WORDS. */
+uint8_t khs_mend(int32_t *segments, khs_length segments_len, int32_t *edges, khs_length edges_len, int32_t *altered, khs_length altered_len, int32_t *count);
 
 #ifdef __cplusplus
 }

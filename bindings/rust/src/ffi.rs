@@ -271,6 +271,16 @@ extern "C" {
         edges: *mut i32,
         edges_len: Length,
     ) -> u8;
+
+    fn khs_mend(
+        segments: *mut i32,
+        segments_len: Length,
+        edges: *mut i32,
+        edges_len: Length,
+        altered: *mut i32,
+        altered_len: Length,
+        count: *mut i32,
+    ) -> u8;
 }
 
 /// The length of a list as the library takes it.
@@ -728,4 +738,27 @@ pub fn turn_over(segments: &mut [Segment], edges: &mut [Edge]) -> u8 {
     let (edges, edges_len) = edge_words(edges);
     // SAFETY: two slices, lent to this call alone.
     unsafe { khs_turn_over(words, len, edges, edges_len) }
+}
+
+pub fn mend(
+    segments: &mut [Segment],
+    edges: &mut [Edge],
+    altered: &mut [i32],
+    count: &mut i32,
+) -> u8 {
+    let (words, len) = segment_words(segments);
+    let (edges, edges_len) = edge_words(edges);
+    let room = length(altered);
+    // SAFETY: three slices and a place, lent to this call alone.
+    unsafe {
+        khs_mend(
+            words,
+            len,
+            edges,
+            edges_len,
+            altered.as_mut_ptr(),
+            room,
+            count,
+        )
+    }
 }

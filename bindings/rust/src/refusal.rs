@@ -33,6 +33,8 @@ pub enum Refusal {
     NoRoom,
     /// 6: a line of a log is not a whole frame.
     NotFrame,
+    /// 7: the segments of an edge are no sound ring; in mending: an edge has no segments, of which a ring could be made.
+    BrokenRing,
     /// 8: an untouched point lies between two touched ones that were 2 units apart and are 65,536 or more, or were 3 and are 98,304 or more.
     TooSteep,
     /// 9: remembered references are not those of these marks and contours.
@@ -56,6 +58,7 @@ impl Refusal {
             4 => Self::OutOfRange,
             5 => Self::NoRoom,
             6 => Self::NotFrame,
+            7 => Self::BrokenRing,
             8 => Self::TooSteep,
             9 => Self::NotMatching,
             10 => Self::Retired,
@@ -73,6 +76,7 @@ impl Refusal {
             Self::OutOfRange => 4,
             Self::NoRoom => 5,
             Self::NotFrame => 6,
+            Self::BrokenRing => 7,
             Self::TooSteep => 8,
             Self::NotMatching => 9,
             Self::Retired => 10,
@@ -92,6 +96,7 @@ impl Refusal {
             Self::OutOfRange => "a coordinate, position, score, len or delta is outside its limits",
             Self::NoRoom => "the segments make more edges than there is room for",
             Self::NotFrame => "the line is not a whole frame",
+            Self::BrokenRing => "the segments of an edge are no sound ring",
             Self::TooSteep => "two touched points that were close are too far apart for one between them",
             Self::NotMatching => "the references are not those of these marks and contours",
             Self::Retired => "the order from top to bottom is retired",

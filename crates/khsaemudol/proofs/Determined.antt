@@ -30,6 +30,7 @@ use Rattle.path.proofs.Outcomes as Step
 use Rattle.path_lay.specs.Laying.{Lists}
 use Rattle.path_whole.specs.Writing.{WritesPath}
 use Rattle.path_whole.proofs.Outcomes as Path
+use Rattle.mend_words.specs.Mending.{MendedLent}
 use Rattle.flat_turning.specs.Turn.{TurnedLent}
 use Rattle.flat_gaps.specs.Find.{Places, GapsLent}
 
@@ -152,3 +153,8 @@ turning-determined ws es a b = lent-determined a b
 -- `khs_lost_gaps`
 pub gaps-determined : (ws : List ℤ) (least linked : ℤ) (old : Places) {r r′ : ℕ} {now now′ : Places} → GapsLent ws least linked old r now → GapsLent ws least linked old r′ now′ → (r ≡ r′) × (now ≡ now′)
 gaps-determined ws least linked old a b = lent-determined a b
+
+-- `khs_mend`
+pub mending-determined :
+    (ws es room : List ℤ) (count : ℤ) {r r′ : ℕ} {now now′ : List ℤ × (List ℤ × (List ℤ × ℤ))} → MendedLent ws es room count r now → MendedLent ws es room count r′ now′ → (r ≡ r′) × (now ≡ now′)
+mending-determined ws es room count a b = lent-determined a b

@@ -17,6 +17,7 @@ use flat_stems::zones::lend_zones;
 use flat_turning::turn::lend_turning;
 use frames_lent::lend_read;
 use frames_lent::lend_write;
+use mend_words::lend::lend_mending;
 use middle::compute_mid_delta;
 use middle::compute_mid_pos;
 use outline::weak::align_weak_points;
@@ -45,6 +46,7 @@ ghost use Rattle.path_lay.specs.Laying.{lent};
 ghost use Rattle.path_whole.specs.Writing.{WritesPath};
 ghost use Rattle.flat_turning.specs.Turn.{TurnedLent};
 ghost use Rattle.flat_gaps.specs.Find.{GapsLent};
+ghost use Rattle.mend_words.specs.Mending.{MendedLent};
 
 // The middle of two coordinates.
 #[no_mangle]
@@ -419,6 +421,20 @@ pub extern "C" fn khs_turn_over(segments: &mut [i32], edges: &mut [i32]) -> u8
     ensures { λ r. ⌜ TurnedLent (now (segments .entry)) (now (edges .entry)) r (now (segments .exit), now (edges .exit)) ⌝ }
 {
     lend_turning(segments, edges)
+}
+
+// Mends an axis whose indices name records that are gone, or whose rings do not close, and lists what was altered.
+#[no_mangle]
+pub extern "C" fn khs_mend(
+    segments: &mut [i32],
+    edges: &mut [i32],
+    altered: &mut [i32],
+    count: &mut i32,
+) -> u8
+    ensures { λ r. ⌜ MendedLent (now (segments .entry)) (now (edges .entry)) (now (altered .entry)) (now (count .entry))
+        r (now (segments .exit), (now (edges .exit), (now (altered .exit), now (count .exit)))) ⌝ }
+{
+    lend_mending(segments, edges, altered, count)
 }
 
 // Finds the gaps and the stems between placed edges that fitting has lost, and counts the edges that are not done.
