@@ -5,7 +5,7 @@ use crate::{
     decode::decode,
     drag, frames, gaps,
     job::{Job, Points},
-    joined,
+    joined, mend, pack,
     path::Step,
     references,
     refusals::{Answer, Refusal},
@@ -54,6 +54,8 @@ pub fn answer(job: Job) -> Words {
         | Job::Remember(..)
         | Job::WithReferences(..)
         | Job::Drag(..)
+        | Job::Mend(..)
+        | Job::Pack(..)
         | Job::TurnOver(..)
         | Job::Gaps(..)
         | Job::WriteFrame(..)
@@ -105,6 +107,18 @@ fn of_requests(w: &mut Words, job: Job) {
         Job::Drag(mut points, point) => {
             done(w, drag::drag_point(&mut points, point.into()));
             w.numbers("currents", "current", &points.currents);
+        }
+        Job::Mend(mut segments, mut edges) => {
+            let altered = number(w, mend::mend(&mut segments, &mut edges)).unwrap_or_default();
+            w.segments(&segments);
+            w.edges(edges.count, &edges.items);
+            w.alterations(&altered);
+        }
+        Job::Pack(mut segments, mut edges) => {
+            let freed = number(w, pack::pack(&mut segments, &mut edges)).unwrap_or_default();
+            w.segments(&segments);
+            w.edges(edges.count, &edges.items);
+            w.places(&freed);
         }
         Job::TurnOver(mut segments, mut edges) => {
             done(w, turn::turn_over(&mut segments, &mut edges));

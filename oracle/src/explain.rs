@@ -126,8 +126,10 @@ fn shown_value(name: &str, value: i32) -> String {
             "serif",
             "lowercase m",
         ],
+        "table" => &["segments", "edges"],
+        "field" => &["link", "serif", "next", "first", "last"],
         "next" | "edge" | "link" | "serif" | "anchor" | "lower" | "upper" | "first edge"
-        | "second edge"
+        | "second edge" | "old" | "new"
             if value == -1 =>
         {
             return String::from("none");

@@ -140,6 +140,8 @@ pub enum Job {
     WithReferences(Points, References),
     Drag(Points, u16),
     Joined(Table<Edge>, Joined),
+    Mend(Table<Segment>, Table<Edge>),
+    Pack(Table<Segment>, Table<Edge>),
     TurnOver(Table<Segment>, Table<Edge>),
     Gaps(Table<Edge>, i32, bool),
     WriteFrame(Points, Vec<u8>),
@@ -170,7 +172,9 @@ pub const CALLS: &[(usize, &str)] = &[
     (112, "align_stem_edges"),
     (113, "hint_lowercase_m (table)"),
     (114, "hint_lowercase_m (lent list)"),
+    (121, "mend"),
     (122, "align_blues_and_stems"),
+    (123, "pack_axis"),
     (124, "turn_over"),
     (127, "lost_gaps"),
 ];

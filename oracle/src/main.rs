@@ -7,11 +7,12 @@ use oracle::{
     calls,
     decode::decode,
     explain,
-    generate::{self, Profile, Random, PROFILES},
+    generate::{self, small_axes::PARTS, Profile, Random, PROFILES},
     job::{name_of, Job},
-    joined, log,
+    joined, log, mender,
     ranges::Ranges,
-    streams, text,
+    streams::{self, Plain},
+    text,
     words::encode,
 };
 use std::{
@@ -27,14 +28,17 @@ const USAGE: &str = "usage:
   oracle gen --call N --count C --seed S --profile mixed|small|limits|damaged
   oracle patterns --call 15|16  paths of every mark pattern up to 12 points
   oracle patterns --call 18|19|20   references and drags of every outline up to 4 points
+  oracle axes --call 121|123 --part P   every axis of up to three segments and two edges, in sixteen parts from 0 on
   oracle explain                job lines on stdin, decoded with their answers
   oracle diff JOBS FIRST SECOND compares two files of answers to the jobs
   oracle tally                  job lines on stdin: answers per call and number
   oracle fallback               jobs of stems and of blues and stems on stdin: how many had zones, and took the fallback
   oracle ranges --call N        jobs of outlines or of an axis on stdin: how many were done in the old range and beyond it, and refused by 8
   oracle refit                  a log of frames on stdin to its replies on stdout
+  oracle mend [--axes]          a file of saved axes on stdin to what is altered, or to the axes mended
   oracle stream --count C --seed S   prints a made-up log of good frames
   oracle log --count C --seed S PROGRAM [WORD..]   compares what a program replies to made-up logs
+  oracle saved --count C --seed S PROGRAM [WORD..]   compares what a program prints for made-up files of saved axes, and with --axes behind
   oracle branches --count C --seed S   (feature `count`) branches of the given Rust";
 
 /// Runs the subcommand that the words name.
@@ -45,15 +49,21 @@ fn main() -> ExitCode {
         ["answer"] => answer(),
         ["gen", options @ ..] => gen(options),
         ["patterns", options @ ..] => patterns(options),
+        ["axes", "--call", call, "--part", part] => small_axes(call, part),
         ["explain"] => explain_lines(),
         ["diff", jobs, first, second] => return diff(jobs, first, second),
         ["tally"] => tally(),
         ["fallback"] => return fallback(),
         ["ranges", "--call", call] => ranges(call),
         ["refit"] => Some(refit()),
+        ["mend"] => Some(mend(false)),
+        ["mend", "--axes"] => Some(mend(true)),
         ["stream", "--count", count, "--seed", seed] => stream(count, seed),
         ["log", "--count", count, "--seed", seed, program @ ..] => {
-            return compare_logs(count, seed, program)
+            return compare_programs(&[streams::REFIT], count, seed, program)
+        }
+        ["saved", "--count", count, "--seed", seed, program @ ..] => {
+            return compare_programs(&[streams::MEND, streams::MEND_AXES], count, seed, program)
         }
         #[cfg(feature = "count")]
         ["branches", options @ ..] => return branches(options),
@@ -261,6 +271,26 @@ fn column(number: i32) -> String {
     }
 }
 
+/// Prints every small axis of a part, as jobs of a call.
+fn small_axes(call: &str, part: &str) -> Done {
+    let pack = match call {
+        "121" => false,
+        "123" => true,
+        _ => return None,
+    };
+    let part = part.parse().ok().filter(|part| *part < PARTS)?;
+    let mut output = BufWriter::with_capacity(1 << 16, io::stdout().lock());
+    let mut print = |job: &Job| writeln!(output, "{}", text::write(&encode(job).values));
+    let printed = generate::small_axes::jobs(pack, part, &mut print);
+    Some(printed.and_then(|()| output.flush()))
+}
+
+/// Mends a file of saved axes.
+fn mend(axes: bool) -> io::Result<()> {
+    let output = BufWriter::with_capacity(1 << 16, io::stdout().lock());
+    mender::run(io::stdin().lock(), output, axes)
+}
+
 /// Answers a log.
 fn refit() -> io::Result<()> {
     let output = BufWriter::with_capacity(1 << 16, io::stdout().lock());
@@ -274,15 +304,20 @@ fn stream(count: &str, seed: &str) -> Done {
     Some(io::stdout().lock().write_all(&stream))
 }
 
-/// Compares what a program replies to made-up logs of so many lines together.
-fn compare_logs(count: &str, seed: &str, program: &[&str]) -> ExitCode {
+/// Compares what a program prints with what plain ones do, for made-up inputs of so many lines together each.
+fn compare_programs(plain: &[Plain], count: &str, seed: &str, program: &[&str]) -> ExitCode {
     let (Ok(count), Ok(seed), false) = (count.parse(), seed.parse(), program.is_empty()) else {
         return usage();
     };
-    match streams::compare(program, count, &mut Random::new(seed)) {
-        Ok(agree) => ExitCode::from(u8::from(!agree)),
-        Err(error) => failed(&error),
+    for plain in plain {
+        let program = [program, plain.words].concat();
+        match streams::compare(plain, &program, count, &mut Random::new(seed)) {
+            Ok(true) => {}
+            Ok(false) => return ExitCode::FAILURE,
+            Err(error) => return failed(&error),
+        }
     }
+    ExitCode::SUCCESS
 }
 
 /// Compares two files of answers, and shows the first differences decoded.

@@ -9,8 +9,10 @@ use crate::{
         Segment, Stems, Table, Walk, WidthRule,
     },
     limits::*,
+    mend::is_sound,
     weak,
 };
+use std::collections::BTreeSet;
 
 /// A refusal, by its number.
 #[derive(Copy, Clone, PartialEq, Eq, Debug)]
@@ -240,7 +242,40 @@ fn sum(counts: &[u16]) -> usize {
 
 /// Turning an axis over: the indices into both of its tables are tested.
 pub fn turn_over(segments: &Table<Segment>, edges: &Table<Edge>) -> Answer<()> {
-    refuse(1, segments.count > SEGMENTS || edges.count > EDGES)?;
+    both_fit(segments, edges)?;
+    indices_of_both(segments, edges)?;
+    numbers_of_both(segments, edges)
+}
+
+/// Mending an axis: of its indices those alone that nothing can be made of.
+pub fn mend(segments: &Table<Segment>, edges: &Table<Edge>) -> Answer<()> {
+    both_fit(segments, edges)?;
+    numbers_of_both(segments, edges)?;
+    refuse(3, name_beyond(segments, edges.count, |s| [s.edge_ix]))?;
+    refuse(7, empty_edge(segments, edges).is_some())
+}
+
+/// The first edge that no segment names, if there is one.
+pub fn empty_edge(segments: &Table<Segment>, edges: &Table<Edge>) -> Option<usize> {
+    let named: BTreeSet<u16> = segments.items.iter().filter_map(|s| s.edge_ix).collect();
+    (0..edges.items.len()).find(|ix| !named.contains(&(*ix as u16)))
+}
+
+/// An axis made smaller: its numbers are carried, whatever they are.
+pub fn pack(segments: &Table<Segment>, edges: &Table<Edge>) -> Answer<()> {
+    both_fit(segments, edges)?;
+    indices_of_both(segments, edges)?;
+    let broken = |ix: usize| !is_sound(&segments.items, &edges.items, ix);
+    refuse(7, (0..edges.items.len()).any(broken))
+}
+
+/// Refusal 1 on both tables of an axis.
+fn both_fit(segments: &Table<Segment>, edges: &Table<Edge>) -> Answer<()> {
+    refuse(1, segments.count > SEGMENTS || edges.count > EDGES)
+}
+
+/// Refusal 3 on both tables of an axis: every index of a segment or an edge.
+fn indices_of_both(segments: &Table<Segment>, edges: &Table<Edge>) -> Answer<()> {
     refuse(
         3,
         names_beyond(segments, |s| [s.link_ix, s.serif_ix, s.edge_next_ix])
@@ -249,7 +284,11 @@ pub fn turn_over(segments: &Table<Segment>, edges: &Table<Edge>) -> Answer<()> {
             || name_beyond(edges, segments.count, |e| {
                 [Some(e.first_ix), Some(e.last_ix)]
             }),
-    )?;
+    )
+}
+
+/// Refusal 4 on both tables of an axis.
+fn numbers_of_both(segments: &Table<Segment>, edges: &Table<Edge>) -> Answer<()> {
     refuse(
         4,
         !segments.items.iter().all(measures_fit) || !edges.items.iter().all(edge_fits),

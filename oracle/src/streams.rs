@@ -1,8 +1,10 @@
-//! What another program replies to made-up logs, which it is handed through a pipe in pieces of any size.
+//! What another program prints for made-up logs, or files of saved axes, which it is handed through a pipe in pieces of any size.
 
 use crate::{
-    generate::{log, Random},
+    generate::{self, Random},
+    limits::{EDGES, SEGMENTS},
     log::{refit, reply},
+    mender,
     refusals::FRAME_DIGITS,
 };
 use std::{
@@ -20,23 +22,83 @@ const LINES: usize = 40;
 /// How long the writer waits for the program to take a piece, before it goes on.
 const PATIENCE: Duration = Duration::from_secs(5);
 
-/// Compares a program's replies to logs of so many lines together, and tells what was in them; false at the first difference.
-pub fn compare(program: &[&str], count: usize, random: &mut Random) -> io::Result<bool> {
+/// A program, written plainly, that others are compared with.
+pub struct Plain {
+    /// What its input is called.
+    name: &'static str,
+    /// Makes up an input of about so many lines.
+    input: fn(usize, &mut Random) -> Vec<u8>,
+    /// Prints what the program does.
+    print: fn(&[u8], &mut Vec<u8>) -> io::Result<()>,
+    /// Of what kind its answer to a line is.
+    answer: fn(&[u8]) -> String,
+    /// The digits of the longest line that it reads.
+    longest: usize,
+    /// What it is asked by, behind its name.
+    pub words: &'static [&'static str],
+}
+
+/// The program `refit`.
+pub const REFIT: Plain = Plain {
+    name: "logs",
+    input: generate::log,
+    print: |log, output| refit(log, output),
+    answer: |line| match reply(line).as_slice() {
+        [b'8', b'1', ..] => "81..".into(),
+        other => String::from_utf8_lossy(other).into_owned(),
+    },
+    longest: FRAME_DIGITS,
+    words: &[],
+};
+
+/// The program `mend`, which tells what it alters.
+pub const MEND: Plain = Plain {
+    name: "files",
+    input: generate::file,
+    print: |file, output| mender::run(file, output, false),
+    answer: |line| {
+        let told = mender::told(line.strip_suffix(b"\n").unwrap_or(line));
+        match told[0].split_once(',').map_or(&*told[0], |told| told.0) {
+            told if told.contains("->") => "mended".into(),
+            told => told.into(),
+        }
+    },
+    longest: AXIS_DIGITS,
+    words: &[],
+};
+
+/// The same where it prints the axes.
+pub const MEND_AXES: Plain = Plain {
+    print: |file, output| mender::run(file, output, true),
+    words: &["--axes"],
+    ..MEND
+};
+
+/// The digits of the longest axis: eight a word, of a call's word, two counts, segments and edges.
+const AXIS_DIGITS: usize = 8 * (3 + 15 * SEGMENTS + 12 * EDGES);
+
+/// Compares what a program prints for inputs of so many lines together, and tells what was in them; false at the first difference.
+pub fn compare(
+    plain: &Plain,
+    program: &[&str],
+    count: usize,
+    random: &mut Random,
+) -> io::Result<bool> {
     let mut tally = Tally::default();
     while tally.lines < count {
         let lines = random.pick(&[0, 1, 1, 2, 3, 8, LINES, LINES]);
-        let log = log(lines, random);
-        let pieces = pieces(&log, random);
+        let input = (plain.input)(lines, random);
+        let pieces = pieces(&input, random);
         let mut expected = Vec::new();
-        refit(log.as_slice(), &mut expected)?;
+        (plain.print)(&input, &mut expected)?;
         let got = replies(program, &pieces, random.below(4) > 0)?;
         if got != expected {
-            println!("{}", difference(&log, &expected, &got));
+            println!("{}", difference(&input, &expected, &got));
             return Ok(false);
         }
-        tally.add(&log, pieces.len());
+        tally.add(plain, &input, pieces.len());
     }
-    println!("{}", tally.told());
+    println!("{}", tally.told(plain));
     Ok(true)
 }
 
@@ -130,83 +192,86 @@ fn difference(log: &[u8], expected: &[u8], got: &[u8]) -> String {
         got.split_inclusive(|byte| *byte == b'\n').collect(),
     );
     let agree = ours.iter().zip(&theirs).take_while(|(a, b)| a == b).count();
-    let shown = |lines: &[&[u8]]| {
-        let line = lines.get(agree).copied().unwrap_or(b"nothing");
+    // a reply may have the number of its line in front, and not be the only one to it
+    let reply = ours.get(agree).map(|reply| String::from_utf8_lossy(reply));
+    let number = reply.and_then(|reply| reply.split_once(':')?.0.parse().ok());
+    let at = number.map_or(agree, |number: usize| number - 1);
+    let shown = |lines: &[&[u8]], at: usize| {
+        let line = lines.get(at).copied().unwrap_or(b"nothing");
         let tail = if line.len() > 200 { ".." } else { "" };
         let head = &line[..line.len().min(200)];
         format!("{}{tail} ({} bytes)", head.escape_ascii(), line.len())
     };
     format!(
         "line {} of {}: {}\nthe Rust:    {}\nthe program: {}",
-        agree + 1,
+        at + 1,
         lines.len(),
-        shown(&lines),
-        shown(&ours),
-        shown(&theirs)
+        shown(&lines, at),
+        shown(&ours, agree),
+        shown(&theirs, agree)
     )
 }
 
 /// What was compared.
 #[derive(Default)]
 struct Tally {
-    logs: usize,
+    inputs: usize,
     empty: usize,
     pieces: usize,
     lines: usize,
-    kinds: BTreeMap<&'static str, usize>,
+    kinds: BTreeMap<String, usize>,
     answers: BTreeMap<String, usize>,
 }
 
 impl Tally {
-    /// Counts a log.
-    fn add(&mut self, log: &[u8], pieces: usize) {
-        self.logs += 1;
-        self.empty += usize::from(log.is_empty());
+    /// Counts an input.
+    fn add(&mut self, plain: &Plain, input: &[u8], pieces: usize) {
+        self.inputs += 1;
+        self.empty += usize::from(input.is_empty());
         self.pieces += pieces;
-        for line in log.split_inclusive(|byte| *byte == b'\n') {
+        for line in input.split_inclusive(|byte| *byte == b'\n') {
             self.lines += 1;
-            for kind in kinds(line) {
+            for kind in kinds(line, plain.longest) {
                 *self.kinds.entry(kind).or_default() += 1;
             }
-            let reply = reply(line);
-            let answer = match reply.as_slice() {
-                [b'8', b'1', ..] => "81..".into(),
-                other => String::from_utf8_lossy(other).into_owned(),
-            };
-            *self.answers.entry(answer).or_default() += 1;
+            *self.answers.entry((plain.answer)(line)).or_default() += 1;
         }
     }
 
     /// The counts, for a person.
-    fn told(&self) -> String {
+    fn told(&self, plain: &Plain) -> String {
         let listed = |rows: Vec<(&str, &usize)>| {
             let rows: Vec<String> = rows.iter().map(|(name, n)| format!("{n} {name}")).collect();
             rows.join(", ")
         };
         format!(
-            "{} logs ({} empty) in {} pieces, {} lines, all replies equal\nreplies: {}\nlines: {}",
-            self.logs,
+            "{} {} ({} empty) in {} pieces, {} lines, all replies equal\nreplies: {}\nlines: {}",
+            self.inputs,
+            plain.name,
             self.empty,
             self.pieces,
             self.lines,
             listed(self.answers.iter().map(|(a, n)| (a.as_str(), n)).collect()),
-            listed(self.kinds.iter().map(|(k, n)| (*k, n)).collect()),
+            listed(self.kinds.iter().map(|(k, n)| (k.as_str(), n)).collect()),
         )
     }
 }
 
-/// What is notable about a line, which is given with its line feed where it has one.
-fn kinds(line: &[u8]) -> Vec<&'static str> {
+/// What is notable about a line, which is given with its line feed where it has one, to a program that reads so many digits.
+fn kinds(line: &[u8], longest: usize) -> Vec<String> {
     let digits = line.strip_suffix(b"\n").unwrap_or(line);
     let notable = [
-        (digits.is_empty(), "empty"),
-        (digits.len() == FRAME_DIGITS, "of 3,066 digits"),
-        (digits.len() == FRAME_DIGITS + 1, "of 3,067"),
-        (digits.len() == FRAME_DIGITS + 2, "of 3,068"),
-        (digits.len() > FRAME_DIGITS + 2, "of more"),
-        (digits.len() == line.len(), "without a line feed"),
-        (digits.ends_with(b"\r"), "with a carriage return"),
-        (digits.iter().any(u8::is_ascii_lowercase), "with lower case"),
+        (digits.is_empty(), "empty".into()),
+        (digits.len() == longest, format!("of {longest} digits")),
+        (digits.len() == longest + 1, format!("of {}", longest + 1)),
+        (digits.len() == longest + 2, format!("of {}", longest + 2)),
+        (digits.len() > longest + 2, "of more".into()),
+        (digits.len() == line.len(), "without a line feed".into()),
+        (digits.ends_with(b"\r"), "with a carriage return".into()),
+        (
+            digits.iter().any(u8::is_ascii_lowercase),
+            "with lower case".into(),
+        ),
     ];
     let held = notable.into_iter().filter(|(holds, _)| *holds);
     held.map(|(_, name)| name).collect()

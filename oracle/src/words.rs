@@ -5,6 +5,7 @@ use crate::{
         Building, Catalogue, CjkStem, Dimension, Direction, Edge, Job, Joined, Points, References,
         ScriptGroup, Segment, Stems, Table, Walk, WidthRule,
     },
+    mend::Alteration,
     path::Place,
 };
 
@@ -88,8 +89,7 @@ impl Words {
     }
 
     /// Appends a segment.
-    fn segment(&mut self, ix: usize, s: &Segment) {
-        self.head("segment", ix);
+    fn segment(&mut self, s: &Segment) {
         self.put("segment.flags", s.flags.to_bits().into());
         self.direction("segment.direction", s.dir);
         self.put("segment.pos", s.pos.into());
@@ -129,7 +129,32 @@ impl Words {
         self.rest();
         self.count("segments", table.count);
         for (ix, segment) in table.items.iter().enumerate() {
-            self.segment(ix, segment);
+            self.head("segment", ix);
+            self.segment(segment);
+        }
+    }
+
+    /// Appends places behind a table of segments, as they stand.
+    pub fn places(&mut self, places: &[Segment]) {
+        self.rest();
+        self.count("places freed", places.len());
+        for (ix, place) in places.iter().enumerate() {
+            self.head("place", ix);
+            self.segment(place);
+        }
+    }
+
+    /// Appends what mending altered.
+    pub fn alterations(&mut self, altered: &[Alteration]) {
+        self.rest();
+        self.count("alterations", altered.len());
+        for (ix, alteration) in altered.iter().enumerate() {
+            self.head("alteration", ix);
+            self.put("table", alteration.side as i32);
+            self.count("index", alteration.index);
+            self.put("field", alteration.field as i32);
+            self.index("old", alteration.old);
+            self.index("new", alteration.new);
         }
     }
 
@@ -216,11 +241,9 @@ fn of_requests(w: &mut Words, job: &Job) {
             w.rest();
             w.put("point", (*point).into());
         }
-        Job::TurnOver(segments, edges) => {
-            w.put("call", 124);
-            w.segments(segments);
-            w.edges(edges.count, &edges.items);
-        }
+        Job::Mend(segments, edges) => axis(w, 121, segments, edges),
+        Job::Pack(segments, edges) => axis(w, 123, segments, edges),
+        Job::TurnOver(segments, edges) => axis(w, 124, segments, edges),
         Job::WriteFrame(points, line) => {
             w.put("call", 25);
             outline(w, points);
@@ -232,6 +255,13 @@ fn of_requests(w: &mut Words, job: &Job) {
         }
         _ => on_edges(w, job),
     }
+}
+
+/// Calls 121, 123 and 124.
+fn axis(w: &mut Words, call: i32, segments: &Table<Segment>, edges: &Table<Edge>) {
+    w.put("call", call);
+    w.segments(segments);
+    w.edges(edges.count, &edges.items);
 }
 
 /// Calls 1 and 2.

@@ -21,7 +21,7 @@ pub fn turn_over(small: bool, random: &mut Random) -> Job {
 }
 
 /// The axis that the given Rust builds of made-up segments, in either order; edges then get other flags, blues, links and serifs, or not.
-fn built(small: bool, random: &mut Random) -> (Vec<Segment>, Vec<Edge>) {
+pub fn built(small: bool, random: &mut Random) -> (Vec<Segment>, Vec<Edge>) {
     let mut given = segments::building(random);
     given.top_to_bottom = random.coin();
     let count = random.below(if small { 5 } else { 24 }) + 1;

@@ -1,6 +1,6 @@
 //! Jobs at document 01's limits, and just beyond.
 
-use super::{catalogue, drag, edges, frames, job, path, references, segments, Random};
+use super::{catalogue, drag, edges, frames, job, path, references, saved, segments, Random};
 use crate::{
     job::{
         Building, Catalogue, Direction, Edge, Job, Points, References, Segment, Table, Walk,
@@ -130,6 +130,8 @@ fn resize(job: &mut Job, random: &mut Random) {
         Job::MidPos(..) | Job::MidDelta(..) => {}
         Job::Weak(points) => resize_points(points, random),
         Job::TurnOver(segments, edges) => resize_axis(segments, edges, random),
+        Job::Mend(segments, edges) => resize_saved(segments, edges, saved::ruin, random),
+        Job::Pack(segments, edges) => resize_saved(segments, edges, saved::chain, random),
         Job::Link(segments, _, _, scale) => {
             resize_segments(segments, random);
             if segments.count > SEGMENTS && random.coin() {
@@ -356,21 +358,53 @@ fn resize_axis(segments: &mut Table<Segment>, edges: &mut Table<Edge>, random: &
                 segments.count = count;
             }
         }
-        1 => {
-            *edges = Table::of(Vec::new());
-            for segment in segments.items.iter_mut().filter(|_| random.coin()) {
-                segment.edge_ix = None;
-            }
-        }
-        2 => {
-            edges.items.truncate(random.pick(&[1, 2]));
-            edges.count = edges.items.len();
-        }
+        1 => no_edges(segments, edges, random),
+        2 => few_edges(edges, random),
         _ => {
             let count = random.pick(&[EDGES - 1, EDGES, EDGES, EDGES + 1, 65_535]);
             resize_to(edges, count, random);
         }
     }
+}
+
+/// Makes an axis as long as its limits or longer, changes all of it, or leaves it few edges.
+fn resize_saved(
+    segments: &mut Table<Segment>,
+    edges: &mut Table<Edge>,
+    change: fn(&mut Table<Segment>, &mut Table<Edge>, &mut Random),
+    random: &mut Random,
+) {
+    match random.below(40) {
+        0 => {
+            saved::lengthen(segments, edges, random);
+            if random.coin() {
+                change(segments, edges, random);
+            }
+        }
+        1..=5 => {
+            resize_to(edges, random.pick(&[EDGES + 1, EDGES + 1, 65_535]), random);
+            if let Some(segment) = segments.items.first_mut().filter(|_| random.coin()) {
+                segment.score = -1;
+            }
+        }
+        6..=20 => change(segments, edges, random),
+        21..=30 => few_edges(edges, random),
+        _ => no_edges(segments, edges, random),
+    }
+}
+
+/// Leaves an axis no edges, and half of its segments none to name.
+fn no_edges(segments: &mut Table<Segment>, edges: &mut Table<Edge>, random: &mut Random) {
+    *edges = Table::of(Vec::new());
+    for segment in segments.items.iter_mut().filter(|_| random.coin()) {
+        segment.edge_ix = None;
+    }
+}
+
+/// Leaves an axis one edge or two.
+fn few_edges(edges: &mut Table<Edge>, random: &mut Random) {
+    edges.items.truncate(random.pick(&[1, 2]));
+    edges.count = edges.items.len();
 }
 
 /// A count of edges for the lowercase m.

@@ -6,6 +6,7 @@ mod damage;
 mod drag;
 mod edges;
 pub mod few;
+mod files;
 mod frames;
 mod limits;
 mod logs;
@@ -14,8 +15,11 @@ pub mod patterns;
 mod points;
 mod random;
 mod references;
+mod saved;
 mod segments;
+pub mod small_axes;
 
+pub use files::file;
 pub use logs::{good_log, log};
 pub use random::Random;
 
@@ -93,7 +97,9 @@ fn job(call: usize, small: bool, random: &mut Random) -> Job {
         25 => frames::write(small, random),
         26 => frames::read(small, random),
         105 => segments::build(small, random),
+        121 => saved::mend(small, random),
         122 => blues_and_stems(small, random),
+        123 => saved::pack(small, random),
         124 => axes::turn_over(small, random),
         127 => gaps(small, random),
         _ => on_edges(call, small, random),
