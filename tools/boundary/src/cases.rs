@@ -2,8 +2,8 @@
 
 use crate::{
     function::{
-        Function, Given, Kind, Lent, Record, BLUE, BUILDING, EDGE, EMPTY_EDGE, GUARD, JOINED,
-        LOWERCASE_M, SEGMENT, TURNING,
+        takes_axis, Function, Given, Kind, Lent, Record, ALTERED, BLUE, BUILDING, EDGE, EMPTY_EDGE,
+        GUARD, JOINED, LOWERCASE_M, MENDING, PACKING, SEGMENT, TURNING,
     },
     memory::SHUT_WORDS,
 };
@@ -52,7 +52,7 @@ fn passed(function: &Function, words: &[i32], random: &mut Random) -> Given {
         let old = (rest[0] as usize).min(EDGE.most);
         rest = &rest[1 + old * EDGE.words..];
     }
-    if function.call == TURNING {
+    if takes_axis(function.call) {
         given.lent.room = rest[1..].to_vec();
         if rest[0] as usize > EDGE.most {
             lengthen(&EDGE, &mut given.lent.room, random);
@@ -75,18 +75,48 @@ fn plain(function: &Function, count: usize, random: &mut Random) -> Given {
     let mut words = |count: usize| (0..count).map(|_| random.bits() as i32).collect();
     let room = match function.call {
         BUILDING => words(EDGE.most * EDGE.words),
-        TURNING => plain_record(&EDGE).repeat(2),
+        call if takes_axis(call) => plain_record(&EDGE).repeat(RINGS),
         _ => Vec::new(),
     };
-    Given {
+    let altered = match function.call {
+        MENDING => words(ALTERED),
+        _ => Vec::new(),
+    };
+    let mut given = Given {
         lent: Lent {
             table: plain_record(function.record).repeat(count),
             room,
+            altered,
             standards: Vec::new(),
             places: words(function.places),
         },
         shut: None,
         numbers: function.plain.to_vec(),
+    };
+    if [MENDING, PACKING].contains(&function.call) {
+        close_rings(&mut given.lent);
+    }
+    given
+}
+
+/// How many edges the plain axes have.
+const RINGS: usize = 2;
+
+/// Where a segment has its edge and its next, and an edge its first and last segment.
+const SEGMENT_EDGE: usize = 13;
+const SEGMENT_NEXT: usize = 14;
+const EDGE_FIRST: usize = 9;
+const EDGE_LAST: usize = 10;
+
+/// Gives each edge a segment of its own, which leads to itself.
+fn close_rings(lent: &mut Lent) {
+    for (ix, segment) in lent.table.chunks_mut(SEGMENT.words).take(RINGS).enumerate() {
+        segment[SEGMENT_EDGE] = ix as i32;
+        segment[SEGMENT_NEXT] = ix as i32;
+    }
+    for (ix, edge) in lent.room.chunks_mut(EDGE.words).enumerate() {
+        edge[EDGE_FIRST] = ix as i32;
+        edge[EDGE_LAST] = ix as i32;
     }
 }
 
@@ -155,7 +185,7 @@ fn damage(function: &Function, given: &mut Given, random: &mut Random) {
     let record = function.record;
     match random.below(12) {
         0..=3 => damage_word(&mut given.lent.table, random),
-        4..=6 if function.call == TURNING => damage_word(&mut given.lent.room, random),
+        4..=6 if takes_axis(function.call) => damage_word(&mut given.lent.room, random),
         4..=6 => damage_number(function, given, random),
         7 => {
             let words = random.below(record.words - 1) + 1;
@@ -166,7 +196,7 @@ fn damage(function: &Function, given: &mut Given, random: &mut Random) {
                 given.lent.table.truncate(left);
             }
         }
-        8 if function.call == TURNING && random.coin() => {
+        8 if takes_axis(function.call) && random.coin() => {
             lengthen(&EDGE, &mut given.lent.room, random)
         }
         8 => lengthen(record, &mut given.lent.table, random),
@@ -183,7 +213,12 @@ fn damage(function: &Function, given: &mut Given, random: &mut Random) {
             let len = random.pick(&[&[0, 1, EDGE.words, 2 * full], &near[..]].concat());
             given.lent.room.resize(len, 7);
         }
-        10 if function.call == TURNING => {
+        10 if function.call == MENDING && random.coin() => {
+            let near = [ALTERED - 5, ALTERED - 1, ALTERED + 1, ALTERED + 5];
+            let len = random.pick(&[&[0, 1, 2 * ALTERED], &near[..]].concat());
+            given.lent.altered.resize(len, 7);
+        }
+        10 if takes_axis(function.call) => {
             let len = given.lent.room.len() + random.below(2 * EDGE.words);
             given.lent.room.resize(len.saturating_sub(EDGE.words), 0);
         }
@@ -281,12 +316,12 @@ fn lengths(function: &Function, random: &mut Random) -> Vec<Given> {
     lengths.map(cut).collect()
 }
 
-/// Every word of a few records, and of the edges that are turned over, each with every word at the ends of fields.
+/// Every word of a few records, and of the edges of an axis, each with every word at the ends of fields.
 fn words(function: &Function, random: &mut Random) -> Vec<Given> {
     let given = plain(function, few(function), random);
     let table = given.lent.table.len();
     let edges = match function.call {
-        TURNING => given.lent.room.len(),
+        call if takes_axis(call) => given.lent.room.len(),
         _ => 0,
     };
     let places = 0..table + edges;
@@ -324,11 +359,11 @@ type Fault = fn(&Function, &mut Given);
 
 /// One fault for each answer and each cause of it, those last that change lengths.
 const FAULTS: [Fault; 11] = [
-    // building calls for a 129th edge
-    |function, given| {
-        if function.call == BUILDING {
-            given.lent.table = (0..129).flat_map(apart).collect();
-        }
+    // building calls for a 129th edge, or the last edge of an axis has no segments
+    |function, given| match function.call {
+        BUILDING => given.lent.table = (0..129).flat_map(apart).collect(),
+        MENDING | PACKING => given.lent.table[SEGMENT.words + SEGMENT_EDGE] = -1,
+        _ => {}
     },
     // a position or a score is outside its limits
     |function, given| given.lent.table[function.record.measure] = -20_000,
@@ -350,11 +385,11 @@ const FAULTS: [Fault; 11] = [
             given.lent.table.extend(plain_record(function.record));
         }
     },
-    // an edge has a zone where blues are skipped
-    |function, given| {
-        if function.call == JOINED {
-            given.lent.table[BLUE] = 1;
-        }
+    // an edge has a zone where blues are skipped, or a segment an edge beyond the list
+    |function, given| match function.call {
+        JOINED => given.lent.table[BLUE] = 1,
+        MENDING | PACKING => given.lent.table[2 * SEGMENT.words + SEGMENT_EDGE] = RINGS as i32,
+        _ => {}
     },
     // an edge is named by a word that is no index
     |function, given| {
@@ -381,7 +416,8 @@ const FAULTS: [Fault; 11] = [
     },
     // the room is too short, or the edges are not whole records
     |function, given| match function.call {
-        TURNING => given.lent.room.push(0),
+        MENDING => drop(given.lent.altered.pop()),
+        PACKING | TURNING => given.lent.room.push(0),
         _ => given.lent.room.truncate(EDGE.most * EDGE.words - 1),
     },
     // the list is not of whole records

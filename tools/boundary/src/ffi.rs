@@ -230,6 +230,22 @@ extern "C" {
         points: *mut u32,
         contours: *mut u32,
     ) -> u8;
+    pub fn khs_mend(
+        segments: *mut i32,
+        segments_len: usize,
+        edges: *mut i32,
+        edges_len: usize,
+        altered: *mut i32,
+        altered_len: usize,
+        count: *mut i32,
+    ) -> u8;
+    pub fn khs_pack_axis(
+        segments: *mut i32,
+        segments_len: usize,
+        edges: *mut i32,
+        edges_len: usize,
+        count: *mut i32,
+    ) -> u8;
     pub fn khs_turn_over(
         segments: *mut i32,
         segments_len: usize,

@@ -100,7 +100,7 @@ pub struct Function {
 }
 
 /// All of them.
-pub static FUNCTIONS: [Function; 13] = [
+pub static FUNCTIONS: [Function; 15] = [
     Function {
         name: "khs_link_segments_cjk",
         call: 4,
@@ -222,6 +222,26 @@ pub static FUNCTIONS: [Function; 13] = [
         places: 7,
     },
     Function {
+        name: "khs_mend",
+        call: 121,
+        record: &SEGMENT,
+        numbers: &[],
+        rule: None,
+        plain: &[],
+        scale: None,
+        places: 1,
+    },
+    Function {
+        name: "khs_pack_axis",
+        call: 123,
+        record: &SEGMENT,
+        numbers: &[],
+        rule: None,
+        plain: &[],
+        scale: None,
+        places: 1,
+    },
+    Function {
         name: "khs_turn_over",
         call: 124,
         record: &SEGMENT,
@@ -233,14 +253,24 @@ pub static FUNCTIONS: [Function; 13] = [
     },
 ];
 
-/// The call that builds edges, the call that finds bounds, the m rule, blues and stems in one, the call that turns edges over, and the guard; that and the bounds do not
-/// write their edges.
+/// The call that builds edges, the call that finds bounds, the m rule, the call that mends an axis, blues and stems in one, the calls that make an axis smaller and turn its edges
+/// over, and the guard; that and the bounds do not write their edges.
 pub const BUILDING: i32 = 105;
 pub const BOUNDS: i32 = 110;
 pub const LOWERCASE_M: i32 = 113;
+pub const MENDING: i32 = 121;
 pub const JOINED: i32 = 122;
+pub const PACKING: i32 = 123;
 pub const TURNING: i32 = 124;
 pub const GUARD: i32 = 127;
+
+/// The words of the room for what mending alters.
+pub const ALTERED: usize = 2_048 * 5;
+
+/// Whether a call is given both lists of an axis: its edges stand where building has its room.
+pub fn takes_axis(call: i32) -> bool {
+    [MENDING, PACKING, TURNING].contains(&call)
+}
 
 /// The most places that a function is lent.
 const PLACES: usize = 7;
@@ -250,8 +280,10 @@ const PLACES: usize = 7;
 pub struct Lent {
     /// The words of the edges or segments.
     pub table: Vec<i32>,
-    /// Building's room for edges, and the edges that are turned over.
+    /// Building's room for edges, and the edges of an axis.
     pub room: Vec<i32>,
+    /// Mending's room for what it alters.
+    pub altered: Vec<i32>,
     pub standards: Vec<i32>,
     /// The places for results.
     pub places: Vec<i32>,
@@ -284,6 +316,7 @@ pub struct Outcome {
 pub struct Memories {
     table: Memory,
     room: Memory,
+    altered: Memory,
     standards: Memory,
     places: [Memory; PLACES],
 }
@@ -294,6 +327,7 @@ impl Memories {
         Self {
             table: Memory::new(),
             room: Memory::new(),
+            altered: Memory::new(),
             standards: Memory::new(),
             places: [(); PLACES].map(|()| Memory::new()),
         }
@@ -301,7 +335,7 @@ impl Memories {
 
     /// Whether nothing beside a list was written.
     fn are_guarded(&self, places: usize) -> bool {
-        let lists = [&self.table, &self.room, &self.standards];
+        let lists = [&self.table, &self.room, &self.altered, &self.standards];
         lists
             .into_iter()
             .chain(&self.places[..places])
@@ -313,6 +347,7 @@ impl Memories {
         Lent {
             table: self.table.held().to_vec(),
             room: self.room.held().to_vec(),
+            altered: self.altered.held().to_vec(),
             standards: self.standards.held().to_vec(),
             places: self.places[..places]
                 .iter()
@@ -335,8 +370,9 @@ pub fn run(
     };
     // a list that the function does not take is not lent as NULL, so that only those are counted which are passed
     let taken = |takes: bool| if takes { side } else { Side::Placed };
-    let takes_room = [BUILDING, TURNING].contains(&function.call);
+    let takes_room = function.call == BUILDING || takes_axis(function.call);
     let room = memories.room.lend(&given.lent.room, taken(takes_room));
+    let altered = (memories.altered).lend(&given.lent.altered, taken(function.call == MENDING));
     let standards =
         (memories.standards).lend(&given.lent.standards, taken(function.rule.is_some()));
     let mut places = [ptr::null_mut(); PLACES];
@@ -348,6 +384,8 @@ pub fn run(
         table_len: given.table_len(),
         room,
         room_len: given.lent.room.len(),
+        altered,
+        altered_len: given.lent.altered.len(),
         standards,
         standards_len: given.lent.standards.len(),
         places,
@@ -365,6 +403,8 @@ struct Pointers {
     table_len: usize,
     room: *mut i32,
     room_len: usize,
+    altered: *mut i32,
+    altered_len: usize,
     standards: *const i32,
     standards_len: usize,
     places: [*mut i32; PLACES],
@@ -377,6 +417,8 @@ fn call(call: i32, lists: &Pointers, n: &[i32]) -> u8 {
         table_len: len,
         room,
         room_len,
+        altered,
+        altered_len,
         standards,
         standards_len,
         places: [first, second, third, fourth, fifth, sixth, seventh],
@@ -446,6 +488,8 @@ fn call(call: i32, lists: &Pointers, n: &[i32]) -> u8 {
                 first,
                 second,
             ),
+            121 => ffi::khs_mend(table, len, room, room_len, altered, altered_len, first),
+            123 => ffi::khs_pack_axis(table, len, room, room_len, first),
             124 => ffi::khs_turn_over(table, len, room, room_len),
             127 => ffi::khs_lost_gaps(
                 table, len, n[0], n[1], first, second, third, fourth, fifth, sixth, seventh,

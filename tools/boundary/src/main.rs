@@ -85,6 +85,7 @@ fn difference(outcome: &Outcome, expected: &Outcome) -> String {
     let lists = [
         ("table", &lent.table, &wanted.table),
         ("room", &lent.room, &wanted.room),
+        ("altered", &lent.altered, &wanted.altered),
         ("standards", &lent.standards, &wanted.standards),
         ("places", &lent.places, &wanted.places),
     ];

@@ -8,8 +8,8 @@
 //! A refused call writes nothing.
 
 use crate::function::{
-    Function, Given, Kind, Lent, Outcome, Record, BLUE, BOUNDS, BUILDING, EDGE, FITTED, GUARD,
-    TURNING,
+    takes_axis, Function, Given, Kind, Lent, Outcome, Record, ALTERED, BLUE, BOUNDS, BUILDING,
+    EDGE, FITTED, GUARD, MENDING, PACKING,
 };
 use oracle::{answer, decode::decode};
 
@@ -41,6 +41,7 @@ fn answer_to_words(function: &Function, given: &Given) -> Option<u8> {
     let room = given.lent.room.len();
     let roomy = match function.call {
         BUILDING => room == EDGE.most * EDGE.words,
+        MENDING => room.is_multiple_of(EDGE.words) && given.lent.altered.len() == ALTERED,
         _ => room.is_multiple_of(EDGE.words),
     };
     if !whole || !roomy {
@@ -61,7 +62,7 @@ fn are_words(function: &Function, given: &Given) -> bool {
     let mut numbers = function.numbers.iter().zip(&given.numbers);
     let mut edges = given.lent.room.chunks(EDGE.words);
     let words = records.into_iter().all(|words| is_record(record, words))
-        && (function.call != TURNING || edges.all(|words| is_record(&EDGE, words)))
+        && (!takes_axis(function.call) || edges.all(|words| is_record(&EDGE, words)))
         && numbers.all(|(kind, number)| match kind {
             Kind::Choice => (0..=1).contains(number),
             Kind::Direction => (0..=4).contains(number),
@@ -90,7 +91,7 @@ fn job(function: &Function, given: &Given) -> Vec<i32> {
     if function.call == BUILDING {
         job.push(0); // no old edges
     }
-    if function.call == TURNING {
+    if takes_axis(function.call) {
         job.push((given.lent.room.len() / EDGE.words) as i32);
         job.extend(&given.lent.room);
     }
@@ -132,10 +133,23 @@ fn changed(function: &Function, lent: &Lent, words: &[i32]) -> Lent {
         lent.places = vec![edges[0]];
         return lent;
     }
-    if function.call == TURNING {
-        let (segments, edges) = words.split_at(1 + lent.table.len());
+    if takes_axis(function.call) {
+        let kept = words[0] as usize * function.record.words;
+        let (segments, words) = words.split_at(1 + kept);
+        let (edges, behind) = words.split_at(1 + lent.room.len());
         lent.table = segments[1..].to_vec();
         lent.room = edges[1..].to_vec();
+        match function.call {
+            MENDING => {
+                lent.places = vec![behind[0]];
+                lent.altered[..behind.len() - 1].copy_from_slice(&behind[1..]);
+            }
+            PACKING => {
+                lent.places = vec![segments[0]];
+                lent.table.extend(&behind[1..]); // the places freed
+            }
+            _ => {}
+        }
         return lent;
     }
     let (places, table) = words.split_at(function.places);

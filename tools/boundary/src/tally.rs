@@ -8,7 +8,7 @@ use std::{
 };
 
 /// The answers that are counted.
-pub const ANSWERS: [u8; 11] = [0, 1, 2, 3, 4, 5, 6, 8, 9, 10, 255];
+pub const ANSWERS: [u8; 12] = [0, 1, 2, 3, 4, 5, 6, 7, 8, 9, 10, 255];
 /// So many differences of a function are shown.
 const SHOWN: usize = 3;
 
