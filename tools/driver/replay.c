@@ -42,6 +42,8 @@ static const char *const formats[] = {
     [113] = "Ec",         /* hint_lowercase_m, table form: edges, group */
     [114] = "Lc",         /* hint_lowercase_m, lent list: edges, group */
     [122] = "EcccccN",    /* align_blues_and_stems: edges, dimension, group, stem adjust, top to bottom, width rule */
+    [121] = "SE",         /* mend: segments, edges */
+    [123] = "SE",         /* pack_axis: segments, edges */
     [124] = "SE",         /* turn_over: segments, edges */
     [127] = "Ewc"         /* lost_gaps: edges, least width, linked */
 };
@@ -373,17 +375,27 @@ static void answer_segments(const struct job *job)
     say_list(count, edges, KHS_EDGE_WORDS * (size_t)(count > KHS_MOST_EDGES ? KHS_MOST_EDGES : count));
 }
 
-/* Turning over: a table of edges that is too long has one edge more than its limit, too. */
-static void answer_turned(const struct job *job)
+/* The calls over an axis: a table of edges that is too long has one edge more than its limit, too. Of segments that are left out the places are said behind the edges. */
+static void answer_axis(const struct job *job)
 {
-    static int32_t edges[KHS_EDGE_WORDS * (KHS_MOST_EDGES + 1)];
+    static int32_t edges[KHS_EDGE_WORDS * (KHS_MOST_EDGES + 1)], altered[KHS_ALTERATION_WORDS * KHS_MOST_ALTERED];
     const struct list *given = &job->list[1], *segments = &job->list[0];
     khs_length edges_len = lend(given, KHS_EDGE_WORDS, KHS_MOST_EDGES);
     memcpy(edges, table, sizeof edges);
     khs_length len = lend(segments, KHS_SEGMENT_WORDS, KHS_MOST_SEGMENTS);
-    say(khs_turn_over(LIST(table, len), LIST(edges, edges_len)));
-    say_list(segments->count, table, segments->size);
+    int32_t kept = segments->count, alterations = 0;
+    switch (job->call) {
+    case 121: say(khs_mend(LIST(table, len), LIST(edges, edges_len), altered, KHS_ALTERATION_WORDS * KHS_MOST_ALTERED, &alterations)); break;
+    case 123: say(khs_pack_axis(LIST(table, len), LIST(edges, edges_len), &kept)); break;
+    default: say(khs_turn_over(LIST(table, len), LIST(edges, edges_len)));
+    }
+    size_t freed = KHS_SEGMENT_WORDS * (size_t)(segments->count - kept), front = segments->size - freed;
+    say_list(kept, table, front);
     say_list(given->count, edges, given->size);
+    if (job->call == 121)
+        say_list(alterations, altered, KHS_ALTERATION_WORDS * (size_t)alterations);
+    if (job->call == 123)
+        say_list(segments->count - kept, table + front, freed);
 }
 
 /* The guard, whose answer has no edges. */
@@ -473,7 +485,9 @@ static void answer_line(size_t len)
     case 26: answer_read(&job); break;
     case 4:
     case 105: answer_segments(&job); break;
-    case 124: answer_turned(&job); break;
+    case 121:
+    case 123:
+    case 124: answer_axis(&job); break;
     case 127: answer_gaps(&job); break;
     default: answer_edges(&job);
     }

@@ -26,7 +26,12 @@ static int32_t dim, group, adjusted, rule;
 static int32_t *edge_words(void) { return (int32_t *)edges; }
 static int32_t *segment_words(void) { return (int32_t *)segments; }
 
-enum { EDGE_LIST = KHS_MOST_EDGES * KHS_EDGE_WORDS, SEGMENT_LIST = KHS_MOST_SEGMENTS * KHS_SEGMENT_WORDS };
+enum {
+    EDGE_LIST = KHS_MOST_EDGES * KHS_EDGE_WORDS,
+    SEGMENT_LIST = KHS_MOST_SEGMENTS * KHS_SEGMENT_WORDS,
+    ALTERED_LIST = KHS_MOST_ALTERED * KHS_ALTERATION_WORDS
+};
+static int32_t altered[ALTERED_LIST];
 
 static uint8_t weak(void) { return khs_align_weak_points(originals, POINTS, currents, POINTS, touched, POINTS, ends, POINTS / 4); }
 static uint8_t catalogue(void) {
@@ -62,6 +67,26 @@ static uint8_t step(void) { return khs_path_step(originals, POINTS, currents, PO
 static uint8_t path(void) {
     return khs_path(originals, POINTS, currents, POINTS, touched, POINTS, ends, POINTS / 4, kinds, sizeof kinds, places, sizeof places / sizeof *places, &number);
 }
+/* Gives every edge four segments, one in each quarter of the list, with their rings closed or not, and leaves so many quarters out. */
+static void rings(int closed, int left_out) {
+    for (int32_t i = 0; i < KHS_MOST_SEGMENTS; i++) {
+        int32_t used = (4 - left_out) * KHS_MOST_EDGES;
+        segments[i].edge = i < used ? i % KHS_MOST_EDGES : KHS_NONE;
+        segments[i].next = i < used && closed ? (i + KHS_MOST_EDGES) % used : KHS_NONE;
+    }
+    for (int32_t i = 0; i < KHS_MOST_EDGES; i++) {
+        edges[i].first = i;
+        edges[i].last = i + (3 - left_out) * KHS_MOST_EDGES;
+    }
+}
+static uint8_t mend(void) {
+    rings(dim, group);
+    return khs_mend(segment_words(), SEGMENT_LIST, edge_words(), EDGE_LIST, altered, ALTERED_LIST, &first);
+}
+static uint8_t pack(void) {
+    rings(1, dim + group);
+    return khs_pack_axis(segment_words(), SEGMENT_LIST, edge_words(), EDGE_LIST, &first);
+}
 static uint8_t turn(void) { return khs_turn_over(segment_words(), SEGMENT_LIST, edge_words(), EDGE_LIST); }
 static uint8_t write_frame(void) { return khs_write_frame(originals, FRAMED, currents, FRAMED, touched, FRAMED, ends, FRAMED / 4, line, sizeof line, &number); }
 static uint8_t read_frame(void) {
@@ -77,7 +102,7 @@ static const struct {
              {"khs_align_with_references", with_references}, {"khs_drag_point", drag}, {"khs_link_segments_cjk", linking}, {"khs_compute_edges", building}, {"khs_align_edges_to_blues", blues},
              {"khs_align_linked_edge", linked}, {"khs_align_serif_edge", serif}, {"khs_adjust_link", adjust}, {"khs_latin_remaining_bounds", bounds},
              {"khs_hint_normal_stem_cjk", stem}, {"khs_align_stem_edges", stems}, {"khs_align_blues_and_stems", joined}, {"khs_hint_lowercase_m", lowercase_m}, {"khs_lost_gaps", guard},
-             {"khs_path_step", step}, {"khs_path", path}, {"khs_turn_over", turn}, {"khs_write_frame", write_frame}, {"khs_read_frame", read_frame}};
+             {"khs_path_step", step}, {"khs_path", path}, {"khs_mend", mend}, {"khs_pack_axis", pack}, {"khs_turn_over", turn}, {"khs_write_frame", write_frame}, {"khs_read_frame", read_frame}};
 
 /* Segments in pairs, the pairs on 128 heights; edges in stems, each with a zone or done here and there; points touched here and there; the longest frame, all zeros. */
 static void fill(void) {
