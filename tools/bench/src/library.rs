@@ -25,6 +25,8 @@ pub fn answer(words: &[i32]) -> Vec<i32> {
         Job::Remember(..)
             | Job::WithReferences(..)
             | Job::Drag(..)
+            | Job::Mend(..)
+            | Job::Pack(..)
             | Job::TurnOver(..)
             | Job::WriteFrame(..)
             | Job::ReadFrame(..)

@@ -1,10 +1,11 @@
 //! The port, compiled for this machine, as tools use it. `bench all` or `bench CALL..` times it and the given Rust side by side on the same inputs and counts
 //! instructions; `bench answer` answers job lines by `jobs`, which asks the library's functions, `bench values` with the calls on tables by value, and `bench library` by
 //! the library as its Rust wrapper calls it; `bench catalogue` times catalogues of outlines in one call, `bench references` alignment with remembered references,
-//! `bench drag` one point dragged, `bench chain` the chain of a glyph step by step, and
+//! `bench drag` one point dragged, `bench mend` and `bench pack` axes that are mended and made smaller, `bench chain` the chain of a glyph step by step, and
 //! `bench freetype`, built with the feature of that name, FreeType's own routines beside both.
 
 mod answer;
+mod axes;
 mod cases;
 mod catalogue;
 mod chain;
@@ -24,6 +25,7 @@ mod segments;
 mod table;
 mod time;
 
+use axes::Work;
 use std::{io, process::ExitCode};
 
 /// Does what is named.
@@ -45,11 +47,17 @@ fn main() -> ExitCode {
             println!();
             drag::run();
             println!();
+            axes::run(Work::Mend);
+            println!();
+            axes::run(Work::Pack);
+            println!();
             chain::run();
         }
         ["catalogue"] => catalogue::run(),
         ["references"] => references::run(),
         ["drag"] => drag::run(),
+        ["mend"] => axes::run(Work::Mend),
+        ["pack"] => axes::run(Work::Pack),
         ["chain"] => {
             table::explain();
             chain::run();
@@ -61,7 +69,7 @@ fn main() -> ExitCode {
         }
         _ => {
             eprintln!(
-                "usage: bench answer | values | library | all | catalogue | references | drag | chain | freetype | {}",
+                "usage: bench answer | values | library | all | catalogue | references | drag | mend | pack | chain | freetype | {}",
                 cases::NAMES.join(" | ")
             );
             return ExitCode::from(2);

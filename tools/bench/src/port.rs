@@ -274,6 +274,8 @@ impl Prepared {
             Job::Remember(..)
             | Job::WithReferences(..)
             | Job::Drag(..)
+            | Job::Mend(..)
+            | Job::Pack(..)
             | Job::TurnOver(..)
             | Job::WriteFrame(..)
             | Job::ReadFrame(..) => return Self::by_job(words),
