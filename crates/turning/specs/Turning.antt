@@ -3,7 +3,7 @@ use mathlib.Core.Path.{_≡_}
 use mathlib.Core.List.{List, [], _∷_, _++_, map, reverse}
 use Prim.Native.Nat.{ℕ, _-_}
 use lib.ListN.{take, drop}
-use Rattle.refusals.specs.Refusal.{Test, _unless_, refusal, answered, badIndex}
+use Rattle.refusals.specs.Refusal.{Test, refusal, answered}
 use Rattle.axis.specs.declared.edge.Edge.{Edge}
 use Rattle.axis.specs.declared.edge.Axis.{Axis}
 use Rattle.axis.specs.declared.kinds.Link.{Link}
@@ -12,9 +12,9 @@ use Rattle.axis.specs.declared.segment.Segment.{Segment}
 use Rattle.axis.specs.declared.segment.Segments.{Segments}
 use Rattle.axis.specs.Edge.{joinedTo}
 use Rattle.axis.specs.Mark.{unmarkedAxis}
-use Rattle.axis.specs.Refusals.{segmentsNexts, edgesShort, edgesIndexed, edgesInRange, segmentsShort, segmentsIndexed, segmentsInRange}
+use Rattle.axis.specs.Refusals.{edgesInRange, segmentsInRange}
 use Rattle.turning.specs.declared.turn.Turned.{Turned}
-use Rattle.turning.specs.Indices.{segmentsEdges, edgesSegments}
+use Rattle.turning.specs.Indices.{indexTests}
 
 -- ---- indices
 -- edge k of m, counted from the other end
@@ -64,19 +64,9 @@ unfoldable pub turnedSegments : ℕ → Segments → Segments
 turnedSegments m t = record { segments = map (turnedSegment m) (take (t .len) (t .segments)) ++ drop (t .len) (t .segments); len = t .len }
 
 -- ---- the call
--- its tests in document 01's order; both lists are given, so every index is tested: link, serif, next and edge of segments, link, serif, first and last of edges
+-- its tests in document 01's order: both lists are given, so every index is tested, and then numbers
 abbrev pub turningTests : Axis → Segments → List Test
-turningTests axis t =
-    segmentsShort t
-    ∷ edgesShort axis
-    ∷ segmentsIndexed t
-    ∷ badIndex unless segmentsNexts t
-    ∷ badIndex unless segmentsEdges (axis .len) t
-    ∷ edgesIndexed axis
-    ∷ badIndex unless edgesSegments (t .len) axis
-    ∷ segmentsInRange t
-    ∷ edgesInRange axis
-    ∷ []
+turningTests axis t = indexTests axis t ++ (segmentsInRange t ∷ edgesInRange axis ∷ [])
 
 -- an answer beside an axis and its segments
 abbrev pub beside : Axis → Segments → ℕ → Turned
