@@ -15,7 +15,7 @@ ghost use mathlib.Core.Path.{_≡_};
 ghost use Rattle.refusals.specs.Refusal.{refusal};
 ghost use Rattle.flat_turning.specs.Turn.{turnFront, TurnedLent};
 
-// The refusal in front of the call: the lengths, how many segments and edges they are, and only then their words.
+// The refusal in front of a call over both lists: the lengths, how many segments and edges they are, and only then their words.
 pub fn turning_front(segments: &[i32], edges: &[i32]) -> u8
     ensures { λ r. ⌜ r ≡ refusal (turnFront (now (segments .entry)) (now (edges .entry))) ⌝ }
 {

@@ -1,4 +1,4 @@
-// The refusal of the converter, on words: that of the tables that they are read as.
+// The refusals of the converter and of every call that is given both lists, on words: those of the tables that they are read as.
 use axis::accept::EdgeTest;
 use axis::accept::SegmentTest;
 use axis::accept::few_edges;
@@ -15,13 +15,14 @@ use words::edge::EDGE_WORDS;
 use words::segment::SEGMENT_WORDS;
 ghost use mathlib.Core.Path.{_≡_};
 ghost use Rattle.refusals.specs.Refusal.{refusal};
+ghost use Rattle.turning.specs.Indices.{indexTests};
 ghost use Rattle.turning.specs.Turning.{turningTests};
 ghost use Rattle.words.specs.Segment.{flatSegments};
 ghost use Rattle.lent.specs.Lent.{edgesOf};
 
-// The refusal of segments and edges, or 0.
-pub fn refusal_in(segments: &[i32], edges: &[i32]) -> u8
-    ensures { λ r. ⌜ r ≡ refusal (turningTests (edgesOf (now (edges .entry))) (flatSegments (now (segments .entry)))) ⌝ }
+// The refusal by lengths and indices, or 0: link, serif, next and edge of segments, link, serif, first and last of edges.
+pub fn index_refusal_in(segments: &[i32], edges: &[i32]) -> u8
+    ensures { λ r. ⌜ r ≡ refusal (indexTests (edgesOf (now (edges .entry))) (flatSegments (now (segments .entry)))) ⌝ }
 {
     let n = segments.len() / SEGMENT_WORDS;
     let m = edges.len() / EDGE_WORDS;
@@ -35,11 +36,18 @@ pub fn refusal_in(segments: &[i32], edges: &[i32]) -> u8
         BAD_INDEX,
     );
     let answer = or_refused(answer, of_edges::indices_in(edges), BAD_INDEX);
-    let answer = or_refused(
+    or_refused(
         answer,
         every_edge_in(edges, EdgeTest::Segments(n)),
         BAD_INDEX,
-    );
+    )
+}
+
+// The refusal of segments and edges, or 0.
+pub fn refusal_in(segments: &[i32], edges: &[i32]) -> u8
+    ensures { λ r. ⌜ r ≡ refusal (turningTests (edgesOf (now (edges .entry))) (flatSegments (now (segments .entry)))) ⌝ }
+{
+    let answer = index_refusal_in(segments, edges);
     let answer = or_refused(answer, of_segments::numbers_in(segments), OUT_OF_RANGE);
     or_refused(answer, of_edges::numbers_in(edges), OUT_OF_RANGE)
 }

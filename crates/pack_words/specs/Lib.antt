@@ -1,0 +1,2 @@
+-- What the contracts of `pack_words` cite.
+pub mod Pack
