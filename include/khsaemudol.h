@@ -41,7 +41,8 @@
  *      afterwards, khs_drag_point moves those that depend on it.
  *   7. When both axes are fitted, khs_path makes the path for a rasteriser of the points, in pixels.
  * Edges stand by rising positions. Tables that were built and saved the other way, from top to bottom, go through khs_turn_over once. Saved axes with indices of
- * records that are gone, or with rings that do not close, go through khs_mend first: khs_turn_over takes what that hands on.
+ * records that are gone, or with rings that do not close, go through khs_mend first: khs_turn_over and khs_pack_axis, which drops
+ * the segments that serve no edge before an axis is sent, take what that hands on.
  *
  * An example: a bar from 0 to 80 of 1,000 design units to the em, at 12 pixels to the em, whose foot has a zone at 0; it goes clockwise, its upper side runs over the
  * contour's start, and its point 1 lies at 40 between the sides. It leaves 64 33 0 0 64 in currents. In the repository examples/three.c fits a figure 3 so.
@@ -99,8 +100,8 @@
  * A refused call writes nothing: every list and every place holds what it held, marks too. With KHS_DONE a list of edges or segments that is not const holds what
  * the call made of it, every word within its field's values, and every place for a result holds the result; of the room for built edges that is so of the edges
  * that were built, and what stands behind them stays. Results may leave the limits of what is accepted, and are then refused if they are passed again. But the edges
- * that khs_compute_edges and khs_align_edges_to_blues leave are accepted by every call over edges, but for khs_turn_over, which holds first and last against the
- * segments too, khs_hint_lowercase_m, which wants 6 or 12 of them, and khs_align_blues_and_stems, which takes no zone on KHS_LATIN's horizontal axis.
+ * that khs_compute_edges and khs_align_edges_to_blues leave are accepted by every call over edges, but for khs_turn_over and khs_pack_axis, which hold first and
+ * last against the segments too, khs_hint_lowercase_m, which wants 6 or 12 of them, and khs_align_blues_and_stems, which takes no zone on KHS_LATIN's horizontal axis.
  *
  * No call allocates, keeps a pointer, prints or fails otherwise. Each may be called from any thread, and on other lists at the same time. Working tables stand on
  * the stack: on x86-64 and aarch64 khs_turn_over was measured to use 7 KiB of it, khs_compute_edges 3 KiB and every other call at most 1 KiB, and 4 KiB more where a
@@ -177,12 +178,12 @@ struct khs_edge {
     int32_t blue_fitted; /* the zone's fitted position in units, accepted from -65,535 to 65,535; 0 where blue is 0, else KHS_NOT_WORDS */
     int32_t link;        /* link: the edge on the other side of the stem */
     int32_t serif;       /* link: the edge that this one is a serif of */
-    int32_t first;       /* index of its first segment, as building wrote it; held against no list but by khs_turn_over */
+    int32_t first;       /* index of its first segment, as building wrote it; held against no list but by khs_turn_over and khs_pack_axis */
     int32_t last;        /* index of its last segment; the same */
     int32_t mark;        /* 0 to 9, of enum khs_mark: a negative word or one above 9 is KHS_NOT_WORDS */
 };
 
-/* The words of a segment, in the same way. Link and serif, in linking also next, and in khs_turn_over next and edge, are tested to be below their list's count. */
+/* The words of a segment, in the same way. Link and serif, in linking also next, and in khs_turn_over and khs_pack_axis next and edge, are tested to be below their list's count. */
 struct khs_segment {
     int32_t flags;     /* 0 to 15; KHS_FLAG_ROUND, where the outline is curved there, is read by building, and no other */
     int32_t dir;       /* the direction in which it runs; KHS_DIR_NONE for a single point */
@@ -479,6 +480,16 @@ uint8_t khs_turn_over(int32_t *segments, khs_length segments_len, int32_t *edges
  * Answers: KHS_DONE, KHS_TOO_LONG, KHS_OUT_OF_RANGE, KHS_BAD_INDEX (a segment's edge is not below the count of edges), KHS_BROKEN_RING (an edge is no segment's),
  * KHS_NOT_WORDS. */
 uint8_t khs_mend(int32_t *segments, khs_length segments_len, int32_t *edges, khs_length edges_len, int32_t *altered, khs_length altered_len, int32_t *count);
+
+/* Keeps of an axis the segments that serve its edges: those that have an edge, and those that kept ones name by link or serif, and no other.
+ * segments: at most 512. edges: at most 128, and no room behind them. Every index is held against its list, those of segments that will be dropped too: link, serif, next and
+ * edge of segments, link, serif, first and last of edges. The ring of every edge must be sound: from first each next leads to a segment of that edge, every one once and no other,
+ * and ends at last, whose next is first. Numbers are not tested, and stay.
+ * Writes segments: the kept ones in front, in their order, with link, serif and next renumbered, and next KHS_NONE where the segment has no edge; behind them, up to the old
+ * count, empty segments, all 0 but link, serif, edge and next, which are KHS_NONE; first and last of edges, renumbered; count, how many are kept. Pass the first
+ * count * KHS_SEGMENT_WORDS words to other calls. Every edge has the same segments in the same order as before. Done twice, nothing more changes.
+ * Answers: KHS_DONE, KHS_TOO_LONG, KHS_BAD_INDEX, KHS_BROKEN_RING, KHS_NOT_WORDS. */
+uint8_t khs_pack_axis(int32_t *segments, khs_length segments_len, int32_t *edges, khs_length edges_len, int32_t *count);
 
 #ifdef __cplusplus
 }

@@ -281,6 +281,14 @@ extern "C" {
         altered_len: Length,
         count: *mut i32,
     ) -> u8;
+
+    fn khs_pack_axis(
+        segments: *mut i32,
+        segments_len: Length,
+        edges: *mut i32,
+        edges_len: Length,
+        count: *mut i32,
+    ) -> u8;
 }
 
 /// The length of a list as the library takes it.
@@ -761,4 +769,11 @@ pub fn mend(
             count,
         )
     }
+}
+
+pub fn pack_axis(segments: &mut [Segment], edges: &mut [Edge], count: &mut i32) -> u8 {
+    let (words, len) = segment_words(segments);
+    let (edges, edges_len) = edge_words(edges);
+    // SAFETY: two slices and a place, lent to this call alone.
+    unsafe { khs_pack_axis(words, len, edges, edges_len, count) }
 }

@@ -471,3 +471,28 @@ pub fn hint_lowercase_m(edges: &mut [Edge], group: Group) -> Result<(), Refusal>
 pub fn turn_over(segments: &mut [Segment], edges: &mut [Edge]) -> Result<(), Refusal> {
     Refusal::of(ffi::turn_over(segments, edges))
 }
+
+/// Keeps of an axis the segments that serve its edges, and hands back how many they are: those that have an edge, and those that kept ones name by link or serif. They stand
+/// in front, in their order, with every index renumbered; the places behind them are empty. Every edge has the same segments in the same order as before; done twice,
+/// nothing more changes.
+///
+/// ```
+/// use khsaemudol::{pack_axis, Edge, Segment};
+///
+/// let mut segments = [
+///     Segment::default(),
+///     Segment::default().with_edge(Some(0)).with_next(Some(1)).with_link(Some(2)),
+///     Segment::default(),
+/// ];
+/// let mut edges = [Edge::default().with_first(1).with_last(1)];
+/// let kept = pack_axis(&mut segments, &mut edges)?;
+/// assert_eq!(kept, 2);
+/// assert_eq!((segments[0].link(), segments[0].next()), (Some(1), Some(0)));
+/// assert_eq!((edges[0].first(), edges[0].last()), (0, 0));
+/// # Ok::<(), khsaemudol::Refusal>(())
+/// ```
+pub fn pack_axis(segments: &mut [Segment], edges: &mut [Edge]) -> Result<usize, Refusal> {
+    let mut count = 0;
+    Refusal::of(ffi::pack_axis(segments, edges, &mut count))?;
+    Ok(count as usize)
+}

@@ -1024,6 +1024,40 @@ fn turned_over() {
 }
 
 #[test]
+fn packed() {
+    // 1 has the edge, its link is 3, whose serif is 2, in front of it; 0 names a kept one and is named by none
+    let ring = Segment::default().with_edge(Some(0)).with_next(Some(1));
+    let mut table = [
+        Segment::default().with_link(Some(1)),
+        ring.with_pos(11).with_link(Some(3)),
+        Segment::default().with_pos(12).with_next(Some(1)),
+        Segment::default().with_pos(13).with_serif(Some(2)),
+    ];
+    let mut edges = [Edge::default().with_first(1).with_last(1)];
+    assert_eq!(pack_axis(&mut table, &mut edges), Ok(3));
+    let kept = [
+        ring.with_pos(11).with_link(Some(2)).with_next(Some(0)),
+        Segment::default().with_pos(12),
+        Segment::default().with_pos(13).with_serif(Some(1)),
+        Segment::default(),
+    ];
+    assert_eq!((table, edges), (kept, [Edge::default()]));
+    assert_eq!(pack_axis(&mut table[..3], &mut edges), Ok(3));
+    assert_eq!((table, edges), (kept, [Edge::default()]));
+    assert_eq!(pack_axis(&mut [], &mut []), Ok(0));
+    // a ring that does not close, and an index beyond, which is found first
+    let open = ring.with_next(None);
+    assert_eq!(
+        pack_axis(&mut [open], &mut [Edge::default()]),
+        Err(Refusal::BrokenRing)
+    );
+    assert_eq!(
+        pack_axis(&mut [open.with_link(Some(1))], &mut [Edge::default()]),
+        Err(Refusal::BadIndex)
+    );
+}
+
+#[test]
 fn turning_over_refused() {
     let refused = |segments: &[Segment], edges: &[Edge], refusal| {
         let (mut table, mut turned) = (segments.to_vec(), edges.to_vec());

@@ -8,6 +8,7 @@ use jobs_points::path::answer_path;
 use jobs_points::path::answer_step;
 use jobs_points::weak::answer_weak;
 use jobs_tables::gaps::answer_gaps;
+use jobs_tables::pack::answer_pack;
 use jobs_tables::table::answer_table;
 use khsaemudol::khs_compute_mid_delta;
 use khsaemudol::khs_compute_mid_pos;
@@ -56,6 +57,7 @@ fn answer_to(by_value: bool, words: &[i32], out: &mut [i32]) -> usize
         25 => answer_write(words, out),
         26 => answer_read(words, out),
         114 => answer_lent(words, out),
+        123 => answer_pack(words, out),
         127 => answer_gaps(by_value, words, out),
         _ => answer_table(by_value, call, words, out),
     }

@@ -89,7 +89,7 @@ const FORMATS_OF_EDGES: [u64; CALLS_OF_EDGES] = [
     NONE,
     NONE,
     0x633333a, // align_blues_and_stems
-    NONE, // 123: none
+    0xa9, // pack_axis
     0xa9, // turn_over
     NONE, // 125 and 126: none
     NONE,

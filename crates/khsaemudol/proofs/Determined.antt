@@ -32,6 +32,7 @@ use Rattle.path_whole.specs.Writing.{WritesPath}
 use Rattle.path_whole.proofs.Outcomes as Path
 use Rattle.mend_words.specs.Mending.{MendedLent}
 use Rattle.flat_turning.specs.Turn.{TurnedLent}
+use Rattle.pack_words.specs.Pack.{PackedLent}
 use Rattle.flat_gaps.specs.Find.{Places, GapsLent}
 
 -- `khs_compute_mid_pos`
@@ -149,6 +150,10 @@ read-frame-determined line rooms points contours a b = lent-determined a b
 -- `khs_turn_over`
 pub turning-determined : (ws es : List ℤ) {r r′ : ℕ} {now now′ : List ℤ × List ℤ} → TurnedLent ws es r now → TurnedLent ws es r′ now′ → (r ≡ r′) × (now ≡ now′)
 turning-determined ws es a b = lent-determined a b
+
+-- `khs_pack_axis`
+pub packing-determined : (ws es : List ℤ) (count : ℤ) {r r′ : ℕ} {now now′ : List ℤ × (List ℤ × ℤ)} → PackedLent ws es count r now → PackedLent ws es count r′ now′ → (r ≡ r′) × (now ≡ now′)
+packing-determined ws es count a b = lent-determined a b
 
 -- `khs_lost_gaps`
 pub gaps-determined : (ws : List ℤ) (least linked : ℤ) (old : Places) {r r′ : ℕ} {now now′ : Places} → GapsLent ws least linked old r now → GapsLent ws least linked old r′ now′ → (r ≡ r′) × (now ≡ now′)

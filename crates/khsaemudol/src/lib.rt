@@ -21,6 +21,7 @@ use mend_words::lend::lend_mending;
 use middle::compute_mid_delta;
 use middle::compute_mid_pos;
 use outline::weak::align_weak_points;
+use pack_words::lend::lend_packing;
 use path::lend::lend_step;
 use path_whole::whole::path;
 use weak_drag::drag::lend_drag;
@@ -44,6 +45,7 @@ ghost use Rattle.flat_stems.specs.Zones.{ZonesLent};
 ghost use Rattle.path.specs.Lending.{StepLent};
 ghost use Rattle.path_lay.specs.Laying.{lent};
 ghost use Rattle.path_whole.specs.Writing.{WritesPath};
+ghost use Rattle.pack_words.specs.Pack.{PackedLent};
 ghost use Rattle.flat_turning.specs.Turn.{TurnedLent};
 ghost use Rattle.flat_gaps.specs.Find.{GapsLent};
 ghost use Rattle.mend_words.specs.Mending.{MendedLent};
@@ -435,6 +437,14 @@ pub extern "C" fn khs_mend(
         r (now (segments .exit), (now (edges .exit), (now (altered .exit), now (count .exit)))) ⌝ }
 {
     lend_mending(segments, edges, altered, count)
+}
+
+// Keeps of an axis the segments that serve its edges, and counts them.
+#[no_mangle]
+pub extern "C" fn khs_pack_axis(segments: &mut [i32], edges: &mut [i32], count: &mut i32) -> u8
+    ensures { λ r. ⌜ PackedLent (now (segments .entry)) (now (edges .entry)) (now (count .entry)) r (now (segments .exit), (now (edges .exit), now (count .exit))) ⌝ }
+{
+    lend_packing(segments, edges, count)
 }
 
 // Finds the gaps and the stems between placed edges that fitting has lost, and counts the edges that are not done.
