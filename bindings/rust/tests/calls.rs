@@ -1024,6 +1024,66 @@ fn turned_over() {
 }
 
 #[test]
+fn mended() {
+    // the ring of edge 0 was 0, 2, 3, but 3 is gone, and so is what the serif of 1 and the link of edge 1 name
+    let of = |edge, next| {
+        Segment::default()
+            .with_edge(Some(edge))
+            .with_next(Some(next))
+    };
+    let saved = [of(0, 2), of(1, 1).with_serif(Some(7)), of(0, 3)];
+    let ends = [
+        Edge::default().with_last(3),
+        Edge::default()
+            .with_first(1)
+            .with_last(1)
+            .with_link(Some(2)),
+    ];
+    let (mut table, mut edges) = (saved, ends);
+    let altered = mend(&mut table, &mut edges).unwrap();
+    assert_eq!(altered.len(), 4);
+    let told = |of_edge, index, field, was, is| Alteration {
+        of_edge,
+        index,
+        field,
+        was: Some(was),
+        is,
+    };
+    assert_eq!(
+        altered.collect::<Vec<_>>(),
+        [
+            told(false, 1, LinkField::Serif, 7, None),
+            told(false, 2, LinkField::Next, 3, Some(0)),
+            told(true, 0, LinkField::Last, 3, Some(2)),
+            told(true, 1, LinkField::Link, 2, None),
+        ]
+    );
+    assert_eq!(table, [of(0, 2), of(1, 1), of(0, 0)]);
+    assert_eq!(edges, [ends[0].with_last(2), ends[1].with_link(None)]);
+    assert_eq!(mend(&mut table, &mut edges).unwrap().len(), 0);
+    assert_eq!(pack_axis(&mut table, &mut edges), Ok(3));
+    assert_eq!(mend(&mut [], &mut []).unwrap().len(), 0);
+}
+
+#[test]
+fn mending_refused() {
+    let refused = |segments: &[Segment], edges: &[Edge], refusal| {
+        let (mut table, mut ends) = (segments.to_vec(), edges.to_vec());
+        assert_eq!(mend(&mut table, &mut ends).err(), Some(refusal));
+        assert_eq!((&table[..], &ends[..]), (segments, edges));
+    };
+    let open = Segment::default().with_edge(Some(0)).with_link(Some(9));
+    let edge = Edge::default();
+    refused(&[open; MOST_SEGMENTS + 1], &[edge], Refusal::TooLong);
+    refused(&[open], &[edge; MOST_EDGES + 1], Refusal::TooLong);
+    // a position beyond its limit, then an edge that is gone, then an edge without segments
+    let gone = open.with_edge(Some(2));
+    refused(&[gone], &[at(65_536), edge], Refusal::OutOfRange);
+    refused(&[gone], &[edge, edge], Refusal::BadIndex);
+    refused(&[open], &[edge, edge], Refusal::BrokenRing);
+}
+
+#[test]
 fn packed() {
     // 1 has the edge, its link is 3, whose serif is 2, in front of it; 0 names a kept one and is named by none
     let ring = Segment::default().with_edge(Some(0)).with_next(Some(1));
