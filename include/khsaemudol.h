@@ -104,8 +104,9 @@
  * last against the segments too, khs_hint_lowercase_m, which wants 6 or 12 of them, and khs_align_blues_and_stems, which takes no zone on KHS_LATIN's horizontal axis.
  *
  * No call allocates, keeps a pointer, prints or fails otherwise. Each may be called from any thread, and on other lists at the same time. Working tables stand on
- * the stack: on x86-64 and aarch64 khs_turn_over was measured to use 7 KiB of it, khs_compute_edges 3 KiB and every other call at most 1 KiB, and 4 KiB more where a
- * dynamic linker looks up memcpy or memset in the call. A thread with a stack of 24 KiB is enough for every call. */
+ * the stack: on x86-64 and aarch64 khs_turn_over was measured to use 7 KiB of it, khs_compute_edges 3 KiB and every other call at most 1 KiB, but for
+ * khs_pack_axis, of which 5 KiB were measured on x86-64; and 4 KiB more where a dynamic linker looks up memcpy or memset in the call. A thread with a stack of
+ * 24 KiB is enough for every call. */
 #ifndef KHSAEMUDOL_H
 #define KHSAEMUDOL_H
 
@@ -253,8 +254,8 @@ uint8_t khs_remember_references(const uint8_t *touched, khs_length touched_len, 
  * originals, currents, touched, ends: as there. before, behind: one entry for each point, else KHS_TOO_LONG. They are to be what khs_remember_references writes for these
  * marks and ends: every entry is tested, those of touched points too, and KHS_NOT_MATCHING is answered where one is another, behind KHS_BAD_INDEX and in front of
  * KHS_OUT_OF_RANGE. Other marks of the same touched points match. A list that was written for these touched points and ends is never refused so.
- * The test reads every mark, which is all that the search without lists reads, so the lists do not pay in time: on outlines of 1,024 and 4,096 points, one point in 4 or
- * in 16 touched, this call takes 0.98 to 1.05 of the time of khs_align_weak_points, at 256 points 1.09 to 1.24, at 64 1.25 to 1.46 and at 16 1.29 to 1.66. They pay
+ * The test reads every mark, which is all that the search without lists reads, so the lists do not pay in time: on x86-64 this call takes 1.09 to 1.17 of the time of
+ * khs_align_weak_points on outlines like glyphs of 16 to 4,096 points, 1.27 to 1.52 with one scattered point in 4 touched, and 1.70 to 1.86 with one in 16. They pay
  * where a caller reads them: who refers to whom is known without a search.
  * Writes currents. Answers: KHS_DONE, KHS_TOO_LONG, KHS_BAD_INDEX, KHS_NOT_MATCHING, KHS_OUT_OF_RANGE, KHS_TOO_STEEP. */
 uint8_t khs_align_with_references(const int32_t *originals, khs_length originals_len, int32_t *currents, khs_length currents_len, const uint8_t *touched,

@@ -4,10 +4,14 @@ use super::lent::answer_lent;
 use jobs_log::answer_read;
 use jobs_log::answer_write;
 use jobs_points::catalogue::answer_catalogue;
+use jobs_points::drag::answer_drag;
 use jobs_points::path::answer_path;
 use jobs_points::path::answer_step;
+use jobs_points::references::answer_remember;
+use jobs_points::references::answer_with;
 use jobs_points::weak::answer_weak;
 use jobs_tables::gaps::answer_gaps;
+use jobs_tables::mending::answer_mending;
 use jobs_tables::pack::answer_pack;
 use jobs_tables::table::answer_table;
 use khsaemudol::khs_compute_mid_delta;
@@ -54,9 +58,13 @@ fn answer_to(by_value: bool, words: &[i32], out: &mut [i32]) -> usize
         15 => answer_path(words, out),
         16 => answer_step(words, out),
         17 => answer_catalogue(words, out),
+        18 => answer_remember(words, out),
+        19 => answer_with(words, out),
+        20 => answer_drag(words, out),
         25 => answer_write(words, out),
         26 => answer_read(words, out),
         114 => answer_lent(words, out),
+        121 => answer_mending(words, out),
         123 => answer_pack(words, out),
         127 => answer_gaps(by_value, words, out),
         _ => answer_table(by_value, call, words, out),

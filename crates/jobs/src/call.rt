@@ -53,10 +53,10 @@ const FORMATS: [u64; CALLS] = [
     0x8766, // path
     0xc8766, // path_step
     0x7888766, // align_catalogue
-    NONE, // 18 to 24: none
-    NONE,
-    NONE,
-    NONE,
+    0x8887, // remember_references
+    0x888766, // align_with_references
+    0x28766, // drag_point
+    NONE, // 21 to 24: none
     NONE,
     NONE,
     NONE,
@@ -81,13 +81,13 @@ const FORMATS_OF_EDGES: [u64; CALLS_OF_EDGES] = [
     0x6353333a, // align_stem_edges
     0x3a, // hint_lowercase_m, table form
     0x3b, // hint_lowercase_m, lent list
-    NONE, // 115 to 121: none
+    NONE, // 115 to 120: none
     NONE,
     NONE,
     NONE,
     NONE,
     NONE,
-    NONE,
+    0xa9, // mend
     0x633333a, // align_blues_and_stems
     0xa9, // pack_axis
     0xa9, // turn_over

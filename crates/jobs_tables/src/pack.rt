@@ -2,11 +2,11 @@
 use axis::accept::least;
 use axis::limits::MOST_EDGES;
 use axis::limits::MOST_SEGMENTS;
-use jobs_points::list::part;
-use jobs_points::list::put;
-use jobs_points::list::put_list;
-use jobs_points::list::tail;
 use khsaemudol::khs_pack_axis;
+use tool_lists::list::part;
+use tool_lists::list::put;
+use tool_lists::list::put_list;
+use tool_lists::list::tail;
 use words::edge::EDGE_WORDS;
 use words::segment::SEGMENT_WORDS;
 use words::word::count_at;

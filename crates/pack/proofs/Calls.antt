@@ -8,7 +8,7 @@ use native.Mathlib.Nat.{eq-or-lt-of-le}
 use native.Mathlib.Omega.{arith}
 use borrow.Author.Tests.{leb-true, ltb-true}
 use lib.Dec.{ltb}
-use Rattle.refusals.specs.Refusal.{refusal, orRefused}
+use Rattle.refusals.specs.Refusal.{refusal, orRefused, brokenRing}
 use Rattle.refusals.proofs.Tests.{AllHold, all-hold, and-first, and-second, one-more, or-kept}
 use Rattle.axis.specs.declared.edge.Axis.{Axis}
 use Rattle.axis.specs.declared.segment.Segments.{Segments}
@@ -20,7 +20,6 @@ use Rattle.axis.proofs.Acceptance.{link-below, nexts-below}
 use Rattle.axis.proofs.Tests.{every-at}
 use Rattle.turning.specs.Indices.{segmentsEdges, edgesSegments, indexTests}
 use Rattle.mend.proofs.Sums.{count-few}
-use Rattle.mend.specs.Mend.{brokenRing}
 use Rattle.mend.specs.Following.{total, count}
 use Rattle.pack.specs.Sets.{isIn}
 use Rattle.pack.specs.Listing.{Placed, Numbered}

@@ -2,7 +2,7 @@
 use mathlib.Core.Bool.{Bool}
 use mathlib.Core.List.{List, [], _∷_, _++_}
 use Prim.Native.Nat.{ℕ, _<_}
-use Rattle.refusals.specs.Refusal.{Test, _unless_, refusal, answered}
+use Rattle.refusals.specs.Refusal.{Test, _unless_, refusal, answered, brokenRing}
 use Rattle.axis.specs.declared.edge.Axis.{Axis}
 use Rattle.axis.specs.declared.segment.Segments.{Segments}
 use Rattle.axis.specs.Accepted.{Below}
@@ -10,7 +10,6 @@ use Rattle.axis.specs.Refusals.{every}
 use Rattle.axis.specs.Ring.{isSound}
 use Rattle.axis.specs.Segment.{segmentAt}
 use Rattle.turning.specs.Indices.{indexTests}
-use Rattle.mend.specs.Mend.{brokenRing}
 use Rattle.pack.specs.Packed.{packedSegments, packedAxis, SegmentsHold, EdgesHold}
 
 -- ---- the tests in their order

@@ -1,12 +1,12 @@
 // The call over lent segments and lent edges.
 use super::ring::rings_sound_in;
 use flat_turning::turn::turning_front;
-use mend_rings::broken::BROKEN_RING;
 use pack::number::number;
 use pack_steps::down::clear_in;
 use pack_steps::down::move_in;
 use pack_steps::ends::ends_in;
 use pack_steps::keep::kept_in;
+use refusals::order::BROKEN_RING;
 use refusals::order::or_refused;
 use turning_in::test::index_refusal_in;
 use words::word::count_word;

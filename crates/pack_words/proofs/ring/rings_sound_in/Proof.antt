@@ -45,7 +45,7 @@ returns c =
     let es = s .args .edges .now in
     c .none-broken .ensures
     ∙ none-sound (edgesOf es) (flatSegments (s .args .segments .now)) _ _ (sym (edges-len es))
-    (followed-told es Dimensions.Horizontal Directions.None (flatSegments (s .args .segments .now)) _ _ _ _ _ _ (s .pre .0) (s .pre .1) (g .gather-in .ensures) (t .tally .ensures)
+    (followed-told es Dimensions.Horizontal Directions.None (flatSegments (s .args .segments .now)) _ _ _ _ _ _ (s .pre .0) (s .pre .1) (g .gather-in .ensures .gathered) (t .tally .ensures)
     (f .find-broken .ensures))
 
 pub rings-sound-in-spec : {M : Type 1} → statement M
