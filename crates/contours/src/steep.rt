@@ -12,12 +12,15 @@ ghost use Rattle.contours.specs.Limits.{mostDelta};
 ghost use Rattle.contours.specs.Contour.{at, refs, steepBy, steepAt};
 ghost use Rattle.contours.specs.Steps.{Coordinate, Coordinates, Ordered, whole, Tells, isBetween, betweenOriginals, steepFor};
 
+// How many spans a rise is at the least whose quotient is too steep.
+const STEEP_SPANS: u64 = 32768;
+
 // Whether the quotient of a rise by a span is too steep, without dividing: rounding never decides.
 fn is_steep(rise: i32, span: i32) -> bool
     requires { ⌜ Between 0 mostDelta span × (0 < natAbs span) ⌝ }
     ensures { λ r. ⌜ r ≡ tooSteep rise span ⌝ }
 {
-    let run = magnitude(span as i64) * 32768;
+    let run = magnitude(span as i64) * STEEP_SPANS;
     run <= magnitude(rise as i64)
 }
 

@@ -11,7 +11,7 @@ use lib.Signed.{ltZ, _≤ℤ_}
 use Rattle.signed.proofs.Signed.{natAbs-is, one-zero, sub-law, atmost, signed}
 use Rattle.contours.specs.Contour.{at}
 use Rattle.outline.specs.Weak.{coordinatesHold}
-use Rattle.outline.specs.Steps.{Reaches, leastFar, Calm}
+use Rattle.outline.specs.Steps.{Reaches, leastFar, mostNear, Calm}
 use Rattle.outline.proofs.Refusals.{coordinates-of}
 
 -- ---- the loop: the reach of the coordinates in front of i
@@ -54,8 +54,8 @@ calm-reach c l m r near i j =
     about p (no h) = rw (List·getD-eq-default c (pos 0) {n = p} (omega arith)) (r .low, r .high)
 
 -- and one whose coordinates are all near 0
-pub calm-near : (c : List ℤ) → coordinatesHold 32767 c ≡ true → Calm c
+pub calm-near : (c : List ℤ) → coordinatesHold mostNear c ≡ true → Calm c
 calm-near c h i j =
-    let a = coordinates-of 32767 c h i in
-    let b = coordinates-of 32767 c h j in
+    let a = coordinates-of mostNear c h i in
+    let b = coordinates-of mostNear c h j in
     omega (arith, a, b, natAbs-is (at c i), natAbs-is (at c j), natAbs-is (at c j -ℤ at c i), one-zero (at c j -ℤ at c i), sub-law (at c j) (at c i))

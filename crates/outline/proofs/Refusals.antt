@@ -19,7 +19,7 @@ use Rattle.refusals.proofs.Tests.{and-first, and-second, all-hold, no-refusal}
 use Rattle.contours.specs.Limits.{mostPoints, mostCoordinate}
 use Rattle.contours.specs.Contour.{at}
 use Rattle.outline.specs.Weak.{endsHold, coordinateHolds, coordinatesHold, listTests, rangeTests, outlineTests, contourOf, steepOn, gentleFrom, gentle, numberTests, weakTests}
-use Rattle.outline.specs.Steps.{Accepted, GentleAll}
+use Rattle.outline.specs.Steps.{Accepted, GentleAll, mostNear, allNear}
 
 -- a list from its element i on
 pub drop-one {ℓ} : {A : Type ℓ} (l : List A) (i : ℕ) (d : A) → i < length l → drop i l ≡ getD l i d ∷ drop (i + 1) l
@@ -75,6 +75,13 @@ unfolding coordinatesHold
 hold-more m n [] h e = refl
 hold-more m n (z ∷ l) h e =
     rw (holds-more m n z h (and-first (coordinateHolds m z) (coordinatesHold m l) e), hold-more m n l h (and-second (coordinateHolds m z) (coordinatesHold m l) e))
+
+-- near 0: a test of the originals that fails, and one that leaves it to the currents
+pub near-not : (o c : List ℤ) → coordinatesHold mostCoordinate o ≡ false → false ≡ allNear o c
+near-not o c e = rw e
+
+pub near-then : (o c : List ℤ) (b : Bool) → coordinatesHold mostCoordinate o ≡ true → b ≡ coordinatesHold mostNear c → b ≡ allNear o c
+near-then o c b e q = rw (e, q)
 
 -- ---- contour ends
 -- the test from the end k on, where the contour starts at s: an end in front of its start

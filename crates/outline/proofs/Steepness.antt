@@ -13,12 +13,17 @@ use lib.IntN.{ℤ, pos, natAbs, _-ℤ_}
 use lib.Signed.{ltZ, _≤ℤ_}
 use Rattle.signed.specs.Parts.{up, dn}
 use Rattle.signed.proofs.Signed.{natAbs-is, one-zero, sub-law, atmost, signed}
-use Rattle.contours.specs.Contour.{at, Contour, isTouched, References, references, firstOf, secondOf, steepBy, steepFollowed, steepAt}
-use Rattle.contours.specs.Steps.{Coordinates, whole, Tells, Gentle}
+use Rattle.refusals.specs.Refusal.{refusal}
+use Rattle.refusals.proofs.Tests.{and-first, and-second}
+use Rattle.contours.specs.Limits.{mostCoordinate}
+use Rattle.contours.specs.Contour.{at, Contour, isTouched, References, references, firstOf, secondOf, steepBetween, steepBy, steepFollowed, steepAt}
+use Rattle.fixed.specs.Divide.{tooSteep, quotientOf, quotientNumber}
+use Rattle.contours.specs.Steps.{Coordinates, whole, Tells, Gentle, isBetween}
 use Rattle.contours.proofs.Steepness.{calm-between}
-use Rattle.outline.specs.Weak.{endsHold, contourOf, steepOn, gentleFrom, gentle}
-use Rattle.outline.specs.Steps.{Accepted, GentleAll, Calm}
-use Rattle.outline.proofs.Refusals.{EndAt, end-at}
+use Rattle.outline.specs.Weak.{endsHold, coordinatesHold, contourOf, steepOn, gentleFrom, gentle, numberTests}
+use Rattle.outline.specs.Steps.{Accepted, GentleAll, Calm, mostNear, allNear}
+use Rattle.outline.proofs.Refusals.{EndAt, end-at, coordinates-of, hold-more, number-steep}
+use Rattle.outline.proofs.Reaching.{calm-near}
 use Rattle.outline.proofs.Contours.{contour-here, contour-later}
 use Rattle.outline.proofs.Parts.{part, stretch, alone, steep-part}
 
@@ -143,3 +148,31 @@ module _ (o c : List ℤ) (t es : List ℕ) (ho : Coordinates o) (calm : Calm c)
   pub calm-gentle : false ≡ not (gentle o c t es)
   unfolding gentle
   calm-gentle = rw (gentle-all (λ i. steepOn o c t (contourOf 0 es i) i) 0 (length o) (λ i a h. calm-on (contourOf 0 es i) i))
+
+-- ---- an outline near 0: no number refuses it
+pub near-numbers : (o c : List ℤ) (t es : List ℕ) → allNear o c ≡ true → refusal (numberTests o c t es) ≡ 0
+near-numbers o c t es e =
+    let originals = and-first (coordinatesHold mostCoordinate o) (coordinatesHold mostNear c) e in
+    let near = and-second (coordinatesHold mostCoordinate o) (coordinatesHold mostNear c) e in
+    let ho = coordinates-of mostCoordinate o originals in
+    number-steep o c t es false originals (hold-more mostNear mostCoordinate c (omega arith) near) (calm-gentle o c t es (λ i. omega (arith, natAbs-is (at o i), ho i)) (calm-near c near))
+
+-- ---- refusal 8 is the paper's number of a quotient: that of an untouched point that lies strictly between its references
+module _ (o c : List ℤ) (t es : List ℕ) (k : Contour) (r : References) (i : ℕ) (at-k : contourOf 0 es i ≡ some k) (free : isTouched t i ≡ false) (at-r : references t k i ≡ some r)
+    (between : isBetween (at o i) (at o (firstOf o r)) (at o (secondOf o r)) ≡ true) where
+  abbrev rise : ℤ
+  rise = at c (secondOf o r) -ℤ at c (firstOf o r)
+
+  abbrev span : ℤ
+  span = at o (secondOf o r) -ℤ at o (firstOf o r)
+
+  pub quotient-told : i < length o → coordinatesHold mostCoordinate o ≡ true → coordinatesHold mostCoordinate c ≡ true → 0 < quotientNumber (quotientOf rise span) → refusal (numberTests o c t es) ≡ quotientNumber (quotientOf rise span)
+  unfolding quotientOf steepOn steepAt steepFollowed steepBy steepBetween gentle
+  quotient-told h ho hc n = by (tooSteep rise span) refl
+    where
+      by : (b : Bool) → tooSteep rise span ≡ b → refusal (numberTests o c t es) ≡ quotientNumber (quotientOf rise span)
+      by true e =
+          let here : steepOn o c t (contourOf 0 es i) i ≡ true = rw (at-k, free, at-r, between, e) in
+          let g = gentle-no (λ j. steepOn o c t (contourOf 0 es j) j) 0 (length o) i (omega arith) (omega arith) here in
+          rw e (number-steep o c t es true ho hc (rw g))
+      by false e = absurd (let z : 0 < 0 = rw e at n in omega arith)

@@ -1,15 +1,15 @@
 -- What the steps of `align_weak_points` promise each other.
 use mathlib.Core.Path.{_≡_}
-use mathlib.Core.Bool.{true, false}
+use mathlib.Core.Bool.{Bool, true, false, _&&_}
 use mathlib.Core.List.{List}
 use Prim.Native.Nat.{ℕ, _≤_, _<_}
 use lib.ListN.{length}
 use lib.IntN.{ℤ, pos, natAbs, _-ℤ_}
 use lib.Signed.{_≤ℤ_}
-use Rattle.contours.specs.Limits.{mostPoints}
+use Rattle.contours.specs.Limits.{mostPoints, mostCoordinate}
 use Rattle.contours.specs.Contour.{at}
 use Rattle.contours.specs.Steps.{Coordinates}
-use Rattle.outline.specs.Weak.{endsHold, contourOf, steepOn, alignedAt}
+use Rattle.outline.specs.Weak.{endsHold, coordinatesHold, contourOf, steepOn, alignedAt}
 
 -- an outline that is not refused
 pub record Accepted (o c : List ℤ) (t es : List ℕ) : Type 0 where
@@ -38,6 +38,14 @@ leastFar = 65536
 -- no two coordinates of the list are that far apart
 abbrev pub Calm : List ℤ → Type 0
 Calm l = (i j : ℕ) → natAbs (at l j -ℤ at l i) < leastFar
+
+-- currents either way of which no two are that far apart
+abbrev pub mostNear : ℕ
+mostNear = 32767
+
+-- the originals are within the range, the currents so near 0
+abbrev pub allNear : List ℤ → List ℤ → Bool
+allNear o c = coordinatesHold mostCoordinate o && coordinatesHold mostNear c
 
 -- ---- the alignment
 -- d is c with every contour of the outline aligned

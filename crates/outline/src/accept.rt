@@ -15,6 +15,7 @@ ghost use lib.IntN.{pos, natAbs};
 ghost use lib.Signed.{_≤ℤ_};
 ghost use Rattle.refusals.specs.Refusal.{refusal};
 ghost use Rattle.outline.specs.Weak.{endsHold, listTests, rangeTests, outlineTests, numberTests, weakTests};
+ghost use Rattle.outline.specs.Steps.{allNear};
 
 // A contour end as an index.
 pub fn wide(x: u16) -> usize
@@ -94,17 +95,24 @@ pub fn outline_refusal(
     range_refusal(originals, currents, most)
 }
 
-// The refusal of an outline that its lists and contour ends pass, by the coordinates of weak points and by a point that is too steep, or 0. Where all currents are near 0
-// one test of them is enough, and where no two are far apart no contour is walked.
+// Whether originals are within the range and currents near 0. Then no number refuses: callers ask this first, so that an ordinary outline is done with two short loops.
+pub fn all_near(originals: &[i32], currents: &[i32]) -> bool
+    ensures { λ r. ⌜ r ≡ allNear (now (originals .entry)) (now (currents .entry)) ⌝ }
+{
+    if !coordinates_hold(originals, MOST_COORDINATE) {
+        return false;
+    }
+    coordinates_hold(currents, MOST_NEAR)
+}
+
+// The refusal of an outline that its lists and contour ends pass, by the coordinates of weak points and by a point that is too steep, or 0. Where no two currents are
+// far apart no contour is walked.
 pub fn number_refusal(originals: &[i32], currents: &[i32], touched: &[u8], ends: &[u16]) -> u8
     requires { ⌜ refusal (listTests (now originals) (now currents) (now touched) (now ends)) ≡ 0 ⌝ }
     ensures { λ r. ⌜ r ≡ refusal (numberTests (now (originals .entry)) (now (currents .entry)) (now (touched .entry)) (now (ends .entry))) ⌝ }
 {
     if !coordinates_hold(originals, MOST_COORDINATE) {
         return OUT_OF_RANGE;
-    }
-    if coordinates_hold(currents, MOST_NEAR) {
-        return 0;
     }
     if !coordinates_hold(currents, MOST_COORDINATE) {
         return OUT_OF_RANGE;
@@ -125,6 +133,9 @@ pub fn weak_refusal(originals: &[i32], currents: &[i32], touched: &[u8], ends: &
     let answer = list_refusal(originals, currents, touched, ends);
     if 0 < answer {
         return answer;
+    }
+    if all_near(originals, currents) {
+        return 0;
     }
     number_refusal(originals, currents, touched, ends)
 }

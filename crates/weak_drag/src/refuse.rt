@@ -1,4 +1,5 @@
 // Which drags are refused.
+use outline::accept::all_near;
 use outline::accept::list_refusal;
 use outline::accept::number_refusal;
 use refusals::order::BAD_INDEX;
@@ -32,6 +33,9 @@ pub fn drag_refusal(
     }
     if !is_there(touched, p) {
         return BAD_INDEX;
+    }
+    if all_near(originals, currents) {
+        return 0;
     }
     number_refusal(originals, currents, touched, ends)
 }

@@ -1,4 +1,5 @@
 // Which marks and lists are refused.
+use outline::accept::all_near;
 use outline::accept::ends_hold;
 use outline::accept::list_refusal;
 use outline::accept::number_refusal;
@@ -53,6 +54,9 @@ pub fn with_refusal(
     }
     if !lists_match(touched, ends, before, behind) {
         return UNMATCHED;
+    }
+    if all_near(originals, currents) {
+        return 0;
     }
     number_refusal(originals, currents, touched, ends)
 }

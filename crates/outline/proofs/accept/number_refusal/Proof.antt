@@ -1,27 +1,23 @@
 -- `outline::accept::number_refusal` meets its contract: the answers stand in their order. Assumes nothing.
 use borrow.Author.Needs.{needs}
 use borrow.Author.Tests.{not-true, not-false}
-use native.Mathlib.Omega.{arith}
 use mathlib.Core.Path.{_≡_, sym, _∙_}
 use mathlib.Core.Bool.{true, false}
 use Rattle.contours.specs.Limits.{mostCoordinate}
 use Rattle.outline.specs.Weak.{coordinatesHold}
 use Rattle.outline.specs.Steps.{Accepted}
-use Rattle.outline.proofs.Refusals.{hold-more, accepted-front, number-originals, number-currents, number-steep}
-use Rattle.outline.proofs.Reaching.{calm-reach, calm-near}
+use Rattle.outline.proofs.Refusals.{accepted-front, number-originals, number-currents, number-steep}
+use Rattle.outline.proofs.Reaching.{calm-reach}
 use Rattle.outline.proofs.Steepness.{calm-gentle}
 use Rattle.outline.proofs.accept.number_refusal.Statement.{statement}
 use Rattle.outline.proofs.accept.number_refusal.Tie as tie
 
--- the function's start, from behind the test of the originals, from behind the near one of the currents, and from behind their range
+-- the function's start, from behind the test of the originals, and from behind that of the currents
 abbrev start : tie.After-coordinates-hold → tie.Start
 start c = c .before .before .before
 
-abbrev near-start : tie.After-coordinates-hold2 → tie.Start
-near-start c = start (c .before .before)
-
-abbrev range-start : tie.After-coordinates-hold3 → tie.Start
-range-start c = near-start (c .before .before)
+abbrev range-start : tie.After-coordinates-hold2 → tie.Start
+range-start c = start (c .before .before)
 
 coordinates-hold-requires : tie.Need-coordinates-hold-requires
 coordinates-hold-requires c κs = search needs
@@ -35,30 +31,14 @@ coordinates-hold-requires-2 : tie.Need-coordinates-hold-requires-2
 coordinates-hold-requires-2 c κs = search needs
 
 -- the originals are within the range
-originals-hold : (c : tie.After-coordinates-hold2) → coordinatesHold mostCoordinate (near-start c .args .originals .now) ≡ true
+originals-hold : (c : tie.After-coordinates-hold2) → coordinatesHold mostCoordinate (range-start c .args .originals .now) ≡ true
 originals-hold c = sym (c .before .before .coordinates-hold .ensures) ∙ not-false _ (c .before .if1 .left)
 
 returns-2 : tie.Need-returns-2
 returns-2 c =
-    let n = c .before in
-    let s = near-start n in
-    let a = s .args in
-    let near = sym (n .coordinates-hold2 .ensures) ∙ c .if2 .taken in
-    let currents = hold-more 32767 mostCoordinate (a .currents .now) (omega arith) near in
-    let p = accepted-front (a .originals .now) (a .currents .now) (a .touched .now) (a .ends .now) (s .pre) (originals-hold n) currents in
-    sym
-    (number-steep (a .originals .now) (a .currents .now) (a .touched .now) (a .ends .now) false (originals-hold n) currents
-    (calm-gentle (a .originals .now) (a .currents .now) (a .touched .now) (a .ends .now) (p .originals) (calm-near (a .currents .now) near)))
-
-coordinates-hold-requires-3 : tie.Need-coordinates-hold-requires-3
-coordinates-hold-requires-3 c κs = search needs
-
-returns-3 : tie.Need-returns-3
-returns-3 c =
     let r = c .before in
     let a = range-start r .args in
-    sym
-    (number-currents (a .originals .now) (a .currents .now) (a .touched .now) (a .ends .now) (originals-hold (r .before .before)) (sym (r .coordinates-hold3 .ensures) ∙ not-true _ (c .if3 .taken)))
+    sym (number-currents (a .originals .now) (a .currents .now) (a .touched .now) (a .ends .now) (originals-hold r) (sym (r .coordinates-hold2 .ensures) ∙ not-true _ (c .if2 .taken)))
 
 reach-of-requires : tie.Need-reach-of-requires
 reach-of-requires c κs = search needs
@@ -67,42 +47,40 @@ is-calm-requires : tie.Need-is-calm-requires
 is-calm-requires c κs = search needs
 
 -- behind both ranges: the outline is accepted
-currents-hold : (c : tie.Else3) → coordinatesHold mostCoordinate (range-start (c .before) .args .currents .now) ≡ true
-currents-hold c = sym (c .before .coordinates-hold3 .ensures) ∙ not-false _ (c .if3 .left)
+currents-hold : (c : tie.Else2) → coordinatesHold mostCoordinate (range-start (c .before) .args .currents .now) ≡ true
+currents-hold c = sym (c .before .coordinates-hold2 .ensures) ∙ not-false _ (c .if2 .left)
 
-passed : (c : tie.Else3) → let a = range-start (c .before) .args in Accepted (a .originals .now) (a .currents .now) (a .touched .now) (a .ends .now)
+passed : (c : tie.Else2) → let a = range-start (c .before) .args in Accepted (a .originals .now) (a .currents .now) (a .touched .now) (a .ends .now)
 passed c =
     let s = range-start (c .before) in
-    accepted-front (s .args .originals .now) (s .args .currents .now) (s .args .touched .now) (s .args .ends .now) (s .pre) (originals-hold (c .before .before .before)) (currents-hold c)
+    accepted-front (s .args .originals .now) (s .args .currents .now) (s .args .touched .now) (s .args .ends .now) (s .pre) (originals-hold (c .before)) (currents-hold c)
 
-returns-4 : tie.Need-returns-4
-returns-4 c =
+returns-3 : tie.Need-returns-3
+returns-3 c =
     let k = c .before in
     let e = k .before .before in
     let a = range-start (e .before) .args in
-    let calm = calm-reach (a .currents .now) _ _ (k .before .reach-of .ensures) (sym (k .is-calm .ensures) ∙ c .if4 .taken) in
+    let calm = calm-reach (a .currents .now) _ _ (k .before .reach-of .ensures) (sym (k .is-calm .ensures) ∙ c .if3 .taken) in
     sym
-    (number-steep (a .originals .now) (a .currents .now) (a .touched .now) (a .ends .now) false (originals-hold (e .before .before .before)) (currents-hold e)
+    (number-steep (a .originals .now) (a .currents .now) (a .touched .now) (a .ends .now) false (originals-hold (e .before)) (currents-hold e)
     (calm-gentle (a .originals .now) (a .currents .now) (a .touched .now) (a .ends .now) (passed e .originals) calm))
 
 too-steep-requires : tie.Need-too-steep-requires
 too-steep-requires c κs = passed (c .before .before .before)
+
+returns-4 : tie.Need-returns-4
+returns-4 c =
+    let t = c .before in
+    let e = t .before .before .before .before in
+    let a = range-start (e .before) .args in
+    sym (number-steep (a .originals .now) (a .currents .now) (a .touched .now) (a .ends .now) true (originals-hold (e .before)) (currents-hold e) (sym (c .if4 .taken) ∙ t .too-steep .ensures))
 
 returns-5 : tie.Need-returns-5
 returns-5 c =
     let t = c .before in
     let e = t .before .before .before .before in
     let a = range-start (e .before) .args in
-    sym
-    (number-steep (a .originals .now) (a .currents .now) (a .touched .now) (a .ends .now) true (originals-hold (e .before .before .before)) (currents-hold e) (sym (c .if5 .taken) ∙ t .too-steep .ensures))
-
-returns-6 : tie.Need-returns-6
-returns-6 c =
-    let t = c .before in
-    let e = t .before .before .before .before in
-    let a = range-start (e .before) .args in
-    sym
-    (number-steep (a .originals .now) (a .currents .now) (a .touched .now) (a .ends .now) false (originals-hold (e .before .before .before)) (currents-hold e) (sym (c .if5 .left) ∙ t .too-steep .ensures))
+    sym (number-steep (a .originals .now) (a .currents .now) (a .touched .now) (a .ends .now) false (originals-hold (e .before)) (currents-hold e) (sym (c .if4 .left) ∙ t .too-steep .ensures))
 
 pub number-refusal-spec : {M : Type 1} → statement M
 number-refusal-spec =
@@ -112,11 +90,9 @@ number-refusal-spec =
     returns
     coordinates-hold-requires-2
     returns-2
-    coordinates-hold-requires-3
-    returns-3
     reach-of-requires
     is-calm-requires
-    returns-4
+    returns-3
     too-steep-requires
-    returns-5
-    returns-6)
+    returns-4
+    returns-5)

@@ -5,7 +5,9 @@ use native.Mathlib.Omega.{arith}
 use mathlib.Core.Path.{_≡_, sym, _∙_}
 use lib.ListN.{length}
 use Rattle.refusals.specs.Refusal.{refusal}
-use Rattle.outline.specs.Weak.{listTests}
+use Rattle.outline.specs.Weak.{listTests, numberTests}
+use Rattle.outline.proofs.Steepness.{near-numbers}
+use Rattle.weak_references.specs.References.{withTests}
 use Rattle.weak_references.proofs.Refusals.{with-before, with-behind, with-lists, with-other, with-numbers, placed}
 use Rattle.weak_references.proofs.refuse.with_refusal.Statement.{statement}
 use Rattle.weak_references.proofs.refuse.with_refusal.Tie as tie
@@ -58,17 +60,32 @@ returns-4 c =
     sym (with-other (x .originals .now) (x .currents .now) (x .touched .now) (x .ends .now) (x .before .now) (x .behind .now) (before-length e) (behind-length e) (passed e)
     (sym (m .lists-match .ensures) ∙ not-true _ (c .if4 .taken)))
 
-number-refusal-requires : tie.Need-number-refusal-requires
-number-refusal-requires c κs = passed (c .before .before)
+-- where the lists match the numbers decide
+numbers-decide : (c : tie.Else4) → let x = st (c .before .before) .args in
+    refusal (withTests (x .originals .now) (x .currents .now) (x .touched .now) (x .ends .now) (x .before .now) (x .behind .now)) ≡ refusal (numberTests (x .originals .now) (x .currents .now) (x .touched .now) (x .ends .now))
+numbers-decide c =
+    let m = c .before in
+    let e = m .before in
+    let x = st e .args in
+    with-numbers (x .originals .now) (x .currents .now) (x .touched .now) (x .ends .now) (x .before .now) (x .behind .now) (before-length e) (behind-length e) (passed e)
+    (sym (m .lists-match .ensures) ∙ not-false _ (c .if4 .left))
+
+all-near-requires : tie.Need-all-near-requires
+all-near-requires c κs = search needs
 
 returns-5 : tie.Need-returns-5
 returns-5 c =
-    let m = c .before .before in
-    let e = m .before in
-    let x = st e .args in
-    c .number-refusal .ensures
-    ∙ sym (with-numbers (x .originals .now) (x .currents .now) (x .touched .now) (x .ends .now) (x .before .now) (x .behind .now) (before-length e) (behind-length e) (passed e)
-    (sym (m .lists-match .ensures) ∙ not-false _ (c .before .if4 .left)))
+    let n = c .before in
+    let x = st (n .before .before .before) .args in
+    sym (near-numbers (x .originals .now) (x .currents .now) (x .touched .now) (x .ends .now) (sym (n .all-near .ensures) ∙ c .if5 .taken)) ∙ sym (numbers-decide (n .before))
+
+number-refusal-requires : tie.Need-number-refusal-requires
+number-refusal-requires c κs = passed (c .before .before .before .before)
+
+returns-6 : tie.Need-returns-6
+returns-6 c = c .number-refusal .ensures ∙ sym (numbers-decide (c .before .before .before))
 
 pub with-refusal-spec : {M : Type 1} → statement M
-with-refusal-spec = tie.close (tie.spec returns returns-2 list-refusal-requires returns-3 lists-match-requires returns-4 number-refusal-requires returns-5)
+with-refusal-spec =
+    tie.close
+    (tie.spec returns returns-2 list-refusal-requires returns-3 lists-match-requires returns-4 all-near-requires returns-5 number-refusal-requires returns-6)
