@@ -54,14 +54,3 @@ pub walk-on : (l : List ℕ) (f : ℕ → ℕ) (s n x : ℕ) (before here : Bool
     → (before && here) ≡ sameAs l f s (n + 1)
 walk-on l f s n x true here e q h = q ∙ ap (eqb (getD l (s + n) 0)) (h refl) ∙ ap (λ (b : Bool). b && eqb (getD l (s + n) 0) (f (s + n))) e ∙ sym (same-more l f s n)
 walk-on l f s n x false here e q h = ap (λ (b : Bool). b && eqb (getD l (s + n) 0) (f (s + n))) e ∙ sym (same-more l f s n)
-
--- and backwards
-pub walk-back : (l : List ℕ) (f : ℕ → ℕ) (i n x : ℕ) (before here : Bool) → before ≡ sameAs l f (suc i) n → here ≡ eqb (getD l i 0) x → (before ≡ true → x ≡ f i)
-    → (before && here) ≡ sameAs l f i (suc n)
-unfolding sameAs
-walk-back l f i n x true here e q h = q ∙ ap (eqb (getD l i 0)) (h refl) ∙ sym (and-true (eqb (getD l i 0) (f i))) ∙ ap (λ (b : Bool). eqb (getD l i 0) (f i) && b) e
-walk-back l f i n x false here e q h = sym (and-false (eqb (getD l i 0) (f i))) ∙ ap (λ (b : Bool). eqb (getD l i 0) (f i) && b) e
-  where
-    and-false : (x : Bool) → (x && false) ≡ false
-    and-false true = refl
-    and-false false = refl

@@ -4,6 +4,7 @@ pub mod Comparing
 pub mod Walking
 pub mod Rounds
 pub mod Remembering
+pub mod Fitting
 pub mod Agreeing
 pub mod Aligning
 pub mod Listed

@@ -12,7 +12,7 @@ use lib.ListN.{length, getD, drop, length-drop}
 use lib.Seq.{ext-getD, getD-drop}
 use lib.IntN.{ℤ, pos}
 use Rattle.refusals.proofs.Tests.{and-first, and-second}
-use Rattle.contours.specs.Contour.{at, isTouched, firstTouched, lastTouched, references, weakAt, steepAt}
+use Rattle.contours.specs.Contour.{at, isTouched, references, weakAt, steepAt}
 use Rattle.contours.specs.Steps.{Coordinates, Wrote}
 use Rattle.contours.proofs.References.{refs-on}
 use Rattle.outline.specs.Weak.{contourOf, steepOn, onContour, alignedAt}
@@ -20,10 +20,10 @@ use Rattle.outline.specs.Steps.{GentleAll}
 use Rattle.outline.proofs.Refusals.{EndAt, end-at}
 use Rattle.outline.proofs.Contours.{Sofar, contour-here, contour-later}
 use Rattle.weak_known.specs.Known.{sameAs, matches, beforeAt, behindAt}
-use Rattle.weak_known.specs.Walks.{contour, foundOr, beforeOn, behindOn, Says, TwoOn, CoordinatesOn, GentleOn}
+use Rattle.weak_known.specs.Walks.{contour, beforeOn, behindOn, Says, CoordinatesOn, GentleOn}
 use Rattle.weak_known.proofs.Agreeing.{AgreeAt, followed-same, steep-same}
 use Rattle.weak_known.proofs.Comparing.{same-at}
-use Rattle.weak_known.proofs.Entries.{known-on, both-found}
+use Rattle.weak_known.proofs.Entries.{known-on}
 
 -- a point of a contour reads the currents of the contour alone
 pub weak-reads : (o c d : List ℤ) (t : List ℕ) (s e i : ℕ) → s ≤ i → i < e → ((j : ℕ) → s ≤ j → at d j ≡ at c j) → weakAt o d t (contour s e) i ≡ weakAt o c t (contour s e) i
@@ -108,9 +108,3 @@ module _ (o c : List ℤ) (t es : List ℕ) (k s e : ℕ) (d : List ℤ) (q : e 
           rest = next-rest;
           aligned = λ i a. next-aligned i a (decLt i s);
         }
-
--- searches that differ
-pub two-on : (t : List ℕ) (s e f l : ℕ) → f ≡ foundOr e (firstTouched t s (e - s)) → l ≡ foundOr e (lastTouched t s (e - s)) → (f ≡ l → ⊥) → TwoOn t s e
-two-on t s e f l ef el n =
-    let r = both-found t s e (λ z. n (ef ∙ z ∙ sym el)) in
-    record { first = f; last = l; first-is = r .0 ∙ ap some (sym ef); last-is = r .1 ∙ ap some (sym el); different = n }

@@ -47,12 +47,6 @@ module _ (t : List ℕ) (s e f p : ℕ) (ef : f ≡ foundOr e (firstTouched t s 
     pub lone-is-behind : (i : ℕ) → s ≤ i → i < e → plainAt t oneOrNoneNumber i ≡ behindOn t (contour s e) i
     lone-is-behind i a b = lone-behind t s e i a b (sym ef ∙ q ∙ ep)
 
-    pub lone-said : (b h : List ℕ) (x y : Bool) → s ≤ e → x ≡ sameAs b (plainAt t oneOrNoneNumber) s (e - s) → y ≡ sameAs h (plainAt t oneOrNoneNumber) s (e - s) → (x && y) ≡ saidOn t b h s e
-    lone-said b h x y o u v =
-        let u2 = u ∙ same-by b _ _ s (e - s) (λ j i k. lone-is-before j i (omega arith)) in
-        let v2 = v ∙ same-by h _ _ s (e - s) (λ j i k. lone-is-behind j i (omega arith)) in
-        λ i. u2 i && v2 i
-
   -- more are
   module _ (n : f ≡ p → ⊥) where
     found-both : (firstTouched t s (e - s) ≡ some f) × (lastTouched t s (e - s) ≡ some p)
@@ -63,12 +57,6 @@ module _ (t : List ℕ) (s e f p : ℕ) (ef : f ≡ foundOr e (firstTouched t s 
 
     pub more-is-behind : (i : ℕ) → s ≤ i → i < e → laterAt t e f i ≡ behindOn t (contour s e) i
     more-is-behind i a b = more-behind t s e i a b f p (found-both .0) (found-both .1) n
-
-    pub more-said : (b h : List ℕ) (u v : ℕ) (x y : Bool) → s ≤ e → u ≡ p → v ≡ f → x ≡ sameAs b (priorAt t s u) s (e - s) → y ≡ sameAs h (laterAt t e v) s (e - s) → (x && y) ≡ saidOn t b h s e
-    more-said b h u v x y o eu ev a c =
-        let u2 = a ∙ ap (λ (z : ℕ). sameAs b (priorAt t s z) s (e - s)) eu ∙ same-by b _ _ s (e - s) (λ j i k. more-is-before j i (omega arith)) in
-        let v2 = c ∙ ap (λ (z : ℕ). sameAs h (laterAt t e z) s (e - s)) ev ∙ same-by h _ _ s (e - s) (λ j i k. more-is-behind j i (omega arith)) in
-        λ i. u2 i && v2 i
 
 -- ---- the loop over contours: those up to the end k are passed, the next starts at s
 pub record Passed (t es : List ℕ) (s k : ℕ) : Type 0 where

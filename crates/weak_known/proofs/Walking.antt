@@ -1,5 +1,5 @@
 -- One turn of a walk along a contour.
-use mathlib.Core.Path.{_≡_, refl, sym, _∙_, ap, subst}
+use mathlib.Core.Path.{_≡_, refl, _∙_, ap}
 use mathlib.Core.Bool.{Bool, true, false, cond, _&&_}
 use mathlib.Core.List.{List}
 use mathlib.Core.Logic.{_⊎_, inl, inr}
@@ -13,8 +13,7 @@ use lib.Seq.{getD-set-same, getD-set-other}
 use Rattle.contours.specs.Contour.{isTouched, firstTouched, lastTouched}
 use Rattle.weak_known.specs.Known.{sameAs, touchedNumber}
 use Rattle.weak_known.specs.Walks.{foundOr, priorAt, laterAt, Put}
-use Rattle.weak_known.proofs.Comparing.{walk-on, walk-back, same-at}
-use Rattle.weak_known.proofs.Entries.{prior-next, prior-first, later-next, later-last}
+use Rattle.weak_known.proofs.Comparing.{walk-on}
 
 -- ---- comparing
 -- before the first turn
@@ -29,39 +28,6 @@ walk-to l f s i x before here h e q k =
     let a : s + (i - s) ≡ i = omega arith in
     let b : i + 1 - s ≡ i - s + 1 = omega arith in
     rw b (walk-on l f s (i - s) x before here e (rw a q) (λ z. rw a (k z)))
-
--- backwards, from i up to e, to the point in front of i
-pub walk-from : (l : List ℕ) (f : ℕ → ℕ) (e i x : ℕ) (before here : Bool) → 0 < i → i ≤ e → before ≡ sameAs l f i (e - i) → here ≡ eqb (getD l (i - 1) 0) x → (before ≡ true → x ≡ f (i - 1))
-    → (before && here) ≡ sameAs l f (i - 1) (e - (i - 1))
-walk-from l f e i x before here o h q r k =
-    let a : suc (i - 1) ≡ i = omega arith in
-    let b : e - (i - 1) ≡ suc (e - i) = omega arith in
-    rw b (walk-back l f (i - 1) (e - i) x before here (rw a q) r k)
-
--- the number of i, by the entry in front of it
-pub prior-step : (l t : List ℕ) (s last i : ℕ) → s < i → sameAs l (priorAt t s last) s (i - s) ≡ true
-    → cond (isTouched t i) touchedNumber (cond (isTouched t (i - 1)) (i - 1) (getD l (i - 1) 0)) ≡ priorAt t s last i
-prior-step l t s last i h e =
-    let a : suc (i - 1) ≡ i = omega arith in
-    let g = same-at l (priorAt t s last) s (i - s) e (i - 1) (omega arith) (omega arith) in
-    rw g (subst (λ (x : ℕ). cond (isTouched t x) touchedNumber (cond (isTouched t (i - 1)) (i - 1) (priorAt t s last (i - 1))) ≡ priorAt t s last x) a (sym (prior-next t s last (i - 1) (omega arith))))
-
--- the number of the point in front of i, by the entry of i
-pub later-step : (l t : List ℕ) (e first i : ℕ) → 0 < i → i < e → sameAs l (laterAt t e first) i (e - i) ≡ true
-    → cond (isTouched t (i - 1)) touchedNumber (cond (isTouched t i) i (getD l i 0)) ≡ laterAt t e first (i - 1)
-later-step l t e first i o h q =
-    let a : suc (i - 1) ≡ i = omega arith in
-    let g = same-at l (laterAt t e first) i (e - i) q i (omega arith) (omega arith) in
-    rw g (subst (λ (x : ℕ). cond (isTouched t (i - 1)) touchedNumber (cond (isTouched t x) x (laterAt t e first x)) ≡ laterAt t e first (i - 1)) a (sym (later-next t e first (i - 1) (omega arith))))
-
--- the first entry of a walk
-pub prior-start : (l t : List ℕ) (s last x : ℕ) (here : Bool) → here ≡ eqb (getD l s 0) x → x ≡ cond (isTouched t s) touchedNumber last → here ≡ sameAs l (priorAt t s last) s (s + 1 - s)
-prior-start l t s last x here q e = walk-to l (priorAt t s last) s s x true here (omega arith) (walk-none l (priorAt t s last) s) q (λ _. e ∙ sym (prior-first t s last))
-
-pub later-start : (l t : List ℕ) (e first x : ℕ) (here : Bool) → 0 < e → here ≡ eqb (getD l (e - 1) 0) x → x ≡ cond (isTouched t (e - 1)) touchedNumber first
-    → here ≡ sameAs l (laterAt t e first) (e - 1) (e - (e - 1))
-later-start l t e first x here o q g =
-    walk-from l (laterAt t e first) e e x true here o (omega arith) (walk-none l (laterAt t e first) e) q (λ _. g ∙ sym (later-last t e first (e - 1) (omega arith)))
 
 -- ---- writing
 pub put-none : (f : ℕ → ℕ) (a : ℕ) (l : List ℕ) → Put f a a l l
@@ -133,14 +99,6 @@ unfolding laterAt
 later-is t e first i o = let b : suc (i - 1) ≡ i = omega arith in rw b
 
 -- ---- the same, as the code comes to it
-pub prior-turn : (l t : List ℕ) (s last i x y : ℕ) → s < i → y ≡ cond (isTouched t i) touchedNumber x → x ≡ cond (isTouched t (i - 1)) (i - 1) (getD l (i - 1) 0)
-    → sameAs l (priorAt t s last) s (i - s) ≡ true → y ≡ priorAt t s last i
-prior-turn l t s last i x y h a b e = a ∙ ap (cond (isTouched t i) touchedNumber) b ∙ prior-step l t s last i h e
-
-pub later-turn : (l t : List ℕ) (e first i x y : ℕ) → 0 < i → i < e → y ≡ cond (isTouched t (i - 1)) touchedNumber x → x ≡ cond (isTouched t i) i (getD l i 0)
-    → sameAs l (laterAt t e first) i (e - i) ≡ true → y ≡ laterAt t e first (i - 1)
-later-turn l t e first i x y o h a b q = a ∙ ap (cond (isTouched t (i - 1)) touchedNumber) b ∙ later-step l t e first i o h q
-
 pub prior-number : (t : List ℕ) (s last i x held : ℕ) → x ≡ cond (isTouched t i) touchedNumber held → held ≡ foundOr last (lastTouched t s (i - s)) → x ≡ priorAt t s last i
 unfolding priorAt
 prior-number t s last i x held a b = a ∙ ap (cond (isTouched t i) touchedNumber) b

@@ -1,14 +1,15 @@
 -- What the walks of one contour promise: a contour is from s up to e.
 use mathlib.Core.Path.{_≡_}
-use mathlib.Core.Bool.{Bool, false, cond, _&&_}
+use mathlib.Core.Bool.{Bool, true, false, cond, _&&_}
 use mathlib.Core.List.{List}
 use mathlib.Core.Option.{Option, some, none}
-use Prim.Native.Nat.{ℕ, suc, _-_, _≤_, _<_}
+use Prim.Native.Nat.{ℕ, zero, suc, _+_, _-_, _≤_, _<_}
+use lib.Dec.{leb, ltb, eqb}
 use lib.ListN.{length, getD}
 use lib.IntN.{ℤ}
 use Rattle.contours.specs.Steps.{Coordinate}
 use Rattle.contours.specs.Contour.{at, Contour, isTouched, firstTouched, lastTouched, references, steepAt}
-use Rattle.weak_known.specs.Known.{Known, touched, byTwo, beforeOf, behindOf, sameAs, touchedNumber}
+use Rattle.weak_known.specs.Known.{Known, touched, byTwo, beforeOf, behindOf, sameAs, touchedNumber, oneOrNoneNumber}
 
 abbrev pub contour : ℕ → ℕ → Contour
 contour s e = record { start = s; end = e }
@@ -44,6 +45,54 @@ laterAt t e first i = cond (isTouched t i) touchedNumber (foundOr first (firstTo
 abbrev pub saidOn : List ℕ → List ℕ → List ℕ → ℕ → ℕ → Bool
 saidOn t b h s e = sameAs b (beforeOn t (contour s e)) s (e - s) && sameAs h (behindOn t (contour s e)) s (e - s)
 
+-- ---- the match of one contour
+-- what the entry v of the point i shows its neighbours: i itself where it says that i is touched, or v
+unfoldable pub shows : ℕ → ℕ → ℕ
+shows v i = cond (eqb v touchedNumber) i v
+
+-- the first and the last touched point of the contour from s up to e, as the entries at its ends show them
+abbrev pub firstShown : List ℕ → ℕ → ℕ
+firstShown h s = shows (getD h s 0) s
+
+abbrev pub lastShown : List ℕ → ℕ → ℕ
+lastShown b e = shows (getD b (e - 1) 0) (e - 1)
+
+-- they are two points of it
+unfoldable pub showTwo : List ℕ → List ℕ → ℕ → ℕ → Bool
+showTwo b h s e = leb s (firstShown h s) && (ltb (firstShown h s) (lastShown b e) && ltb (lastShown b e) e)
+
+-- the first is touched, and the entries of the contour's ends refer to them
+unfoldable pub seamHolds : List ℕ → List ℕ → List ℕ → ℕ → ℕ → Bool
+seamHolds t b h s e =
+    isTouched t (firstShown h s)
+    && (eqb (getD b s 0) (cond (isTouched t s) touchedNumber (lastShown b e)) && eqb (getD h (e - 1) 0) (cond (isTouched t (e - 1)) touchedNumber (firstShown h s)))
+
+-- the entries p and u of the point j, and q and w of i behind it, whose mark is m, fit each other
+unfoldable pub fits : ℕ → ℕ → ℕ → ℕ → ℕ → ℕ → ℕ → Bool
+fits m p q u w j i = eqb q (cond (ltb 0 m) touchedNumber (shows p j)) && eqb u (cond (eqb p touchedNumber) touchedNumber (shows w i))
+
+-- those of the point j and of the one behind it
+unfoldable pub fitsAt : List ℕ → List ℕ → List ℕ → ℕ → Bool
+fitsAt t b h j = fits (getD t (suc j) 0) (getD b j 0) (getD b (suc j) 0) (getD h j 0) (getD h (suc j) 0) j (suc j)
+
+-- f holds of the n numbers from i on
+unfoldable pub allFrom : (ℕ → Bool) → ℕ → ℕ → Bool
+allFrom f i zero = true
+allFrom f i (suc n) = f i && allFrom f (suc i) n
+
+-- the weight of a point whose mark is m and whose entries are p and u, where its contour has one touched point or none: 2 where an entry is wrong, else 1 of a touched one
+unfoldable pub weight : ℕ → ℕ → ℕ → ℕ
+weight m p u = cond (eqb p (cond (ltb 0 m) touchedNumber oneOrNoneNumber) && eqb u (cond (ltb 0 m) touchedNumber oneOrNoneNumber)) (cond (ltb 0 m) 1 0) 2
+
+unfoldable pub weightAt : List ℕ → List ℕ → List ℕ → ℕ → ℕ
+weightAt t b h i = weight (getD t i 0) (getD b i 0) (getD h i 0)
+
+-- the sum of f over the n numbers from i on
+unfoldable pub sumFrom : (ℕ → ℕ) → ℕ → ℕ → ℕ
+sumFrom f i zero = 0
+sumFrom f i (suc n) = f i + sumFrom f (suc i) n
+
+-- ---- what is written
 -- m is l with f i at each place i from a on that is in front of b
 pub record Put (f : ℕ → ℕ) (a b : ℕ) (l m : List ℕ) : Type 0 where
   pub len : length m ≡ length l

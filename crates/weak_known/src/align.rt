@@ -1,7 +1,6 @@
 // Accepted outlines aligned by lists that match: a contour with two or more touched points from stretch to stretch, any other by its marks.
+use super::contour::show_two;
 use super::round::align_round;
-use super::search::first_touched;
-use super::search::last_touched;
 use contours::contour::align_contour;
 use outline::accept::wide;
 ghost use mathlib.Core.Path.{_≡_};
@@ -28,9 +27,7 @@ pub fn align_listed(
     let mut k: usize = 0;
     while k < ends.len() {
         let end = wide(ends[k]) + 1;
-        let first = first_touched(touched, start, end);
-        let last = last_touched(touched, start, end);
-        if first == last {
+        if !show_two(before, behind, start, end) {
             align_contour(
                 &originals[start..end],
                 &mut currents[start..end],

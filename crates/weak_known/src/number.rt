@@ -4,6 +4,7 @@ ghost use mathlib.Core.Bool.{cond};
 ghost use lib.Dec.{ltb, eqb};
 ghost use Prim.Native.Nat.{_≤_};
 ghost use Rattle.weak_known.specs.Known.{touchedNumber};
+ghost use Rattle.weak_known.specs.Walks.{shows};
 
 // The numbers of a point that has not two references: it is touched, it has no contour, its contour has one touched point or none.
 pub const TOUCHED: u16 = 65535;
@@ -40,6 +41,27 @@ pub fn handed(mark: u8, i: usize, v: u16) -> u16
 {
     if 0 < mark {
         return narrow(i);
+    }
+    v
+}
+
+// What the entry of the point i shows its neighbours: i itself where it says that i is touched, or what it says.
+pub fn shown(entry: u16, i: usize) -> u16
+    requires { ⌜ i ≤ 65535 ⌝ }
+    ensures { λ r. ⌜ r ≡ shows entry i ⌝ }
+{
+    if entry == TOUCHED {
+        return narrow(i);
+    }
+    entry
+}
+
+// A touched point's number where the entry says that its point is touched, or v.
+pub fn number_by(entry: u16, v: u16) -> u16
+    ensures { λ r. ⌜ r ≡ cond (eqb entry touchedNumber) touchedNumber v ⌝ }
+{
+    if entry == TOUCHED {
+        return entry;
     }
     v
 }

@@ -1,13 +1,15 @@
 -- `weak_known::align::align_listed` meets its contract. The invariant: the contours passed are aligned, and nothing behind them is written. Assumes nothing.
 use borrow.Author.Needs.{needs}
 use native.Mathlib.Omega.{arith}
-use mathlib.Core.Path.{_≡_, _∙_}
+use borrow.Author.Tests.{not-false}
+use mathlib.Core.Path.{_≡_, sym, _∙_}
 use Prim.Native.Nat.{_+_, _-_, _≤_, _<_}
 use lib.ListN.{length}
 use Rattle.outline.proofs.Refusals.{end-at}
 use Rattle.outline.proofs.Contours.{Sofar, sofar-none, sofar-next, sofar-all, part-length, coordinates-part}
 use Rattle.outline.proofs.Steepness.{own-gentle}
-use Rattle.weak_known.proofs.Listed.{low, high, coordinates-on, gentle-on, says, sofar-round, two-on}
+use Rattle.weak_known.proofs.Listed.{low, high, coordinates-on, gentle-on, says, sofar-round}
+use Rattle.weak_known.proofs.Fitting.{shown-two}
 use Rattle.weak_known.proofs.align.align_listed.Statement.{statement}
 use Rattle.weak_known.proofs.align.align_listed.Tie as tie
 
@@ -49,48 +51,48 @@ loop-holds c = sofar-none _ _ _ _ (c .before .before .before .before .pre .0 .en
 add-end : tie.Need-add-end Inv-loop μ-loop
 add-end c = omega (arith, within c, entry c .good)
 
-first-touched-requires : tie.Need-first-touched-requires Inv-loop μ-loop
-first-touched-requires c κs = let x = within c in (omega (arith, x .low), omega (arith, x .high, x .marks-length))
-
-last-touched-requires : tie.Need-last-touched-requires Inv-loop μ-loop
-last-touched-requires c κs = let x = within (c .before) in (omega (arith, x .low), omega (arith, x .high, x .marks-length))
+show-two-requires : tie.Need-show-two-requires Inv-loop μ-loop
+show-two-requires c κs =
+    let x = within c in
+    let r = entry c .pre .1 .1 in
+    (omega (arith, x .low), omega (arith, x .high, r .0), omega (arith, x .high, r .1), omega (arith, x .high, x .points))
 
 mul-align-contour : tie.Need-mul-align-contour Inv-loop μ-loop
-mul-align-contour c = let w = c .before .before .before in omega (arith, within w, entry w .good)
+mul-align-contour c = let w = c .before .before in omega (arith, within w, entry w .good)
 
 sub-align-contour : tie.Need-sub-align-contour Inv-loop μ-loop
-sub-align-contour c = let w = c .before .before .before in omega (arith, within w, entry w .good)
+sub-align-contour c = let w = c .before .before in omega (arith, within w, entry w .good)
 
 part-align-contour-start : tie.Need-part-align-contour-start Inv-loop μ-loop
-part-align-contour-start c = let w = c .before .before .before in omega (arith, within w, entry w .good)
+part-align-contour-start c = let w = c .before .before in omega (arith, within w, entry w .good)
 
 part-align-contour-end : tie.Need-part-align-contour-end Inv-loop μ-loop
-part-align-contour-end c = let w = c .before .before .before in omega (arith, within w, entry w .good)
+part-align-contour-end c = let w = c .before .before in omega (arith, within w, entry w .good)
 
 mul-align-contour-2 : tie.Need-mul-align-contour-2 Inv-loop μ-loop
-mul-align-contour-2 c = let w = c .before .before .before .before in omega (arith, within w, entry w .good)
+mul-align-contour-2 c = let w = c .before .before .before in omega (arith, within w, entry w .good)
 
 sub-align-contour-2 : tie.Need-sub-align-contour-2 Inv-loop μ-loop
-sub-align-contour-2 c = let w = c .before .before .before .before in omega (arith, within w, entry w .good)
+sub-align-contour-2 c = let w = c .before .before .before in omega (arith, within w, entry w .good)
 
 part-align-contour-start-2 : tie.Need-part-align-contour-start-2 Inv-loop μ-loop
-part-align-contour-start-2 c = let w = c .before .before .before .before in omega (arith, within w, entry w .good)
+part-align-contour-start-2 c = let w = c .before .before .before in omega (arith, within w, entry w .good)
 
 part-align-contour-end-2 : tie.Need-part-align-contour-end-2 Inv-loop μ-loop
-part-align-contour-end-2 c = let w = c .before .before .before .before in omega (arith, within w, entry w .good)
+part-align-contour-end-2 c = let w = c .before .before .before in omega (arith, within w, entry w .good)
 
 sub-align-contour-3 : tie.Need-sub-align-contour-3 Inv-loop μ-loop
-sub-align-contour-3 c = let w = c .before .before .before .before .before in omega (arith, within w, entry w .good)
+sub-align-contour-3 c = let w = c .before .before .before .before in omega (arith, within w, entry w .good)
 
 part-align-contour-start-3 : tie.Need-part-align-contour-start-3 Inv-loop μ-loop
-part-align-contour-start-3 c = let w = c .before .before .before .before .before in omega (arith, within w, entry w .good)
+part-align-contour-start-3 c = let w = c .before .before .before .before in omega (arith, within w, entry w .good)
 
 part-align-contour-end-3 : tie.Need-part-align-contour-end-3 Inv-loop μ-loop
-part-align-contour-end-3 c = let w = c .before .before .before .before .before in omega (arith, within w, entry w .good)
+part-align-contour-end-3 c = let w = c .before .before .before .before in omega (arith, within w, entry w .good)
 
 align-contour-requires : tie.Need-align-contour-requires Inv-loop μ-loop
 align-contour-requires c κs =
-    let w = c .before .before .before .before .before .before in
+    let w = c .before .before .before .before .before in
     let s = entry w in
     let l = lo w .loop in
     let n = w .wide .result + 1 - l .start in (
@@ -107,7 +109,7 @@ loop-less c = omega arith
 
 loop-again : tie.Need-loop-again Inv-loop μ-loop
 loop-again c =
-    let w = c .before .before .before .before .before .before .before .before in
+    let w = c .before .before .before .before .before .before .before in
     let s = entry w in
     let l = lo w .loop in
     let a = s .args in
@@ -118,7 +120,7 @@ align-round-requires : tie.Need-align-round-requires Inv-loop μ-loop
 align-round-requires c κs =
     let h = c .before in
     let f = h .before in
-    let w = f .before .before in
+    let w = f .before in
     let s = entry w in
     let l = lo w .loop in
     let a = s .args in
@@ -126,7 +128,8 @@ align-round-requires c κs =
     let t = a .touched .now in
     let es = a .ends .now in
     let m = w .before .before .loop-test .taken in
-    let x = within w in (
+    let x = within w in
+    let said = says o (a .currents .now) t es (l .k) (l .start) (w .wide .result) (l .currents) (w .wide .ensures) m (l .inv) (a .before .now) (a .behind .now) (x .marks-length) (s .pre .1 .1 .2) in (
       (x .now-length, x .marks-length, s .pre .1 .1 .0, s .pre .1 .1 .1),
       (
         (omega (arith, x .low), omega (arith, x .high), omega (arith, x .high, x .points)),
@@ -135,8 +138,8 @@ align-round-requires c κs =
           (
             gentle-on o (a .currents .now) t es (l .k) (l .start) (w .wide .result) (l .currents) (w .wide .ensures) m (l .inv) (s .pre .1 .0),
             (
-              two-on t (l .start) (w .wide .result + 1) _ _ (f .before .first-touched .ensures) (f .last-touched .ensures) (h .if1 .left),
-              says o (a .currents .now) t es (l .k) (l .start) (w .wide .result) (l .currents) (w .wide .ensures) m (l .inv) (a .before .now) (a .behind .now) (x .marks-length) (s .pre .1 .1 .2),
+              shown-two t (l .start) (w .wide .result + 1) (omega (arith, x .low)) (omega (arith, x .high, x .points)) (a .before .now) (a .behind .now) (sym (f .show-two .ensures) ∙ not-false _ (h .if1 .left)) said,
+              said,
             ),
           ),
         ),
@@ -148,7 +151,7 @@ loop-less-2 c = omega arith
 
 loop-again-2 : tie.Need-loop-again-2 Inv-loop μ-loop
 loop-again-2 c =
-    let w = c .before .before .before .before .before .before in
+    let w = c .before .before .before .before .before in
     let s = entry w in
     let l = lo w .loop in
     let a = s .args in
@@ -187,8 +190,7 @@ align-listed-spec =
     shared-slice-read-wide
     wide-requires
     add-end
-    first-touched-requires
-    last-touched-requires
+    show-two-requires
     mul-align-contour
     sub-align-contour
     part-align-contour-start
