@@ -2,7 +2,7 @@
 use mathlib.Core.Path.{_≡_, refl, sym, ap, _∙_}
 use mathlib.Core.Bool.{Bool, true, _&&_}
 use mathlib.Core.List.{List}
-use Prim.Native.Nat.{ℕ, zero, suc, min, _≤_, _<_}
+use Prim.Native.Nat.{ℕ, min}
 use native.Mathlib.Omega.{arith}
 use lib.IntN.{ℤ, pos, negℤ}
 use lib.Signed.{leZ}
@@ -19,8 +19,9 @@ use Rattle.axis.specs.declared.segment.Segments.{Segments}
 use Rattle.axis.specs.Edge.{edgeAt}
 use Rattle.axis.specs.Segment.{segmentAt}
 use Rattle.axis.specs.Limits.{mostEdges, mostSegments, mostUnits, mostPos}
-use Rattle.axis.specs.Refusals.{within, blueHolds, every, everyEdge, everySegment, edgeNumbers, edgesNumbers, edgesInRange}
+use Rattle.axis.specs.Refusals.{within, blueHolds, everyEdge, everySegment, edgeNumbers, edgesNumbers, edgesInRange}
 use Rattle.axis.proofs.Tests.{every-at}
+use Rattle.mend.proofs.Plan.{every-same}
 use Rattle.building.specs.Building.{scaledHolds, productsHold}
 
 -- document 01's limit of `opos`, `fitted` and building's product before request #109
@@ -50,12 +51,6 @@ within-more z e =
     let low = le-true (negℤ (pos oldUnits)) z (and-first (leZ (negℤ (pos oldUnits)) z) (leZ z (pos oldUnits)) e) in
     let high = le-true z (pos oldUnits) (and-second (leZ (negℤ (pos oldUnits)) z) (leZ z (pos oldUnits)) e) in
     rw (to-le-true (negℤ (pos mostUnits)) z (omega (arith, low)), to-le-true z (pos mostUnits) (omega (arith, high)))
-
--- tests that say the same of each say the same of every one
-every-same : (p q : ℕ → Bool) (n : ℕ) → ((i : ℕ) → i < n → p i ≡ q i) → every p n ≡ every q n
-unfolding every
-every-same p q zero h = refl
-every-same p q (suc n) h = λ k. every-same p q n (λ i g. h i (omega arith)) k && h n (omega arith) k
 
 -- ---- edges
 -- opos and a present zone's fitted are within the old limit

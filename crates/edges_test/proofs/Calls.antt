@@ -1,15 +1,14 @@
 -- A call over lent edges, by what their test tells.
 use mathlib.Core.Path.{_≡_, refl, sym, ap, _∙_}
-use mathlib.Core.Bool.{Bool, true, cond, _&&_}
-use mathlib.Core.List.{List, [], _∷_}
+use mathlib.Core.Bool.{Bool, true, cond}
+use mathlib.Core.List.{List}
 use Prim.Native.Nat.{ℕ, zero, suc, _<_, _≤_}
 use native.Mathlib.Omega.{arith}
 use borrow.Author.Tests.{leb-true}
 use lib.Dec.{eqb, leb}
 use lib.IntN.{ℤ}
-use Rattle.refusals.specs.Refusal.{Test, _unless_, badIndex, outOfRange, refusal, answered}
+use Rattle.refusals.specs.Refusal.{Test, refusal, answered}
 use Rattle.refusals.proofs.Tests.{and-first, and-second, all-hold}
-use Rattle.axis.specs.declared.edge.Axis.{Axis}
 use Rattle.axis.specs.Limits.{mostEdges, mostPos}
 use Rattle.axis.specs.Refusals.{edgesIndices, edgesNumbers}
 use Rattle.axis.specs.Accepted.{AxisWithin}
@@ -18,6 +17,7 @@ use Rattle.words.specs.Edge.{edgesIn}
 use Rattle.shape.specs.Shape.{edgesShown}
 use Rattle.lent.specs.Lent.{Lent, refusedOr, edgesFront, edgesOf}
 use Rattle.lent.proofs.Kept.{passed, not-new}
+use Rattle.lent.proofs.Tested.{tested-holds}
 use Rattle.edges_in.specs.Whole.{Whole}
 use Rattle.edges_in.proofs.Wholes.{shown-whole, edges-len}
 use Rattle.edges_test.specs.Held.{tested}
@@ -58,19 +58,6 @@ module _ (fronts : List Test) (t : ℕ) {r : ℕ} (e : r ≡ refusedOr fronts t)
       record { number = z ∙ numbered; held = q ∙ sym (ap (λ (k : ℕ). new (answered k refused result)) (same (p .0) ∙ p .1)) }
 
 -- ---- no refusal
--- what the tests tell then
-record Holds (axis : Axis) (own : ℕ) (named passed : Bool) : Type 0 where
-  right : own ≡ 0
-  indexed : (edgesIndices axis && named) ≡ true
-  in-range : (edgesNumbers axis && passed) ≡ true
-
-tested-holds : (axis : Axis) (own : ℕ) (named near : Bool) → tested axis own named near ≡ 0 → Holds axis own named near
-unfolding tested
-tested-holds axis zero named near e =
-    let t = all-hold (badIndex unless (edgesIndices axis && named) ∷ outOfRange unless (edgesNumbers axis && near) ∷ []) refl e in
-    record { right = refl; indexed = t .0; in-range = t .1 .0 }
-tested-holds axis (suc k) named near e = absurd (omega (arith, e))
-
 -- what a call may use then: words that can be read and written in place, accepted edges, and its own tests
 pub record Ready (ws : List ℤ) (own : ℕ) (named near : Bool) : Type 0 where
   pub whole : Whole ws
@@ -95,13 +82,13 @@ module _ (ws : List ℤ) (others : Bool) (own : ℕ) (named near : Bool) {r : �
   ready h =
       let q = front-holds h in
       let t = all-hold (edgesFront ws others) refl q in
-      let g = tested-holds (edgesOf ws) own named near (none-refused h) in
+      let g = tested-holds own _ _ (none-refused h) in
       record {
         whole = shown-whole ws (and-first (edgesShown ws) others (t .1 .1 .0)) (leb-true (edgesIn ws) mostEdges (t .1 .0));
-        axis = axis-within (edgesOf ws) (short q) (and-first _ named (g .indexed)) (and-first _ near (g .in-range));
+        axis = axis-within (edgesOf ws) (short q) (and-first _ named (g .indices)) (and-first _ near (g .numbers));
         right = g .right;
-        named-hold = and-second (edgesIndices (edgesOf ws)) named (g .indexed);
-        near-hold = and-second (edgesNumbers (edgesOf ws)) near (g .in-range);
+        named-hold = and-second (edgesIndices (edgesOf ws)) named (g .indices);
+        near-hold = and-second (edgesNumbers (edgesOf ws)) near (g .numbers);
       }
 
   -- none by the tests of a call, which are those

@@ -1,6 +1,6 @@
 -- The tests of a call in document 01's order are those of the answer to lent edges.
 use mathlib.Core.Path.{_≡_, refl, ap, _∙_}
-use mathlib.Core.Bool.{Bool, true, false, cond, _&&_}
+use mathlib.Core.Bool.{Bool, true, cond}
 use mathlib.Core.List.{List, [], _∷_, _++_}
 use Prim.Native.Nat.{ℕ, _<_}
 use borrow.Author.Tests.{lt-ltb}
@@ -10,15 +10,9 @@ use Rattle.refusals.proofs.Tests.{numbered, own-first}
 use Rattle.axis.specs.declared.edge.Axis.{Axis}
 use Rattle.axis.specs.Limits.{mostEdges}
 use Rattle.axis.specs.Refusals.{edgesIndices, edgesNumbers, edgesShort, edgesIndexed, edgesInRange}
+use Rattle.lent.specs.Held.{testedOf}
+use Rattle.lent.proofs.Tested.{in-order}
 use Rattle.edges_test.specs.Held.{tested}
-
--- two tests by one number are one
-in-order : (i n m p : Bool)
-    → cond i (cond n (cond m (cond p 0 outOfRange) outOfRange) badIndex) badIndex ≡ cond (i && n) (cond (m && p) 0 outOfRange) badIndex
-in-order false n m p = refl
-in-order true false m p = refl
-in-order true true false p = refl
-in-order true true true p = refl
 
 module _ (axis : Axis) (named passed : Bool) (short : leb (axis .len) mostEdges ≡ true) where
   abbrev rest : List Test
@@ -26,7 +20,7 @@ module _ (axis : Axis) (named passed : Bool) (short : leb (axis .len) mostEdges 
 
   -- a call by the tests of its parameters
   pub call-tests : (own : List Test) → numbered own ≡ true → refusal (edgesShort axis ∷ (own ++ rest)) ≡ tested axis (refusal own) named passed
-  unfolding refusal tested
+  unfolding refusal testedOf
   call-tests own e =
       ap (λ (t : Bool). cond t (refusal (own ++ rest)) tooLong) short
       ∙ own-first own rest e

@@ -5,19 +5,21 @@ use axis::limits::MOST_EDGES;
 use axis::limits::MOST_POS;
 use axis::limits::MOST_UNITS;
 use lent::shown::both;
-use shape::field::CHOICE;
-use shape::field::DIRECTION;
-use shape::field::FLAGS;
-use shape::field::INDEX;
+use shape::element::EDGE_BLUE;
+use shape::element::EDGE_DIR;
+use shape::element::EDGE_FIRST;
+use shape::element::EDGE_FLAGS;
+use shape::element::EDGE_FPOS;
+use shape::element::EDGE_LAST;
+use shape::element::EDGE_MARK;
 use shape::field::LINK;
-use shape::field::MARK;
 use shape::field::Range;
-use shape::field::SHORT;
 use shape::field::in_at;
 use words::edge::BLUE_PLACE;
 use words::edge::DIR_PLACE;
 use words::edge::EDGE_WORDS;
 use words::edge::FIRST_PLACE;
+use words::edge::FITTED_PLACE;
 use words::edge::FLAGS_PLACE;
 use words::edge::LAST_PLACE;
 use words::edge::LINK_PLACE;
@@ -26,16 +28,20 @@ use words::edge::OPOS_PLACE;
 use words::edge::POS_PLACE;
 use words::edge::SERIF_PLACE;
 use words::field::choice_of;
+use words::word::word_in;
 ghost use mathlib.Core.Path.{_≡_};
 ghost use mathlib.Core.Bool.{true};
-ghost use Prim.Native.Nat.{_<_, _≤_, _+_};
+ghost use Prim.Native.Nat.{_≤_, _+_};
 ghost use lib.ListN.{length};
 ghost use lib.IntN.{pos};
 ghost use Rattle.signed.specs.Equality.{eqZ};
 ghost use Rattle.axis.specs.Limits.{mostSegments};
 ghost use Rattle.words.specs.Word.{wordAt};
-ghost use Rattle.words.specs.Edge.{edgeSize};
+ghost use Rattle.words.specs.Edge.{edgeSize, bluePlace, fittedPlace};
 ghost use Rattle.edges_test.specs.Held.{zoneTest, linksTo, FrontHeld, BackHeld, Held};
+
+// The place of an edge's original position in font units.
+const FPOS_PLACE: usize = 0;
 
 // The original positions that every call accepts, and the fitted ones of zones.
 const UNITS: Range = Range {
@@ -65,17 +71,15 @@ fn is_zero(word: i32) -> bool
     word == 0
 }
 
-// Whether two words are those of a zone that every call accepts, or of none.
+// Whether the zone of an edge is one that every call accepts, or none.
 fn zone_in(words: &[i32], at: usize) -> bool
-    requires { ⌜ at + 1 < length (now words) ⌝ }
-    ensures { λ r. ⌜ r ≡ zoneTest (wordAt (now (words .entry)) at) (wordAt (now (words .entry)) (at + 1)) ⌝ }
+    requires { ⌜ at + edgeSize ≤ length (now words) ⌝ }
+    ensures { λ r. ⌜ r ≡ zoneTest (wordAt (now (words .entry)) (at + bluePlace)) (wordAt (now (words .entry)) (at + fittedPlace)) ⌝ }
 {
-    let present = words[at];
-    if choice_of(present) {
-        return in_at(words, at + 1, UNITS);
+    if choice_of(word_in(words, at + BLUE_PLACE)) {
+        return in_at(words, at + FITTED_PLACE, UNITS);
     }
-    let fitted = words[at + 1];
-    is_zero(fitted)
+    is_zero(word_in(words, at + FITTED_PLACE))
 }
 
 // Whether the first four words of an edge are accepted: tested side by side, and not one behind the other.
@@ -83,10 +87,10 @@ fn front_holds(words: &[i32], at: usize) -> bool
     requires { ⌜ at + edgeSize ≤ length (now words) ⌝ }
     ensures { λ r. ⌜ (r ≡ true → FrontHeld (now (words .entry)) at) ⌝ }
 {
-    let fpos = in_at(words, at, SHORT);
+    let fpos = in_at(words, at + FPOS_PLACE, EDGE_FPOS);
     let opos = in_at(words, at + OPOS_PLACE, UNITS);
     let pos = in_at(words, at + POS_PLACE, POS);
-    let flags = in_at(words, at + FLAGS_PLACE, FLAGS);
+    let flags = in_at(words, at + FLAGS_PLACE, EDGE_FLAGS);
     both(both(fpos, opos), both(pos, flags))
 }
 
@@ -95,13 +99,13 @@ fn back_holds(words: &[i32], at: usize, links: Range) -> bool
     requires { ⌜ at + edgeSize ≤ length (now words) ⌝ }
     ensures { λ r. ⌜ (r ≡ true → BackHeld (now (words .entry)) at links) ⌝ }
 {
-    if !in_at(words, at + DIR_PLACE, DIRECTION) {
+    if !in_at(words, at + DIR_PLACE, EDGE_DIR) {
         return false;
     }
-    if !in_at(words, at + BLUE_PLACE, CHOICE) {
+    if !in_at(words, at + BLUE_PLACE, EDGE_BLUE) {
         return false;
     }
-    if !zone_in(words, at + BLUE_PLACE) {
+    if !zone_in(words, at) {
         return false;
     }
     if !in_at(words, at + LINK_PLACE, links) {
@@ -110,13 +114,13 @@ fn back_holds(words: &[i32], at: usize, links: Range) -> bool
     if !in_at(words, at + SERIF_PLACE, links) {
         return false;
     }
-    if !in_at(words, at + FIRST_PLACE, INDEX) {
+    if !in_at(words, at + FIRST_PLACE, EDGE_FIRST) {
         return false;
     }
-    if !in_at(words, at + LAST_PLACE, INDEX) {
+    if !in_at(words, at + LAST_PLACE, EDGE_LAST) {
         return false;
     }
-    in_at(words, at + MARK_PLACE, MARK)
+    in_at(words, at + MARK_PLACE, EDGE_MARK)
 }
 
 // Whether the words are those of edges, and every call accepts them.

@@ -9,8 +9,8 @@ use lib.Dec.{eqb, leb}
 use lib.ListN.{length}
 use lib.IntN.{ℤ, pos}
 use Rattle.signed.proofs.Choices.{cond-true, cond-false}
-use Rattle.refusals.specs.Refusal.{Test, _unless_, tooLong, badParameter, badIndex, outOfRange, noRoom, refusal, answered}
-use Rattle.refusals.proofs.Tests.{Tested, and-first, and-second, all-hold, own-first}
+use Rattle.refusals.specs.Refusal.{Test, _unless_, tooLong, badParameter, outOfRange, noRoom, refusal, answered}
+use Rattle.refusals.proofs.Tests.{Tested, and-second, all-hold, own-first}
 use Rattle.axis.specs.declared.edge.Axis.{Axis}
 use Rattle.axis.specs.declared.segment.Segments.{Segments}
 use Rattle.axis.specs.Accepted.{SegmentsWithin}
@@ -30,16 +30,18 @@ use Rattle.building.proofs.Handing as Handing
 use Rattle.words.specs.Field.{choiceOf, dimensionOf, directionOf, groupOf}
 use Rattle.words.specs.Word.{written, joined}
 use Rattle.words.specs.Edge.{tableSize, edgeWordsAt}
-use Rattle.words.specs.Segment.{segmentSize, segmentsIn, flatSegments, segmentsOver}
+use Rattle.words.specs.Segment.{segmentSize, segmentsIn, flatSegments}
 use Rattle.shape.specs.Shape.{isIn, direction}
 use Rattle.lent.specs.Lent.{Lent, refusedOr, segmentsFront, choices}
+use Rattle.lent.specs.Held.{testedOf}
 use Rattle.lent.proofs.Kept.{passed, not-new}
+use Rattle.lent.proofs.Tested.{in-order}
 use Rattle.segments_in.specs.Whole.{Whole}
 use Rattle.segments_in.proofs.Wholes.{segments-len}
 use Rattle.segments_test.specs.Held.{tested}
 use Rattle.segments_test.proofs.Calls.{short, ready}
 use Rattle.building_in.specs.Building.{BuildsIn}
-use Rattle.flat_segments.specs.Build.{edgesInto, builtLists, BuiltLent}
+use Rattle.flat_segments.specs.Build.{builtLists, BuiltLent}
 use Rattle.flat_segments.specs.Build as Build
 
 -- ---- a call that is its refusal, then its work, which may refuse too
@@ -85,20 +87,13 @@ module _ (fronts : List Test) (t : ℕ) {r : ℕ} (e : r ≡ refusedOr fronts t)
 abbrev pub ownTests : Bool → ℤ → Thresholds → List Test
 ownTests turned scale by = bottomToTop turned ∷ badParameter unless numbersHold scale by ∷ []
 
--- two tests by one number are one
-in-order : (i m p : Bool) → cond i (cond m (cond p 0 outOfRange) outOfRange) badIndex ≡ cond (i && true) (cond (m && p) 0 outOfRange) badIndex
-in-order false m p = refl
-in-order true false p = refl
-in-order true true false = refl
-in-order true true true = refl
-
 own-tests : (t : Segments) (turned : Bool) (scale : ℤ) (by : Thresholds) → leb (t .len) mostSegments ≡ true
     → refusal (buildingTests t 0 turned scale by) ≡ tested t (refusal (ownTests turned scale by)) false (productsHold t scale)
-unfolding refusal tested
+unfolding refusal testedOf
 own-tests t turned scale by h =
     ap (λ (b : Bool). cond b (refusal (bottomToTop turned ∷ badParameter unless numbersHold scale by ∷ rest)) tooLong) h
     ∙ own-first (ownTests turned scale by) rest refl
-    ∙ ap (answered (refusal (ownTests turned scale by)) (λ (k : ℕ). k)) (in-order (segmentsIndices t) (segmentsNumbers t) (productsHold t scale))
+    ∙ ap (answered (refusal (ownTests turned scale by)) (λ (k : ℕ). k)) (in-order (segmentsIndices t) true (segmentsNumbers t) (productsHold t scale))
   where
     rest : List Test
     rest = segmentsIndexed t ∷ segmentsInRange t ∷ outOfRange unless productsHold t scale ∷ []

@@ -5,7 +5,7 @@ use mathlib.Core.List.{List, [], _∷_}
 use Prim.Native.Nat.{ℕ, zero, suc, _+_, _*_, _%_, _≤_, _<_}
 use native.Mathlib.Nat.{mod-eq-of-lt}
 use native.Mathlib.Omega.{arith}
-use borrow.Author.Tests.{lt-ltb}
+use borrow.Author.Tests.{lt-ltb, eq-eqb}
 use lib.Dec.{ltb}
 use lib.ListN.{length, getD}
 use lib.IntN.{ℤ, pos, negsuc, _-ℤ_}
@@ -78,3 +78,10 @@ elements-make e k ws (suc n) at h =
     let f : Shape.element e ws at ≡ At (at + k) = rw q at (h 0 (omega arith)) in
     let m : at + k + k * n ≡ at + k * suc n = omega arith in
     rw f (elements-make e k ws n (at + k) (λ i l. let z : at + k + k * i ≡ at + k * suc i = omega arith in rw z (h (suc i) (omega arith))) ∙ ap At m)
+
+-- and no more
+pub run-make : (e : Element) (k : ℕ) (ws : List ℤ) (n : ℕ) → length ws ≡ k * n → ((i : ℕ) → i < n → Shape.element e ws (k * i) ≡ At (k * i + k)) → Shape.isRun n e ws ≡ true
+unfolding Shape.isRun
+run-make e k ws n l h =
+    ap (Shape.isAt (length ws)) (elements-make e k ws n 0 (λ i b. let q : 0 + k * i ≡ k * i = omega arith in rw q (h i b)))
+    ∙ eq-eqb (0 + k * n) (length ws) (omega (arith, l))

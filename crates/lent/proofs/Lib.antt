@@ -2,6 +2,7 @@
 pub mod Lents
 pub mod Determined
 pub mod Holding
+pub mod Tested
 pub mod Naming
 pub mod Counting
 pub mod Whole

@@ -1,13 +1,12 @@
 -- The job of a frame is done, or refused by 3 for a contour end: its numbers have two signed bytes, so that none is out of range and no point is too steep.
 use mathlib.Core.Path.{_≡_, refl, sym, ap, _∙_}
-use mathlib.Core.Bool.{Bool, true, false, not, cond}
+use mathlib.Core.Bool.{Bool, true, false, cond}
 use mathlib.Core.List.{List, [], _∷_, _++_}
 use mathlib.Core.Logic.{_⊎_, inl, inr}
 use Prim.Native.Nat.{ℕ, zero, suc, _+_, _*_, _≤_, _<_}
 use native.Mathlib.Decide.{decLt}
 use native.Mathlib.Omega.{arith}
-use borrow.Author.Tests.{le-leb, eq-eqb}
-use lib.Dec.{leb, eqb}
+use borrow.Author.Tests.{le-leb, eq-eqb, not-false}
 use lib.ListN.{length}
 use lib.IntN.{ℤ, pos, natAbs, _-ℤ_}
 use mir.Syntax.{w16}
@@ -22,9 +21,9 @@ use Rattle.contours.specs.Limits.{mostPoints, mostCoordinate}
 use Rattle.contours.specs.Contour.{at}
 use Rattle.outline.specs.Weak.{endsHold, coordinateHolds, coordinatesHold, gentle, weakTests}
 use Rattle.outline.proofs.Steepness.{calm-gentle}
-use Rattle.frame_digits.specs.Digits.{byteAt, numberOf, numberAt}
+use Rattle.frame_digits.specs.Digits.{numberOf}
 use Rattle.frame_digits.proofs.Lines.{byte-small}
-use Rattle.frames.specs.Frame.{Frame, frameIn, pointsIn, contoursIn, originalIn, currentIn, markIn}
+use Rattle.frames.specs.Frame.{frameIn, pointsIn, originalIn, currentIn, markIn}
 
 -- ---- one number
 -- what two signed bytes hold
@@ -58,10 +57,6 @@ unfolding coordinatesHold coordinateHolds
 all-hold m [] h = refl
 all-hold m (z ∷ l) h = rw (le-leb (natAbs z) m (h 0), all-hold m l (λ i. h (suc i)))
 
-not-not : (b : Bool) → false ≡ not b → b ≡ true
-not-not true e = refl
-not-not false e = absurd (let z : _≡_ {A = ℕ} 0 1 = cc in omega arith)
-
 -- ---- the job of a line
 module _ (line : List ℕ) where
   originals-small : (i : ℕ) → TwoBytes (at (frameIn line .originals) i)
@@ -74,12 +69,13 @@ module _ (line : List ℕ) where
 
   gentle-frame : gentle (frameIn line .originals) (frameIn line .currents) (frameIn line .marks) (frameIn line .ends) ≡ true
   gentle-frame =
-      not-not _
+      not-false _
+      (sym
       (calm-gentle (frameIn line .originals) (frameIn line .currents) (frameIn line .marks) (frameIn line .ends) (λ i. omega (arith, originals-small i))
       (λ i j.
       let a = at (frameIn line .currents) i in
       let b = at (frameIn line .currents) j in
-      omega (arith, currents-small i, currents-small j, natAbs-is (b -ℤ a), one-zero (b -ℤ a), sub-law b a)))
+      omega (arith, currents-small i, currents-small j, natAbs-is (b -ℤ a), one-zero (b -ℤ a), sub-law b a))))
 
   few : length (frameIn line .originals) ≤ mostPoints
   unfolding frameIn

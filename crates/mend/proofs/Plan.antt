@@ -36,7 +36,7 @@ use Rattle.mend.proofs.Places.{fronts-same, mended-segment-at, mended-e
 use Rattle.mend.proofs.Sound.{Mendable}
 
 -- ---- tests that agree below n
-every-same : (p q : ℕ → Bool) (n : ℕ) → ((i : ℕ) → i < n → p i ≡ q i) → every p n ≡ every q n
+pub every-same : (p q : ℕ → Bool) (n : ℕ) → ((i : ℕ) → i < n → p i ≡ q i) → every p n ≡ every q n
 unfolding every
 every-same p q zero h = refl
 every-same p q (suc n) h =

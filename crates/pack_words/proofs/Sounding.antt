@@ -1,9 +1,8 @@
 -- The rings of lent edges told sound, one after the other.
 use mathlib.Core.Path.{_≡_, refl, sym, ap, _∙_}
-use mathlib.Core.Bool.{Bool, true, false, not, _&&_}
+use mathlib.Core.Bool.{Bool, true, false, not, Bool·not-not}
 use mathlib.Core.List.{List}
-use Prim.Native.Nat.{ℕ, zero, suc, _+_, _≤_, _<_}
-use native.Mathlib.Omega.{arith}
+use Prim.Native.Nat.{ℕ, _+_, _≤_, _<_}
 use lib.ListN.{getD}
 use Rattle.axis.specs.declared.edge.Axis.{Axis}
 use Rattle.axis.specs.declared.segment.Segments.{Segments}
@@ -11,6 +10,7 @@ use Rattle.axis.specs.Refusals.{every}
 use Rattle.axis.specs.Ring.{isSound}
 use Rattle.axis.proofs.Tests.{every-none, every-more, every-fails, every-done}
 use Rattle.mend.specs.Plan.{Told}
+use Rattle.mend.proofs.Plan.{every-same}
 use Rattle.pack.specs.Call.{ringsSound}
 use Rattle.pack_words.specs.Pack.{noneBroken}
 
@@ -32,20 +32,8 @@ unfolding noneBroken
 none-at-all broken k m h g e = every-done _ k m m h g refl e
 
 -- ---- what was told of them
-twice-not : (b : Bool) → not (not b) ≡ b
-twice-not true = refl
-twice-not false = refl
-
-every-same : (p q : ℕ → Bool) (n : ℕ) → ((i : ℕ) → i < n → p i ≡ q i) → every p n ≡ every q n
-unfolding every
-every-same p q zero h = refl
-every-same p q (suc n) h =
-    let a = every-same p q n (λ i l. h i (omega arith)) in
-    let b = h n (omega arith) in
-    λ j. a j && b j
-
 pub none-sound : (axis : Axis) (t : Segments) (broken : List Bool) (m : ℕ) → m ≡ axis .len → Told axis t broken → noneBroken broken m ≡ ringsSound axis t
 unfolding noneBroken ringsSound
 none-sound axis t broken m e w =
     ap (every (λ (k : ℕ). not (getD broken k false))) e
-    ∙ every-same _ _ (axis .len) (λ k h. ap not (w .ring k h) ∙ twice-not (isSound axis t k))
+    ∙ every-same _ _ (axis .len) (λ k h. ap not (w .ring k h) ∙ Bool·not-not (isSound axis t k))

@@ -1,13 +1,13 @@
 -- A call over lent segments, by what their test tells.
 use mathlib.Core.Path.{_≡_, refl, ap, _∙_}
-use mathlib.Core.Bool.{Bool, true, false, cond, _&&_}
+use mathlib.Core.Bool.{Bool, true, cond}
 use mathlib.Core.List.{List, [], _∷_}
-use Prim.Native.Nat.{ℕ, zero, suc, _≤_, _<_}
+use Prim.Native.Nat.{ℕ, _≤_, _<_}
 use native.Mathlib.Omega.{arith}
 use borrow.Author.Tests.{leb-true, lt-ltb}
 use lib.Dec.{leb}
 use lib.IntN.{ℤ}
-use Rattle.refusals.specs.Refusal.{Test, _unless_, tooLong, badIndex, outOfRange, refusal, orRefused, answered}
+use Rattle.refusals.specs.Refusal.{Test, _unless_, tooLong, badIndex, refusal, orRefused, answered}
 use Rattle.refusals.proofs.Tests.{and-first, and-second, all-hold, own-first}
 use Rattle.axis.specs.declared.segment.Segments.{Segments}
 use Rattle.axis.specs.Accepted.{SegmentsWithin}
@@ -17,25 +17,14 @@ use Rattle.axis.proofs.Acceptance.{segments-within}
 use Rattle.words.specs.Segment.{segmentsIn, flatSegments}
 use Rattle.shape.specs.Shape.{segmentsShown}
 use Rattle.lent.specs.Lent.{refusedOr, segmentsFront}
+use Rattle.lent.specs.Held.{testedOf}
 use Rattle.lent.proofs.Kept as Kept
+use Rattle.lent.proofs.Tested.{in-order, tested-holds}
 use Rattle.segments_in.specs.Whole.{Whole}
 use Rattle.segments_in.proofs.Wholes.{shown-whole, segments-len}
 use Rattle.segments_test.specs.Held.{nextsHold, tested}
 
 -- ---- no refusal
--- what the tests tell then
-record Holds (t : Segments) (own : ℕ) (nexts passed : Bool) : Type 0 where
-  right : own ≡ 0
-  indexed : (segmentsIndices t && nextsHold t nexts) ≡ true
-  in-range : (segmentsNumbers t && passed) ≡ true
-
-tested-holds : (t : Segments) (own : ℕ) (nexts passed : Bool) → tested t own nexts passed ≡ 0 → Holds t own nexts passed
-unfolding tested
-tested-holds t zero nexts passed e =
-    let a = all-hold (badIndex unless (segmentsIndices t && nextsHold t nexts) ∷ outOfRange unless (segmentsNumbers t && passed) ∷ []) refl e in
-    record { right = refl; indexed = a .0; in-range = a .1 .0 }
-tested-holds t (suc k) nexts passed e = absurd (omega (arith, e))
-
 -- what a call may use then: words that can be read and written in place, accepted segments, and its own tests
 pub record Ready (ws : List ℤ) (own : ℕ) (passed : Bool) : Type 0 where
   pub whole : Whole ws
@@ -54,29 +43,22 @@ module _ (ws : List ℤ) (room others : Bool) where
       let z : 0 ≡ r = omega arith in
       let p = Kept.passed (segmentsFront ws room others) _ (z ∙ e) in
       let t = all-hold (segmentsFront ws room others) refl (p .0) in
-      let g = tested-holds (flatSegments ws) own nexts passed (p .1) in
+      let g = tested-holds own _ _ (p .1) in
       record {
         whole = shown-whole ws (and-first (segmentsShown ws) others (t .1 .1 .0)) (leb-true (segmentsIn ws) mostSegments (t .1 .0));
-        within = segments-within (flatSegments ws) (short (p .0)) (and-first _ (nextsHold (flatSegments ws) nexts) (g .indexed)) (and-first _ passed (g .in-range));
+        within = segments-within (flatSegments ws) (short (p .0)) (and-first _ (nextsHold (flatSegments ws) nexts) (g .indices)) (and-first _ passed (g .numbers));
         right = g .right;
-        passed-hold = and-second (segmentsNumbers (flatSegments ws)) passed (g .in-range);
+        passed-hold = and-second (segmentsNumbers (flatSegments ws)) passed (g .numbers);
       }
 
 -- ---- the order of the tests
--- two tests by one number are one
-in-order : (i n m : Bool) → cond i (cond n (cond m 0 outOfRange) badIndex) badIndex ≡ cond (i && n) (cond (m && true) 0 outOfRange) badIndex
-in-order false n m = refl
-in-order true false m = refl
-in-order true true false = refl
-in-order true true true = refl
-
 -- a call with a parameter that may be refused, which tests each next
 pub next-tests : (t : Segments) (number : ℕ) (right : Bool) → 0 < number → leb (t .len) mostSegments ≡ true
     → refusal (segmentsShort t ∷ number unless right ∷ segmentsIndexed t ∷ badIndex unless segmentsNexts t ∷ segmentsInRange t ∷ []) ≡ tested t (orRefused 0 right number) true true
-unfolding refusal orRefused tested
+unfolding refusal orRefused testedOf
 next-tests t number right h s =
     ap (λ (x : Bool). cond x (cond right (refusal rest) number) tooLong) s ∙ own-first (number unless right ∷ []) rest (rw (lt-ltb 0 number h))
-    ∙ ap (answered (orRefused 0 right number) (λ (k : ℕ). k)) (in-order (segmentsIndices t) (segmentsNexts t) (segmentsNumbers t))
+    ∙ ap (answered (orRefused 0 right number) (λ (k : ℕ). k)) (in-order (segmentsIndices t) (segmentsNexts t) (segmentsNumbers t) true)
   where
     rest : List Test
     rest = segmentsIndexed t ∷ badIndex unless segmentsNexts t ∷ segmentsInRange t ∷ []

@@ -2,26 +2,26 @@
 use mathlib.Core.Path.{_≡_, refl, sym, ap, subst, _∙_}
 use mathlib.Core.Bool.{Bool, true, false}
 use mathlib.Core.List.{List}
-use mathlib.Core.Logic.{⊎-elim}
 use Prim.Native.Nat.{ℕ, zero, suc, _+_, _*_, _≤_, _<_, min}
-use native.Mathlib.Nat.{eq-or-lt-of-le}
 use native.Mathlib.Omega.{arith}
-use borrow.Author.Tests.{le-leb, eq-eqb}
-use lib.ListN.{length, getD}
+use borrow.Author.Tests.{le-leb}
+use lib.ListN.{length}
 use lib.IntN.{ℤ, pos, negsuc}
+use Rattle.axis.specs.declared.segment.Segment.{Segment}
 use Rattle.axis.specs.Limits.{mostSegments}
-use Rattle.axis.specs.Refusals.{segmentIndices, segmentNext, segmentNumbers, segmentsIndices, segmentsNexts, segmentsNumbers}
+use Rattle.axis.specs.Refusals.{everySegment, segmentIndices, segmentNext, segmentNumbers, segmentsIndices, segmentsNexts, segmentsNumbers}
 use Rattle.axis.proofs.Accepting.{every-holds}
 use Rattle.words.specs.Word.{wordAt}
 use Rattle.words.specs.Segment.{segmentSize, segmentFrom, segmentsIn, flatSegments}
-use Rattle.shape.specs.declared.field.Place.{Place}
+use Rattle.words_record.specs.Record.{segmentLayout}
 use Rattle.shape.specs.declared.field.Place.the-variants.{At}
 use Rattle.shape.specs.declared.field.Range.{Range}
 use Rattle.shape.specs.declared.element.Record.the-variants as Records
 use Rattle.shape.specs.declared.element.Element.the-variants as Elements
 use Rattle.shape.specs.Shape as Shape
 use Rattle.edges_test.specs.Held.{linksTo}
-use Rattle.lent.proofs.Holding.{and-both, inside-more, link-word, link-holds, fields-make, elements-make}
+use Rattle.lent.proofs.Holding.{and-both, inside-more, link-word, link-holds, fields-make, run-make}
+use Rattle.lent.proofs.Tested.{Passed}
 use Rattle.segments_in.proofs.Wholes.{segments-len}
 use Rattle.segments_test.specs.Held.{linksWhere, FrontHeld, BackHeld, nextsHold, Held}
 use Rattle.segments_test.proofs.Refusals.{segment-held}
@@ -32,24 +32,39 @@ next-word n true w few h = link-word n w few h
 next-word n false w few h = h
 
 -- ---- a segment
-module _ (ws : List ℤ) (at n : ℕ) (nexts : Bool) (few : n ≤ 65536) (room : at + segmentSize ≤ length ws) (f : FrontHeld ws at) (b : BackHeld ws at (linksTo n) (linksWhere n nexts)) where
-  words-hold : (k : ℕ) → k < segmentSize → Shape.isIn (getD (Shape.rangesOf Records.Segment) k Shape.noRange) (wordAt ws (at + k)) ≡ true
-  words-hold zero h = let q : at + 0 ≡ at = omega arith in rw q (f .w0)
-  words-hold (suc zero) h = f .w1
-  words-hold (suc (suc zero)) h = f .w2
-  words-hold (suc (suc (suc zero))) h = f .w3
-  words-hold (suc (suc (suc (suc zero)))) h = f .w4
-  words-hold (suc (suc (suc (suc (suc zero))))) h = f .w5
-  words-hold (suc (suc (suc (suc (suc (suc zero)))))) h = f .w6
-  words-hold (suc (suc (suc (suc (suc (suc (suc zero))))))) h = inside-more (pos 0) (pos 65535) (negsuc 2147483647) (pos 2147483647) (wordAt ws (at + 7)) refl refl (f .w7)
-  words-hold (suc (suc (suc (suc (suc (suc (suc (suc zero)))))))) h = inside-more (pos 0) (pos 65535) (negsuc 2147483647) (pos 2147483647) (wordAt ws (at + 8)) refl refl (f .w8)
-  words-hold (suc (suc (suc (suc (suc (suc (suc (suc (suc zero))))))))) h = link-word n (wordAt ws (at + 9)) few (b .w9)
-  words-hold (suc (suc (suc (suc (suc (suc (suc (suc (suc (suc zero)))))))))) h = link-word n (wordAt ws (at + 10)) few (b .w10)
-  words-hold (suc (suc (suc (suc (suc (suc (suc (suc (suc (suc (suc zero))))))))))) h = b .w11
-  words-hold (suc (suc (suc (suc (suc (suc (suc (suc (suc (suc (suc (suc zero)))))))))))) h = b .w12
-  words-hold (suc (suc (suc (suc (suc (suc (suc (suc (suc (suc (suc (suc (suc zero))))))))))))) h = b .w13
-  words-hold (suc (suc (suc (suc (suc (suc (suc (suc (suc (suc (suc (suc (suc (suc zero)))))))))))))) h = next-word n nexts (wordAt ws (at + 14)) few (b .w14)
-  words-hold (suc (suc (suc (suc (suc (suc (suc (suc (suc (suc (suc (suc (suc (suc (suc k))))))))))))))) h = absurd (omega arith)
+pub record SegmentHeld (ws : List ℤ) (nexts : Bool) (n at : ℕ) : Type 0 where
+  pub front : FrontHeld ws at
+  pub back : BackHeld ws at (linksTo n) (linksWhere n nexts)
+
+-- by the values that the code has
+pub held-by : (ws : List ℤ) (at n : ℕ) (nexts : Bool) {links ways : Range} → links ≡ linksTo n → ways ≡ linksWhere n nexts → FrontHeld ws at → BackHeld ws at links ways
+    → SegmentHeld ws nexts n at
+held-by ws at n nexts {links} {ways} d e f b = record { front = f; back = subst (BackHeld ws at (linksTo n)) e (subst (λ (x : Range). BackHeld ws at x ways) d b) }
+
+module _ (ws : List ℤ) (at n : ℕ) (nexts : Bool) (few : n ≤ 65536) (room : at + segmentSize ≤ length ws) (h : SegmentHeld ws nexts n at) where
+  abbrev f : FrontHeld ws at
+  f = h .front
+
+  abbrev b : BackHeld ws at (linksTo n) (linksWhere n nexts)
+  b = h .back
+
+  words-hold : (k : ℕ) → k < segmentSize → Shape.fieldIn Records.Segment ws at k ≡ true
+  words-hold zero l = f .w0
+  words-hold (suc zero) l = f .w1
+  words-hold (suc (suc zero)) l = f .w2
+  words-hold (suc (suc (suc zero))) l = f .w3
+  words-hold (suc (suc (suc (suc zero)))) l = f .w4
+  words-hold (suc (suc (suc (suc (suc zero))))) l = f .w5
+  words-hold (suc (suc (suc (suc (suc (suc zero)))))) l = f .w6
+  words-hold (suc (suc (suc (suc (suc (suc (suc zero))))))) l = inside-more (pos 0) (pos 65535) (negsuc 2147483647) (pos 2147483647) (wordAt ws (at + 7)) refl refl (f .w7)
+  words-hold (suc (suc (suc (suc (suc (suc (suc (suc zero)))))))) l = inside-more (pos 0) (pos 65535) (negsuc 2147483647) (pos 2147483647) (wordAt ws (at + 8)) refl refl (f .w8)
+  words-hold (suc (suc (suc (suc (suc (suc (suc (suc (suc zero))))))))) l = link-word n (wordAt ws (at + 9)) few (b .w9)
+  words-hold (suc (suc (suc (suc (suc (suc (suc (suc (suc (suc zero)))))))))) l = link-word n (wordAt ws (at + 10)) few (b .w10)
+  words-hold (suc (suc (suc (suc (suc (suc (suc (suc (suc (suc (suc zero))))))))))) l = b .w11
+  words-hold (suc (suc (suc (suc (suc (suc (suc (suc (suc (suc (suc (suc zero)))))))))))) l = b .w12
+  words-hold (suc (suc (suc (suc (suc (suc (suc (suc (suc (suc (suc (suc (suc zero))))))))))))) l = b .w13
+  words-hold (suc (suc (suc (suc (suc (suc (suc (suc (suc (suc (suc (suc (suc (suc zero)))))))))))))) l = next-word n nexts (wordAt ws (at + 14)) few (b .w14)
+  words-hold (suc (suc (suc (suc (suc (suc (suc (suc (suc (suc (suc (suc (suc (suc (suc k))))))))))))))) l = absurd (omega arith)
 
   segment-make : Shape.element Elements.Segment ws at ≡ At (at + segmentSize)
   unfolding Shape.element
@@ -68,65 +83,39 @@ module _ (ws : List ℤ) (at n : ℕ) (nexts : Bool) (few : n ≤ 65536) (room :
   numbers-make = and-both _ _ (f .w7) (f .w8)
 
 -- ---- every segment
--- the first i segments hold
-pub record Passed (ws : List ℤ) (nexts : Bool) (n i : ℕ) : Type 0 where
-  pub within : i ≤ n
-  pub few : n ≤ mostSegments
-  pub count : n ≡ segmentsIn ws
-  pub long : length ws ≤ segmentSize * n
-  pub front : (k : ℕ) → k < i → FrontHeld ws (segmentSize * k)
-  pub back : (k : ℕ) → k < i → BackHeld ws (segmentSize * k) (linksTo n) (linksWhere n nexts)
+module _ (ws : List ℤ) (nexts : Bool) (n i : ℕ) (p : Passed segmentLayout (SegmentHeld ws nexts n) ws n i) (h : n ≤ i) where
+  few : n ≤ 65536
+  few = omega (arith, p .few)
 
-pub passed-none : (ws : List ℤ) (nexts : Bool) (n : ℕ) → n ≤ mostSegments → n ≡ segmentsIn ws → length ws ≤ segmentSize * n → Passed ws nexts n 0
-passed-none ws nexts n few e l = record { within = omega arith; few = few; count = e; long = l; front = λ k q. absurd (omega arith); back = λ k q. absurd (omega arith) }
+  room : (k : ℕ) → k < n → segmentSize * k + segmentSize ≤ length ws
+  room k l = omega (arith, p .count)
 
-pub passed-more :
-    (ws : List ℤ) (nexts : Bool) (n i : ℕ) (links ways : Range) → Passed ws nexts n i → i < n → FrontHeld ws (segmentSize * i) → BackHeld ws (segmentSize * i) links ways → links ≡ linksTo n
-    → ways ≡ linksWhere n nexts → Passed ws nexts n (i + 1)
-passed-more ws nexts n i links ways p h f b d e = record {
-  within = omega arith;
-  few = p .few;
-  count = p .count;
-  long = p .long;
-  front = λ (k : ℕ) (q : k < i + 1). ⊎-elim (λ (z : k ≡ i). subst (λ (x : ℕ). FrontHeld ws (segmentSize * x)) (sym z) f) (λ (l : k < i). p .front k l) (eq-or-lt-of-le (omega arith));
-  back = λ (k : ℕ) (q : k < i + 1).
-      ⊎-elim (λ (z : k ≡ i). subst (λ (x : ℕ). BackHeld ws (segmentSize * x) (linksTo n) (linksWhere n nexts)) (sym z) now) (λ (l : k < i). p .back k l) (eq-or-lt-of-le (omega arith));
-}
-  where
-    now : BackHeld ws (segmentSize * i) (linksTo n) (linksWhere n nexts)
-    now = subst (BackHeld ws (segmentSize * i) (linksTo n)) e (subst (λ (x : Range). BackHeld ws (segmentSize * i) x ways) d b)
+  held : (k : ℕ) → k < n → SegmentHeld ws nexts n (segmentSize * k)
+  held k l = p .held k (omega arith)
 
-pub passed-all : (ws : List ℤ) (nexts : Bool) (n i : ℕ) → Passed ws nexts n i → n ≤ i → Held ws nexts
-unfolding Shape.segmentsShown Shape.isRun segmentsIndices segmentsNexts segmentsNumbers
-passed-all ws nexts n i p h = record {
-  shown =
-      ap (λ (x : Place). Shape.isAt (length ws) x) (elements-make Elements.Segment segmentSize ws (segmentsIn ws) 0 (λ k l. whole k (0 + segmentSize * k) (omega arith) (omega (arith, p .count))))
-      ∙ eq-eqb (0 + segmentSize * segmentsIn ws) (length ws) (omega (arith, p .count, p .long));
-  short = le-leb (flatSegments ws .len) mostSegments (omega (arith, segments-len ws, p .count, p .few));
-  indexed = every-holds _ (min (flatSegments ws .len) mostSegments) (λ k l. ap (segmentIndices (flatSegments ws .len)) (segment-held ws k (at-most k l)) ∙ indexed k (omega (arith, segments-len ws, p .count, l)));
-  nexted = nexted nexts refl;
-  in-range = every-holds _ (min (flatSegments ws .len) mostSegments) (λ k l. ap segmentNumbers (segment-held ws k (at-most k l)) ∙ numbered k (omega (arith, segments-len ws, p .count, l)));
-}
-  where
-    room : (k : ℕ) → k < n → segmentSize * k + segmentSize ≤ length ws
-    room k l = omega (arith, p .count)
+  -- a test that each segment passes that is read
+  every-one : (test : Segment → Bool) → ((k : ℕ) → k < n → test (segmentFrom ws (segmentSize * k)) ≡ true) → everySegment test (flatSegments ws) ≡ true
+  every-one test each =
+      every-holds _ (min (flatSegments ws .len) mostSegments) (λ k l. ap test (segment-held ws k (at-most k l)) ∙ each k (omega (arith, segments-len ws, p .count, l)))
+    where
+      at-most : (k : ℕ) → k < min (flatSegments ws .len) mostSegments → k < min (segmentsIn ws) mostSegments
+      at-most k l = let e = segments-len ws in rw e at l
 
-    whole : (k a : ℕ) → a ≡ segmentSize * k → k < n → Shape.element Elements.Segment ws a ≡ At (a + segmentSize)
-    whole k a e l = rw e (segment-make ws (segmentSize * k) n nexts (omega (arith, p .few)) (room k l) (p .front k (omega arith)) (p .back k (omega arith)))
+  nexted : (t : Bool) → nexts ≡ t → nextsHold (flatSegments ws) t ≡ true
+  unfolding segmentsNexts
+  nexted true e = every-one (segmentNext (flatSegments ws .len)) (λ k l. rw (segments-len ws ∙ sym (p .count)) (next-make ws (segmentSize * k) n nexts few (room k l) (held k l) e))
+  nexted false e = refl
 
-    at-most : (k : ℕ) → k < min (flatSegments ws .len) mostSegments → k < min (segmentsIn ws) mostSegments
-    at-most k l = let e = segments-len ws in rw e at l
-
-    indexed : (k : ℕ) → k < n → segmentIndices (flatSegments ws .len) (segmentFrom ws (segmentSize * k)) ≡ true
-    indexed k l = rw (segments-len ws ∙ sym (p .count)) (indices-make ws (segmentSize * k) n nexts (omega (arith, p .few)) (room k l) (p .front k (omega arith)) (p .back k (omega arith)))
-
-    next-holds : nexts ≡ true → (k : ℕ) → k < n → segmentNext (flatSegments ws .len) (segmentFrom ws (segmentSize * k)) ≡ true
-    next-holds e k l = rw (segments-len ws ∙ sym (p .count)) (next-make ws (segmentSize * k) n nexts (omega (arith, p .few)) (room k l) (p .front k (omega arith)) (p .back k (omega arith)) e)
-
-    nexted : (t : Bool) → nexts ≡ t → nextsHold (flatSegments ws) t ≡ true
-    nexted true e =
-        every-holds _ (min (flatSegments ws .len) mostSegments) (λ k l. ap (segmentNext (flatSegments ws .len)) (segment-held ws k (at-most k l)) ∙ next-holds e k (omega (arith, segments-len ws, p .count, l)))
-    nexted false e = refl
-
-    numbered : (k : ℕ) → k < n → segmentNumbers (segmentFrom ws (segmentSize * k)) ≡ true
-    numbered k l = numbers-make ws (segmentSize * k) n nexts (omega (arith, p .few)) (room k l) (p .front k (omega arith)) (p .back k (omega arith))
+  pub passed-all : Held ws nexts
+  unfolding Shape.segmentsShown segmentsIndices segmentsNumbers
+  passed-all = record {
+    words = run-make Elements.Segment segmentSize ws (segmentsIn ws) (omega (arith, p .count, p .long)) (λ k l. let b = in-all k l in segment-make ws (segmentSize * k) n nexts few (room k b) (held k b));
+    few = le-leb (segmentsIn ws) mostSegments (omega (arith, p .count, p .few));
+    indices =
+        and-both _ _ (every-one (segmentIndices (flatSegments ws .len)) (λ k l. rw (segments-len ws ∙ sym (p .count)) (indices-make ws (segmentSize * k) n nexts few (room k l) (held k l))))
+        (nexted nexts refl);
+    numbers = every-one segmentNumbers (λ k l. numbers-make ws (segmentSize * k) n nexts few (room k l) (held k l));
+  }
+    where
+      in-all : (k : ℕ) → k < segmentsIn ws → k < n
+      in-all k l = omega (arith, p .count)

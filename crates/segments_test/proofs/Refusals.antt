@@ -1,6 +1,6 @@
 -- The tests of segments on their words are those of the table that they are read as.
 use mathlib.Core.Path.{_≡_, sym, ap, _∙_}
-use mathlib.Core.Bool.{Bool, true, false, _&&_}
+use mathlib.Core.Bool.{Bool, true, false}
 use mathlib.Core.List.{List}
 use Prim.Native.Nat.{ℕ, _+_, _*_, _<_, min}
 use native.Mathlib.Omega.{arith}
@@ -14,7 +14,7 @@ use Rattle.axis.specs.Segment.{emptySegment, segmentAt}
 use Rattle.words.specs.Word.{table}
 use Rattle.words.specs.Segment.{segmentSize, segmentFrom, segmentInRun, segmentsRun, flatSegments, segmentsIn}
 use Rattle.words.proofs.Places.{firsts-at}
-use Rattle.segments_test.specs.Held.{nextsHold}
+use Rattle.segments_test.specs.Held.{indicesHold}
 
 -- ---- a segment of the table
 -- in each place that the table holds, however many words there are
@@ -28,11 +28,11 @@ segment-tested test ws i s r v h p q g = ap (segmentPasses test) (segment-held w
 
 -- ---- the indices of every segment, and its next where that is tested
 module _ (t : Segments) (nexts a : Bool) (e : a ≡ segmentsIndices t) where
-  pub index-fails : a ≡ false → false ≡ (segmentsIndices t && nextsHold t nexts)
+  pub index-fails : a ≡ false → false ≡ indicesHold t nexts
   index-fails h = rw (sym e ∙ h)
 
-  pub next-tested : (r : Bool) → a ≡ true → nexts ≡ true → r ≡ segmentsNexts t → r ≡ (segmentsIndices t && nextsHold t nexts)
+  pub next-tested : (r : Bool) → a ≡ true → nexts ≡ true → r ≡ segmentsNexts t → r ≡ indicesHold t nexts
   next-tested r h g f = rw (sym e ∙ h, g) f
 
-  pub next-untested : a ≡ true → nexts ≡ false → true ≡ (segmentsIndices t && nextsHold t nexts)
+  pub next-untested : a ≡ true → nexts ≡ false → true ≡ indicesHold t nexts
   next-untested h g = rw (sym e ∙ h, g)

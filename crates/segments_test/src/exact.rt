@@ -6,10 +6,9 @@ use axis::accept::segment_passes;
 use axis::limits::MOST_SEGMENTS;
 use words::segment::SEGMENT_WORDS;
 ghost use mathlib.Core.Path.{_≡_};
-ghost use mathlib.Core.Bool.{_&&_};
 ghost use Rattle.axis.specs.Refusals.{everySegment, segmentPasses, segmentsIndices, segmentsNexts, segmentsNumbers};
 ghost use Rattle.words.specs.Segment.{flatSegments};
-ghost use Rattle.segments_test.specs.Held.{nextsHold};
+ghost use Rattle.segments_test.specs.Held.{indicesHold};
 
 // Whether every segment passes a test.
 pub fn every_segment_in(words: &[i32], test: SegmentTest) -> bool
@@ -41,7 +40,7 @@ pub fn nexts_in(words: &[i32]) -> bool
 
 // Whether link and serif of every segment are segments, and so is each next where it is tested.
 pub fn indexed_in(words: &[i32], nexts: bool) -> bool
-    ensures { λ r. ⌜ r ≡ (segmentsIndices (flatSegments (now (words .entry))) && nextsHold (flatSegments (now (words .entry))) nexts) ⌝ }
+    ensures { λ r. ⌜ r ≡ indicesHold (flatSegments (now (words .entry))) nexts ⌝ }
 {
     if !indices_in(words) {
         return false;

@@ -2,12 +2,18 @@
 use axis::limits::MOST_SCORE;
 use axis::limits::MOST_SEGMENTS;
 use edges_test::hold::links_to;
-use shape::field::DIRECTION;
-use shape::field::FLAGS;
-use shape::field::INDEX;
+use shape::element::SEGMENT_DELTA;
+use shape::element::SEGMENT_DIR;
+use shape::element::SEGMENT_EDGE;
+use shape::element::SEGMENT_FIRST;
+use shape::element::SEGMENT_FLAGS;
+use shape::element::SEGMENT_HEIGHT;
+use shape::element::SEGMENT_LAST;
+use shape::element::SEGMENT_MAX;
+use shape::element::SEGMENT_MIN;
+use shape::element::SEGMENT_POS;
 use shape::field::LINK;
 use shape::field::Range;
-use shape::field::SHORT;
 use shape::field::in_at;
 use words::segment::DELTA_PLACE;
 use words::segment::DIR_PLACE;
@@ -32,6 +38,9 @@ ghost use Rattle.axis.specs.Limits.{mostSegments};
 ghost use Rattle.words.specs.Segment.{segmentSize};
 ghost use Rattle.segments_test.specs.Held.{linksWhere, FrontHeld, BackHeld, Held};
 
+// The place of a segment's flags.
+const FLAGS_PLACE: usize = 0;
+
 // The scores and lengths that every call accepts.
 const SCORE: Range = Range {
     low: 0,
@@ -43,25 +52,25 @@ fn front_holds(words: &[i32], at: usize) -> bool
     requires { ⌜ at + segmentSize ≤ length (now words) ⌝ }
     ensures { λ r. ⌜ (r ≡ true → FrontHeld (now (words .entry)) at) ⌝ }
 {
-    if !in_at(words, at, FLAGS) {
+    if !in_at(words, at + FLAGS_PLACE, SEGMENT_FLAGS) {
         return false;
     }
-    if !in_at(words, at + DIR_PLACE, DIRECTION) {
+    if !in_at(words, at + DIR_PLACE, SEGMENT_DIR) {
         return false;
     }
-    if !in_at(words, at + POS_PLACE, SHORT) {
+    if !in_at(words, at + POS_PLACE, SEGMENT_POS) {
         return false;
     }
-    if !in_at(words, at + DELTA_PLACE, SHORT) {
+    if !in_at(words, at + DELTA_PLACE, SEGMENT_DELTA) {
         return false;
     }
-    if !in_at(words, at + MIN_PLACE, SHORT) {
+    if !in_at(words, at + MIN_PLACE, SEGMENT_MIN) {
         return false;
     }
-    if !in_at(words, at + MAX_PLACE, SHORT) {
+    if !in_at(words, at + MAX_PLACE, SEGMENT_MAX) {
         return false;
     }
-    if !in_at(words, at + HEIGHT_PLACE, SHORT) {
+    if !in_at(words, at + HEIGHT_PLACE, SEGMENT_HEIGHT) {
         return false;
     }
     if !in_at(words, at + SCORE_PLACE, SCORE) {
@@ -81,13 +90,13 @@ fn back_holds(words: &[i32], at: usize, links: Range, nexts: Range) -> bool
     if !in_at(words, at + SERIF_PLACE, links) {
         return false;
     }
-    if !in_at(words, at + FIRST_PLACE, INDEX) {
+    if !in_at(words, at + FIRST_PLACE, SEGMENT_FIRST) {
         return false;
     }
-    if !in_at(words, at + LAST_PLACE, INDEX) {
+    if !in_at(words, at + LAST_PLACE, SEGMENT_LAST) {
         return false;
     }
-    if !in_at(words, at + EDGE_PLACE, LINK) {
+    if !in_at(words, at + EDGE_PLACE, SEGMENT_EDGE) {
         return false;
     }
     in_at(words, at + NEXT_PLACE, nexts)

@@ -13,6 +13,8 @@ use lib.IntN.{ℤ, pos}
 use lib.Signed.{leZ}
 use Rattle.signed.specs.Parts.{up, dn}
 use Rattle.signed.proofs.Signed.{to-le-true, to-le-false, eqZ-yes, eqZ-no}
+use Rattle.words.specs.Word.{wordAt}
+use Rattle.words.specs.Edge.{bluePlace, fittedPlace}
 use Rattle.shape.specs.declared.field.Place.{Place}
 use Rattle.shape.specs.declared.field.Place.the-variants.{Nowhere, At}
 use Rattle.shape.specs.declared.field.Range.{Range}
@@ -100,17 +102,17 @@ unfolding edge andThen
 edge-nowhere ws at e = rw e
 
 module _ (ws : List ℤ) (at n : ℕ) (there : fields (rangesOf Records.Edge) ws at ≡ At n) where
-  pub edge-blue : getD ws (at + 5) (pos 0) ≡ pos 1 → At n ≡ edge ws at
+  pub edge-blue : wordAt ws (at + bluePlace) ≡ pos 1 → At n ≡ edge ws at
   unfolding edge andThen blueShown
-  edge-blue e = rw (there, eqZ-yes (getD ws (at + 5) (pos 0)) (pos 1) e)
+  edge-blue e = rw (there, eqZ-yes (wordAt ws (at + bluePlace)) (pos 1) e)
 
-  pub edge-plain : getD ws (at + 6) (pos 0) ≡ pos 0 → At n ≡ edge ws at
+  pub edge-plain : wordAt ws (at + fittedPlace) ≡ pos 0 → At n ≡ edge ws at
   unfolding edge andThen blueShown
-  edge-plain e = rw (there, eqZ-yes (getD ws (at + 6) (pos 0)) (pos 0) e, or-true)
+  edge-plain e = rw (there, eqZ-yes (wordAt ws (at + fittedPlace)) (pos 0) e, or-true)
 
-  pub edge-breaks : (getD ws (at + 5) (pos 0) ≡ pos 1 → ⊥) → (getD ws (at + 6) (pos 0) ≡ pos 0 → ⊥) → Nowhere ≡ edge ws at
+  pub edge-breaks : (wordAt ws (at + bluePlace) ≡ pos 1 → ⊥) → (wordAt ws (at + fittedPlace) ≡ pos 0 → ⊥) → Nowhere ≡ edge ws at
   unfolding edge andThen blueShown
-  edge-breaks p q = rw (there, eqZ-no (getD ws (at + 5) (pos 0)) (pos 1) p, eqZ-no (getD ws (at + 6) (pos 0)) (pos 0) q)
+  edge-breaks p q = rw (there, eqZ-no (wordAt ws (at + bluePlace)) (pos 1) p, eqZ-no (wordAt ws (at + fittedPlace)) (pos 0) q)
 
 -- ---- lists without a count
 module _ (n : ℕ) (e : Element) (ws : List ℤ) where

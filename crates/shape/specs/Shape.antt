@@ -7,7 +7,8 @@ use lib.ListN.{length, getD}
 use lib.IntN.{ℤ, pos, negsuc}
 use lib.Signed.{leZ}
 use Rattle.signed.specs.Equality.{eqZ}
-use Rattle.words.specs.Edge.{edgesIn}
+use Rattle.words.specs.Word.{wordAt}
+use Rattle.words.specs.Edge.{bluePlace, fittedPlace, edgesIn}
 use Rattle.words.specs.Segment.{segmentsIn}
 use Rattle.shape.specs.declared.field.Place.{Place}
 use Rattle.shape.specs.declared.field.Place.the-variants.{Nowhere, At}
@@ -91,9 +92,13 @@ abbrev pub rangesOf : Record → List Range
 rangesOf Records.Segment = flags ∷ direction ∷ short ∷ short ∷ short ∷ short ∷ short ∷ word ∷ word ∷ link ∷ link ∷ index ∷ index ∷ link ∷ link ∷ []
 rangesOf Records.Edge = short ∷ word ∷ word ∷ flags ∷ direction ∷ choice ∷ word ∷ link ∷ link ∷ index ∷ index ∷ mark ∷ []
 
+-- the word of a record in a place is one of its field's values
+abbrev pub fieldIn : Record → List ℤ → ℕ → ℕ → Bool
+fieldIn kind ws at place = isIn (getD (rangesOf kind) place noRange) (wordAt ws (at + place))
+
 -- an edge whose blue is absent has fitted 0
 unfoldable pub blueShown : List ℤ → ℕ → Bool
-blueShown ws at = eqZ (getD ws (at + 5) (pos 0)) (pos 1) || eqZ (getD ws (at + 6) (pos 0)) (pos 0)
+blueShown ws at = eqZ (wordAt ws (at + bluePlace)) (pos 1) || eqZ (wordAt ws (at + fittedPlace)) (pos 0)
 
 -- the place behind an edge
 unfoldable pub edge : List ℤ → ℕ → Place

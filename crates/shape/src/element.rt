@@ -34,39 +34,95 @@ pub enum Element {
     LentEdge,
 }
 
-// The words of a segment: flags, direction, pos, delta, min_coord, max_coord, height, score, len, link, serif, first, last, edge, next.
+// The values of the fields of a segment.
+pub const SEGMENT_FLAGS: Range = FLAGS;
+
+pub const SEGMENT_DIR: Range = DIRECTION;
+
+pub const SEGMENT_POS: Range = SHORT;
+
+pub const SEGMENT_DELTA: Range = SHORT;
+
+pub const SEGMENT_MIN: Range = SHORT;
+
+pub const SEGMENT_MAX: Range = SHORT;
+
+pub const SEGMENT_HEIGHT: Range = SHORT;
+
+pub const SEGMENT_SCORE: Range = WORD;
+
+pub const SEGMENT_LEN: Range = WORD;
+
+pub const SEGMENT_LINK: Range = LINK;
+
+pub const SEGMENT_SERIF: Range = LINK;
+
+pub const SEGMENT_FIRST: Range = INDEX;
+
+pub const SEGMENT_LAST: Range = INDEX;
+
+pub const SEGMENT_EDGE: Range = LINK;
+
+pub const SEGMENT_NEXT: Range = LINK;
+
+// The words of a segment, each with its field's values.
 const SEGMENT: [Range; SEGMENT_WORDS] = [
-    FLAGS,
-    DIRECTION,
-    SHORT,
-    SHORT,
-    SHORT,
-    SHORT,
-    SHORT,
-    WORD,
-    WORD,
-    LINK,
-    LINK,
-    INDEX,
-    INDEX,
-    LINK,
-    LINK,
+    SEGMENT_FLAGS,
+    SEGMENT_DIR,
+    SEGMENT_POS,
+    SEGMENT_DELTA,
+    SEGMENT_MIN,
+    SEGMENT_MAX,
+    SEGMENT_HEIGHT,
+    SEGMENT_SCORE,
+    SEGMENT_LEN,
+    SEGMENT_LINK,
+    SEGMENT_SERIF,
+    SEGMENT_FIRST,
+    SEGMENT_LAST,
+    SEGMENT_EDGE,
+    SEGMENT_NEXT,
 ];
 
-// The words of an edge: fpos, opos, pos, flags, direction, blue present, blue fitted, link, serif, first, last, mark.
+// The values of the fields of an edge; a blue has two, whether it is there and its fitted position.
+pub const EDGE_FPOS: Range = SHORT;
+
+pub const EDGE_OPOS: Range = WORD;
+
+pub const EDGE_POS: Range = WORD;
+
+pub const EDGE_FLAGS: Range = FLAGS;
+
+pub const EDGE_DIR: Range = DIRECTION;
+
+pub const EDGE_BLUE: Range = CHOICE;
+
+pub const EDGE_FITTED: Range = WORD;
+
+pub const EDGE_LINK: Range = LINK;
+
+pub const EDGE_SERIF: Range = LINK;
+
+pub const EDGE_FIRST: Range = INDEX;
+
+pub const EDGE_LAST: Range = INDEX;
+
+pub const EDGE_MARK: Range = MARK;
+
+// The words of an edge, each with its field's values.
 const EDGE: [Range; EDGE_WORDS] = [
-    SHORT,
-    WORD,
-    WORD,
-    FLAGS,
-    DIRECTION,
-    CHOICE,
-    WORD,
-    LINK,
-    LINK,
-    INDEX,
-    INDEX,
-    MARK,
+    EDGE_FPOS,
+    EDGE_OPOS,
+    EDGE_POS,
+    EDGE_FLAGS,
+    EDGE_DIR,
+    EDGE_BLUE,
+    EDGE_FITTED,
+    EDGE_LINK,
+    EDGE_SERIF,
+    EDGE_FIRST,
+    EDGE_LAST,
+    EDGE_MARK,
 ];
 
 // How many words a record has.

@@ -2,7 +2,6 @@
 use borrow.Author.Tests.{not-false}
 use mathlib.Core.Path.{sym, _∙_}
 use Rattle.lent.proofs.Holding.{clash}
-use Rattle.edges_test.proofs.Holding.{zone-at}
 use borrow.Author.Needs.{needs}
 use Rattle.edges_test.proofs.hold.back_holds.Statement.{statement}
 use Rattle.edges_test.proofs.hold.back_holds.Tie as tie
@@ -24,9 +23,6 @@ in-at-requires-2 c κs = search needs
 
 returns-2 : tie.Need-returns-2
 returns-2 c = λ h. absurd (clash h)
-
-add-zone-in : tie.Need-add-zone-in
-add-zone-in c = search needs
 
 zone-in-requires : tie.Need-zone-in-requires
 zone-in-requires c κs = search needs
@@ -92,11 +88,10 @@ returns-8 c =
     let a2 = e2 .before in
     let e1 = a2 .before in
     let a1 = e1 .before in
-    let s = a1 .before in
     λ h. record {
       w4 = sym (a1 .in-at .ensures) ∙ not-false _ (e1 .if1 .left);
       w5 = sym (a2 .in-at2 .ensures) ∙ not-false _ (e2 .if2 .left);
-      w6 = sym (a3 .zone-in .ensures ∙ zone-at (s .args .words .now) (s .args .at)) ∙ not-false _ (e3 .if3 .left);
+      w6 = sym (a3 .zone-in .ensures) ∙ not-false _ (e3 .if3 .left);
       w7 = sym (a4 .in-at3 .ensures) ∙ not-false _ (e4 .if4 .left);
       w8 = sym (a5 .in-at4 .ensures) ∙ not-false _ (e5 .if5 .left);
       w9 = sym (a6 .in-at5 .ensures) ∙ not-false _ (e6 .if6 .left);
@@ -114,7 +109,6 @@ back-holds-spec =
     add-in-at-2
     in-at-requires-2
     returns-2
-    add-zone-in
     zone-in-requires
     returns-3
     add-in-at-3

@@ -1,16 +1,18 @@
 -- `edges_test::hold::edges_hold` meets its contract. Assumes nothing.
 use borrow.Author.Tests.{not-false}
-use mathlib.Core.Path.{_≡_, refl}
+use mathlib.Core.Path.{_≡_, refl, subst}
 use Prim.Native.Nat.{_-_}
 use native.Mathlib.Omega.{arith}
-use Rattle.edges_test.specs.Held.{linksTo}
+use Rattle.words_record.specs.Record.{edgeLayout}
+use Rattle.edges_test.specs.Held.{linksTo, BackHeld}
+use Rattle.lent.proofs.Tested.{Passed, passed-none, passed-more}
 use Rattle.lent.proofs.Holding.{clash}
-use Rattle.edges_test.proofs.Holding.{Passed, passed-none, passed-more, passed-all}
+use Rattle.edges_test.proofs.Holding.{EdgeHeld, passed-all}
 use Rattle.edges_test.proofs.hold.edges_hold.Statement.{statement}
 use Rattle.edges_test.proofs.hold.edges_hold.Tie as tie
 
 abbrev Inv-loop : tie.InvT-loop
-Inv-loop words n links i₀ i = (links ≡ linksTo n) × Passed words n i
+Inv-loop words n links i₀ i = (links ≡ linksTo n) × Passed edgeLayout (EdgeHeld words n) words n i
 
 abbrev μ-loop : tie.MeasureT-loop
 μ-loop words n links i₀ i = n - i
@@ -28,7 +30,7 @@ links-to-requires : tie.Need-links-to-requires Inv-loop μ-loop
 links-to-requires c κs = let h = c .before .if1 .left in omega (arith, h)
 
 loop-holds : tie.Need-loop-holds Inv-loop μ-loop
-loop-holds c = let e = c .before in (c .links-to .ensures, passed-none _ _ (e .before .if1 .left) refl (e .if2 .left))
+loop-holds c = let e = c .before in (c .links-to .ensures, passed-none _ _ _ _ (e .before .if1 .left) refl (e .if2 .left))
 
 mul-front-holds : tie.Need-mul-front-holds Inv-loop μ-loop
 mul-front-holds c = let p = c .before .loop .inv .1 in let h = c .loop-test .taken in omega (arith, p .few, h)
@@ -61,7 +63,7 @@ loop-again c =
     let f = e .before in
     let l = f .before in
     let v = l .before .loop .inv in
-    (v .0, passed-more _ _ _ _ (v .1) (l .loop-test .taken) (f .front-holds .ensures (not-false _ (e .if3 .left))) (b .back-holds .ensures (not-false _ (c .if4 .left))) (v .0))
+    (v .0, passed-more _ _ _ _ _ (v .1) (l .loop-test .taken) (f .front-holds .ensures (not-false _ (e .if3 .left)), subst (BackHeld _ _) (v .0) (b .back-holds .ensures (not-false _ (c .if4 .left)))))
 
 returns-5 : tie.Need-returns-5 Inv-loop μ-loop
 returns-5 c = λ h. passed-all _ _ _ (c .before .loop .inv .1) (c .loop-test .left)

@@ -5,23 +5,26 @@ use borrow.Author.Needs.{needs}
 use Rattle.edges_test.proofs.hold.front_holds.Statement.{statement}
 use Rattle.edges_test.proofs.hold.front_holds.Tie as tie
 
-in-at-requires : tie.Need-in-at-requires
-in-at-requires c κs = search needs
-
 add-in-at : tie.Need-add-in-at
 add-in-at c = search needs
 
-in-at-requires-2 : tie.Need-in-at-requires-2
-in-at-requires-2 c κs = search needs
+in-at-requires : tie.Need-in-at-requires
+in-at-requires c κs = search needs
 
 add-in-at-2 : tie.Need-add-in-at-2
 add-in-at-2 c = search needs
 
-in-at-requires-3 : tie.Need-in-at-requires-3
-in-at-requires-3 c κs = search needs
+in-at-requires-2 : tie.Need-in-at-requires-2
+in-at-requires-2 c κs = search needs
 
 add-in-at-3 : tie.Need-add-in-at-3
 add-in-at-3 c = search needs
+
+in-at-requires-3 : tie.Need-in-at-requires-3
+in-at-requires-3 c κs = search needs
+
+add-in-at-4 : tie.Need-add-in-at-4
+add-in-at-4 c = search needs
 
 in-at-requires-4 : tie.Need-in-at-requires-4
 in-at-requires-4 c κs = search needs
@@ -58,12 +61,13 @@ pub front-holds-spec : {M : Type 1} → statement M
 front-holds-spec =
     tie.close
     (tie.spec
-    in-at-requires
     add-in-at
-    in-at-requires-2
+    in-at-requires
     add-in-at-2
-    in-at-requires-3
+    in-at-requires-2
     add-in-at-3
+    in-at-requires-3
+    add-in-at-4
     in-at-requires-4
     both-requires
     both-requires-2

@@ -6,7 +6,7 @@ use Rattle.axis.specs.Refusals.{edgesIndices, edgesNumbers}
 use Prim.Native.Nat.{ℕ}
 use Rattle.lent.specs.Lent.{refusedOr, edgesFront, edgesOf}
 use Rattle.lent.proofs.Lents.{refused-first, passed-first}
-use Rattle.edges_test.proofs.Answers.{tested-own, tested-index, tested-range, tested-none}
+use Rattle.lent.proofs.Tested.{tested-own, tested-index, tested-range, tested-none}
 use borrow.Author.Needs.{needs}
 use Rattle.edges_test.proofs.test.exact_refusal.Statement.{statement}
 use Rattle.edges_test.proofs.test.exact_refusal.Tie as tie
@@ -41,7 +41,7 @@ returns-2 : tie.Need-returns-2
 returns-2 c =
     let e = c .before in
     let s = e .before .before in
-    passed-first _ (e .before .edges-refusal .ensures) (e .if1 .left) (tested-own (edgesOf (s .args .words .now)) (s .args .own) (s .args .named) (s .args .passed) (c .if2 .taken))
+    passed-first _ (e .before .edges-refusal .ensures) (e .if1 .left) (tested-own (s .args .own) _ _ (c .if2 .taken))
 
 indices-in-requires : tie.Need-indices-in-requires
 indices-in-requires c κs = search needs
@@ -52,7 +52,7 @@ both-requires c κs = search needs
 returns-3 : tie.Need-returns-3
 returns-3 c =
     let s = start (c .before) in
-    from-front (c .before) (tested-index (edgesOf (s .args .words .now)) (s .args .own) (s .args .named) (s .args .passed) (c .before .before .before .if2 .left) (sym (indices (c .before)) ∙ not-true _ (c .if3 .taken)))
+    from-front (c .before) (tested-index (s .args .own) _ _ (c .before .before .before .if2 .left) (sym (indices (c .before)) ∙ not-true _ (c .if3 .taken)))
 
 numbers-in-requires : tie.Need-numbers-in-requires
 numbers-in-requires c κs = search needs
@@ -65,14 +65,14 @@ returns-4 c =
     let i = c .before .before .before in
     let s = start (i .before) in
     from-front (i .before)
-    (tested-none (edgesOf (s .args .words .now)) (s .args .own) (s .args .named) (s .args .passed) (i .before .before .before .if2 .left) (indexed i) (sym (numbers (c .before)) ∙ c .if4 .taken))
+    (tested-none (s .args .own) _ _ (i .before .before .before .if2 .left) (indexed i) (sym (numbers (c .before)) ∙ c .if4 .taken))
 
 returns-5 : tie.Need-returns-5
 returns-5 c =
     let i = c .before .before .before in
     let s = start (i .before) in
     from-front (i .before)
-    (tested-range (edgesOf (s .args .words .now)) (s .args .own) (s .args .named) (s .args .passed) (i .before .before .before .if2 .left) (indexed i) (sym (numbers (c .before)) ∙ c .if4 .left))
+    (tested-range (s .args .own) _ _ (i .before .before .before .if2 .left) (indexed i) (sym (numbers (c .before)) ∙ c .if4 .left))
 
 pub exact-refusal-spec : {M : Type 1} → statement M
 exact-refusal-spec =

@@ -6,14 +6,17 @@ use borrow.Author.Needs.{needs}
 use Rattle.segments_test.proofs.hold.front_holds.Statement.{statement}
 use Rattle.segments_test.proofs.hold.front_holds.Tie as tie
 
+add-in-at : tie.Need-add-in-at
+add-in-at c = search needs
+
 in-at-requires : tie.Need-in-at-requires
 in-at-requires c κs = search needs
 
 returns : tie.Need-returns
 returns c = λ h. absurd (clash h)
 
-add-in-at : tie.Need-add-in-at
-add-in-at c = search needs
+add-in-at-2 : tie.Need-add-in-at-2
+add-in-at-2 c = search needs
 
 in-at-requires-2 : tie.Need-in-at-requires-2
 in-at-requires-2 c κs = search needs
@@ -21,8 +24,8 @@ in-at-requires-2 c κs = search needs
 returns-2 : tie.Need-returns-2
 returns-2 c = λ h. absurd (clash h)
 
-add-in-at-2 : tie.Need-add-in-at-2
-add-in-at-2 c = search needs
+add-in-at-3 : tie.Need-add-in-at-3
+add-in-at-3 c = search needs
 
 in-at-requires-3 : tie.Need-in-at-requires-3
 in-at-requires-3 c κs = search needs
@@ -30,8 +33,8 @@ in-at-requires-3 c κs = search needs
 returns-3 : tie.Need-returns-3
 returns-3 c = λ h. absurd (clash h)
 
-add-in-at-3 : tie.Need-add-in-at-3
-add-in-at-3 c = search needs
+add-in-at-4 : tie.Need-add-in-at-4
+add-in-at-4 c = search needs
 
 in-at-requires-4 : tie.Need-in-at-requires-4
 in-at-requires-4 c κs = search needs
@@ -39,8 +42,8 @@ in-at-requires-4 c κs = search needs
 returns-4 : tie.Need-returns-4
 returns-4 c = λ h. absurd (clash h)
 
-add-in-at-4 : tie.Need-add-in-at-4
-add-in-at-4 c = search needs
+add-in-at-5 : tie.Need-add-in-at-5
+add-in-at-5 c = search needs
 
 in-at-requires-5 : tie.Need-in-at-requires-5
 in-at-requires-5 c κs = search needs
@@ -48,8 +51,8 @@ in-at-requires-5 c κs = search needs
 returns-5 : tie.Need-returns-5
 returns-5 c = λ h. absurd (clash h)
 
-add-in-at-5 : tie.Need-add-in-at-5
-add-in-at-5 c = search needs
+add-in-at-6 : tie.Need-add-in-at-6
+add-in-at-6 c = search needs
 
 in-at-requires-6 : tie.Need-in-at-requires-6
 in-at-requires-6 c κs = search needs
@@ -57,8 +60,8 @@ in-at-requires-6 c κs = search needs
 returns-6 : tie.Need-returns-6
 returns-6 c = λ h. absurd (clash h)
 
-add-in-at-6 : tie.Need-add-in-at-6
-add-in-at-6 c = search needs
+add-in-at-7 : tie.Need-add-in-at-7
+add-in-at-7 c = search needs
 
 in-at-requires-7 : tie.Need-in-at-requires-7
 in-at-requires-7 c κs = search needs
@@ -66,8 +69,8 @@ in-at-requires-7 c κs = search needs
 returns-7 : tie.Need-returns-7
 returns-7 c = λ h. absurd (clash h)
 
-add-in-at-7 : tie.Need-add-in-at-7
-add-in-at-7 c = search needs
+add-in-at-8 : tie.Need-add-in-at-8
+add-in-at-8 c = search needs
 
 in-at-requires-8 : tie.Need-in-at-requires-8
 in-at-requires-8 c κs = search needs
@@ -75,8 +78,8 @@ in-at-requires-8 c κs = search needs
 returns-8 : tie.Need-returns-8
 returns-8 c = λ h. absurd (clash h)
 
-add-in-at-8 : tie.Need-add-in-at-8
-add-in-at-8 c = search needs
+add-in-at-9 : tie.Need-add-in-at-9
+add-in-at-9 c = search needs
 
 in-at-requires-9 : tie.Need-in-at-requires-9
 in-at-requires-9 c κs = search needs
@@ -115,29 +118,30 @@ pub front-holds-spec : {M : Type 1} → statement M
 front-holds-spec =
     tie.close
     (tie.spec
+    add-in-at
     in-at-requires
     returns
-    add-in-at
+    add-in-at-2
     in-at-requires-2
     returns-2
-    add-in-at-2
+    add-in-at-3
     in-at-requires-3
     returns-3
-    add-in-at-3
+    add-in-at-4
     in-at-requires-4
     returns-4
-    add-in-at-4
+    add-in-at-5
     in-at-requires-5
     returns-5
-    add-in-at-5
+    add-in-at-6
     in-at-requires-6
     returns-6
-    add-in-at-6
+    add-in-at-7
     in-at-requires-7
     returns-7
-    add-in-at-7
+    add-in-at-8
     in-at-requires-8
     returns-8
-    add-in-at-8
+    add-in-at-9
     in-at-requires-9
     returns-9)

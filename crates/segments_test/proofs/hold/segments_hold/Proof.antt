@@ -5,13 +5,15 @@ use Prim.Native.Nat.{_-_}
 use native.Mathlib.Omega.{arith}
 use Rattle.lent.proofs.Holding.{clash}
 use Rattle.edges_test.specs.Held.{linksTo}
+use Rattle.words_record.specs.Record.{segmentLayout}
+use Rattle.lent.proofs.Tested.{Passed, passed-none, passed-more}
 use Rattle.segments_test.specs.Held.{linksWhere}
-use Rattle.segments_test.proofs.Holding.{Passed, passed-none, passed-more, passed-all}
+use Rattle.segments_test.proofs.Holding.{SegmentHeld, held-by, passed-all}
 use Rattle.segments_test.proofs.hold.segments_hold.Statement.{statement}
 use Rattle.segments_test.proofs.hold.segments_hold.Tie as tie
 
 abbrev Inv-loop : tie.InvT-loop
-Inv-loop words nexts n links ways i₀ i = (links ≡ linksTo n) × (ways ≡ linksWhere n nexts) × Passed words nexts n i
+Inv-loop words nexts n links ways i₀ i = (links ≡ linksTo n) × (ways ≡ linksWhere n nexts) × Passed segmentLayout (SegmentHeld words nexts n) words n i
 
 abbrev μ-loop : tie.MeasureT-loop
 μ-loop words nexts n links ways i₀ i = n - i
@@ -35,7 +37,7 @@ loop-holds : tie.Need-loop-holds Inv-loop μ-loop
 loop-holds c =
     let l = c .before in
     let e = l .before in
-    (l .links-where .ensures, c .links-where2 .ensures, passed-none _ _ _ (e .before .if1 .left) refl (e .if2 .left))
+    (l .links-where .ensures, c .links-where2 .ensures, passed-none _ _ _ _ (e .before .if1 .left) refl (e .if2 .left))
 
 mul-front-holds : tie.Need-mul-front-holds Inv-loop μ-loop
 mul-front-holds c = let p = c .before .loop .inv .2 in let h = c .loop-test .taken in omega (arith, p .few, h)
@@ -67,8 +69,12 @@ loop-again c =
     let e = b .before in
     let f = e .before in
     let l = f .before in
-    let v = l .before .loop .inv in
-    (v .0, v .1, passed-more _ _ _ _ _ _ (v .2) (l .loop-test .taken) (f .front-holds .ensures (not-false _ (e .if3 .left))) (b .back-holds .ensures (not-false _ (c .if4 .left))) (v .0) (v .1))
+    let v = l .before .loop .inv in (
+      v .0,
+      v .1,
+      passed-more _ _ _ _ _ (v .2) (l .loop-test .taken)
+          (held-by _ _ _ _ (v .0) (v .1) (f .front-holds .ensures (not-false _ (e .if3 .left))) (b .back-holds .ensures (not-false _ (c .if4 .left)))),
+    )
 
 returns-5 : tie.Need-returns-5 Inv-loop μ-loop
 returns-5 c = λ h. passed-all _ _ _ _ (c .before .loop .inv .2) (c .loop-test .left)

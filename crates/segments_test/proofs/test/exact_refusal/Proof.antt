@@ -7,7 +7,7 @@ use Rattle.axis.specs.Refusals.{segmentsNumbers}
 use Rattle.words.specs.Segment.{flatSegments}
 use Rattle.lent.specs.Lent.{refusedOr, segmentsFront}
 use Rattle.lent.proofs.Lents.{refused-first, passed-first}
-use Rattle.segments_test.proofs.Answers.{tested-own, tested-index, tested-range, tested-none}
+use Rattle.lent.proofs.Tested.{tested-own, tested-index, tested-range, tested-none}
 use borrow.Author.Needs.{needs}
 use Rattle.segments_test.proofs.test.exact_refusal.Statement.{statement}
 use Rattle.segments_test.proofs.test.exact_refusal.Tie as tie
@@ -35,7 +35,7 @@ returns-2 : tie.Need-returns-2
 returns-2 c =
     let e = c .before in
     let s = e .before .before in
-    passed-first _ (e .before .segments-refusal .ensures) (e .if1 .left) (tested-own (flatSegments (s .args .words .now)) (s .args .own) (s .args .nexts) (s .args .passed) (c .if2 .taken))
+    passed-first _ (e .before .segments-refusal .ensures) (e .if1 .left) (tested-own (s .args .own) _ _ (c .if2 .taken))
 
 indexed-in-requires : tie.Need-indexed-in-requires
 indexed-in-requires c κs = search needs
@@ -45,7 +45,7 @@ returns-3 c =
     let k = c .before in
     let s = start k in
     from-front k
-    (tested-index (flatSegments (s .args .words .now)) (s .args .own) (s .args .nexts) (s .args .passed) (k .before .if2 .left) (sym (k .indexed-in .ensures) ∙ not-true _ (c .if3 .taken)))
+    (tested-index (s .args .own) _ _ (k .before .if2 .left) (sym (k .indexed-in .ensures) ∙ not-true _ (c .if3 .taken)))
 
 numbers-in-requires : tie.Need-numbers-in-requires
 numbers-in-requires c κs = search needs
@@ -59,7 +59,7 @@ returns-4 c =
     let k = begun b in
     let s = start k in
     from-front k
-    (tested-none (flatSegments (s .args .words .now)) (s .args .own) (s .args .nexts) (s .args .passed) (k .before .if2 .left)
+    (tested-none (s .args .own) _ _ (k .before .if2 .left)
     (sym (k .indexed-in .ensures) ∙ not-false _ (b .before .before .if3 .left)) (sym (numbers b) ∙ c .if4 .taken))
 
 returns-5 : tie.Need-returns-5
@@ -68,7 +68,7 @@ returns-5 c =
     let k = begun b in
     let s = start k in
     from-front k
-    (tested-range (flatSegments (s .args .words .now)) (s .args .own) (s .args .nexts) (s .args .passed) (k .before .if2 .left)
+    (tested-range (s .args .own) _ _ (k .before .if2 .left)
     (sym (k .indexed-in .ensures) ∙ not-false _ (b .before .before .if3 .left)) (sym (numbers b) ∙ c .if4 .left))
 
 pub exact-refusal-spec : {M : Type 1} → statement M
