@@ -1,0 +1,2 @@
+-- `Worked`, values by hand.
+pub mod Worked

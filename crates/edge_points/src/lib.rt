@@ -1,0 +1,1 @@
+// Edge points, from a segment's edge to the points of the outline: the definitions.
