@@ -1,0 +1,136 @@
+-- The chain's theorem: edge points on edges in order, and weak points behind it, leave points in order.
+use mathlib.Core.Path.{_≡_, refl, sym, ap, subst, _∙_}
+use mathlib.Core.Bool.{Bool, true, false, not, _||_}
+use mathlib.Core.List.{List}
+use mathlib.Core.Logic.{⊎-elim}
+use Prim.Native.Nat.{ℕ, _≤_, _<_, min}
+use native.Mathlib.Omega.{arith}
+use borrow.Author.Tests.{leb-true, eqb-true}
+use lib.ListN.{length, getD, List·getD-eq-default}
+use lib.IntN.{ℤ, pos, _+ℤ_, _-ℤ_}
+use Rattle.refusals.proofs.Answers.{worked}
+use Rattle.refusals.proofs.Tests.{all-hold}
+use Rattle.signed.proofs.Choices.{clash}
+use Rattle.signed.proofs.Signed.{signed, same, lt-or-le}
+use Rattle.axis.specs.declared.edge.Edge.{Edge}
+use Rattle.axis.specs.declared.edge.Axis.{Axis}
+use Rattle.axis.specs.declared.kinds.Link.{Link}
+use Rattle.axis.specs.declared.kinds.Link.the-variants as Links
+use Rattle.axis.specs.declared.segment.Segments.{Segments}
+use Rattle.axis.specs.Edge.{edgeAt}
+use Rattle.axis.specs.Limits.{mostSegments}
+use Rattle.axis.specs.Refusals.{segmentEdge}
+use Rattle.axis.specs.Segment.{segmentAt}
+use Rattle.axis.proofs.Acceptance.{link-below}
+use Rattle.axis.proofs.Tests.{every-at}
+use Rattle.turning.specs.Indices.{segmentsEdges}
+use Rattle.gaps.specs.Gaps.{isDone}
+use Rattle.contours.specs.Contour.{at, isTouched}
+use Rattle.contours.specs.Limits.{mostPoints}
+use Rattle.contours.proofs.Searches.{is-touched, not-touched, unmarked}
+use Rattle.outline.specs.Weak.{endsHold, Outcome}
+use Rattle.edge_points.specs.EdgePoints.{Points, movedBy, moves, moveAll, segmentPoints, segmentsPoints, pointsTests, edgeAnswer, edgeResult}
+use Rattle.edge_points_order.specs.Order.{lastMover, Ready, PlacedBy, PlacedByEdges, Gained}
+use Rattle.edge_points_order.proofs.Moved.{Came, last-mover, mover-at, moved, moved-size}
+use Rattle.edge_points_order.proofs.Neighbours.{gained}
+
+-- ---- what answer 0 of edge points says
+record Taken (axis : Axis) (t : Segments) (s : Points) (es : List ℕ) : Type 0 where
+  few : length (s .currents) ≤ mostPoints
+  marks : length (s .touched) ≡ length (s .currents)
+  ends : endsHold 0 (length (s .currents)) es ≡ true
+  edges : (i k : ℕ) → i < t .len → segmentAt t i .edge ≡ Links.To k → k < axis .len
+  walks : (i : ℕ) → i < t .len → segmentPoints es (segmentAt t i) (segmentAt t i .edge) ≡ true
+
+taken : (alone : Bool) (axis : Axis) (t : Segments) (s : Points) (es : List ℕ) → edgeAnswer alone axis t s es ≡ 0 → Taken axis t s es
+unfolding edgeAnswer segmentsEdges segmentEdge segmentsPoints
+taken alone axis t s es e =
+    let h = all-hold (pointsTests alone axis t s es) refl e in
+    let i = h .1 .1 in
+    let few = leb-true (t .len) mostSegments (i .0) in
+    let p = i .1 .1 .1 .1 .1 .1 .1 in
+    record {
+      few = leb-true (length (s .currents)) mostPoints (h .0);
+      marks = eqb-true (length (s .touched)) (length (s .currents)) (h .1 .0);
+      ends = p .0;
+      edges = λ j k l q. link-below (axis .len) (segmentAt t j .edge) (every-at _ j (min (t .len) mostSegments) (i .1 .1 .1 .1 .0) (below-min j (t .len) mostSegments few l)) .at k q;
+      walks = λ j l. every-at _ j (min (t .len) mostSegments) (p .1 .0) (below-min j (t .len) mostSegments few l);
+    }
+  where
+    below-min : (i n most : ℕ) → n ≤ most → i < n → i < min n most
+    below-min i n most h g = let m : min n most ≡ n = omega arith in rw m g
+
+-- ---- the edge of a moved point
+-- an edge that moves points is done, where done ones alone do or all are
+mover-done : (alone done : Bool) → (not alone || done) ≡ true → (alone ≡ false → done ≡ true) → done ≡ true
+mover-done true done h f = h
+mover-done false done h f = f refl
+
+-- a point that was where an edge was comes to where that is, with snap and without
+comes-along : (snap : Bool) (e : Edge) (v : ℤ) → v ≡ e .opos → movedBy snap e v ≡ e .pos
+unfolding movedBy
+comes-along true e v q = refl
+comes-along false e v q = same (omega (arith, signed))
+
+module _ (snap alone : Bool) (axis : Axis) (t : Segments) (o : List ℤ) (s : Points) (es : List ℕ) (ready : Ready snap alone axis t o s es) (yes : edgeAnswer alone axis t s es ≡ 0) where
+  -- what edge points leaves
+  abbrev left : Points
+  left = edgeResult snap alone axis t s es
+
+  left-is : left ≡ moveAll snap alone axis t es s
+  unfolding edgeResult
+  left-is = worked (λ _. s) (moveAll snap alone axis t es s) (edgeAnswer alone axis t s es) yes
+
+  -- the tests of edge points hold
+  tests : Taken axis t s es
+  tests = taken alone axis t s es yes
+
+  came : (p : ℕ) → p < length (s .currents) → Came snap axis s (moveAll snap alone axis t es s) p (lastMover alone axis t es p (t .len))
+  came p h = moved snap alone axis t es s (tests .few) (tests .marks) (tests .ends) (tests .walks) (ready .once) p h
+
+  -- what stands behind the last point is nothing
+  none-touched : (p : ℕ) → length (s .currents) ≤ p → isTouched (moveAll snap alone axis t es s .touched) p ≡ false
+  none-touched p g =
+      let z = moved-size snap alone axis t es s (tests .few) (tests .marks) (tests .ends) (tests .walks) (ready .once) in
+      not-touched (moveAll snap alone axis t es s .touched) p (List·getD-eq-default (moveAll snap alone axis t es s .touched) 0 {n = p} (omega (arith, z .marks, tests .marks)))
+
+  touched : (p : ℕ) → isTouched (moveAll snap alone axis t es s .touched) p ≡ true → PlacedBy axis o (moveAll snap alone axis t es s .currents) p
+  touched p m =
+      ⊎-elim (λ (h : p < length (s .currents)). by h (lastMover alone axis t es p (t .len)) refl (came p h))
+      (λ (g : length (s .currents) ≤ p). absurd (clash _ (none-touched p g) m)) (lt-or-le p (length (s .currents)))
+    where
+      by : p < length (s .currents) → (l : Link) → lastMover alone axis t es p (t .len) ≡ l → Came snap axis s (moveAll snap alone axis t es s) p l
+          → PlacedBy axis o (moveAll snap alone axis t es s .currents) p
+      by h Links.None q r = absurd (clash (isTouched (moveAll snap alone axis t es s .touched) p) (not-touched (moveAll snap alone axis t es s .touched) p (r .mark ∙ unmarked (s .touched) p (ready .untouched p))) m)
+      by h (Links.To k) q r =
+          let f = last-mover alone axis t es p k q in
+          let g = mover-at alone axis t es p (f .segment) k (f .by) in
+          let there = tests .edges (f .segment) k (f .below) (g .edge) in
+          let was = ready .on-edge p k (omega (arith, ap (λ (l : List ℤ). length l) (ready .still))) q in
+          record {
+            edge = k;
+            there = there;
+            done = mover-done alone (isDone axis k) (g .moving) (λ e. ready .done e k there);
+            was = was;
+            is = r .current ∙ ap (λ (l : List ℤ). movedBy snap (edgeAt axis k) (at l p)) (ready .still) ∙ comes-along snap (edgeAt axis k) (at o p) was;
+          }
+
+  others : (p : ℕ) → isTouched (moveAll snap alone axis t es s .touched) p ≡ false → at (moveAll snap alone axis t es s .currents) p ≡ at o p
+  others p m =
+      ⊎-elim (λ (h : p < length (s .currents)). by (lastMover alone axis t es p (t .len)) (came p h))
+      (λ (g : length (s .currents) ≤ p).
+      let z = moved-size snap alone axis t es s (tests .few) (tests .marks) (tests .ends) (tests .walks) (ready .once) in
+      List·getD-eq-default (moveAll snap alone axis t es s .currents) (pos 0) {n = p} (omega (arith, z .currents))
+      ∙ sym (List·getD-eq-default o (pos 0) {n = p} (omega (arith, ap (λ (l : List ℤ). length l) (ready .still))))) (lt-or-le p (length (s .currents)))
+    where
+      by : (l : Link) → Came snap axis s (moveAll snap alone axis t es s) p l → at (moveAll snap alone axis t es s .currents) p ≡ at o p
+      by Links.None r = r .current ∙ ap (λ (l : List ℤ). at l p) (ready .still)
+      by (Links.To k) r = absurd (clash (isTouched (moveAll snap alone axis t es s .touched) p) m (is-touched (moveAll snap alone axis t es s .touched) p (omega (arith, r .mark))))
+
+  -- edge points leaves points that edges have placed
+  pub placed : PlacedByEdges axis o (left .currents) (left .touched)
+  placed = subst (λ (x : Points). PlacedByEdges axis o (x .currents) (x .touched)) (sym left-is) (record { touched = touched; others = others })
+
+  -- and weak points behind it, where it answers 0, points in order
+  pub chain : (d : List ℤ) → Outcome o (left .currents) (left .touched) es 0 d → Gained axis o (left .currents) (left .touched) es d
+  chain d outcome = gained axis o (left .currents) d (left .touched) es (ready .edges) placed outcome
