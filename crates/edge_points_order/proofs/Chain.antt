@@ -30,9 +30,10 @@ use Rattle.contours.specs.Limits.{mostPoints}
 use Rattle.contours.proofs.Searches.{is-touched, not-touched, unmarked}
 use Rattle.outline.specs.Weak.{endsHold, Outcome}
 use Rattle.edge_points.specs.EdgePoints.{Points, movedBy, moves, moveAll, segmentPoints, segmentsPoints, pointsTests, edgeAnswer, edgeResult}
-use Rattle.edge_points_order.specs.Order.{lastMover, Ready, PlacedBy, PlacedByEdges, Gained}
+use Rattle.edge_points_order.specs.Order.{EdgesInOrder, EdgesApart, lastMover, Ready, PlacedBy, PlacedByEdges, Gained, PointsApart}
+use Rattle.edge_points_order.proofs.Edges.{apart-in-order}
 use Rattle.edge_points_order.proofs.Moved.{Came, last-mover, mover-at, moved, moved-size}
-use Rattle.edge_points_order.proofs.Neighbours.{gained}
+use Rattle.edge_points_order.proofs.Neighbours.{gained, points-apart}
 
 -- ---- what answer 0 of edge points says
 record Taken (axis : Axis) (t : Segments) (s : Points) (es : List ℕ) : Type 0 where
@@ -77,31 +78,35 @@ module _ (snap alone : Bool) (axis : Axis) (t : Segments) (o : List ℤ) (s : Po
   abbrev left : Points
   left = edgeResult snap alone axis t s es
 
-  left-is : left ≡ moveAll snap alone axis t es s
+  -- the points moved
+  abbrev after : Points
+  after = moveAll snap alone axis t es s
+
+  left-is : left ≡ after
   unfolding edgeResult
-  left-is = worked (λ _. s) (moveAll snap alone axis t es s) (edgeAnswer alone axis t s es) yes
+  left-is = worked (λ _. s) after (edgeAnswer alone axis t s es) yes
 
   -- the tests of edge points hold
   tests : Taken axis t s es
   tests = taken alone axis t s es yes
 
-  came : (p : ℕ) → p < length (s .currents) → Came snap axis s (moveAll snap alone axis t es s) p (lastMover alone axis t es p (t .len))
+  came : (p : ℕ) → p < length (s .currents) → Came snap axis s after p (lastMover alone axis t es p (t .len))
   came p h = moved snap alone axis t es s (tests .few) (tests .marks) (tests .ends) (tests .walks) (ready .once) p h
 
   -- what stands behind the last point is nothing
-  none-touched : (p : ℕ) → length (s .currents) ≤ p → isTouched (moveAll snap alone axis t es s .touched) p ≡ false
+  none-touched : (p : ℕ) → length (s .currents) ≤ p → isTouched (after .touched) p ≡ false
   none-touched p g =
       let z = moved-size snap alone axis t es s (tests .few) (tests .marks) (tests .ends) (tests .walks) (ready .once) in
-      not-touched (moveAll snap alone axis t es s .touched) p (List·getD-eq-default (moveAll snap alone axis t es s .touched) 0 {n = p} (omega (arith, z .marks, tests .marks)))
+      not-touched (after .touched) p (List·getD-eq-default (after .touched) 0 {n = p} (omega (arith, z .marks, tests .marks)))
 
-  touched : (p : ℕ) → isTouched (moveAll snap alone axis t es s .touched) p ≡ true → PlacedBy axis o (moveAll snap alone axis t es s .currents) p
+  touched : (p : ℕ) → isTouched (after .touched) p ≡ true → PlacedBy axis o (after .currents) p
   touched p m =
       ⊎-elim (λ (h : p < length (s .currents)). by h (lastMover alone axis t es p (t .len)) refl (came p h))
       (λ (g : length (s .currents) ≤ p). absurd (clash _ (none-touched p g) m)) (lt-or-le p (length (s .currents)))
     where
-      by : p < length (s .currents) → (l : Link) → lastMover alone axis t es p (t .len) ≡ l → Came snap axis s (moveAll snap alone axis t es s) p l
-          → PlacedBy axis o (moveAll snap alone axis t es s .currents) p
-      by h Links.None q r = absurd (clash (isTouched (moveAll snap alone axis t es s .touched) p) (not-touched (moveAll snap alone axis t es s .touched) p (r .mark ∙ unmarked (s .touched) p (ready .untouched p))) m)
+      by : p < length (s .currents) → (l : Link) → lastMover alone axis t es p (t .len) ≡ l → Came snap axis s after p l
+          → PlacedBy axis o (after .currents) p
+      by h Links.None q r = absurd (clash (isTouched (after .touched) p) (not-touched (after .touched) p (r .mark ∙ unmarked (s .touched) p (ready .untouched p))) m)
       by h (Links.To k) q r =
           let f = last-mover alone axis t es p k q in
           let g = mover-at alone axis t es p (f .segment) k (f .by) in
@@ -115,22 +120,27 @@ module _ (snap alone : Bool) (axis : Axis) (t : Segments) (o : List ℤ) (s : Po
             is = r .current ∙ ap (λ (l : List ℤ). movedBy snap (edgeAt axis k) (at l p)) (ready .still) ∙ comes-along snap (edgeAt axis k) (at o p) was;
           }
 
-  others : (p : ℕ) → isTouched (moveAll snap alone axis t es s .touched) p ≡ false → at (moveAll snap alone axis t es s .currents) p ≡ at o p
+  others : (p : ℕ) → isTouched (after .touched) p ≡ false → at (after .currents) p ≡ at o p
   others p m =
       ⊎-elim (λ (h : p < length (s .currents)). by (lastMover alone axis t es p (t .len)) (came p h))
       (λ (g : length (s .currents) ≤ p).
       let z = moved-size snap alone axis t es s (tests .few) (tests .marks) (tests .ends) (tests .walks) (ready .once) in
-      List·getD-eq-default (moveAll snap alone axis t es s .currents) (pos 0) {n = p} (omega (arith, z .currents))
+      List·getD-eq-default (after .currents) (pos 0) {n = p} (omega (arith, z .currents))
       ∙ sym (List·getD-eq-default o (pos 0) {n = p} (omega (arith, ap (λ (l : List ℤ). length l) (ready .still))))) (lt-or-le p (length (s .currents)))
     where
-      by : (l : Link) → Came snap axis s (moveAll snap alone axis t es s) p l → at (moveAll snap alone axis t es s .currents) p ≡ at o p
+      by : (l : Link) → Came snap axis s after p l → at (after .currents) p ≡ at o p
       by Links.None r = r .current ∙ ap (λ (l : List ℤ). at l p) (ready .still)
-      by (Links.To k) r = absurd (clash (isTouched (moveAll snap alone axis t es s .touched) p) m (is-touched (moveAll snap alone axis t es s .touched) p (omega (arith, r .mark))))
+      by (Links.To k) r = absurd (clash (isTouched (after .touched) p) m (is-touched (after .touched) p (omega (arith, r .mark))))
 
   -- edge points leaves points that edges have placed
   pub placed : PlacedByEdges axis o (left .currents) (left .touched)
   placed = subst (λ (x : Points). PlacedByEdges axis o (x .currents) (x .touched)) (sym left-is) (record { touched = touched; others = others })
 
-  -- and weak points behind it, where it answers 0, points in order
-  pub chain : (d : List ℤ) → Outcome o (left .currents) (left .touched) es 0 d → Gained axis o (left .currents) (left .touched) es d
-  chain d outcome = gained axis o (left .currents) d (left .touched) es (ready .edges) placed outcome
+  -- and weak points behind it, where it answers 0, points in order, where edges are
+  module _ (d : List ℤ) (outcome : Outcome o (left .currents) (left .touched) es 0 d) where
+    pub chain : EdgesInOrder axis → Gained axis o (left .currents) (left .touched) es d
+    chain order = gained axis o (left .currents) d (left .touched) es order placed outcome
+
+    -- and apart, where edges are
+    pub chain-apart : EdgesApart axis → PointsApart o (left .currents) (left .touched) es d
+    chain-apart apart = points-apart axis o (left .currents) d (left .touched) es (apart-in-order axis apart) placed outcome apart

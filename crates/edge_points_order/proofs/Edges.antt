@@ -17,7 +17,7 @@ use Rattle.gaps.specs.Gaps.{isDone, counts, IsPair, before, lostGaps, DoneRise}
 use Rattle.gaps.proofs.Ends.{starts-pair}
 use Rattle.gaps.proofs.Lasts.{Last, last-is}
 use Rattle.gaps.proofs.Order.{order-kept}
-use Rattle.edge_points_order.specs.Order.{EdgesInOrder, NoneTurned}
+use Rattle.edge_points_order.specs.Order.{EdgesInOrder, EdgesApart, NoneTurned}
 
 -- ---- any two done edges, by those between them
 module _ (axis : Axis) (n : NoneTurned axis) where
@@ -43,16 +43,25 @@ module _ (axis : Axis) (n : NoneTurned axis) where
           (lt-or-le k i)
 
 -- ---- by their order in the table, in which original positions do not fall
-by-table : (axis : Axis) → DoneRise axis → ((i j : ℕ) → i < j → j < axis .len → isDone axis i ≡ true → isDone axis j ≡ true → edgeAt axis i .pos ≤ℤ edgeAt axis j .pos) → EdgesInOrder axis
-by-table axis r h = record { at = λ i j x y d f l. ⊎-elim (λ (o : i < j). h i j o y d f) (λ (o : j ≤ i). absurd (⊎-elim (λ (e : j ≡ i). itself i j e l) (λ (g : j < i). let a = r .at j i g x f d in omega (arith, signed)) (eq-or-lt-of-le o))) (lt-or-le i j) }
-  where
-    itself : (i j : ℕ) → j ≡ i → edgeAt axis i .opos <ℤ edgeAt axis j .opos → ⊥
-    itself i j e l = let k = subst (λ (x : ℕ). edgeAt axis i .opos <ℤ edgeAt axis x .opos) e l in omega (arith, signed)
+-- of two done edges the one that was lower stands first
+stands-first : (axis : Axis) → DoneRise axis → (i j : ℕ) → i < axis .len → isDone axis i ≡ true → isDone axis j ≡ true → edgeAt axis i .opos <ℤ edgeAt axis j .opos → i < j
+stands-first axis r i j x d f l =
+    ⊎-elim (λ (o : i < j). o)
+    (λ (o : j ≤ i).
+    ⊎-elim
+    (λ (e : j ≡ i). let k = subst (λ (y : ℕ). edgeAt axis i .opos <ℤ edgeAt axis y .opos) e l in absurd (omega (arith, signed)))
+    (λ (g : j < i). let a = r .at j i g x f d in absurd (omega (arith, signed)))
+    (eq-or-lt-of-le o))
+    (lt-or-le i j)
 
 -- no neighbours are turned
 pub neighbours-in-order : (axis : Axis) → DoneRise axis → NoneTurned axis → EdgesInOrder axis
-neighbours-in-order axis r n = by-table axis r (λ i j. rise-to axis n j i j (omega arith))
+neighbours-in-order axis r n = record { at = λ i j x y d f l. rise-to axis n j i j (omega arith) (stands-first axis r i j x d f l) y d f }
 
--- the guard finds no gap and no stem lost, at width 0 and whether edges are linked or not
-pub guarded-in-order : (axis : Axis) → DoneRise axis → lostGaps axis (pos 0) false .answer ≡ 0 → lostGaps axis (pos 0) false .count ≡ 0 → lostGaps axis (pos 0) false .stems ≡ 0 → EdgesInOrder axis
-guarded-in-order axis r e z s = by-table axis r (λ i j o b d f. order-kept axis r e z s i j o b d f .not-turned)
+-- the guard finds no gap and no stem lost, at width 0, with or without links
+pub guarded-apart : (axis : Axis) → DoneRise axis → lostGaps axis (pos 0) false .answer ≡ 0 → lostGaps axis (pos 0) false .count ≡ 0 → lostGaps axis (pos 0) false .stems ≡ 0 → EdgesApart axis
+guarded-apart axis r e z s = record { at = λ i j x y d f l. order-kept axis r e z s i j (stands-first axis r i j x d f l) y d f .not-closed l }
+
+-- edges that are apart are in order
+pub apart-in-order : (axis : Axis) → EdgesApart axis → EdgesInOrder axis
+apart-in-order axis a = record { at = λ i j x y d f l. let k = a .at i j x y d f l in omega (arith, signed) }

@@ -7,10 +7,10 @@ use mathlib.Core.Option.{Option, some, none}
 use Prim.Native.Nat.{ℕ, _≤_, _<_}
 use native.Mathlib.Omega.{arith}
 use lib.ListN.{length, getD, List·getD-eq-default}
-use lib.IntN.{ℤ, _+ℤ_, _-ℤ_}
+use lib.IntN.{ℤ, pos, _+ℤ_, _-ℤ_}
 use lib.Signed.{ltZ, _≤ℤ_, _<ℤ_}
 use Rattle.signed.specs.Equality.{eqZ}
-use Rattle.signed.proofs.Signed.{signed, same, atmost, to-≡, is-<ℤ, lt-or-le, eqZ-true}
+use Rattle.signed.proofs.Signed.{signed, add-law, same, atmost, to-≡, is-<ℤ, lt-or-le, eqZ-true}
 use Rattle.axis.specs.declared.edge.Axis.{Axis}
 use Rattle.axis.specs.Edge.{edgeAt}
 use Rattle.axis.proofs.Walks.{same?}
@@ -26,7 +26,7 @@ use Rattle.outline.proofs.Faithful.{demand-3}
 use Rattle.outline.proofs.Neighbours.{refs-ordered}
 use Rattle.outline.proofs.Outcomes.{result-at}
 use Rattle.outline.proofs.Refusals.{accepted}
-use Rattle.edge_points_order.specs.Order.{EdgesInOrder, OnePosition, PlacedBy, PlacedByEdges, Beside, Parted, PointsInOrder, Gained}
+use Rattle.edge_points_order.specs.Order.{EdgesInOrder, EdgesApart, OnePosition, PlacedBy, PlacedByEdges, Beside, Parted, PointsInOrder, Gained, PointsApart}
 use Rattle.edge_points_order.proofs.Between.{under-first, under-second, over-first, over-second}
 
 -- ---- references by their names
@@ -49,6 +49,10 @@ shifted o c p i s = by (eqZ (at c p) (at o p)) refl
     by : (b : Bool) → eqZ (at c p) (at o p) ≡ b → shiftedAt o c p i ≡ at o i +ℤ (at c p -ℤ at o p)
     by true q = let e = eqZ-true (at c p) (at o p) q in rw q (s ∙ same (omega (arith, signed)))
     by false q = rw q refl
+
+-- what passes a number by one unit at most passes none above it
+one-more : (x y z : ℤ) → x ≤ℤ (y +ℤ pos 1) → y <ℤ z → x ≤ℤ z
+one-more x y z h l = omega (arith, signed, add-law y (pos 1))
 
 module _ (axis : Axis) (o c d : List ℤ) (t es : List ℕ) (order : EdgesInOrder axis) (placed : PlacedByEdges axis o c t) (outcome : Outcome o c t es 0 d) where
   -- the outline is accepted
@@ -169,3 +173,20 @@ module _ (axis : Axis) (o c d : List ℤ) (t es : List ℕ) (order : EdgesInOrde
 
   pub gained : Gained axis o c t es d
   gained = record { demand-3 = demand-3 o c d t es outcome; placed = ends-placed; in-order = points-in-order }
+
+  -- ---- edges that are apart
+  module _ (apart : EdgesApart axis) where
+    touched-apart : (p q : ℕ) → isTouched t p ≡ true → isTouched t q ≡ true → at o p <ℤ at o q → at d p <ℤ at d q
+    touched-apart p q m n l =
+        let a = ends-placed p m in
+        let b = ends-placed q n in
+        rw (a .is, b .is) (apart .at (a .edge) (b .edge) (a .there) (b .there) (a .done) (b .done) (rw (a .was, b .was) at l))
+
+    pub points-apart : PointsApart o c t es d
+    points-apart = record {
+      touched = touched-apart;
+      below = λ i p q b n l k.
+          let f = touched-apart p q (neighbour-touched i p b) n k in
+          ⊎-elim (λ e. inl e) (λ e. inr (⊎-elim (λ x. omega (arith, signed)) (λ x. one-more (at d i) (at d p) (at d q) (x .1) f) e)) (below i p b l);
+      above = λ i p q b n k l. let f = touched-apart q p n (neighbour-touched i p b) k in ⊎-elim (λ e. inl e) (λ x. inr (omega (arith, signed))) (above i p b l);
+    }

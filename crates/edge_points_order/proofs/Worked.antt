@@ -1,10 +1,14 @@
 -- What each hypothesis and each exception is there for, by hand: the smallest outlines that end out of order without it.
-use mathlib.Core.Path.{_≡_, refl}
+use mathlib.Core.Path.{_≡_, refl, subst}
 use mathlib.Core.Bool.{Bool, true, false}
 use mathlib.Core.List.{List, [], _∷_}
-use Prim.Native.Nat.{ℕ}
+use Prim.Native.Nat.{ℕ, zero, suc, _<_}
+use native.Mathlib.Omega.{arith}
 use lib.IntN.{ℤ, pos, negℤ}
 use lib.ListN.{length}
+use lib.Signed.{_<ℤ_}
+use Rattle.signed.proofs.Choices.{clash}
+use Rattle.signed.proofs.Signed.{signed, is-<ℤ}
 use Rattle.axis.specs.declared.edge.Edge.{Edge}
 use Rattle.axis.specs.declared.edge.Axis.{Axis}
 use Rattle.axis.specs.declared.kinds.Dimension.the-variants as Dimensions
@@ -13,14 +17,15 @@ use Rattle.axis.specs.declared.kinds.Link.the-variants.{None, To}
 use Rattle.axis.specs.declared.kinds.Mark.the-variants.{Stem}
 use Rattle.axis.specs.declared.segment.Segment.{Segment}
 use Rattle.axis.specs.declared.segment.Segments.{Segments}
-use Rattle.axis.specs.Edge.{freshEdge, placed, finished}
+use Rattle.axis.specs.Edge.{edgeAt, freshEdge, placed, finished}
 use Rattle.axis.specs.Ring.{walk, times}
 use Rattle.axis.specs.Segment.{emptySegment}
 use Rattle.axis.specs.Visits.{visits}
-use Rattle.contours.specs.Contour.{firstTouched, lastTouched, touchedBefore, touchedBehind, references, firstOf, secondOf, interpolated, betweenAt, shiftedAt, followed, weakAt}
+use Rattle.gaps.specs.Gaps.{isDone}
+use Rattle.contours.specs.Contour.{at, isTouched, firstTouched, lastTouched, touchedBefore, touchedBehind, references, firstOf, secondOf, interpolated, betweenAt, shiftedAt, followed, weakAt}
 use Rattle.outline.specs.Weak.{contourOf, onContour, alignedAt, listOf}
 use Rattle.edge_points.specs.EdgePoints.{behind, Points, movedBy, movePoints, moveSegment, alongEdge, visitSegment, moveAll}
-use Rattle.edge_points_order.specs.Order.{meets, moverOf, moverAt, lastMover}
+use Rattle.edge_points_order.specs.Order.{EdgesApart, meets, moverOf, moverAt, lastMover, Ready}
 
 -- an edge not done that was at o and came to p, and one that is done
 abbrev left : ℤ → ℤ → Edge
@@ -93,3 +98,51 @@ last-of-two : lastMover true (record { dim = Dimensions.Vertical; «major_dir» 
     ≡ To 0
 unfolding lastMover moverAt moverOf meets times walk behind contourOf
 last-of-two = refl
+
+-- ---- the hypotheses can be met
+-- by the outline in order: its edges, segments and points
+abbrev axis : Axis
+axis = record { dim = Dimensions.Vertical; «major_dir» = Directions.Up; edges = done (pos 0) (pos 0) ∷ done (pos 61) (pos 64) ∷ []; len = 2 }
+
+abbrev table : Segments
+table = record { segments = single 1 0 ∷ single 2 1 ∷ []; len = 2 }
+
+abbrev originals : List ℤ
+originals = pos 61 ∷ pos 0 ∷ pos 61 ∷ []
+
+abbrev points : Points
+points = record { currents = originals; touched = 0 ∷ 0 ∷ 0 ∷ [] }
+
+apart : EdgesApart axis
+apart = record { at = two }
+  where
+    two : (i j : ℕ) → i < 2 → j < 2 → isDone axis i ≡ true → isDone axis j ≡ true → edgeAt axis i .opos <ℤ edgeAt axis j .opos → edgeAt axis i .pos <ℤ edgeAt axis j .pos
+    two zero zero a b d e l = absurd (omega (arith, signed))
+    two zero (suc zero) a b d e l = is-<ℤ (pos 0) (pos 64) refl
+    two zero (suc (suc j)) a b d e l = absurd (omega arith)
+    two (suc zero) zero a b d e l = absurd (omega (arith, signed))
+    two (suc zero) (suc zero) a b d e l = absurd (omega (arith, signed))
+    two (suc zero) (suc (suc j)) a b d e l = absurd (omega arith)
+    two (suc (suc i)) j a b d e l = absurd (omega arith)
+
+on-edge : (p k : ℕ) → p < 3 → lastMover true axis table (2 ∷ []) p 2 ≡ To k → at originals p ≡ edgeAt axis k .opos
+unfolding lastMover moverAt moverOf meets times walk behind contourOf
+on-edge zero k h e = let z : _≡_ {A = ℕ} 0 1 = cc in absurd (omega arith)
+on-edge (suc zero) k h e = let q : 0 ≡ k = cc in subst (λ (x : ℕ). pos 0 ≡ edgeAt axis x .opos) q refl
+on-edge (suc (suc zero)) k h e = let q : 1 ≡ k = cc in subst (λ (x : ℕ). pos 61 ≡ edgeAt axis x .opos) q refl
+on-edge (suc (suc (suc p))) k h e = absurd (omega arith)
+
+untouched : (p : ℕ) → isTouched (0 ∷ 0 ∷ 0 ∷ []) p ≡ false
+untouched zero = refl
+untouched (suc zero) = refl
+untouched (suc (suc zero)) = refl
+untouched (suc (suc (suc p))) = refl
+
+ready : Ready true true axis table originals points (2 ∷ [])
+ready = record {
+  done = λ e. absurd (clash true e refl);
+  still = refl;
+  untouched = untouched;
+  on-edge = on-edge;
+  once = λ e. absurd (clash true e refl);
+}

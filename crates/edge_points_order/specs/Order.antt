@@ -31,6 +31,11 @@ pub record EdgesInOrder (axis : Axis) : Type 0 where
   pub at : (i j : ℕ) → i < axis .len → j < axis .len → isDone axis i ≡ true → isDone axis j ≡ true → edgeAt axis i .opos <ℤ edgeAt axis j .opos
       → edgeAt axis i .pos ≤ℤ edgeAt axis j .pos
 
+-- they are, and none of them has met another that it was apart from
+pub record EdgesApart (axis : Axis) : Type 0 where
+  pub at : (i j : ℕ) → i < axis .len → j < axis .len → isDone axis i ≡ true → isDone axis j ≡ true → edgeAt axis i .opos <ℤ edgeAt axis j .opos
+      → edgeAt axis i .pos <ℤ edgeAt axis j .pos
+
 -- no two neighbouring done edges are turned: none is below the done one before it in the table
 pub record NoneTurned (axis : Axis) : Type 0 where
   pub at : (i j : ℕ) → IsPair false axis i j → edgeAt axis i .pos ≤ℤ edgeAt axis j .pos
@@ -61,10 +66,8 @@ lastMover alone axis t es p zero = Links.None
 lastMover alone axis t es p (suc n) = orElse (moverAt alone axis t es p n) (lastMover alone axis t es p n)
 
 -- ---- before edge points
--- what is needed of an axis, its segments and an outline that edge points is given
+-- what is needed of segments and points, beside edges in order
 pub record Ready (snap alone : Bool) (axis : Axis) (t : Segments) (o : List ℤ) (s : Points) (es : List ℕ) : Type 0 where
-  -- done edges are in order
-  pub edges : EdgesInOrder axis
   -- points of done edges alone are moved, or every edge is done
   pub done : alone ≡ false → (k : ℕ) → k < axis .len → isDone axis k ≡ true
   -- every point's current is its original
@@ -121,3 +124,10 @@ pub record Gained (axis : Axis) (o c : List ℤ) (t es : List ℕ) (d : List ℤ
   -- every touched point was where a done edge was, and ends where that is
   pub placed : (p : ℕ) → isTouched t p ≡ true → PlacedBy axis o d p
   pub in-order : PointsInOrder o c t es d
+
+-- and where edges are apart too: no touched point has met another that it was apart from, and an untouched one on this side of a neighbour ends on this side of every touched point
+-- that the neighbour is on this side of, but for the one exception
+pub record PointsApart (o c : List ℤ) (t es : List ℕ) (d : List ℤ) : Type 0 where
+  pub touched : (p q : ℕ) → isTouched t p ≡ true → isTouched t q ≡ true → at o p <ℤ at o q → at d p <ℤ at d q
+  pub below : (i p q : ℕ) (b : Beside t es i p) → isTouched t q ≡ true → at o i <ℤ at o p → at o p <ℤ at o q → Parted o c (b .by) ⊎ (at d i ≤ℤ at d q)
+  pub above : (i p q : ℕ) (b : Beside t es i p) → isTouched t q ≡ true → at o q <ℤ at o p → at o p <ℤ at o i → Parted o c (b .by) ⊎ (at d q <ℤ at d i)
