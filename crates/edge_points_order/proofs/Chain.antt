@@ -1,17 +1,18 @@
 -- The chain's theorem: edge points on edges in order, and weak points behind it, leave points in order.
 use mathlib.Core.Path.{_≡_, refl, sym, ap, subst, _∙_}
-use mathlib.Core.Bool.{Bool, true, false, not, _||_}
-use mathlib.Core.List.{List}
-use mathlib.Core.Logic.{⊎-elim}
-use Prim.Native.Nat.{ℕ, _≤_, _<_, min}
+use mathlib.Core.Bool.{Bool, true, false, not, cond, _||_}
+use mathlib.Core.List.{List, [], _∷_}
+use mathlib.Core.Logic.{_⊎_, inl, inr, ⊎-elim}
+use Prim.Native.Nat.{ℕ, suc, _≤_, _<_, min}
 use native.Mathlib.Omega.{arith}
-use borrow.Author.Tests.{leb-true, eqb-true}
-use lib.ListN.{length, getD, List·getD-eq-default}
-use lib.IntN.{ℤ, pos, _+ℤ_, _-ℤ_}
+use borrow.Author.Tests.{leb-true, eqb-true, le-leb, eq-eqb}
+use lib.ListN.{length, List·getD-eq-default}
+use lib.IntN.{ℤ, pos, natAbs}
+use Rattle.refusals.specs.Refusal.{refusal, steep}
 use Rattle.refusals.proofs.Answers.{worked}
-use Rattle.refusals.proofs.Tests.{all-hold}
+use Rattle.refusals.proofs.Tests.{all-hold, no-refusal, own-first}
 use Rattle.signed.proofs.Choices.{clash}
-use Rattle.signed.proofs.Signed.{signed, same, lt-or-le}
+use Rattle.signed.proofs.Signed.{signed, same, abs-of, lt-or-le}
 use Rattle.axis.specs.declared.edge.Edge.{Edge}
 use Rattle.axis.specs.declared.edge.Axis.{Axis}
 use Rattle.axis.specs.declared.kinds.Link.{Link}
@@ -21,30 +22,43 @@ use Rattle.axis.specs.Edge.{edgeAt}
 use Rattle.axis.specs.Limits.{mostSegments}
 use Rattle.axis.specs.Refusals.{segmentEdge}
 use Rattle.axis.specs.Segment.{segmentAt}
-use Rattle.axis.proofs.Acceptance.{link-below}
+use Rattle.axis.proofs.Acceptance.{link-below, within-between}
 use Rattle.axis.proofs.Tests.{every-at}
 use Rattle.turning.specs.Indices.{segmentsEdges}
 use Rattle.gaps.specs.Gaps.{isDone}
 use Rattle.contours.specs.Contour.{at, isTouched}
-use Rattle.contours.specs.Limits.{mostPoints}
+use Rattle.contours.specs.Limits.{mostPoints, mostCoordinate}
 use Rattle.contours.proofs.Searches.{is-touched, not-touched, unmarked}
-use Rattle.outline.specs.Weak.{endsHold, Outcome}
-use Rattle.edge_points.specs.EdgePoints.{Points, movedBy, moves, moveAll, segmentPoints, segmentsPoints, pointsTests, edgeAnswer, edgeResult}
+use Rattle.outline.specs.Weak.{endsHold, coordinateHolds, coordinatesHold, listTests, numberTests, weakTests, gentle, Outcome}
+use Rattle.outline.proofs.Refusals.{coordinates-of, number-steep}
+use Rattle.edge_points.specs.EdgePoints.{Points, movedBy, moves, moveAll, segmentPoints, segmentsPoints, moverHolds, moversHold, pointsTests, edgeAnswer, edgeResult}
 use Rattle.edge_points_order.specs.Order.{EdgesInOrder, EdgesApart, lastMover, Ready, PlacedBy, PlacedByEdges, Gained, PointsApart}
 use Rattle.edge_points_order.proofs.Edges.{apart-in-order}
-use Rattle.edge_points_order.proofs.Moved.{Came, last-mover, mover-at, moved, moved-size}
+use Rattle.edge_points_order.proofs.Moved.{Came, SameSize, last-mover, mover-at, moved, moved-size}
 use Rattle.edge_points_order.proofs.Neighbours.{gained, points-apart}
 
 -- ---- what answer 0 of edge points says
-record Taken (axis : Axis) (t : Segments) (s : Points) (es : List ℕ) : Type 0 where
+-- the second of two tests holds where the first is not asked for
+or-second : (x y : Bool) → x ≡ true → (not x || y) ≡ true → y ≡ true
+or-second x y e h = rw e at h
+
+-- coordinates that are each within a limit hold
+all-within : (most : ℕ) (l : List ℤ) → ((i : ℕ) → natAbs (at l i) ≤ most) → coordinatesHold most l ≡ true
+unfolding coordinatesHold coordinateHolds
+all-within most [] h = refl
+all-within most (z ∷ l) h = rw (le-leb (natAbs z) most (h 0), all-within most l (λ i. h (suc i)))
+
+record Taken (alone : Bool) (axis : Axis) (t : Segments) (s : Points) (es : List ℕ) : Type 0 where
   few : length (s .currents) ≤ mostPoints
   marks : length (s .touched) ≡ length (s .currents)
   ends : endsHold 0 (length (s .currents)) es ≡ true
   edges : (i k : ℕ) → i < t .len → segmentAt t i .edge ≡ Links.To k → k < axis .len
   walks : (i : ℕ) → i < t .len → segmentPoints es (segmentAt t i) (segmentAt t i .edge) ≡ true
+  currents : coordinatesHold mostCoordinate (s .currents) ≡ true
+  positions : (i k : ℕ) → i < t .len → segmentAt t i .edge ≡ Links.To k → moves alone (edgeAt axis k) ≡ true → natAbs (edgeAt axis k .pos) ≤ mostCoordinate
 
-taken : (alone : Bool) (axis : Axis) (t : Segments) (s : Points) (es : List ℕ) → edgeAnswer alone axis t s es ≡ 0 → Taken axis t s es
-unfolding edgeAnswer segmentsEdges segmentEdge segmentsPoints
+taken : (alone : Bool) (axis : Axis) (t : Segments) (s : Points) (es : List ℕ) → edgeAnswer alone axis t s es ≡ 0 → Taken alone axis t s es
+unfolding edgeAnswer segmentsEdges segmentEdge segmentsPoints moversHold moverHolds
 taken alone axis t s es e =
     let h = all-hold (pointsTests alone axis t s es) refl e in
     let i = h .1 .1 in
@@ -56,10 +70,16 @@ taken alone axis t s es e =
       ends = p .0;
       edges = λ j k l q. link-below (axis .len) (segmentAt t j .edge) (every-at _ j (min (t .len) mostSegments) (i .1 .1 .1 .1 .0) (below-min j (t .len) mostSegments few l)) .at k q;
       walks = λ j l. every-at _ j (min (t .len) mostSegments) (p .1 .0) (below-min j (t .len) mostSegments few l);
+      currents = p .1 .1 .1 .1 .0;
+      positions = λ j k l q m.
+          held k (subst (λ (x : Link). moverHolds alone axis x ≡ true) q (every-at _ j (min (t .len) mostSegments) (p .1 .1 .1 .1 .1 .0) (below-min j (t .len) mostSegments few l))) m;
     }
   where
     below-min : (i n most : ℕ) → n ≤ most → i < n → i < min n most
     below-min i n most h g = let m : min n most ≡ n = omega arith in rw m g
+
+    held : (k : ℕ) → moverHolds alone axis (Links.To k) ≡ true → moves alone (edgeAt axis k) ≡ true → natAbs (edgeAt axis k .pos) ≤ mostCoordinate
+    held k h m = let b = within-between mostCoordinate (edgeAt axis k .pos) (or-second (moves alone (edgeAt axis k)) _ m h) in omega (arith, abs-of b)
 
 -- ---- the edge of a moved point
 -- an edge that moves points is done, where done ones alone do or all are
@@ -87,17 +107,28 @@ module _ (snap alone : Bool) (axis : Axis) (t : Segments) (o : List ℤ) (s : Po
   left-is = worked (λ _. s) after (edgeAnswer alone axis t s es) yes
 
   -- the tests of edge points hold
-  tests : Taken axis t s es
+  tests : Taken alone axis t s es
   tests = taken alone axis t s es yes
+
+  -- there are as many points, and each has come to its place
+  size : SameSize s after
+  size = moved-size snap alone axis t es s (tests .few) (tests .marks) (tests .ends) (tests .walks) (ready .once)
 
   came : (p : ℕ) → p < length (s .currents) → Came snap axis s after p (lastMover alone axis t es p (t .len))
   came p h = moved snap alone axis t es s (tests .few) (tests .marks) (tests .ends) (tests .walks) (ready .once) p h
 
+  -- a moved point was where its edge was, and comes to where that is
+  module _ (p k : ℕ) (h : p < length (s .currents)) (q : lastMover alone axis t es p (t .len) ≡ Links.To k) (r : Came snap axis s after p (Links.To k)) where
+    was : at o p ≡ edgeAt axis k .opos
+    was = ready .on-edge p k (omega (arith, ap (λ (l : List ℤ). length l) (ready .still))) q
+
+    is : at (after .currents) p ≡ edgeAt axis k .pos
+    is = r .current ∙ ap (λ (l : List ℤ). movedBy snap (edgeAt axis k) (at l p)) (ready .still) ∙ comes-along snap (edgeAt axis k) (at o p) was
+
   -- what stands behind the last point is nothing
   none-touched : (p : ℕ) → length (s .currents) ≤ p → isTouched (after .touched) p ≡ false
   none-touched p g =
-      let z = moved-size snap alone axis t es s (tests .few) (tests .marks) (tests .ends) (tests .walks) (ready .once) in
-      not-touched (after .touched) p (List·getD-eq-default (after .touched) 0 {n = p} (omega (arith, z .marks, tests .marks)))
+      not-touched (after .touched) p (List·getD-eq-default (after .touched) 0 {n = p} (omega (arith, size .marks, tests .marks)))
 
   touched : (p : ℕ) → isTouched (after .touched) p ≡ true → PlacedBy axis o (after .currents) p
   touched p m =
@@ -111,21 +142,19 @@ module _ (snap alone : Bool) (axis : Axis) (t : Segments) (o : List ℤ) (s : Po
           let f = last-mover alone axis t es p k q in
           let g = mover-at alone axis t es p (f .segment) k (f .by) in
           let there = tests .edges (f .segment) k (f .below) (g .edge) in
-          let was = ready .on-edge p k (omega (arith, ap (λ (l : List ℤ). length l) (ready .still))) q in
           record {
             edge = k;
             there = there;
             done = mover-done alone (isDone axis k) (g .moving) (λ e. ready .done e k there);
-            was = was;
-            is = r .current ∙ ap (λ (l : List ℤ). movedBy snap (edgeAt axis k) (at l p)) (ready .still) ∙ comes-along snap (edgeAt axis k) (at o p) was;
+            was = was p k h q r;
+            is = is p k h q r;
           }
 
   others : (p : ℕ) → isTouched (after .touched) p ≡ false → at (after .currents) p ≡ at o p
   others p m =
       ⊎-elim (λ (h : p < length (s .currents)). by (lastMover alone axis t es p (t .len)) (came p h))
       (λ (g : length (s .currents) ≤ p).
-      let z = moved-size snap alone axis t es s (tests .few) (tests .marks) (tests .ends) (tests .walks) (ready .once) in
-      List·getD-eq-default (after .currents) (pos 0) {n = p} (omega (arith, z .currents))
+      List·getD-eq-default (after .currents) (pos 0) {n = p} (omega (arith, size .currents))
       ∙ sym (List·getD-eq-default o (pos 0) {n = p} (omega (arith, ap (λ (l : List ℤ). length l) (ready .still))))) (lt-or-le p (length (s .currents)))
     where
       by : (l : Link) → Came snap axis s after p l → at (after .currents) p ≡ at o p
@@ -135,6 +164,56 @@ module _ (snap alone : Bool) (axis : Axis) (t : Segments) (o : List ℤ) (s : Po
   -- edge points leaves points that edges have placed
   pub placed : PlacedByEdges axis o (left .currents) (left .touched)
   placed = subst (λ (x : Points). PlacedByEdges axis o (x .currents) (x .touched)) (sym left-is) (record { touched = touched; others = others })
+
+  -- ---- weak points behind it
+  -- every current is a coordinate
+  held : (p : ℕ) → natAbs (at (after .currents) p) ≤ mostCoordinate
+  held p =
+      ⊎-elim (λ (h : p < length (s .currents)). by h (lastMover alone axis t es p (t .len)) refl (came p h))
+      (λ (g : length (s .currents) ≤ p). let e = List·getD-eq-default (after .currents) (pos 0) {n = p} (omega (arith, size .currents)) in rw e (omega arith)) (lt-or-le p (length (s .currents)))
+    where
+      by : p < length (s .currents) → (l : Link) → lastMover alone axis t es p (t .len) ≡ l → Came snap axis s after p l → natAbs (at (after .currents) p) ≤ mostCoordinate
+      by h Links.None q r = rw (r .current) (coordinates-of mostCoordinate (s .currents) (tests .currents) p)
+      by h (Links.To k) q r =
+          let f = last-mover alone axis t es p k q in
+          let g = mover-at alone axis t es p (f .segment) k (f .by) in
+          rw (is p k h q r) (tests .positions (f .segment) k (f .below) (g .edge) (g .moving))
+
+  -- it answers 0, or 8 where a point is too steep
+  answers : (refusal (weakTests o (after .currents) (after .touched) es) ≡ 0) ⊎ (refusal (weakTests o (after .currents) (after .touched) es) ≡ steep)
+  answers = by (gentle o (after .currents) (after .touched) es) refl
+    where
+      same-count : length o ≡ length (s .currents)
+      same-count = ap (λ (l : List ℤ). length l) (sym (ready .still))
+
+      lists : refusal (listTests o (after .currents) (after .touched) es) ≡ 0
+      lists =
+          no-refusal (listTests o (after .currents) (after .touched) es) (
+            le-leb (length o) mostPoints (omega (arith, same-count, tests .few)),
+            (
+              eq-eqb (length (after .currents)) (length o) (size .currents ∙ sym same-count),
+              (
+                eq-eqb (length (after .touched)) (length o) (size .marks ∙ tests .marks ∙ sym same-count),
+                (subst (λ (n : ℕ). endsHold 0 n es ≡ true) (sym same-count) (tests .ends), refl),
+              ),
+            ),
+          )
+
+      numbers : (b : Bool) → b ≡ not (gentle o (after .currents) (after .touched) es) → refusal (weakTests o (after .currents) (after .touched) es) ≡ cond b steep 0
+      numbers b e =
+          own-first (listTests o (after .currents) (after .touched) es) (numberTests o (after .currents) (after .touched) es) refl
+          ∙ worked (λ (k : ℕ). k) (refusal (numberTests o (after .currents) (after .touched) es)) (refusal (listTests o (after .currents) (after .touched) es)) lists
+          ∙ number-steep o (after .currents) (after .touched) es b
+          (subst (λ (l : List ℤ). coordinatesHold mostCoordinate l ≡ true) (ready .still) (tests .currents)) (all-within mostCoordinate (after .currents) held) e
+
+      by : (b : Bool) → gentle o (after .currents) (after .touched) es ≡ b
+          → (refusal (weakTests o (after .currents) (after .touched) es) ≡ 0) ⊎ (refusal (weakTests o (after .currents) (after .touched) es) ≡ steep)
+      by true e = inl (numbers false (ap not (sym e)))
+      by false e = inr (numbers true (ap not (sym e)))
+
+  pub handed : (refusal (weakTests o (left .currents) (left .touched) es) ≡ 0) ⊎ (refusal (weakTests o (left .currents) (left .touched) es) ≡ steep)
+  handed =
+      subst (λ (x : Points). (refusal (weakTests o (x .currents) (x .touched) es) ≡ 0) ⊎ (refusal (weakTests o (x .currents) (x .touched) es) ≡ steep)) (sym left-is) answers
 
   -- and weak points behind it, where it answers 0, points in order, where edges are
   module _ (d : List ℤ) (outcome : Outcome o (left .currents) (left .touched) es 0 d) where

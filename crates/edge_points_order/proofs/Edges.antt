@@ -13,7 +13,7 @@ use Rattle.axis.specs.declared.edge.Axis.{Axis}
 use Rattle.axis.specs.declared.kinds.Link.{Link}
 use Rattle.axis.specs.declared.kinds.Link.the-variants as Links
 use Rattle.axis.specs.Edge.{edgeAt}
-use Rattle.gaps.specs.Gaps.{isDone, counts, IsPair, before, lostGaps, DoneRise}
+use Rattle.gaps.specs.Gaps.{isDone, counts, before, lostGaps, DoneRise}
 use Rattle.gaps.proofs.Ends.{starts-pair}
 use Rattle.gaps.proofs.Lasts.{Last, last-is}
 use Rattle.gaps.proofs.Order.{order-kept}

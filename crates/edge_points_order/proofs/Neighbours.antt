@@ -6,15 +6,14 @@ use mathlib.Core.Logic.{_⊎_, inl, inr, ⊎-elim}
 use mathlib.Core.Option.{Option, some, none}
 use Prim.Native.Nat.{ℕ, _≤_, _<_}
 use native.Mathlib.Omega.{arith}
-use lib.ListN.{length, getD, List·getD-eq-default}
+use lib.ListN.{length, List·getD-eq-default}
 use lib.IntN.{ℤ, pos, _+ℤ_, _-ℤ_}
 use lib.Signed.{ltZ, _≤ℤ_, _<ℤ_}
 use Rattle.signed.specs.Equality.{eqZ}
 use Rattle.signed.proofs.Signed.{signed, add-law, same, atmost, to-≡, is-<ℤ, lt-or-le, eqZ-true}
 use Rattle.axis.specs.declared.edge.Axis.{Axis}
-use Rattle.axis.specs.Edge.{edgeAt}
 use Rattle.axis.proofs.Walks.{same?}
-use Rattle.contours.specs.Contour.{at, Contour, isTouched, References, refs, references, firstOf, secondOf, betweenAt, shiftedAt, weakAt}
+use Rattle.contours.specs.Contour.{at, Contour, isTouched, References, refs, firstOf, secondOf, betweenAt, shiftedAt, weakAt}
 use Rattle.contours.proofs.Points.{weak-touched, weak-one, weak-two}
 use Rattle.contours.proofs.References.{refs-on}
 use Rattle.contours.proofs.Searches.{marked, unmarked, is-touched}
