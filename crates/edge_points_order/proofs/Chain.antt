@@ -32,10 +32,10 @@ use Rattle.contours.proofs.Searches.{is-touched, not-touched, unmarked}
 use Rattle.outline.specs.Weak.{endsHold, coordinateHolds, coordinatesHold, listTests, numberTests, weakTests, gentle, Outcome}
 use Rattle.outline.proofs.Refusals.{coordinates-of, number-steep}
 use Rattle.edge_points.specs.EdgePoints.{Points, movedBy, moves, moveAll, segmentPoints, segmentsPoints, moverHolds, moversHold, pointsTests, edgeAnswer, edgeResult}
-use Rattle.edge_points_order.specs.Order.{EdgesInOrder, EdgesApart, lastMover, Ready, PlacedBy, PlacedByEdges, Gained, PointsApart}
+use Rattle.edge_points_order.specs.Order.{EdgesInOrder, EdgesApart, OnePosition, lastMover, Ready, PlacedBy, PlacedByEdges, Beside, Parted, Gained, PointsApart}
 use Rattle.edge_points_order.proofs.Edges.{apart-in-order}
 use Rattle.edge_points_order.proofs.Moved.{Came, SameSize, last-mover, mover-at, moved, moved-size}
-use Rattle.edge_points_order.proofs.Neighbours.{gained, points-apart}
+use Rattle.edge_points_order.proofs.Neighbours.{gained, points-apart, not-parted}
 
 -- ---- what answer 0 of edge points says
 -- the second of two tests holds where the first is not asked for
@@ -223,3 +223,7 @@ module _ (snap alone : Bool) (axis : Axis) (t : Segments) (o : List ℤ) (s : Po
     -- and apart, where edges are
     pub chain-apart : EdgesApart axis → PointsApart o (left .currents) (left .touched) es d
     chain-apart apart = points-apart axis o (left .currents) d (left .touched) es (apart-in-order axis apart) placed outcome apart
+
+    -- where done edges of one original position are at one position, there is no exception but request #109's
+    pub never-parted : EdgesInOrder axis → OnePosition axis → (i p : ℕ) (b : Beside (left .touched) es i p) → Parted o (left .currents) (b .by) → ⊥
+    never-parted order one i p b = not-parted axis o (left .currents) d (left .touched) es order placed outcome i p b one

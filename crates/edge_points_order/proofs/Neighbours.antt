@@ -14,6 +14,7 @@ use Rattle.signed.proofs.Signed.{signed, add-law, same, atmost, to-≡, is-<ℤ
 use Rattle.axis.specs.declared.edge.Axis.{Axis}
 use Rattle.axis.proofs.Walks.{same?}
 use Rattle.contours.specs.Contour.{at, Contour, isTouched, References, refs, firstOf, secondOf, betweenAt, shiftedAt, weakAt}
+use Rattle.contours.specs.Steps.{Ordered}
 use Rattle.contours.proofs.Points.{weak-touched, weak-one, weak-two}
 use Rattle.contours.proofs.References.{refs-on}
 use Rattle.contours.proofs.Searches.{marked, unmarked, is-touched}
@@ -129,6 +130,9 @@ module _ (axis : Axis) (o c d : List ℤ) (t es : List ℕ) (order : EdgesInOrde
     abbrev second : ℕ
     second = secondOf o (b .by)
 
+    ordered : Ordered (at o first) (at c first) (at o second) (at c second)
+    ordered = refs-ordered o c (b .by) (good .originals) (good .currents)
+
     two : (b .by .before ≡ b .by .behind → ⊥) → at d i ≡ betweenAt o c (b .by) i
     two n = on-contour i (b .contour) (b .on) ∙ weak-two o c t (b .contour) i (b .by .before) (b .by .behind) (unmarked t i (b .untouched)) (b .nearest) n
 
@@ -140,8 +144,8 @@ module _ (axis : Axis) (o c d : List ℤ) (t es : List ℕ) (order : EdgesInOrde
         alone e = inr (inl (rw (one e, stays p neighbour-touched) (atmost (omega (arith, signed)))))
 
         led : (b .by .before ≡ b .by .behind → ⊥) → at c first ≤ℤ at c second → (p ≡ first) ⊎ (p ≡ second) → KeepsOrder (at o i) (at o p) (at o first) (at o second) (at d i) (at d p)
-        led n k (inl e) = inl (rw (two n, stays p neighbour-touched, e) (under-first (at o i) (at o first) (at c first) (at o second) (at c second) (refs-ordered o c (b .by) (good .originals) (good .currents)) k (rw e at l)))
-        led n k (inr e) = rw (two n, stays p neighbour-touched, e) (under-second (at o i) (at o first) (at c first) (at o second) (at c second) (refs-ordered o c (b .by) (good .originals) (good .currents)) k (rw e at l))
+        led n k (inl e) = inl (rw (two n, stays p neighbour-touched, e) (under-first (at o i) (at o first) (at c first) (at o second) (at c second) ordered k (rw e at l)))
+        led n k (inr e) = rw (two n, stays p neighbour-touched, e) (under-second (at o i) (at o first) (at c first) (at o second) (at c second) ordered k (rw e at l))
 
     above : at o p <ℤ at o i → Parted o c (b .by) ⊎ (at d p ≤ℤ at d i)
     unfolding betweenAt
@@ -151,8 +155,8 @@ module _ (axis : Axis) (o c d : List ℤ) (t es : List ℕ) (order : EdgesInOrde
         alone e = inr (rw (one e, stays p neighbour-touched) (atmost (omega (arith, signed))))
 
         led : (b .by .before ≡ b .by .behind → ⊥) → at c first ≤ℤ at c second → (p ≡ first) ⊎ (p ≡ second) → at d p ≤ℤ at d i
-        led n k (inl e) = rw (two n, stays p neighbour-touched, e) (over-first (at o i) (at o first) (at c first) (at o second) (at c second) (refs-ordered o c (b .by) (good .originals) (good .currents)) k (rw e at l))
-        led n k (inr e) = rw (two n, stays p neighbour-touched, e) (over-second (at o i) (at o first) (at c first) (at o second) (at c second) (refs-ordered o c (b .by) (good .originals) (good .currents)) k (rw e at l))
+        led n k (inl e) = rw (two n, stays p neighbour-touched, e) (over-first (at o i) (at o first) (at c first) (at o second) (at c second) ordered k (rw e at l))
+        led n k (inr e) = rw (two n, stays p neighbour-touched, e) (over-second (at o i) (at o first) (at c first) (at o second) (at c second) ordered k (rw e at l))
 
     -- where done edges of one original position are at one position, there is no such exception
     pub not-parted : OnePosition axis → Parted o c (b .by) → ⊥
