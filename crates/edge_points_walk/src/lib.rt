@@ -1,0 +1,3 @@
+// From edges to points, one segment: its contour found, and its points moved.
+pub mod contour;
+pub mod walk;
