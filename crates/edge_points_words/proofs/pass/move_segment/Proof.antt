@@ -1,0 +1,166 @@
+-- `edge_points_words::pass::move_segment` meets its contract. Assumes nothing.
+use borrow.Author.Needs.{needs}
+use borrow.Author.Tests.{not-true, not-false}
+use native.Mathlib.Omega.{arith}
+use mathlib.Core.Path.{_≡_, sym, ap, _∙_}
+use Rattle.axis.specs.Segment.{segmentAt}
+use Rattle.words.specs.Segment.{flatSegments}
+use Rattle.edge_points_words.proofs.Read.{edge-is, first-is, last-is, named, is-mover}
+use Rattle.edge_points_words.proofs.Visit.{visit-none, visit-still, read-moves, read-mover, segment-ready, segment-moved, reach-most}
+use Rattle.edge_points_words.proofs.pass.move_segment.Statement.{statement}
+use Rattle.edge_points_words.proofs.pass.move_segment.Tie as tie
+
+-- where the function starts, and the link that was read
+abbrev from : tie.After-link-at → tie.Start
+from c = c .before .before .before
+
+linked : (c : tie.After-link-at) → c .link-at .result ≡ segmentAt (flatSegments (from c .args .segments .now)) (from c .args .i) .edge
+linked c = let s = from c in c .link-at .ensures ∙ edge-is (s .args .segments .now) (s .args .i) (s .pre .0 .0 .segments) (s .pre .0 .1)
+
+-- where the edge is known to move points, and the points that were read behind it
+abbrev other : tie.After-contour-of → tie.Else1
+other c = c .before .before .before .before .before
+
+abbrev start : tie.After-contour-of → tie.Start
+start c = from (other c .before .before .before .before .before .before)
+
+first-read : (c : tie.After-contour-of) → c .before .before .before .wide .result ≡ segmentAt (flatSegments (start c .args .segments .now)) (start c .args .i) .first
+first-read c =
+    let x = c .before .before .before in
+    let s = start c in
+    x .wide .ensures ∙ x .before .index-at .ensures ∙ first-is (s .args .segments .now) (s .args .i) (s .pre .0 .0 .segments) (s .pre .0 .1)
+
+last-read : (c : tie.After-contour-of) → c .before .wide2 .result ≡ segmentAt (flatSegments (start c .args .segments .now)) (start c .args .i) .last
+last-read c =
+    let y = c .before in
+    let s = start c in
+    y .wide2 .ensures ∙ y .before .index-at2 .ensures ∙ last-is (s .args .segments .now) (s .args .i) (s .pre .0 .0 .segments) (s .pre .0 .1)
+
+mul-at : tie.Need-mul-at
+mul-at c = let s = c .before .before in omega (arith, s .pre .0 .1, s .pre .0 .0 .segments .few)
+
+add-link-at : tie.Need-add-link-at
+add-link-at c = let s = c .before .before in omega (arith, s .pre .0 .1, s .pre .0 .0 .segments .few)
+
+link-at-requires : tie.Need-link-at-requires
+link-at-requires c κs = search needs
+
+enum-known-link : tie.Need-enum-known-link
+enum-known-link c = search needs
+
+enum-told : tie.Need-enum-told
+enum-told c = search needs
+
+returns : tie.Need-returns
+returns c =
+    let l = c .before .before in
+    visit-none _ _ _ _ _ _ _ (sym (linked l) ∙ c .enum-told .given .1)
+
+cast-fit-in : tie.Need-cast-fit-in
+cast-fit-in c = search needs
+
+fit-in-requires : tie.Need-fit-in-requires
+fit-in-requires c κs =
+    let link = c .before in
+    let l = link .before .before in
+    let s = from l in
+    (s .pre .0 .0 .edges, named _ _ _ _ _ (s .pre .0 .0) _ (s .pre .0 .1) _ (sym (linked l) ∙ link .link .given .1))
+
+moves-requires : tie.Need-moves-requires
+moves-requires c κs = search needs
+
+returns-2 : tie.Need-returns-2
+returns-2 c =
+    let m = c .before in
+    let f = m .before in
+    let link = f .before .before in
+    let l = link .before .before in
+    let a = from l .args in
+    let e = sym (linked l) ∙ link .link .given .1 in
+    visit-still _ _ _ _ _ _ _ _ e (read-moves (a .alone) (a .segments .now) (a .edges .now) (a .i) (f .fit-in .result) _ e (f .fit-in .ensures) (m .moves .ensures) (not-true _ (c .if1 .taken)))
+
+add-index-at : tie.Need-add-index-at
+add-index-at c = search needs
+
+index-at-requires : tie.Need-index-at-requires
+index-at-requires c κs = search needs
+
+wide-requires : tie.Need-wide-requires
+wide-requires c κs = search needs
+
+add-index-at-2 : tie.Need-add-index-at-2
+add-index-at-2 c = search needs
+
+index-at-requires-2 : tie.Need-index-at-requires-2
+index-at-requires-2 c κs = search needs
+
+wide-requires-2 : tie.Need-wide-requires-2
+wide-requires-2 c κs = search needs
+
+contour-of-requires : tie.Need-contour-of-requires
+contour-of-requires c κs = search needs
+
+move-walk-requires : tie.Need-move-walk-requires
+move-walk-requires c κs =
+    let k = c .before .before in
+    let o = other k in
+    let m = o .before in
+    let f = m .before in
+    let link = f .before .before in
+    let l = link .before .before in
+    let s = from l in
+    let a = s .pre .0 .0 in
+    let e = sym (linked l) ∙ link .link .given .1 in
+    let moving = read-moves (s .args .alone) (s .args .segments .now) (s .args .edges .now) (s .args .i) (f .fit-in .result) _ e (f .fit-in .ensures) (m .moves .ensures) (not-false _ (o .if1 .left)) in (
+      (segment-ready _ _ _ _ _ a _ (s .pre .0 .1) _ e _ _ (first-read k) (last-read k) _ (k .contour-of .ensures), s .pre .1 .0),
+      (
+        read-mover _ _ (f .fit-in .ensures) (is-mover _ _ _ _ _ a _ (s .pre .0 .1) _ e moving),
+        reach-most (s .args .i) (s .args .currents .now) (omega (arith, s .pre .0 .1, a .segments .few)) (s .pre .1 .1),
+      ),
+    )
+
+same-length : tie.Need-same-length
+same-length c = search needs
+
+same-length-2 : tie.Need-same-length-2
+same-length-2 c = search needs
+
+returns-3 : tie.Need-returns-3
+returns-3 c =
+    let r = c .before .before .before in
+    let k = r .before .before .before in
+    let o = other k in
+    let m = o .before in
+    let f = m .before in
+    let link = f .before .before in
+    let l = link .before .before in
+    let s = from l in
+    let e = sym (linked l) ∙ link .link .given .1 in
+    let moving = read-moves (s .args .alone) (s .args .segments .now) (s .args .edges .now) (s .args .i) (f .fit-in .result) _ e (f .fit-in .ensures) (m .moves .ensures) (not-false _ (o .if1 .left)) in
+    segment-moved _ _ _ _ _ (s .pre .0 .0) _ (s .pre .0 .1) _ e _ _ (first-read k) (last-read k) _ (k .contour-of .ensures) _ _ _ _ (f .fit-in .ensures) moving (r .move-walk .ensures)
+
+pub move-segment-spec : {M : Type 1} → statement M
+move-segment-spec =
+    tie.close
+    (tie.spec
+    mul-at
+    add-link-at
+    link-at-requires
+    enum-known-link
+    enum-told
+    returns
+    cast-fit-in
+    fit-in-requires
+    moves-requires
+    returns-2
+    add-index-at
+    index-at-requires
+    wide-requires
+    add-index-at-2
+    index-at-requires-2
+    wide-requires-2
+    contour-of-requires
+    move-walk-requires
+    same-length
+    same-length-2
+    returns-3)

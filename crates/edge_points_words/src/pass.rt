@@ -1,0 +1,83 @@
+// The points of every segment moved by its edge.
+use axis::kinds::Link;
+use edge_points_walk::contour::contour_of;
+use edge_points_walk::walk::move_walk;
+use edges_in::edge::fit_in;
+use outline::accept::wide;
+use words::field::index_at;
+use words::field::link_at;
+use words::segment::EDGE_PLACE;
+use words::segment::FIRST_PLACE;
+use words::segment::LAST_PLACE;
+use words::segment::SEGMENT_WORDS;
+ghost use mathlib.Core.Path.{_≡_};
+ghost use mathlib.Core.Bool.{not, _||_};
+ghost use Prim.Native.Nat.{_<_};
+ghost use lib.ListN.{length};
+ghost use Rattle.words.specs.Segment.{segmentsIn, flatSegments};
+ghost use Rattle.lent.specs.Lent.{edgesOf};
+ghost use Rattle.edge_points.specs.EdgePoints.{visitSegment, moveAll};
+ghost use Rattle.edge_points_walk.specs.Steps.{reached, Reach, points};
+ghost use Rattle.edge_points_words.specs.Steps.{Accepted};
+
+// Whether an edge moves points: any does, or it is done.
+pub fn moves(done: bool, alone: bool) -> bool
+    ensures { λ r. ⌜ r ≡ (not alone || done) ⌝ }
+{
+    if alone {
+        return done;
+    }
+    true
+}
+
+// Moves the points of segment i by its edge, where it has one that moves points.
+fn move_segment(
+    segments: &[i32],
+    i: usize,
+    edges: &[i32],
+    snap: bool,
+    alone: bool,
+    currents: &mut [i32],
+    touched: &mut [u8],
+    ends: &[u16],
+)
+    requires { ⌜ Accepted (now segments) (now edges) alone (length (now currents)) (now ends) × (i < segmentsIn (now segments)) ⌝ }
+    requires { ⌜ (length (now touched) ≡ length (now currents)) × Reach (reached i) (now currents) ⌝ }
+    ensures { λ _. ⌜ points (now (currents .exit)) (now (touched .exit))
+        ≡ visitSegment snap alone (edgesOf (now (edges .entry))) (flatSegments (now (segments .entry))) (now (ends .entry)) (points (now (currents .entry)) (now (touched .entry))) i ⌝ }
+{
+    let at = SEGMENT_WORDS * i;
+    let link = link_at(segments, at + EDGE_PLACE);
+    let Link::To(k) = link else {
+        return;
+    };
+    let edge = fit_in(edges, k as usize);
+    if !moves(edge.flags.done, alone) {
+        return;
+    }
+    let first = wide(index_at(segments, at + FIRST_PLACE));
+    let last = wide(index_at(segments, at + LAST_PLACE));
+    let contour = contour_of(ends, first);
+    move_walk(currents, touched, contour, first, last, snap, edge);
+}
+
+// Moves the points of every segment, in the order of the table.
+pub fn move_all(
+    segments: &[i32],
+    edges: &[i32],
+    snap: bool,
+    alone: bool,
+    currents: &mut [i32],
+    touched: &mut [u8],
+    ends: &[u16],
+)
+    requires { ⌜ Accepted (now segments) (now edges) alone (length (now currents)) (now ends) ⌝ }
+    requires { ⌜ (length (now touched) ≡ length (now currents)) × Reach (reached 0) (now currents) ⌝ }
+    ensures { λ _. ⌜ points (now (currents .exit)) (now (touched .exit))
+        ≡ moveAll snap alone (edgesOf (now (edges .entry))) (flatSegments (now (segments .entry))) (now (ends .entry)) (points (now (currents .entry)) (now (touched .entry))) ⌝ }
+{
+    let n = segments.len() / SEGMENT_WORDS;
+    for i in 0..n {
+        move_segment(segments, i, edges, snap, alone, currents, touched, ends);
+    }
+}

@@ -1,0 +1,132 @@
+// The tests of the call behind those of its words.
+use super::pass::moves;
+use axis::accept::is_inside;
+use axis::kinds::Link;
+use edge_points_walk::contour::contour_of;
+use edge_points_walk::contour::is_on;
+use edges_in::edge::fit_in;
+use edges_test::exact as of_edges;
+use outline::accept::ends_hold;
+use outline::accept::range_refusal;
+use outline::accept::wide;
+use outline::limits::MOST_COORDINATE;
+use refusals::order::BAD_INDEX;
+use refusals::order::OUT_OF_RANGE;
+use refusals::order::or_refused;
+use segments_test::exact as of_segments;
+use turning_in::test::index_refusal_in;
+use words::field::index_at;
+use words::field::link_at;
+use words::segment::EDGE_PLACE;
+use words::segment::FIRST_PLACE;
+use words::segment::LAST_PLACE;
+use words::segment::SEGMENT_WORDS;
+ghost use mathlib.Core.Path.{_≡_};
+ghost use mathlib.Core.Bool.{true};
+ghost use Prim.Native.Nat.{_≤_, _<_};
+ghost use lib.ListN.{length};
+ghost use Rattle.refusals.specs.Refusal.{refusal};
+ghost use Rattle.axis.specs.Segment.{segmentAt};
+ghost use Rattle.contours.specs.Limits.{mostPoints, mostCoordinate};
+ghost use Rattle.outline.specs.Weak.{coordinatesHold};
+ghost use Rattle.turning.specs.Indices.{segmentsEdges};
+ghost use Rattle.words.specs.Edge.{edgesIn};
+ghost use Rattle.words.specs.Segment.{segmentsIn, flatSegments};
+ghost use Rattle.lent.specs.Lent.{edgesOf};
+ghost use Rattle.edges_in.specs.Whole as Edges;
+ghost use Rattle.segments_in.specs.Whole as Segments;
+ghost use Rattle.edge_points.specs.EdgePoints.{segmentPoints, segmentsPoints, moverHolds, moversHold, pointsTests};
+ghost use Rattle.edge_points_walk.specs.Steps.{points};
+
+// Whether first and last of segment i are on one contour, where it has an edge.
+fn segment_points(segments: &[i32], i: usize, ends: &[u16]) -> bool
+    requires { ⌜ Segments.Whole (now segments) × (i < segmentsIn (now segments)) ⌝ }
+    ensures { λ r. ⌜ r ≡ segmentPoints (now (ends .entry)) (segmentAt (flatSegments (now (segments .entry))) i) (segmentAt (flatSegments (now (segments .entry))) i .edge) ⌝ }
+{
+    let at = SEGMENT_WORDS * i;
+    let link = link_at(segments, at + EDGE_PLACE);
+    let Link::To(_) = link else {
+        return true;
+    };
+    let first = wide(index_at(segments, at + FIRST_PLACE));
+    let last = wide(index_at(segments, at + LAST_PLACE));
+    is_on(contour_of(ends, first), last)
+}
+
+// Whether those of every segment are.
+fn segments_points(segments: &[i32], ends: &[u16]) -> bool
+    requires { ⌜ Segments.Whole (now segments) ⌝ }
+    ensures { λ r. ⌜ r ≡ segmentsPoints (now (ends .entry)) (flatSegments (now (segments .entry))) ⌝ }
+{
+    let n = segments.len() / SEGMENT_WORDS;
+    for i in 0..n {
+        if !segment_points(segments, i, ends) {
+            return false;
+        }
+    }
+    true
+}
+
+// Whether the position of the edge of segment i is a coordinate, where it has one that moves points.
+fn mover_holds(segments: &[i32], i: usize, edges: &[i32], alone: bool) -> bool
+    requires { ⌜ Segments.Whole (now segments) × (i < segmentsIn (now segments)) ⌝ }
+    requires { ⌜ Edges.Whole (now edges) × (segmentsEdges (edgesIn (now edges)) (flatSegments (now segments)) ≡ true) ⌝ }
+    ensures { λ r. ⌜ r ≡ moverHolds alone (edgesOf (now (edges .entry))) (segmentAt (flatSegments (now (segments .entry))) i .edge) ⌝ }
+{
+    let link = link_at(segments, SEGMENT_WORDS * i + EDGE_PLACE);
+    let Link::To(k) = link else {
+        return true;
+    };
+    let edge = fit_in(edges, k as usize);
+    if !moves(edge.flags.done, alone) {
+        return true;
+    }
+    is_inside(edge.pos, -MOST_COORDINATE, MOST_COORDINATE)
+}
+
+// Whether that of every segment is.
+fn movers_hold(segments: &[i32], edges: &[i32], alone: bool) -> bool
+    requires { ⌜ Segments.Whole (now segments) ⌝ }
+    requires { ⌜ Edges.Whole (now edges) × (segmentsEdges (edgesIn (now edges)) (flatSegments (now segments)) ≡ true) ⌝ }
+    ensures { λ r. ⌜ r ≡ moversHold alone (edgesOf (now (edges .entry))) (flatSegments (now (segments .entry))) ⌝ }
+{
+    let n = segments.len() / SEGMENT_WORDS;
+    for i in 0..n {
+        if !mover_holds(segments, i, edges, alone) {
+            return false;
+        }
+    }
+    true
+}
+
+// Whether every current is a coordinate: an outline's test of two lists, which are one here.
+fn currents_hold(currents: &[i32]) -> bool
+    ensures { λ r. ⌜ r ≡ coordinatesHold mostCoordinate (now (currents .entry)) ⌝ }
+{
+    range_refusal(currents, currents, MOST_COORDINATE) == 0
+}
+
+// The refusal of both tables and of an outline, or 0.
+pub fn points_refusal(
+    segments: &[i32],
+    edges: &[i32],
+    alone: bool,
+    currents: &[i32],
+    touched: &[u8],
+    ends: &[u16],
+) -> u8
+    requires { ⌜ Segments.Whole (now segments) × Edges.Whole (now edges) ⌝ }
+    requires { ⌜ (length (now currents) ≤ mostPoints) × (length (now touched) ≡ length (now currents)) ⌝ }
+    ensures { λ r. ⌜ r ≡ refusal (pointsTests alone (edgesOf (now (edges .entry))) (flatSegments (now (segments .entry))) (points (now (currents .entry)) (now (touched .entry))) (now (ends .entry))) ⌝ }
+{
+    let answer = index_refusal_in(segments, edges);
+    if 0 < answer {
+        return answer;
+    }
+    let answer = or_refused(0, ends_hold(ends, currents.len()), BAD_INDEX);
+    let answer = or_refused(answer, segments_points(segments, ends), BAD_INDEX);
+    let answer = or_refused(answer, of_segments::numbers_in(segments), OUT_OF_RANGE);
+    let answer = or_refused(answer, of_edges::numbers_in(edges), OUT_OF_RANGE);
+    let answer = or_refused(answer, currents_hold(currents), OUT_OF_RANGE);
+    or_refused(answer, movers_hold(segments, edges, alone), OUT_OF_RANGE)
+}
