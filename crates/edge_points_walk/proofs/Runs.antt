@@ -1,16 +1,15 @@
 -- The points of a walk around a contour: those from the first to the last, or up to the contour's end and then from its start on.
-use mathlib.Core.Path.{_≡_, refl, sym, ap, _∙_}
+use mathlib.Core.Path.{_≡_, refl, ap, _∙_}
 use mathlib.Core.List.{List, [], _∷_, _++_}
-use mathlib.Core.Logic.{_⊎_, inl, inr, ⊎-elim}
+use mathlib.Core.Logic.{_⊎_, ⊎-elim}
 use Prim.Native.Nat.{ℕ, zero, suc, _+_, _-_, _≤_, _<_}
 use native.Mathlib.Omega.{arith}
 use borrow.Author.Tests.{eq-eqb, ne-eqb}
 use Rattle.axis.specs.Ring.{walk, times}
 use Rattle.axis.proofs.Walks.{same?, times-nil, times-here, times-there}
 use Rattle.signed.proofs.Signed.{lt-or-le}
-use Rattle.contours.specs.Limits.{mostPoints}
 use Rattle.contours.specs.Contour.{Contour}
-use Rattle.edge_points.specs.EdgePoints.{behind, walked}
+use Rattle.edge_points.specs.EdgePoints.{behind}
 use Rattle.edge_points_walk.specs.Steps.{run}
 
 -- ---- walks

@@ -14,7 +14,6 @@ use words::segment::SEGMENT_WORDS;
 ghost use mathlib.Core.Path.{_≡_};
 ghost use mathlib.Core.Bool.{_&&_};
 ghost use lib.Dec.{leb, eqb};
-ghost use lib.ListN.{length};
 ghost use Rattle.refusals.specs.Refusal.{refusal};
 ghost use Rattle.contours.specs.Limits.{mostPoints};
 ghost use Rattle.edge_points_words.specs.Align.{pointsFront};

@@ -1,9 +1,8 @@
 -- `edge_points_walk::walk::move_run` meets its contract. The invariant: moving what is left gives the whole, and what is left has not moved. Assumes nothing.
 use borrow.Author.Needs.{needs}
 use native.Mathlib.Omega.{arith}
-use mathlib.Core.Path.{_≡_, refl, sym, ap, subst, _∙_}
-use Prim.Native.Nat.{ℕ, _-_, _≤_}
-use lib.ListN.{length}
+use mathlib.Core.Path.{sym, ap, subst, _∙_}
+use Prim.Native.Nat.{_-_}
 use mir.Syntax.{w32}
 use mir.Val.{SFits}
 use Rattle.signed.specs.Range.{Between}

@@ -1,9 +1,6 @@
 -- `edge_points_words::align::lend_edge_points` meets its contract. Assumes nothing.
 use borrow.Author.Needs.{needs}
 use mathlib.Core.Path.{_≡_, ap, _∙_}
-use mathlib.Core.List.{List}
-use Prim.Native.Nat.{ℕ}
-use lib.IntN.{ℤ}
 use Rattle.signed.proofs.Signed.{is}
 use Rattle.refusals.specs.Refusal.{refusal}
 use Rattle.words.specs.Field.{choiceOf}

@@ -1,5 +1,4 @@
 -- `edge_points_words::front::few_points` meets its contract. Assumes nothing.
-use borrow.Author.Needs.{needs}
 use native.Mathlib.Omega.{arith}
 use borrow.Author.Tests.{lt-leb, le-leb}
 use Rattle.contours.specs.Limits.{mostPoints}

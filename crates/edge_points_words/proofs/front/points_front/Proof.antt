@@ -1,12 +1,11 @@
 -- `edge_points_words::front::points_front` meets its contract. Assumes nothing.
 use borrow.Author.Needs.{needs}
 use borrow.Author.Tests.{not-true, not-false}
-use mathlib.Core.Path.{_≡_, sym, ap, _∙_}
+use mathlib.Core.Path.{_≡_, sym, _∙_}
 use mathlib.Core.Bool.{Bool, true, _&&_}
 use Prim.Native.Nat.{_%_}
 use lib.Dec.{eqb, leb}
 use lib.ListN.{length}
-use lib.IntN.{ℤ}
 use Rattle.signed.proofs.By.{by₂}
 use Rattle.signed.proofs.Signed.{is}
 use Rattle.axis.specs.Limits.{mostSegments, mostEdges}

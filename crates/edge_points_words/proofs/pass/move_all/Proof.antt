@@ -1,5 +1,4 @@
 -- `edge_points_words::pass::move_all` meets its contract. Assumes nothing.
-use borrow.Author.Needs.{needs}
 use native.Mathlib.Omega.{arith}
 use mathlib.Core.Path.{sym, subst, _∙_}
 use Prim.Native.Nat.{ℕ, _-_}

@@ -2,7 +2,7 @@
 use borrow.Author.Needs.{needs}
 use borrow.Author.Tests.{not-true, not-false}
 use native.Mathlib.Omega.{arith}
-use mathlib.Core.Path.{_≡_, sym, ap, _∙_}
+use mathlib.Core.Path.{_≡_, sym, _∙_}
 use Rattle.axis.specs.Segment.{segmentAt}
 use Rattle.words.specs.Segment.{flatSegments}
 use Rattle.edge_points_words.proofs.Read.{edge-is, first-is, last-is, named, is-mover}

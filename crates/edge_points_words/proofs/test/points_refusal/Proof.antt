@@ -1,6 +1,5 @@
 -- `edge_points_words::test::points_refusal` meets its contract. Assumes nothing.
 use borrow.Author.Needs.{needs}
-use native.Mathlib.Omega.{arith}
 use mathlib.Core.Path.{refl}
 use Rattle.refusals.specs.Refusal.{badIndex, outOfRange}
 use Rattle.refusals.proofs.Tests.{none-tested, then-tested}
