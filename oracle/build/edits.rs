@@ -46,8 +46,8 @@ pub const TAKEN: &[Taken] = &[
     Taken {
         file: "hint/outline.rs",
         out: "hint_outline.rs",
-        part: Part::Items(WEAK),
-        used: WEAK,
+        part: Part::Items(POINTS),
+        used: POINTS,
     },
 ];
 
@@ -75,7 +75,12 @@ const FITTING: &[&str] = &[
 ];
 
 /// Taken from hint/outline.rs.
-const WEAK: &[&str] = &["align_weak_points", "iup_shift", "iup_interpolate"];
+const POINTS: &[&str] = &[
+    "align_edge_points",
+    "align_weak_points",
+    "iup_shift",
+    "iup_interpolate",
+];
 
 /// One mechanical edit: in `file`, `from` becomes `to`, exactly `times` times.
 pub struct Edit {

@@ -3,7 +3,7 @@
 use crate::{
     calls,
     decode::decode,
-    drag, frames, gaps,
+    drag, edge_points, frames, gaps,
     job::{Job, Points},
     joined, mend, pack,
     path::Step,
@@ -57,6 +57,7 @@ pub fn answer(job: Job) -> Words {
         | Job::Mend(..)
         | Job::Pack(..)
         | Job::TurnOver(..)
+        | Job::EdgePoints(..)
         | Job::Gaps(..)
         | Job::WriteFrame(..)
         | Job::ReadFrame(_) => of_requests(&mut w, job),
@@ -124,6 +125,12 @@ fn of_requests(w: &mut Words, job: Job) {
             done(w, turn::turn_over(&mut segments, &mut edges));
             w.segments(&segments);
             w.edges(edges.count, &edges.items);
+        }
+        Job::EdgePoints(segments, edges, mut given) => {
+            let result = edge_points::align_edge_points(&segments, &edges, &mut given);
+            done(w, result);
+            w.numbers("currents", "current", &given.currents);
+            w.numbers("touch marks", "touch", &given.touches);
         }
         Job::Gaps(edges, least, linked) => {
             let lost = number(w, gaps::lost_gaps(&edges, least, linked)).unwrap_or_default();

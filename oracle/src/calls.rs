@@ -429,6 +429,6 @@ pub(crate) fn metrics(rule: &WidthRule) -> ScaledAxisMetrics {
 /// A scale that holds the flag.
 pub(crate) fn scale(stem_adjust: bool) -> Scale {
     Scale {
-        flags: ScaleFlags::new(stem_adjust),
+        flags: ScaleFlags::STEM_ADJUST.when(stem_adjust),
     }
 }

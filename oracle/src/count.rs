@@ -61,6 +61,12 @@ const UNREACHABLE: &[(&str, &str, bool, &str)] = &[
     ),
     (
         "hint/outline.rs",
+        "let point = points.get_mut(point_ix)?",
+        false,
+        "the points of a segment with an edge are in the outline",
+    ),
+    (
+        "hint/outline.rs",
         "let points = outline.points.get_mut(contour.range())?",
         false,
         CONTOUR,

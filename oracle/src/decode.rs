@@ -2,8 +2,9 @@
 
 use crate::{
     job::{
-        Building, Catalogue, CjkStem, Dimension, Direction, Edge, Job, Joined, Mark, Points,
-        References, ScaledWidth, ScriptGroup, Segment, Stems, Table, TopoFlags, Walk, WidthRule,
+        Building, Catalogue, CjkStem, Dimension, Direction, Edge, EdgePoints, Job, Joined, Mark,
+        Points, References, ScaledWidth, ScriptGroup, Segment, Stems, Table, TopoFlags, Walk,
+        WidthRule,
     },
     limits::{EDGES, LENT, NUMBERS, SEGMENTS},
 };
@@ -225,6 +226,7 @@ impl Reader<'_> {
             123 => Job::Pack(self.segments()?, self.edges()?),
             124 => Job::TurnOver(self.segments()?, self.edges()?),
             127 => Job::Gaps(self.edges()?, self.word()?, self.choice()?),
+            128 => Job::EdgePoints(self.segments()?, self.edges()?, self.edge_points()?),
             _ => return None,
         })
     }
@@ -313,6 +315,17 @@ impl Reader<'_> {
             stem_adjust: self.choice()?,
             top_to_bottom: self.choice()?,
             rule: self.rule()?,
+        })
+    }
+
+    /// What edge points are told.
+    fn edge_points(&mut self) -> Option<EdgePoints> {
+        Some(EdgePoints {
+            snap: self.choice()?,
+            done_alone: self.choice()?,
+            currents: self.numbers()?,
+            touches: self.numbers()?,
+            ends: self.numbers()?,
         })
     }
 

@@ -116,6 +116,16 @@ pub struct Joined {
     pub rule: WidthRule,
 }
 
+/// What edge points are told beside their axis: two choices, and the points that are moved.
+#[derive(Clone, PartialEq, Debug)]
+pub struct EdgePoints {
+    pub snap: bool,
+    pub done_alone: bool,
+    pub currents: Vec<i32>,
+    pub touches: Vec<u8>,
+    pub ends: Vec<u16>,
+}
+
 /// A public call and what it is given; the fields stand in the order of the words.
 #[derive(Clone, PartialEq, Debug)]
 pub enum Job {
@@ -144,6 +154,7 @@ pub enum Job {
     Pack(Table<Segment>, Table<Edge>),
     TurnOver(Table<Segment>, Table<Edge>),
     Gaps(Table<Edge>, i32, bool),
+    EdgePoints(Table<Segment>, Table<Edge>, EdgePoints),
     WriteFrame(Points, Vec<u8>),
     ReadFrame(Vec<u8>),
 }
@@ -177,6 +188,7 @@ pub const CALLS: &[(usize, &str)] = &[
     (123, "pack_axis"),
     (124, "turn_over"),
     (127, "lost_gaps"),
+    (128, "align_edge_points"),
 ];
 
 /// The name of the call that a word names, if it names one.

@@ -6,6 +6,7 @@ pub mod calls;
 pub mod count;
 pub mod decode;
 pub mod drag;
+pub mod edge_points;
 pub mod explain;
 pub mod frames;
 pub mod gaps;

@@ -5,8 +5,8 @@
 use crate::{
     given::metrics::fixed_mul,
     job::{
-        Building, Catalogue, CjkStem, Dimension, Edge, Joined, Points, References, ScriptGroup,
-        Segment, Stems, Table, Walk, WidthRule,
+        Building, Catalogue, CjkStem, Dimension, Edge, EdgePoints, Joined, Points, References,
+        ScriptGroup, Segment, Stems, Table, TopoFlags, Walk, WidthRule,
     },
     limits::*,
     mend::is_sound,
@@ -245,6 +245,44 @@ pub fn turn_over(segments: &Table<Segment>, edges: &Table<Edge>) -> Answer<()> {
     both_fit(segments, edges)?;
     indices_of_both(segments, edges)?;
     numbers_of_both(segments, edges)
+}
+
+/// Edge points: the axis as turning over tests it, the points, and the walks of the segments that have an edge.
+pub fn edge_points(
+    segments: &Table<Segment>,
+    edges: &Table<Edge>,
+    given: &EdgePoints,
+) -> Answer<()> {
+    let count = given.currents.len();
+    both_fit(segments, edges)?;
+    refuse(1, count > POINTS || given.touches.len() != count)?;
+    refuse(3, !are_contour_ends(&given.ends, count))?;
+    indices_of_both(segments, edges)?;
+    let strays = |s: &Segment| s.edge_ix.is_some() && !is_on_one_contour(s, &given.ends);
+    refuse(3, segments.items.iter().any(strays))?;
+    refuse(4, given.currents.iter().any(|c| !COORDINATE.contains(c)))?;
+    numbers_of_both(segments, edges)?;
+    let too_far = |edge: &Edge| !COORDINATE.contains(&edge.pos);
+    refuse(4, moving_edges(segments, edges, given).any(too_far))
+}
+
+/// Whether first and last of a segment are points of the same contour.
+fn is_on_one_contour(segment: &Segment, ends: &[u16]) -> bool {
+    let contour = |point: u16| ends.iter().position(|end| point <= *end);
+    let (first, last) = (contour(segment.first_ix), contour(segment.last_ix));
+    first.is_some() && first == last
+}
+
+/// The edges by which points are moved: those that segments name, and where the call says so the done ones of them alone.
+fn moving_edges<'a>(
+    segments: &'a Table<Segment>,
+    edges: &'a Table<Edge>,
+    given: &'a EdgePoints,
+) -> impl Iterator<Item = &'a Edge> {
+    let named = segments.items.iter().filter_map(|s| s.edge_ix);
+    named
+        .map(|ix| &edges.items[usize::from(ix)])
+        .filter(|edge| !given.done_alone || edge.flags.contains(TopoFlags::DONE))
 }
 
 /// Mending an axis: of its indices those alone that nothing can be made of.

@@ -244,6 +244,15 @@ fn of_requests(w: &mut Words, job: &Job) {
         Job::Mend(segments, edges) => axis(w, 121, segments, edges),
         Job::Pack(segments, edges) => axis(w, 123, segments, edges),
         Job::TurnOver(segments, edges) => axis(w, 124, segments, edges),
+        Job::EdgePoints(segments, edges, given) => {
+            axis(w, 128, segments, edges);
+            w.rest();
+            w.choice("snap", given.snap);
+            w.choice("done alone", given.done_alone);
+            w.numbers("currents", "current", &given.currents);
+            w.numbers("touch marks", "touch", &given.touches);
+            w.numbers("contour ends", "end", &given.ends);
+        }
         Job::WriteFrame(points, line) => {
             w.put("call", 25);
             outline(w, points);
@@ -257,7 +266,7 @@ fn of_requests(w: &mut Words, job: &Job) {
     }
 }
 
-/// Calls 121, 123 and 124.
+/// Calls 121, 123 and 124, and the front of call 128.
 fn axis(w: &mut Words, call: i32, segments: &Table<Segment>, edges: &Table<Edge>) {
     w.put("call", call);
     w.segments(segments);

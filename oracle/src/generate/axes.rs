@@ -9,15 +9,20 @@ use crate::{
 
 /// A job of turning an axis over.
 pub fn turn_over(small: bool, random: &mut Random) -> Job {
-    let (mut segments, mut edges) = if random.coin() {
-        built(small, random)
-    } else {
-        made(small, random)
-    };
+    let (mut segments, mut edges) = axis(small, random);
     if random.once_in(3) {
         break_rings(&mut segments, &mut edges, random);
     }
     Job::TurnOver(Table::of(segments), Table::of(edges))
+}
+
+/// An axis that the given Rust builds, or one that is made up.
+pub fn axis(small: bool, random: &mut Random) -> (Vec<Segment>, Vec<Edge>) {
+    if random.coin() {
+        built(small, random)
+    } else {
+        made(small, random)
+    }
 }
 
 /// The axis that the given Rust builds of made-up segments, in either order; edges then get other flags, blues, links and serifs, or not.

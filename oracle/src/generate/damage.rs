@@ -35,11 +35,11 @@ pub fn line(call: usize, random: &mut Random) -> Vec<u8> {
     let small = random.below(4) > 0;
     let mut words = encode(&job(call, small, random));
     let marks = marks(&words);
-    let linked = words.names.iter().position(|name| *name == "linked");
+    let choices = choices(&words);
     if !marks.is_empty() && random.once_in(8) {
         words.values[random.pick(&marks)] = random.pick(&[-1, 0, 9, 10]);
-    } else if let Some(ix) = linked.filter(|_| random.once_in(8)) {
-        words.values[ix] = random.pick(&WORDS);
+    } else if !choices.is_empty() && random.once_in(8) {
+        words.values[random.pick(&choices)] = random.pick(&WORDS);
     } else if random.below(3) > 0 {
         damage_words(&mut words.values, random);
     } else {
@@ -55,6 +55,14 @@ fn marks(words: &Words) -> Vec<usize> {
     let names = words.names.iter().enumerate();
     let marks = names.filter(|(_, name)| **name == "edge.mark");
     marks.map(|(ix, _)| ix).collect()
+}
+
+/// Where the choices of the guard and of edge points stand.
+fn choices(words: &Words) -> Vec<usize> {
+    let is_choice = |name: &str| ["linked", "snap", "done alone"].contains(&name);
+    let names = words.names.iter().enumerate();
+    let choices = names.filter(|(_, name)| is_choice(name));
+    choices.map(|(ix, _)| ix).collect()
 }
 
 /// Changes, cuts, appends or moves words.

@@ -1,6 +1,8 @@
 //! Jobs at document 01's limits, and just beyond.
 
-use super::{catalogue, drag, edges, frames, job, path, references, saved, segments, Random};
+use super::{
+    catalogue, drag, edge_points, edges, frames, job, path, references, saved, segments, Random,
+};
 use crate::{
     job::{
         Building, Catalogue, Direction, Edge, Job, Points, References, Segment, Table, Walk,
@@ -27,6 +29,8 @@ pub fn line(call: usize, random: &mut Random) -> Vec<u8> {
 
 /// The word of call 25, whose numbers have limits of their own.
 const WRITE_FRAME: i32 = 25;
+/// The word of call 128, whose points stand behind its axis, and whose edges have to be where points may be.
+const EDGE_POINTS: i32 = 128;
 
 /// Puts one word at a limit of its field.
 fn spike(words: &mut Words, random: &mut Random) {
@@ -55,6 +59,10 @@ fn spike(words: &mut Words, random: &mut Random) {
         }
         "end" if words.values[0] == WRITE_FRAME => random.pick(&[0, 254, 255, 256, 65_535]),
         "byte" => i32::from(frames::character(random)),
+        "end" | "segment.first" | "segment.last" if words.values[0] == EDGE_POINTS => {
+            index(words, "currents", false, random)
+        }
+        "edge.pos" if words.values[0] == EDGE_POINTS && random.coin() => edge_points::far(random),
         "end" | "point" => index(words, words.names[1], false, random),
         "number before" | "number behind" => {
             let count = words.values[1].max(1) as usize;
@@ -130,6 +138,9 @@ fn resize(job: &mut Job, random: &mut Random) {
         Job::MidPos(..) | Job::MidDelta(..) => {}
         Job::Weak(points) => resize_points(points, random),
         Job::TurnOver(segments, edges) => resize_axis(segments, edges, random),
+        Job::EdgePoints(segments, edges, given) => {
+            edge_points::resize(segments, edges, given, random);
+        }
         Job::Mend(segments, edges) => resize_saved(segments, edges, saved::ruin, random),
         Job::Pack(segments, edges) => resize_saved(segments, edges, saved::chain, random),
         Job::Link(segments, _, _, scale) => {

@@ -4,6 +4,7 @@ mod axes;
 mod catalogue;
 mod damage;
 mod drag;
+pub mod edge_points;
 mod edges;
 pub mod few;
 mod files;
@@ -102,6 +103,7 @@ fn job(call: usize, small: bool, random: &mut Random) -> Job {
         123 => saved::pack(small, random),
         124 => axes::turn_over(small, random),
         127 => gaps(small, random),
+        128 => edge_points::job(small, random),
         _ => on_edges(call, small, random),
     }
 }

@@ -97,22 +97,30 @@ pub struct ScaledAxisMetrics {
     pub width_rule: WidthRule,
 }
 
-/// Scale flags: of these the calls read one.
-#[derive(Copy, Clone, PartialEq)]
-pub struct ScaleFlags(bool);
+/// Scale flags: those that the calls read.
+#[derive(Copy, Clone, PartialEq, Default)]
+pub struct ScaleFlags(u8);
 
 impl ScaleFlags {
+    /// CJK points snap to their edges on the horizontal axis.
+    pub const HORIZONTAL_SNAP: Self = Self(1);
+    /// The same on the vertical axis.
+    pub const VERTICAL_SNAP: Self = Self(2);
     /// Stems are adjusted.
-    pub const STEM_ADJUST: Self = Self(true);
+    pub const STEM_ADJUST: Self = Self(4);
 
-    /// Flags with or without `STEM_ADJUST`.
-    pub fn new(stem_adjust: bool) -> Self {
-        Self(stem_adjust)
+    /// These flags or none.
+    pub fn when(self, set: bool) -> Self {
+        if set {
+            self
+        } else {
+            Self::default()
+        }
     }
 
-    /// Whether the other's flag is set here.
+    /// Whether the other's flags are set here.
     pub fn contains(self, other: Self) -> bool {
-        self == other
+        self.0 & other.0 == other.0
     }
 }
 

@@ -53,13 +53,14 @@ pub mod hint_edges {
     include!(concat!(env!("OUT_DIR"), "/hint_edges.rs"));
 }
 
-/// hint/outline.rs: weak points.
+/// hint/outline.rs: edge points and weak points.
 #[allow(clippy::all, unused_parens)]
 pub mod hint_outline {
     use super::{
-        metrics::{fixed_div, fixed_mul},
+        metrics::{fixed_div, fixed_mul, Scale, ScaleFlags},
         outline::{Outline, Point, PointMarker},
-        topo::Dimension,
+        style::ScriptGroup,
+        topo::{Axis, Dimension},
     };
     include!(concat!(env!("OUT_DIR"), "/hint_outline.rs"));
 }

@@ -55,9 +55,14 @@ impl PointMarker {
     pub fn has_marker(self, other: Self) -> bool {
         self.0 & other.0 != 0
     }
+
+    /// Sets the other's marks.
+    pub fn set_marker(&mut self, other: Self) {
+        self.0 |= other.0;
+    }
 }
 
-/// A point: original and current coordinates, and the scratch `u` and `v`.
+/// A point: original and current coordinates, the scratch `u` and `v`, and the next point around its contour.
 #[derive(Copy, Clone, Default)]
 pub struct Point {
     pub flags: PointMarker,
@@ -67,6 +72,14 @@ pub struct Point {
     pub y: i32,
     pub u: i32,
     pub v: i32,
+    pub next_ix: u16,
+}
+
+impl Point {
+    /// The next point around the contour.
+    pub fn next(&self) -> usize {
+        self.next_ix.into()
+    }
 }
 
 /// A contour: its first and last point.

@@ -4,6 +4,7 @@ mod catalogue;
 mod catalogue_slips;
 mod drag;
 mod drag_slips;
+mod edge_points;
 mod frames;
 mod gaps;
 mod joined;
