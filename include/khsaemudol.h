@@ -33,10 +33,9 @@
  *      It is done then, and khs_adjust_link, toward both neighbours, keeps it in order if it has a link. Of KHS_CJK first every edge with a serif goes by that, and is
  *      done; then every other one goes between the nearest edges on both sides that were done before these, as its fpos is between theirs, or, where one side has none,
  *      by khs_align_serif_edge with that of the other as base. None of these calls sets the flag: the caller does, by flags |= KHS_FLAG_DONE.
- *   6. The caller moves the points of every segment whose edge is done to that edge's pos, and touches them: from first to last around the contour, whose last point
- *      is followed by its first. A segment may run over that place, and its last is below its first then. (Points of KHS_CJK the Rust code moves by the edge's
- *      pos - opos, where it is not told to snap.) Strong points are the caller's too: those that are not touched now and not weak, which a point is that is very near
- *      another one or has no clear direction. The Rust code places them by the edges around them, and touches them; left out, they go with the weak ones.
+ *   6. khs_align_edge_points moves the points of every segment to its edge's pos, and touches them: those of done edges alone, or of all. Strong points are the caller's:
+ *      those that are not touched now and not weak, which a point is that is very near another one or has no clear direction. The Rust code places them by the edges
+ *      around them, and touches them; left out, they go with the weak ones.
  *      khs_align_weak_points moves the points that are not touched then, and khs_align_catalogue those of many outlines at once. Where one touched point is moved by hand
  *      afterwards, khs_drag_point moves those that depend on it.
  *   7. When both axes are fitted, khs_path makes the path for a rasteriser of the points, in pixels.
@@ -62,14 +61,8 @@
  *         != KHS_DONE) return 1;
  *     if (khs_lost_gaps((int32_t *)edges, count * KHS_EDGE_WORDS, 32, 1, &gaps, &low, &high, &before, &after, &stems, &not_done) != KHS_DONE || gaps + stems > 0)
  *         return 1;
- *     for (int i = 0; i < 2; i++) {
- *         int32_t edge = segments[i].edge;
- *         if (edge == KHS_NONE || !(edges[edge].flags & KHS_FLAG_DONE)) continue;
- *         for (int32_t p = segments[i].first;; p = p == ends[0] ? 0 : p + 1) {
- *             currents[p] = edges[edge].pos, touched[p] = 1;
- *             if (p == segments[i].last) break;
- *         }
- *     }
+ *     if (khs_align_edge_points((int32_t *)segments, 2 * KHS_SEGMENT_WORDS, (int32_t *)edges, count * KHS_EDGE_WORDS, 1, 1, currents, 5, touched, 5, ends, 1)
+ *         != KHS_DONE) return 1;
  *     if (khs_align_weak_points(originals, 5, currents, 5, touched, 5, ends, 1) != KHS_DONE) return 1;
  *
  * Lists. A list is passed as a pointer to its first element and its length in elements. Edges and segments are lists of 32-bit words: an edge has KHS_EDGE_WORDS
@@ -89,7 +82,7 @@
  *   3. KHS_NOT_WORDS: a word is none of its field's values. The fields are those of the two structs, and also these numbers of a call: a direction, dimension,
  *      group, rule or neighbour, and a number that is 0 or 1. So dim 2 and stem_adjust -1 are KHS_NOT_WORDS.
  *   4. KHS_RETIRED, then KHS_BAD_PARAMETER, KHS_BAD_INDEX, KHS_OUT_OF_RANGE and KHS_NO_ROOM; but khs_mend tests KHS_OUT_OF_RANGE, then KHS_BAD_INDEX and
- *      KHS_BROKEN_RING.
+ *      KHS_BROKEN_RING; and khs_align_edge_points tests here first whether its lists of points are KHS_TOO_LONG.
  * Every other number of a call takes every word: an edge named in a call, and an anchor other than KHS_NONE, is KHS_BAD_INDEX where it is not below the count
  * of edges, whatever its word; scale, units per em, thresholds, standards and a gap's least width are KHS_BAD_PARAMETER and a delta KHS_OUT_OF_RANGE outside of their
  * limits.
@@ -100,8 +93,8 @@
  * A refused call writes nothing: every list and every place holds what it held, marks too. With KHS_DONE a list of edges or segments that is not const holds what
  * the call made of it, every word within its field's values, and every place for a result holds the result; of the room for built edges that is so of the edges
  * that were built, and what stands behind them stays. Results may leave the limits of what is accepted, and are then refused if they are passed again. But the edges
- * that khs_compute_edges and khs_align_edges_to_blues leave are accepted by every call over edges, but for khs_turn_over and khs_pack_axis, which hold first and
- * last against the segments too, khs_hint_lowercase_m, which wants 6 or 12 of them, and khs_align_blues_and_stems, which takes no zone on KHS_LATIN's horizontal axis.
+ * that khs_compute_edges and khs_align_edges_to_blues leave are accepted by every call over edges, but for khs_turn_over, khs_pack_axis and khs_align_edge_points, which hold
+ * first and last against the segments too, khs_hint_lowercase_m, which wants 6 or 12 of them, and khs_align_blues_and_stems, which takes no zone on KHS_LATIN's horizontal axis.
  *
  * No call allocates, keeps a pointer, prints or fails otherwise. Each may be called from any thread, and on other lists at the same time. Working tables stand on
  * the stack: on x86-64 and aarch64 khs_turn_over was measured to use 7 KiB of it, khs_compute_edges 3 KiB and every other call at most 1 KiB, but for
@@ -126,7 +119,8 @@ enum khs_answer {
                             * line has too little room, a frame more than 255 points or contours, or a catalogue's counts do not fit its lists */
     KHS_BAD_PARAMETER = 2, /* a scale, units per em, threshold, a gap's least width or the m call's count is outside its limits, the standards break their
                             * rule, or an edge has a zone on an axis that khs_align_blues_and_stems takes none on */
-    KHS_BAD_INDEX = 3,     /* a contour end breaks its rule, or a link, serif, ring index, anchor or named edge is not below its list's length */
+    KHS_BAD_INDEX = 3,     /* a contour end breaks its rule, a link, serif, ring index, anchor or named edge is not below its list's length, or a segment with an edge does
+                            * not go from a point to another of the same contour where that is asked */
     KHS_OUT_OF_RANGE = 4,  /* a coordinate, position, score, len or passed delta is outside its limits; in building also a scaled position */
     KHS_NO_ROOM = 5,       /* building calls for one edge more than 128 */
     KHS_NOT_FRAME = 6,     /* a line of a log is not a whole frame */
@@ -179,12 +173,13 @@ struct khs_edge {
     int32_t blue_fitted; /* the zone's fitted position in units, accepted from -65,535 to 65,535; 0 where blue is 0, else KHS_NOT_WORDS */
     int32_t link;        /* link: the edge on the other side of the stem */
     int32_t serif;       /* link: the edge that this one is a serif of */
-    int32_t first;       /* index of its first segment, as building wrote it; held against no list but by khs_turn_over and khs_pack_axis */
+    int32_t first;       /* index of its first segment, as building wrote it; held against no list but by khs_turn_over, khs_pack_axis and khs_align_edge_points */
     int32_t last;        /* index of its last segment; the same */
     int32_t mark;        /* 0 to 9, of enum khs_mark: a negative word or one above 9 is KHS_NOT_WORDS */
 };
 
-/* The words of a segment, in the same way. Link and serif, in linking also next, and in khs_turn_over and khs_pack_axis next and edge, are tested to be below their list's count. */
+/* The words of a segment, in the same way. Link and serif, in linking also next, and in khs_turn_over, khs_pack_axis and khs_align_edge_points next and edge, are tested to be below
+ * their list's count. */
 struct khs_segment {
     int32_t flags;     /* 0 to 15; KHS_FLAG_ROUND, where the outline is curved there, is read by building, and no other */
     int32_t dir;       /* the direction in which it runs; KHS_DIR_NONE for a single point */
@@ -197,7 +192,7 @@ struct khs_segment {
     int32_t len;       /* how far it and its link overlap: 0 before linking, and where the caller links; the same */
     int32_t link;      /* link: the segment on the other side of the stem */
     int32_t serif;     /* link: the segment that this one is a serif of */
-    int32_t first;     /* index of its first point, for the caller; held against no list */
+    int32_t first;     /* index of its first point; held against no list but by khs_align_edge_points, where it has an edge */
     int32_t last;      /* index of its last point; the same */
     int32_t edge;      /* link: the edge that it belongs to, or KHS_NONE where building left it out */
     int32_t next;      /* link: the next segment of its edge, which form a ring */
@@ -414,6 +409,26 @@ uint8_t khs_hint_lowercase_m(int32_t *edges, khs_length edges_len, int32_t group
  * Answers: KHS_DONE, KHS_TOO_LONG, KHS_BAD_PARAMETER, KHS_BAD_INDEX, KHS_OUT_OF_RANGE, KHS_NOT_WORDS. */
 uint8_t khs_lost_gaps(const int32_t *edges, khs_length edges_len, int32_t least, int32_t linked, int32_t *count, int32_t *first, int32_t *second, int32_t *before,
                       int32_t *after, int32_t *stems, int32_t *not_done);
+
+/* Moves the points of segments to where the edges of these segments are, and touches them.
+ * segments: at most 512. edges: at most 128, and no room behind them. Neither is written. Their indices are held against their lists as in khs_turn_over: link, serif, next and
+ * edge of segments, link, serif, first and last of edges.
+ * snap: 0 or 1. With 1 a point comes to its edge's pos; with 0 it moves by the edge's pos - opos. Points of KHS_LATIN are to be snapped; the Rust code of which this is a port
+ * leaves the choice to callers for KHS_CJK.
+ * done_alone: 0 or 1. With 1 edges without KHS_FLAG_DONE, which stand where building put them or where nobody looked, move nothing; with 0 every edge does, as in the Rust code,
+ * which has placed all of them by then.
+ * currents, touched: one entry for each point, at most 4,096, else KHS_TOO_LONG, and so it is where the two differ in length. Currents are from -65,535 to 65,535.
+ * ends: as in khs_align_weak_points.
+ * The segments are taken in their order. One without an edge does nothing. Every other one goes from its first point to its last, each next one around their contour, whose last
+ * point is followed by its first: so its last may be below its first; where it is the point directly before it, that is the whole contour; where it is the first itself, one point. Each
+ * point on the way is moved, and its mark becomes 1, also where it stood there already. With snap the last segment decides of a point that several have; without, each of them
+ * moves it. Every other point keeps its current and its mark.
+ * First and last of a segment with an edge, done or not, are points of one contour, else KHS_BAD_INDEX; a point behind the last contour is on none. Those of a segment without an edge
+ * may be any. The pos of an edge by which points are moved, that is, one that a segment names and that is done or, with done_alone 0, any, is from -65,535 to 65,535, else
+ * KHS_OUT_OF_RANGE. So with snap khs_align_weak_points takes every current that is left; without, one may come to 67,173,375.
+ * Writes currents and touched. Answers: KHS_DONE, KHS_TOO_LONG, KHS_BAD_INDEX, KHS_OUT_OF_RANGE, KHS_NOT_WORDS. */
+uint8_t khs_align_edge_points(const int32_t *segments, khs_length segments_len, const int32_t *edges, khs_length edges_len, int32_t snap, int32_t done_alone,
+                              int32_t *currents, khs_length currents_len, uint8_t *touched, khs_length touched_len, const uint16_t *ends, khs_length ends_len);
 
 /* The path of an outline is a list of steps. Each contour gives a KHS_MOVE to its start, lines and quadratic curves around it, and a KHS_CLOSE; a straight way
  * back to the start is left to the close. The start is the contour's first point that is on the curve, or where none is, halfway between its last and its first

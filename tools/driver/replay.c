@@ -45,7 +45,8 @@ static const char *const formats[] = {
     [121] = "SE",         /* mend: segments, edges */
     [123] = "SE",         /* pack_axis: segments, edges */
     [124] = "SE",         /* turn_over: segments, edges */
-    [127] = "Ewc"         /* lost_gaps: edges, least width, linked */
+    [127] = "Ewc",        /* lost_gaps: edges, least width, linked */
+    [128] = "SEccNBI"     /* align_edge_points: segments, edges, snap, done alone, currents, touch marks, contour ends */
 };
 enum { CALLS = sizeof formats / sizeof formats[0], MOST_ITEMS = 10 };
 
@@ -375,23 +376,46 @@ static void answer_segments(const struct job *job)
     say_list(count, edges, KHS_EDGE_WORDS * (size_t)(count > KHS_MOST_EDGES ? KHS_MOST_EDGES : count));
 }
 
-/* The calls over an axis: a table of edges that is too long has one edge more than its limit, too. Of segments that are left out the places are said behind the edges. */
+/* The edges of an axis, whose segments are in the table. */
+static int32_t axis_edges[KHS_EDGE_WORDS * (KHS_MOST_EDGES + 1)];
+
+/* Fills both with the lists of a job, and tells their lengths: a list of edges that is too long has one edge more than its limit, too. */
+static void lend_axis(const struct job *job, khs_length *len, khs_length *edges_len)
+{
+    *edges_len = lend(&job->list[1], KHS_EDGE_WORDS, KHS_MOST_EDGES);
+    memcpy(axis_edges, table, sizeof axis_edges);
+    *len = lend(&job->list[0], KHS_SEGMENT_WORDS, KHS_MOST_SEGMENTS);
+}
+
+/* Edge points, whose lists stand behind those of the axis. */
+static void answer_edge_points(const struct job *job)
+{
+    const struct list *list = job->list;
+    khs_length len, edges_len;
+    lend_axis(job, &len, &edges_len);
+    read_bytes(&list[3], marks);
+    read_indices(&list[4], ends);
+    say(khs_align_edge_points(LIST(table, len), LIST(axis_edges, edges_len), job->number[0], job->number[1], WORDS(list[2]), READ(marks, list[3]), READ(ends, list[4])));
+    say_list(list[2].count, list[2].words, list[2].size);
+    say_bytes(marks, list[3].size);
+}
+
+/* The calls that write an axis. Of segments that are left out the places are said behind the edges. */
 static void answer_axis(const struct job *job)
 {
-    static int32_t edges[KHS_EDGE_WORDS * (KHS_MOST_EDGES + 1)], altered[KHS_ALTERATION_WORDS * KHS_MOST_ALTERED];
+    static int32_t altered[KHS_ALTERATION_WORDS * KHS_MOST_ALTERED];
     const struct list *given = &job->list[1], *segments = &job->list[0];
-    khs_length edges_len = lend(given, KHS_EDGE_WORDS, KHS_MOST_EDGES);
-    memcpy(edges, table, sizeof edges);
-    khs_length len = lend(segments, KHS_SEGMENT_WORDS, KHS_MOST_SEGMENTS);
+    khs_length len, edges_len;
+    lend_axis(job, &len, &edges_len);
     int32_t kept = segments->count, alterations = 0;
     switch (job->call) {
-    case 121: say(khs_mend(LIST(table, len), LIST(edges, edges_len), altered, KHS_ALTERATION_WORDS * KHS_MOST_ALTERED, &alterations)); break;
-    case 123: say(khs_pack_axis(LIST(table, len), LIST(edges, edges_len), &kept)); break;
-    default: say(khs_turn_over(LIST(table, len), LIST(edges, edges_len)));
+    case 121: say(khs_mend(LIST(table, len), LIST(axis_edges, edges_len), altered, KHS_ALTERATION_WORDS * KHS_MOST_ALTERED, &alterations)); break;
+    case 123: say(khs_pack_axis(LIST(table, len), LIST(axis_edges, edges_len), &kept)); break;
+    default: say(khs_turn_over(LIST(table, len), LIST(axis_edges, edges_len)));
     }
     size_t freed = KHS_SEGMENT_WORDS * (size_t)(segments->count - kept), front = segments->size - freed;
     say_list(kept, table, front);
-    say_list(given->count, edges, given->size);
+    say_list(given->count, axis_edges, given->size);
     if (job->call == 121)
         say_list(alterations, altered, KHS_ALTERATION_WORDS * (size_t)alterations);
     if (job->call == 123)
@@ -489,6 +513,7 @@ static void answer_line(size_t len)
     case 123:
     case 124: answer_axis(&job); break;
     case 127: answer_gaps(&job); break;
+    case 128: answer_edge_points(&job); break;
     default: answer_edges(&job);
     }
 }

@@ -88,6 +88,15 @@ static uint8_t pack(void) {
     return khs_pack_axis(segment_words(), SEGMENT_LIST, edge_words(), EDGE_LIST, &first);
 }
 static uint8_t turn(void) { return khs_turn_over(segment_words(), SEGMENT_LIST, edge_words(), EDGE_LIST); }
+/* Every segment goes around its contour of four points, over its start. */
+static uint8_t edge_points(void) {
+    rings(1, 0);
+    for (int32_t i = 0; i < KHS_MOST_SEGMENTS; i++) {
+        segments[i].first = 8 * i + 2;
+        segments[i].last = 8 * i + 1;
+    }
+    return khs_align_edge_points(segment_words(), SEGMENT_LIST, edge_words(), EDGE_LIST, dim, group, currents, POINTS, touched, POINTS, ends, POINTS / 4);
+}
 static uint8_t write_frame(void) { return khs_write_frame(originals, FRAMED, currents, FRAMED, touched, FRAMED, ends, FRAMED / 4, line, sizeof line, &number); }
 static uint8_t read_frame(void) {
     return khs_read_frame(line, sizeof line, originals, FRAMED, currents, FRAMED, touched, FRAMED, ends, FRAMED, &number, &contours);
@@ -101,7 +110,7 @@ static const struct {
 } calls[] = {{"khs_align_weak_points", weak}, {"khs_align_catalogue", catalogue}, {"khs_remember_references", remember},
              {"khs_align_with_references", with_references}, {"khs_drag_point", drag}, {"khs_link_segments_cjk", linking}, {"khs_compute_edges", building}, {"khs_align_edges_to_blues", blues},
              {"khs_align_linked_edge", linked}, {"khs_align_serif_edge", serif}, {"khs_adjust_link", adjust}, {"khs_latin_remaining_bounds", bounds},
-             {"khs_hint_normal_stem_cjk", stem}, {"khs_align_stem_edges", stems}, {"khs_align_blues_and_stems", joined}, {"khs_hint_lowercase_m", lowercase_m}, {"khs_lost_gaps", guard},
+             {"khs_hint_normal_stem_cjk", stem}, {"khs_align_stem_edges", stems}, {"khs_align_blues_and_stems", joined}, {"khs_hint_lowercase_m", lowercase_m}, {"khs_lost_gaps", guard}, {"khs_align_edge_points", edge_points},
              {"khs_path_step", step}, {"khs_path", path}, {"khs_mend", mend}, {"khs_pack_axis", pack}, {"khs_turn_over", turn}, {"khs_write_frame", write_frame}, {"khs_read_frame", read_frame}};
 
 /* Segments in pairs, the pairs on 128 heights; edges in stems, each with a zone or done here and there; points touched here and there; the longest frame, all zeros. */

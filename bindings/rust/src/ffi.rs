@@ -205,6 +205,21 @@ extern "C" {
         not_done: *mut i32,
     ) -> u8;
 
+    fn khs_align_edge_points(
+        segments: *const i32,
+        segments_len: Length,
+        edges: *const i32,
+        edges_len: Length,
+        snap: i32,
+        done_alone: i32,
+        currents: *mut i32,
+        currents_len: Length,
+        touched: *mut u8,
+        touched_len: Length,
+        ends: *const u16,
+        ends_len: Length,
+    ) -> u8;
+
     fn khs_path_step(
         xs: *const i32,
         xs_len: Length,
@@ -301,6 +316,19 @@ fn edge_words(edges: &mut [Edge]) -> (*mut i32, Length) {
     (
         edges.as_mut_ptr().cast(),
         length(edges) * EDGE_WORDS as Length,
+    )
+}
+
+/// The words of edges that are only read.
+fn read_edges(edges: &[Edge]) -> (*const i32, Length) {
+    (edges.as_ptr().cast(), length(edges) * EDGE_WORDS as Length)
+}
+
+/// The words of segments that are only read.
+fn read_segments(segments: &[Segment]) -> (*const i32, Length) {
+    (
+        segments.as_ptr().cast(),
+        length(segments) * SEGMENT_WORDS as Length,
     )
 }
 
@@ -534,7 +562,7 @@ pub fn adjust_link(edges: &mut [Edge], edge: i32, dir: i32, top_to_bottom: i32) 
 }
 
 pub fn latin_remaining_bounds(edges: &[Edge], edge: i32, lower: &mut i32, upper: &mut i32) -> u8 {
-    let (words, len) = (edges.as_ptr().cast(), length(edges) * EDGE_WORDS as Length);
+    let (words, len) = read_edges(edges);
     // SAFETY: one slice and two places, which are lent to this call alone.
     unsafe { khs_latin_remaining_bounds(words, len, edge, lower, upper) }
 }
@@ -630,12 +658,43 @@ pub fn hint_lowercase_m(edges: &mut [Edge], group: i32) -> u8 {
 
 /// The places are for the count of gaps, the two edges and the two widths of the first pair, the count of stems and that of edges that are not done.
 pub fn lost_gaps(edges: &[Edge], least: i32, linked: i32, places: &mut [i32; 7]) -> u8 {
-    let (words, len) = (edges.as_ptr().cast(), length(edges) * EDGE_WORDS as Length);
+    let (words, len) = read_edges(edges);
     let [count, first, second, before, after, stems, not_done] = places;
     // SAFETY: one slice and seven places, which are lent to this call alone.
     unsafe {
         khs_lost_gaps(
             words, len, least, linked, count, first, second, before, after, stems, not_done,
+        )
+    }
+}
+
+/// `[snap, done_alone]` are the choices.
+pub fn align_edge_points(
+    segments: &[Segment],
+    edges: &[Edge],
+    [snap, done_alone]: [i32; 2],
+    currents: &mut [i32],
+    touched: &mut [u8],
+    ends: &[u16],
+) -> u8 {
+    let (words, len) = read_segments(segments);
+    let (edges, edges_len) = read_edges(edges);
+    let (currents_len, touched_len) = (length(currents), length(touched));
+    // SAFETY: five slices, of which `currents` and `touched` are lent to this call alone.
+    unsafe {
+        khs_align_edge_points(
+            words,
+            len,
+            edges,
+            edges_len,
+            snap,
+            done_alone,
+            currents.as_mut_ptr(),
+            currents_len,
+            touched.as_mut_ptr(),
+            touched_len,
+            ends.as_ptr(),
+            length(ends),
         )
     }
 }

@@ -20,6 +20,7 @@
 #![warn(missing_docs, missing_debug_implementations)]
 
 mod choices;
+mod edge_points;
 #[allow(unsafe_code)]
 mod ffi;
 mod field;
@@ -33,6 +34,7 @@ mod references;
 mod refusal;
 
 pub use choices::{Dimension, Group, Neighbour, Order, WidthRule};
+pub use edge_points::{align_edge_points, Moving};
 pub use field::{Direction, Flags, Mark};
 pub use gaps::{lost_gaps, LostGaps, LostPair};
 pub use joined::{align_blues_and_stems, BluesAndStems};

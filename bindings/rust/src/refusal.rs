@@ -24,8 +24,8 @@ pub enum Refusal {
     /// 2: a scale, units per em, a threshold, a gap's least width or the edge count of the m rule is outside its limits, the standards of a width rule break its rule, or
     /// an edge has a zone on an axis that blues and stems in one call take none on.
     BadParameter,
-    /// 3: a contour end breaks its rule, or a link, a serif, an anchor or an edge named in the call is not below its list's length, or a dragged point is not there or not touched; in turning over and in
-    /// packing also any other index.
+    /// 3: a contour end breaks its rule, or a link, a serif, an anchor or an edge named in the call is not below its list's length, or a dragged point is not there or not touched; in turning over, in
+    /// packing and for edge points also any other index, for these also a segment that does not run along one contour.
     BadIndex,
     /// 4: a coordinate, position, score, len or delta is outside its limits; in building also a scaled position.
     OutOfRange,

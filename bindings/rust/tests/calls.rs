@@ -1138,3 +1138,92 @@ fn turning_over_refused() {
     refused(&[segment.with_score(-1)], &[edge], Refusal::OutOfRange);
     refused(&[segment], &[edge.with_opos(65_536)], Refusal::OutOfRange);
 }
+
+/// A segment of an edge, from a point to another.
+fn walk(edge: u16, first: u16, last: u16) -> Segment {
+    let segment = Segment::default().with_edge(Some(edge));
+    segment.with_first(first).with_last(last)
+}
+
+/// An edge that was at a position, is at another, and is done.
+fn moved(opos: i32, pos: i32) -> Edge {
+    at(opos).with_pos(pos).with_flags(Flags::DONE)
+}
+
+/// Snapped to every edge.
+const MOVING: Moving = Moving {
+    snap: true,
+    done_alone: false,
+};
+
+/// Currents and marks of three points of a contour, whose first is marked.
+fn edge_points(
+    segments: &[Segment],
+    edges: &[Edge],
+    moving: Moving,
+) -> Result<([i32; 3], [u8; 3]), Refusal> {
+    let (mut currents, mut touched) = ([1, 2, 3], [9, 0, 0]);
+    align_edge_points(segments, edges, moving, &mut currents, &mut touched, &[2])?;
+    Ok((currents, touched))
+}
+
+#[test]
+fn points_of_edges() {
+    let edges = [moved(0, 5), at(0).with_pos(9)];
+    let segments = [walk(0, 2, 0), walk(1, 0, 1)];
+    assert_eq!(
+        edge_points(&segments, &edges, MOVING),
+        Ok(([9, 9, 5], [1, 1, 1]))
+    );
+    let shifted = Moving {
+        snap: false,
+        ..MOVING
+    };
+    assert_eq!(
+        edge_points(&segments, &edges, shifted),
+        Ok(([15, 11, 8], [1, 1, 1]))
+    );
+    let filtered = Moving {
+        done_alone: true,
+        ..MOVING
+    };
+    assert_eq!(
+        edge_points(&segments, &edges, filtered),
+        Ok(([5, 2, 5], [1, 0, 1]))
+    );
+    assert_eq!(edge_points(&[], &[], MOVING), Ok(([1, 2, 3], [9, 0, 0])));
+}
+
+#[test]
+fn points_of_edges_refused() {
+    let refused = |segments: &[Segment], edges: &[Edge], refusal| {
+        assert_eq!(edge_points(segments, edges, MOVING), Err(refusal));
+    };
+    let (segment, edge) = (walk(0, 0, 0), moved(0, 5));
+    refused(&[segment; MOST_SEGMENTS + 1], &[edge], Refusal::TooLong);
+    refused(&[segment], &[edge; MOST_EDGES + 1], Refusal::TooLong);
+    refused(&[walk(0, 0, 3)], &[edge], Refusal::BadIndex);
+    refused(&[walk(0, 3, 0)], &[edge], Refusal::BadIndex);
+    refused(&[walk(1, 0, 0)], &[edge], Refusal::BadIndex);
+    refused(&[segment], &[edge.with_last(1)], Refusal::BadIndex);
+    refused(&[segment], &[moved(0, 65_536)], Refusal::OutOfRange);
+    refused(&[segment.with_score(-1)], &[edge], Refusal::OutOfRange);
+    let (mut currents, mut touched) = ([1, 2], [7, 0]);
+    let lists = (&mut currents, &mut touched);
+    let (segments, edges) = ([walk(0, 0, 1)], [edge]);
+    // on two contours, behind the last one, and of another length
+    let refusal = Err(Refusal::BadIndex);
+    assert_eq!(
+        align_edge_points(&segments, &edges, MOVING, lists.0, lists.1, &[0, 1]),
+        refusal
+    );
+    assert_eq!(
+        align_edge_points(&segments, &edges, MOVING, lists.0, lists.1, &[0]),
+        refusal
+    );
+    assert_eq!(
+        align_edge_points(&segments, &edges, MOVING, lists.0, &mut lists.1[..1], &[1]),
+        Err(Refusal::TooLong)
+    );
+    assert_eq!((currents, touched), ([1, 2], [7, 0]));
+}

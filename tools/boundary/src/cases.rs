@@ -130,7 +130,7 @@ fn plain_record(record: &Record) -> &'static [i32] {
 }
 
 /// Words at the ends of fields and of limits, and beside them.
-const WORDS: [i32; 47] = [
+pub const WORDS: [i32; 47] = [
     i32::MIN,
     -16_777_217,
     -16_777_216,
@@ -228,7 +228,7 @@ fn damage(function: &Function, given: &mut Given, random: &mut Random) {
 }
 
 /// Changes one word of a list, or none of an empty one.
-fn damage_word(words: &mut [i32], random: &mut Random) {
+pub fn damage_word(words: &mut [i32], random: &mut Random) {
     if !words.is_empty() {
         let at = random.below(words.len());
         words[at] = word(words[at], random);
@@ -265,7 +265,7 @@ fn damage_number(function: &Function, given: &mut Given, random: &mut Random) {
 }
 
 /// Makes a list one to forty records longer than its limit.
-fn lengthen(record: &Record, table: &mut Vec<i32>, random: &mut Random) {
+pub fn lengthen(record: &Record, table: &mut Vec<i32>, random: &mut Random) {
     let count = record.most + 1 + random.below(40);
     while table.len() < count * record.words {
         table.push(random.pick(&WORDS));

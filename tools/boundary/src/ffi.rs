@@ -174,6 +174,20 @@ extern "C" {
         stems: *mut i32,
         not_done: *mut i32,
     ) -> u8;
+    pub fn khs_align_edge_points(
+        segments: *const i32,
+        segments_len: usize,
+        edges: *const i32,
+        edges_len: usize,
+        snap: i32,
+        done_alone: i32,
+        currents: *mut i32,
+        currents_len: usize,
+        touched: *mut u8,
+        touched_len: usize,
+        ends: *const u16,
+        ends_len: usize,
+    ) -> u8;
     pub fn khs_path_step(
         xs: *const i32,
         xs_len: usize,

@@ -5,6 +5,7 @@
 mod cases;
 mod catalogues;
 mod drag;
+mod edge_points;
 mod ffi;
 mod frames;
 mod function;
@@ -37,6 +38,7 @@ fn main() -> ExitCode {
     tallies.extend(references::references(count as usize, random));
     tallies.push(drag::drags(count as usize, random));
     tallies.extend(frames::frames(count as usize, random));
+    tallies.push(edge_points::edge_points(count as usize, random));
     for function in &FUNCTIONS {
         tallies.push(compare(function, count as usize, random));
     }

@@ -77,7 +77,7 @@ fn are_words(function: &Function, given: &Given) -> bool {
 }
 
 /// Whether these words are a record's: an edge without a zone has 0 in its place.
-fn is_record(record: &Record, words: &[i32]) -> bool {
+pub fn is_record(record: &Record, words: &[i32]) -> bool {
     let mut fields = record.fields.iter().zip(words);
     let fits = fields.all(|((least, most), word)| (*least..=*most).contains(word));
     fits && (record.name != EDGE.name || words[BLUE] == 1 || words[FITTED] == 0)
