@@ -78,11 +78,11 @@
  * Answers. Every call but khs_compute_mid_pos and khs_compute_mid_delta returns a number of enum khs_answer: KHS_DONE, or why it refused. A call over edges or
  * segments tests in this order:
  *   1. KHS_NOT_WORDS: the length of edges or segments is not that of whole records, or a room, for built edges or for alterations, has not exactly its length.
- *   2. KHS_TOO_LONG: there are more edges or segments than their limit. None of their words has been read then.
+ *   2. KHS_TOO_LONG: there are more edges or segments than their limit, or, in khs_align_edge_points, more points, or not as many marks. None of their words has been read then.
  *   3. KHS_NOT_WORDS: a word is none of its field's values. The fields are those of the two structs, and also these numbers of a call: a direction, dimension,
  *      group, rule or neighbour, and a number that is 0 or 1. So dim 2 and stem_adjust -1 are KHS_NOT_WORDS.
  *   4. KHS_RETIRED, then KHS_BAD_PARAMETER, KHS_BAD_INDEX, KHS_OUT_OF_RANGE and KHS_NO_ROOM; but khs_mend tests KHS_OUT_OF_RANGE, then KHS_BAD_INDEX and
- *      KHS_BROKEN_RING; and khs_align_edge_points tests here first whether its lists of points are KHS_TOO_LONG.
+ *      KHS_BROKEN_RING.
  * Every other number of a call takes every word: an edge named in a call, and an anchor other than KHS_NONE, is KHS_BAD_INDEX where it is not below the count
  * of edges, whatever its word; scale, units per em, thresholds, standards and a gap's least width are KHS_BAD_PARAMETER and a delta KHS_OUT_OF_RANGE outside of their
  * limits.

@@ -14,7 +14,7 @@ use oracle::{
     decode::decode,
     generate::{self, Random},
     job::Job,
-    limits::NUMBERS,
+    limits::{NUMBERS, POINTS},
     refusals::{refuse, Answer, Refusal},
     words::encode,
 };
@@ -137,13 +137,15 @@ fn run(memories: &mut [Memory; 5], given: &Given, side: Side) -> Option<(u8, Giv
         .then_some((answer, held))
 }
 
-/// What the function has to do: the order of answers that `model` has, of two lists, and behind it the oracle.
+/// What the function has to do: the order of answers that `model` has, of two lists of records and of two of points, and behind it the oracle.
 fn by_oracle(given: &mut Given) -> Answer<()> {
     let lists = [(&given.segments, &SEGMENT), (&given.edges, &EDGE)];
     let is_whole = |(words, record): &(&Words, &Record)| words.len().is_multiple_of(record.words);
     refuse(NOT_WORDS.into(), !lists.iter().all(is_whole))?;
     let fits = |(words, record): &(&Words, &Record)| words.len() / record.words <= record.most;
     refuse(1, !lists.iter().all(fits))?;
+    let points = given.currents.len();
+    refuse(1, points > POINTS || given.touches.len() != points)?;
     let are_records = |(words, record): &(&Words, &Record)| {
         let mut records = words.open().chunks(record.words);
         records.all(|words| is_record(record, words))
