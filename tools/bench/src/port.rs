@@ -277,6 +277,7 @@ impl Prepared {
             | Job::Mend(..)
             | Job::Pack(..)
             | Job::TurnOver(..)
+            | Job::EdgePoints(..)
             | Job::WriteFrame(..)
             | Job::ReadFrame(..) => return Self::by_job(words),
         };
