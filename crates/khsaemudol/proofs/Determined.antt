@@ -11,6 +11,8 @@ use Rattle.weak_references.specs.References.{Remembered, AlignedWith}
 use Rattle.weak_references.proofs.Equal as References
 use Rattle.weak_drag.specs.Drag.{Dragged}
 use Rattle.weak_drag.proofs.Drags as Drag
+use Rattle.edge_points.specs.EdgePoints.{Points}
+use Rattle.edge_points_words.specs.Align.{EdgePointsLent}
 use Rattle.catalogue.specs.Catalogue.{Catalogued}
 use Rattle.catalogue.proofs.Outcomes as Whole
 use Rattle.building.specs.declared.numbers.Thresholds.{Thresholds}
@@ -61,6 +63,12 @@ with-determined o c t es b h x y = References.aligned-determined o c t es b h x 
 -- `khs_drag_point`
 pub drag-determined : (o c : List ℤ) (t es : List ℕ) (p : ℕ) {r r′ : ℕ} {now now′ : List ℤ} → Dragged o c t es p r now → Dragged o c t es p r′ now′ → (r ≡ r′) × (now ≡ now′)
 drag-determined o c t es p {r} {r′} {now} {now′} a b = Drag.determined o c t es p r r′ now now′ a b
+
+-- `khs_align_edge_points`
+pub edge-points-determined :
+    (ws es : List ℤ) (snap alone : ℤ) (ends : List ℕ) (s : Points) {r r′ : ℕ} {now now′ : Points}
+    → EdgePointsLent ws es snap alone ends s r now → EdgePointsLent ws es snap alone ends s r′ now′ → (r ≡ r′) × (now ≡ now′)
+edge-points-determined ws es snap alone ends s a b = lent-determined a b
 
 -- `khs_align_catalogue`
 pub catalogue-determined :

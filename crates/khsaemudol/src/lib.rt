@@ -2,6 +2,7 @@
 // and segments of 15; the answer is 0 or the number of the refusal, and 255 where a length or a word is none. include/khsaemudol.h documents each.
 use building::numbers::Thresholds;
 use catalogue::align::align_catalogue;
+use edge_points_words::align::lend_edge_points;
 use flat::fit::lend_adjust;
 use flat::fit::lend_bounds;
 use flat::fit::lend_linked_edge;
@@ -31,6 +32,8 @@ ghost use Rattle.middle.specs.Middle.{ComputesMidPos, ComputesMidDelta};
 ghost use Rattle.outline.specs.Weak.{Outcome};
 ghost use Rattle.weak_references.specs.References.{Remembered, AlignedWith};
 ghost use Rattle.weak_drag.specs.Drag.{Dragged};
+ghost use Rattle.edge_points_walk.specs.Steps.{points};
+ghost use Rattle.edge_points_words.specs.Align.{EdgePointsLent};
 ghost use Rattle.catalogue.specs.Catalogue.{Catalogued};
 ghost use Rattle.frames.specs.Frame.{frameOf};
 ghost use Rattle.frames_lent.specs.Lent.{WritesLent, ReadsLent};
@@ -119,6 +122,23 @@ pub extern "C" fn khs_drag_point(
     ensures { λ r. ⌜ Dragged (now (originals .entry)) (now (currents .entry)) (now (touched .entry)) (now (ends .entry)) point r (now (currents .exit)) ⌝ }
 {
     lend_drag(originals, currents, touched, ends, point)
+}
+
+// Moves the points of every segment that has an edge to the edge's position, or by as much as the edge was moved, and touches them.
+#[no_mangle]
+pub extern "C" fn khs_align_edge_points(
+    segments: &[i32],
+    edges: &[i32],
+    snap: i32,
+    done_alone: i32,
+    currents: &mut [i32],
+    touched: &mut [u8],
+    ends: &[u16],
+) -> u8
+    ensures { λ r. ⌜ EdgePointsLent (now (segments .entry)) (now (edges .entry)) snap «done_alone» (now (ends .entry)) (points (now (currents .entry)) (now (touched .entry)))
+        r (points (now (currents .exit)) (now (touched .exit))) ⌝ }
+{
+    lend_edge_points(segments, edges, snap, done_alone, currents, touched, ends)
 }
 
 // Aligns the weak points of every outline of a catalogue. The answer is 1, and nothing is written, where the counts do not add up; else 0, and each outline has its own.
