@@ -10,7 +10,7 @@ use Rattle.axis.specs.declared.edge.Edge.{Edge}
 use Rattle.axis.specs.declared.edge.Axis.{Axis}
 use Rattle.axis.specs.Edge.{placed}
 
--- the number of a mark, in the request's order
+-- the number of a mark, in the request's order; those of remaining edges behind them
 abbrev pub markNumber : Mark → ℕ
 markNumber Marks.Nothing = 0
 markNumber Marks.BlueAnchor = 1
@@ -22,6 +22,9 @@ markNumber Marks.Adjusted = 6
 markNumber Marks.Bound = 7
 markNumber Marks.Serif = 8
 markNumber Marks.LowercaseM = 9
+markNumber Marks.Between = 10
+markNumber Marks.Spaced = 11
+markNumber Marks.RemainingAnchor = 12
 
 -- a mark is one of these
 unfoldable pub among : List Mark → Mark → Bool

@@ -33,7 +33,7 @@ pub enum Blue {
     Fitted(i32),
 }
 
-// What last gave an edge its position (request #105).
+// What last gave an edge its position (request #105; the last three are those of remaining edges).
 pub enum Mark {
     Nothing,
     BlueAnchor,
@@ -45,4 +45,7 @@ pub enum Mark {
     Bound,
     Serif,
     LowercaseM,
+    Between,
+    Spaced,
+    RemainingAnchor,
 }

@@ -70,6 +70,9 @@ mark-in Marks.Adjusted = refl
 mark-in Marks.Bound = refl
 mark-in Marks.Serif = refl
 mark-in Marks.LowercaseM = refl
+mark-in Marks.Between = refl
+mark-in Marks.Spaced = refl
+mark-in Marks.RemainingAnchor = refl
 
 present-in : (b : Blue) → isIn choice (presentWord b) ≡ true
 present-in Blues.None = refl

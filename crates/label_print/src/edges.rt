@@ -116,6 +116,9 @@ fn giver(edges: &[i32], i: usize)
         Mark::Bound => text(b"  bound"),
         Mark::Serif => text(b"  serif"),
         Mark::LowercaseM => text(b"  lowercase m"),
+        Mark::Between => text(b"  between"),
+        Mark::Spaced => text(b"  spaced"),
+        Mark::RemainingAnchor => text(b"  remaining anchor"),
     }
 }
 

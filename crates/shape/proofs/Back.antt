@@ -61,7 +61,7 @@ mark-word : (w : ℤ) → isIn mark w ≡ true → markWord (markOf w) ≡ w
 unfolding markOf
 mark-word (pos n) h = let l = and-second (leZ (pos 0) (pos n)) _ h in by n (omega (arith, signed, l))
   where
-    by : (n : ℕ) → n < 10 → markWord (markOf (pos n)) ≡ pos n
+    by : (n : ℕ) → n < 13 → markWord (markOf (pos n)) ≡ pos n
     by zero h = refl
     by (suc zero) h = refl
     by (suc (suc zero)) h = refl
@@ -72,7 +72,10 @@ mark-word (pos n) h = let l = and-second (leZ (pos 0) (pos n)) _ h in by n (omeg
     by (suc (suc (suc (suc (suc (suc (suc zero))))))) h = refl
     by (suc (suc (suc (suc (suc (suc (suc (suc zero)))))))) h = refl
     by (suc (suc (suc (suc (suc (suc (suc (suc (suc zero))))))))) h = refl
-    by (suc (suc (suc (suc (suc (suc (suc (suc (suc (suc n)))))))))) h = absurd (omega arith)
+    by (suc (suc (suc (suc (suc (suc (suc (suc (suc (suc zero)))))))))) h = refl
+    by (suc (suc (suc (suc (suc (suc (suc (suc (suc (suc (suc zero))))))))))) h = refl
+    by (suc (suc (suc (suc (suc (suc (suc (suc (suc (suc (suc (suc zero)))))))))))) h = refl
+    by (suc (suc (suc (suc (suc (suc (suc (suc (suc (suc (suc (suc (suc n))))))))))))) h = absurd (omega arith)
 mark-word (negsuc n) h = absurd (clash h)
 
 flags-word : (w : ℤ) → isIn flags w ≡ true → flagsWord (flagsOf w) ≡ w

@@ -79,7 +79,7 @@ flags = range (pos 0) (pos 15)
 
 -- what gave an edge its position
 abbrev pub mark : Range
-mark = range (pos 0) (pos 9)
+mark = range (pos 0) (pos 12)
 
 -- what stands past a record's end
 abbrev pub noRange : Range

@@ -45,7 +45,7 @@ pub const DIRECTION: Range = Range { low: 0, high: 4 };
 
 pub const FLAGS: Range = Range { low: 0, high: 15 };
 
-pub const MARK: Range = Range { low: 0, high: 9 };
+pub const MARK: Range = Range { low: 0, high: 12 };
 
 // Whether a word is within a field's values.
 pub fn is_in(word: i32, range: Range) -> bool

@@ -52,6 +52,9 @@ mark-back Marks.Adjusted = refl
 mark-back Marks.Bound = refl
 mark-back Marks.Serif = refl
 mark-back Marks.LowercaseM = refl
+mark-back Marks.Between = refl
+mark-back Marks.Spaced = refl
+mark-back Marks.RemainingAnchor = refl
 
 pub blue-back : (b : Blue) → blueOf (presentWord b) (fittedWord b) ≡ b
 unfolding blueOf choiceOf

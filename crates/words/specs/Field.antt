@@ -53,7 +53,8 @@ directionOf w = getD directions (up w) Directions.None
 -- a mark
 abbrev pub marks : List Mark
 marks =
-    Marks.Nothing ∷ Marks.BlueAnchor ∷ Marks.Blue ∷ Marks.Linked ∷ Marks.Anchor ∷ Marks.Stem ∷ Marks.Adjusted ∷ Marks.Bound ∷ Marks.Serif ∷ Marks.LowercaseM ∷ []
+    Marks.Nothing ∷ Marks.BlueAnchor ∷ Marks.Blue ∷ Marks.Linked ∷ Marks.Anchor ∷ Marks.Stem ∷ Marks.Adjusted ∷ Marks.Bound ∷ Marks.Serif ∷ Marks.LowercaseM ∷ Marks.Between
+    ∷ Marks.Spaced ∷ Marks.RemainingAnchor ∷ []
 
 unfoldable pub markOf : ℤ → Mark
 markOf w = getD marks (up w) Marks.Nothing

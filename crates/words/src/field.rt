@@ -17,7 +17,7 @@ ghost use Rattle.words.specs.Field.{shortOf, indexOf, linkOf, choiceOf, 
 ghost use Rattle.words.specs.Field.{linkWord, directionWord, markWord, presentWord, fittedWord, flagsWord};
 
 // The marks, by their words.
-const MARKS: [Mark; 10] = [
+const MARKS: [Mark; 13] = [
     Mark::Nothing,
     Mark::BlueAnchor,
     Mark::Blue,
@@ -28,6 +28,9 @@ const MARKS: [Mark; 10] = [
     Mark::Bound,
     Mark::Serif,
     Mark::LowercaseM,
+    Mark::Between,
+    Mark::Spaced,
+    Mark::RemainingAnchor,
 ];
 
 // A 16-bit number.
@@ -119,7 +122,7 @@ pub fn mark_of(word: i32) -> Mark
     ensures { λ r. ⌜ r ≡ markOf word ⌝ }
 {
     let number = size_of(word);
-    if number < 10 {
+    if number < 13 {
         return MARKS[number];
     }
     Mark::Nothing
@@ -259,6 +262,9 @@ pub fn mark_word(mark: Mark) -> i32
         Mark::Bound => 7,
         Mark::Serif => 8,
         Mark::LowercaseM => 9,
+        Mark::Between => 10,
+        Mark::Spaced => 11,
+        Mark::RemainingAnchor => 12,
     }
 }
 

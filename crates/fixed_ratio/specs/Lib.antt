@@ -1,0 +1,2 @@
+-- What the contracts of `fixed_ratio` cite.
+pub mod Ratio
