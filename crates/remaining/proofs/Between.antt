@@ -51,12 +51,12 @@ unfolding betweenPos
 between-lies at b p f q l m =
     cond-cases (LiesBetween p q) (eqZ f b) _ _ (λ t. record { rising = λ h. (same-place p, h); falling = λ h. (h, same-place p) })
     (λ t.
-      let far : b ≤ℤ f = to-≤ℤ b f (omega (arith, signed)) in
-      let k = up (at -ℤ b) in
-      let d = up (f -ℤ b) in
-      let some : 0 < d = omega (arith, apart b f t, signed, sub-law f b, one-zero (f -ℤ b)) in
-      let less : k ≤ d = omega (arith, signed, sub-law f b, sub-law at b, one-zero (f -ℤ b), one-zero (at -ℤ b)) in
-      subst (λ (r : ℤ). LiesBetween p q (p +ℤ r)) (λ i. mulDiv (sym (ahead b at l) i) (q -ℤ p) (sym (ahead b f far) i)) (lies p q _ (part-of k d (q -ℤ p) some less)))
+    let far : b ≤ℤ f = to-≤ℤ b f (omega (arith, signed)) in
+    let k = up (at -ℤ b) in
+    let d = up (f -ℤ b) in
+    let some : 0 < d = omega (arith, apart b f t, signed, sub-law f b, one-zero (f -ℤ b)) in
+    let less : k ≤ d = omega (arith, signed, sub-law f b, sub-law at b, one-zero (f -ℤ b), one-zero (at -ℤ b)) in
+    subst (λ (r : ℤ). LiesBetween p q (p +ℤ r)) (λ i. mulDiv (sym (ahead b at l) i) (q -ℤ p) (sym (ahead b f far) i)) (lies p q _ (part-of k d (q -ℤ p) some less)))
 
 -- ---- the edges
 module _ (before after e : Edge) (past : Progress) where

@@ -3,6 +3,7 @@ use mathlib.Core.Path.{_≡_, refl, sym, subst, _∙_}
 use mathlib.Core.Bool.{Bool, true, _||_}
 use Prim.Native.Nat.{ℕ, zero, suc, _≤_, _<_}
 use native.Mathlib.Omega.{arith}
+use lib.Dec.{eqb}
 use lib.IntN.{ℤ}
 use Rattle.signed.specs.Range.{Between}
 use Rattle.signed.proofs.Choices.{either-way, cond-cases}
@@ -31,7 +32,7 @@ use Rattle.remaining.specs.declared.kinds.Round.{Round}
 use Rattle.remaining.specs.declared.kinds.Round.the-variants as Rounds
 use Rattle.remaining.specs.declared.kinds.Way.{Way}
 use Rattle.remaining.specs.declared.kinds.Way.the-variants as Ways
-use Rattle.remaining.specs.Remaining.{State, state, nearOf, byBounds, byAnchor, bySerif, serifsPlan, othersPlan, doneBefore, doneBehind, planOf, fixAt, stored, carriedOut, visit, visited, passOf}
+use Rattle.remaining.specs.Remaining.{State, state, nearOf, byBounds, byAnchor, bySerif, serifsPlan, othersPlan, doneBefore, doneBehind, planOf, fixAt, stored, carriedOut, visit, visited, passOf, begun, remainingOf}
 
 -- ---- the stores
 -- an edge that takes its neighbour's position
@@ -147,3 +148,15 @@ visit-sound round n i s a h =
 -- ---- the loops
 pub visited-sound : (round : Round) (n : ℕ) (s : State) → Sound n s → Sound n (visited round s)
 visited-sound round n s h = visits-keep (Sound n) (visit round) n (λ t i a g. visit-sound round n i t a g) (s .axis .len) 0 s (omega (arith, h .len)) h
+
+pub pass-sound : (group : Group) (n : ℕ) (s : State) → Sound n s → Sound n (passOf group s)
+unfolding passOf
+pass-sound Default n s h = visited-sound Rounds.Latin n s h
+pass-sound Cjk n s h =
+    let first = visited Rounds.Serifs s in
+    let g = visited-sound Rounds.Serifs n s h in
+    either-way (Sound n) (eqb (first .past .count) 0) first _ g (visited-sound Rounds.Others n first g)
+
+-- what the loops hand on is accepted again
+pub handed : (axis : Axis) (group : Group) (count : ℕ) (anchor : Link) → AxisWithin mostPos axis → Below (axis .len) anchor → AxisWithin mostPos (remainingOf axis group count anchor .axis)
+handed axis group count anchor w b = pass-sound group (axis .len) (state axis (begun count anchor)) (record { len = refl; axis = w; anchor = b }) .axis

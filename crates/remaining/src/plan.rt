@@ -114,11 +114,7 @@ fn between_pos(at: i32, before_at: i32, before_pos: i32, after_at: i32, after_po
     if after_at == before_at {
         return wide(before_pos);
     }
-    let part = fixed_mul_div(
-        at - before_at,
-        after_pos - before_pos,
-        after_at - before_at,
-    );
+    let part = fixed_mul_div(at - before_at, after_pos - before_pos, after_at - before_at);
     wide(before_pos) + part
 }
 

@@ -36,10 +36,11 @@ rounded-ratio-requires c κs =
     let s = c .before in
     let a = s .args .a in
     let b = s .args .b in
-    rw (product-is c, is (cast-rounded-ratio c), is (s .fits .c))
-    (between-abs (a *ℤ b) mostProduct (omega (arith, natAbs-mul a b, mul-le-mul {n₂ = 2147483648} {m₂ = 2147483648} (most (s .fits .a)) (most (s .fits .b)))),
-    between-abs (s .args .c) mostProduct (omega (arith, most (s .fits .c))),
-    s .pre)
+    rw (product-is c, is (cast-rounded-ratio c), is (s .fits .c)) (
+      between-abs (a *ℤ b) mostProduct (omega (arith, natAbs-mul a b, mul-le-mul {n₂ = 2147483648} {m₂ = 2147483648} (most (s .fits .a)) (most (s .fits .b)))),
+      between-abs (s .args .c) mostProduct (omega (arith, most (s .fits .c))),
+      s .pre,
+    )
 
 returns : tie.Need-returns
 unfolding mulDiv

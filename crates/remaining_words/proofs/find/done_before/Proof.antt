@@ -46,9 +46,10 @@ loop-again : tie.Need-loop-again Inv-loop μ-loop
 loop-again c =
     let d = c .before in
     let t = d .before in
-    let l = t .before in
-    (omega (arith, t .loop-test .taken, l .loop .inv .0),
-    before-passed (edgesOf (l .before .args .words .now)) (l .loop .k) (t .loop-test .taken) (sym (d .is-done .ensures) ∙ c .if1 .left) ∙ l .loop .inv .1)
+    let l = t .before in (
+      omega (arith, t .loop-test .taken, l .loop .inv .0),
+      before-passed (edgesOf (l .before .args .words .now)) (l .loop .k) (t .loop-test .taken) (sym (d .is-done .ensures) ∙ c .if1 .left) ∙ l .loop .inv .1,
+    )
 
 returns-2 : tie.Need-returns-2 Inv-loop μ-loop
 returns-2 c = let l = c .before in before-none (edgesOf (l .before .args .words .now)) (l .loop .k) (c .loop-test .left) ∙ l .loop .inv .1

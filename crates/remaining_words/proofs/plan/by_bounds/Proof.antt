@@ -143,9 +143,11 @@ latin-between-requires c κs =
     let h = first k in
     let s = found h in
     let ws = s .args .words .now in
-    let r = s .pre .0 in
-    (reach ws (beforeOf k) (r .axis) (before-in h r (beforeOf k) (first-is k)) (one .read-edge4 .ensures), reach ws (behindOf b) (r .axis) (behind-in h r (behindOf b) (last-is b)) (c .read-edge5 .ensures),
-    reach ws (s .args .i) (r .axis) (r .below) (h .before .before .read-edge .ensures))
+    let r = s .pre .0 in (
+      reach ws (beforeOf k) (r .axis) (before-in h r (beforeOf k) (first-is k)) (one .read-edge4 .ensures),
+      reach ws (behindOf b) (r .axis) (behind-in h r (behindOf b) (last-is b)) (c .read-edge5 .ensures),
+      reach ws (s .args .i) (r .axis) (r .below) (h .before .before .read-edge .ensures),
+    )
 
 returns-3 : tie.Need-returns-3
 returns-3 c =

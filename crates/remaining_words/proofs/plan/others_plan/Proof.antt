@@ -160,9 +160,11 @@ cjk-between-requires c κs =
     let h = first k in
     let s = found h in
     let ws = s .args .words .now in
-    let r = s .pre in
-    (reach ws (beforeOf k) (r .axis) (before-in h r (beforeOf k) (first-is k)) (one .read-edge2 .ensures), reach ws (behindOf b) (r .axis) (behind-in h r (behindOf b) (last-is b)) (c .read-edge3 .ensures),
-    reach ws (s .args .i) (r .axis) (r .below) (h .before .before .read-edge .ensures))
+    let r = s .pre in (
+      reach ws (beforeOf k) (r .axis) (before-in h r (beforeOf k) (first-is k)) (one .read-edge2 .ensures),
+      reach ws (behindOf b) (r .axis) (behind-in h r (behindOf b) (last-is b)) (c .read-edge3 .ensures),
+      reach ws (s .args .i) (r .axis) (r .below) (h .before .before .read-edge .ensures),
+    )
 
 returns-4 : tie.Need-returns-4
 returns-4 c =

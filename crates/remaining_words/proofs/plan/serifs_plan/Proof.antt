@@ -57,14 +57,15 @@ by-serif-requires c κs =
     let k = c .before in
     let s = read k .before in
     let ws = s .args .words .now in
-    let r = s .pre in
-    (record {
-      whole = r .whole;
-      axis = r .axis;
-      anchor = subst (λ (p : Progress). Below (edgesIn ws) (p .anchor)) (sym (c .one-less .ensures)) (r .anchor);
-      below = r .below;
-    },
-    serif-below ws (s .args .i) (serifOf k) (r .axis) (r .below) (serif-is k))
+    let r = s .pre in (
+      record {
+        whole = r .whole;
+        axis = r .axis;
+        anchor = subst (λ (p : Progress). Below (edgesIn ws) (p .anchor)) (sym (c .one-less .ensures)) (r .anchor);
+        below = r .below;
+      },
+      serif-below ws (s .args .i) (serifOf k) (r .axis) (r .below) (serif-is k),
+    )
 
 returns-2 : tie.Need-returns-2
 returns-2 c =

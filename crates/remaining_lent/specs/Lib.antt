@@ -1,0 +1,2 @@
+-- What the contracts of `remaining_lent` cite.
+pub mod Lent
