@@ -255,8 +255,14 @@ impl Work<'_> {
         while start < close {
             let arrow = (start..close).find(|ix| self.text(*ix) == "=>");
             let arrow = arrow.expect("an arm has an arrow");
-            let (_, end) = self.operands(arrow + 1);
             let id = self.branch(self.tokens[start].start, self.tokens[arrow].end, true);
+            if self.text(arrow + 1) == "{" {
+                let last = self.closing(arrow + 1);
+                self.insert(self.tokens[arrow + 1].end, 1, went(id, true));
+                start = last + 1 + usize::from(self.text(last + 1) == ",");
+                continue;
+            }
+            let (_, end) = self.operands(arrow + 1);
             self.insert(self.tokens[arrow].end, 1, format!(" {{{}", went(id, true)));
             self.insert(self.tokens[end - 1].end, 1, " }".into());
             start = end + 1;

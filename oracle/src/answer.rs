@@ -9,7 +9,7 @@ use crate::{
     path::Step,
     references,
     refusals::{Answer, Refusal},
-    text, turn,
+    remaining, text, turn,
     words::{self, Words},
 };
 
@@ -177,7 +177,7 @@ fn one_step(w: &mut Words, step: Option<Step>, cursor: u32) {
     w.put("next cursor", next as i32);
 }
 
-/// Calls 106 to 113 but the bounds, and 122: the answer ends with a table of edges.
+/// Calls 106 to 113 but the bounds, 122 and 130: the answer ends with a table of edges.
 fn on_edges(w: &mut Words, job: Job) {
     let edges = match job {
         Job::Blues(mut edges, dim, group, rule) => {
@@ -218,6 +218,12 @@ fn on_edges(w: &mut Words, job: Job) {
             let fitted = number(w, joined::align_blues_and_stems(&mut edges, &given));
             w.count("count", fitted.map_or(0, |fitted| fitted.count));
             index(w, "anchor", fitted.and_then(|fitted| fitted.anchor));
+            edges
+        }
+        Job::Remaining(mut edges, given) => {
+            let result = remaining::align_remaining_edges(&mut edges, &given);
+            let anchor = number(w, result).flatten();
+            index(w, "anchor", anchor);
             edges
         }
         _ => unreachable!("the other calls hand back no table of edges"),

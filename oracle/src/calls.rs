@@ -396,7 +396,7 @@ pub(crate) fn aligned_behind(
 }
 
 /// Runs a part of the given Rust on an axis that holds these edges, and marks them as it was recorded.
-fn on_axis<T>(
+pub(crate) fn on_axis<T>(
     edges: &mut Table<Edge>,
     dim: Dimension,
     run: impl FnOnce(&mut Axis, &mut HintsRecorder) -> T,

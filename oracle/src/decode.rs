@@ -3,8 +3,8 @@
 use crate::{
     job::{
         Building, Catalogue, CjkStem, Dimension, Direction, Edge, EdgePoints, Job, Joined, Mark,
-        Points, References, ScaledWidth, ScriptGroup, Segment, Stems, Table, TopoFlags, Walk,
-        WidthRule,
+        Points, References, Remaining, ScaledWidth, ScriptGroup, Segment, Stems, Table, TopoFlags,
+        Walk, WidthRule,
     },
     limits::{EDGES, LENT, NUMBERS, SEGMENTS},
 };
@@ -227,6 +227,7 @@ impl Reader<'_> {
             124 => Job::TurnOver(self.segments()?, self.edges()?),
             127 => Job::Gaps(self.edges()?, self.word()?, self.choice()?),
             128 => Job::EdgePoints(self.segments()?, self.edges()?, self.edge_points()?),
+            130 => Job::Remaining(self.edges()?, self.remaining()?),
             _ => return None,
         })
     }
@@ -315,6 +316,16 @@ impl Reader<'_> {
             stem_adjust: self.choice()?,
             top_to_bottom: self.choice()?,
             rule: self.rule()?,
+        })
+    }
+
+    /// What remaining edges are told.
+    fn remaining(&mut self) -> Option<Remaining> {
+        Some(Remaining {
+            dim: self.dimension()?,
+            group: self.group()?,
+            count: self.number()?,
+            anchor: self.index()?,
         })
     }
 

@@ -116,6 +116,15 @@ pub struct Joined {
     pub rule: WidthRule,
 }
 
+/// What remaining edges are told beside their edges.
+#[derive(Copy, Clone, PartialEq, Debug)]
+pub struct Remaining {
+    pub dim: Dimension,
+    pub group: ScriptGroup,
+    pub count: u16,
+    pub anchor: Option<u16>,
+}
+
 /// What edge points are told beside their axis: two choices, and the points that are moved.
 #[derive(Clone, PartialEq, Debug)]
 pub struct EdgePoints {
@@ -155,6 +164,7 @@ pub enum Job {
     TurnOver(Table<Segment>, Table<Edge>),
     Gaps(Table<Edge>, i32, bool),
     EdgePoints(Table<Segment>, Table<Edge>, EdgePoints),
+    Remaining(Table<Edge>, Remaining),
     WriteFrame(Points, Vec<u8>),
     ReadFrame(Vec<u8>),
 }
@@ -189,6 +199,7 @@ pub const CALLS: &[(usize, &str)] = &[
     (124, "turn_over"),
     (127, "lost_gaps"),
     (128, "align_edge_points"),
+    (130, "align_remaining_edges"),
 ];
 
 /// The name of the call that a word names, if it names one.

@@ -25,6 +25,7 @@ pub mod prepared;
 pub mod ranges;
 pub mod references;
 pub mod refusals;
+pub mod remaining;
 pub mod streams;
 pub mod text;
 pub mod turn;

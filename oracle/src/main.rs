@@ -255,10 +255,10 @@ fn ranges(call: &str) -> Done {
     let Ranges {
         old,
         beyond,
-        too_steep,
+        refused_by_8,
     } = ranges;
     println!(
-        "{:30} {old:>9} done in the old range, {beyond} beyond it, {too_steep} refused by 8",
+        "{:30} {old:>9} done in the old range, {beyond} beyond it, {refused_by_8} refused by 8",
         name(call)
     );
     Some(counted)

@@ -17,7 +17,7 @@ pub struct Ranges {
     /// With a number beyond it.
     pub beyond: u64,
     /// Not done, being refused by 8.
-    pub too_steep: u64,
+    pub refused_by_8: u64,
 }
 
 impl Ranges {
@@ -31,8 +31,11 @@ impl Ranges {
                 with_points.for_each(|own| self.count_outline(own));
             }
             job => {
-                if let Some(is_old) = on_an_axis(&job).filter(|_| answer(job).values[0] == 0) {
-                    self.count_done(is_old);
+                let is_old = on_an_axis(&job);
+                match (is_old, is_old.map(|_| answer(job).values[0])) {
+                    (Some(is_old), Some(0)) => self.count_done(is_old),
+                    (_, Some(8)) => self.refused_by_8 += 1,
+                    _ => {}
                 }
             }
         }
@@ -42,7 +45,7 @@ impl Ranges {
     fn count_outline(&mut self, points: &Points) {
         match refusals::weak(points) {
             Ok(()) => self.count_done(is_old(points)),
-            Err(Refusal(8)) => self.too_steep += 1,
+            Err(Refusal(8)) => self.refused_by_8 += 1,
             Err(_) => {}
         }
     }
@@ -80,7 +83,8 @@ fn on_an_axis(job: &Job) -> Option<bool> {
         | Job::CjkStem(edges, _)
         | Job::Stems(edges, _)
         | Job::M(edges, _)
-        | Job::Joined(edges, _) => Some(are_old(edges)),
+        | Job::Joined(edges, _)
+        | Job::Remaining(edges, _) => Some(are_old(edges)),
         _ => None,
     }
 }

@@ -6,11 +6,11 @@ use crate::{
     given::metrics::fixed_mul,
     job::{
         Building, Catalogue, CjkStem, Dimension, Edge, EdgePoints, Joined, Points, References,
-        ScriptGroup, Segment, Stems, Table, TopoFlags, Walk, WidthRule,
+        Remaining, ScriptGroup, Segment, Stems, Table, TopoFlags, Walk, WidthRule,
     },
     limits::*,
     mend::is_sound,
-    weak,
+    remaining, weak,
 };
 use std::collections::BTreeSet;
 
@@ -173,6 +173,12 @@ fn has_skipped_blue(table: &Table<Edge>, given: &Joined) -> bool {
     given.group == ScriptGroup::Default
         && given.dim == Dimension::Horizontal
         && table.items.iter().any(|edge| edge.blue_edge.is_some())
+}
+
+/// Remaining edges: the stem pass' refusals, but for those of numbers that the call has not, and behind them a position that is beyond.
+pub fn remaining(table: &Table<Edge>, given: &Remaining) -> Answer<()> {
+    edges(table, given.anchor.as_slice())?;
+    refuse(8, remaining::placed(&table.items, given).is_none())
 }
 
 /// The lowercase m.

@@ -328,7 +328,7 @@ fn build(w: &mut Words, segments: &Table<Segment>, edges: &Table<Edge>, given: &
     w.put("width threshold", given.width);
 }
 
-/// Calls 106 to 113, 122 and 127: a table of edges first.
+/// Calls 106 to 113, 122, 127 and 130: a table of edges first.
 fn on_edges(w: &mut Words, job: &Job) {
     let (call, edges) = match job {
         Job::Blues(edges, ..) => (106, edges),
@@ -341,6 +341,7 @@ fn on_edges(w: &mut Words, job: &Job) {
         Job::M(edges, ..) => (113, edges),
         Job::Joined(edges, ..) => (122, edges),
         Job::Gaps(edges, ..) => (127, edges),
+        Job::Remaining(edges, ..) => (130, edges),
         _ => unreachable!("the other calls are not on a table of edges"),
     };
     w.put("call", call);
@@ -380,6 +381,12 @@ fn behind_edges(w: &mut Words, job: &Job) {
         Job::Gaps(_, least, linked) => {
             w.put("least", *least);
             w.choice("linked", *linked);
+        }
+        Job::Remaining(_, given) => {
+            w.dimension(given.dim);
+            w.group(given.group);
+            w.put("count", given.count.into());
+            w.index("anchor", given.anchor);
         }
         _ => unreachable!("the other calls are not on a table of edges"),
     }

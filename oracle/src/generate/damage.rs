@@ -37,7 +37,7 @@ pub fn line(call: usize, random: &mut Random) -> Vec<u8> {
     let marks = marks(&words);
     let choices = choices(&words);
     if !marks.is_empty() && random.once_in(8) {
-        words.values[random.pick(&marks)] = random.pick(&[-1, 0, 9, 10]);
+        words.values[random.pick(&marks)] = random.pick(&[-1, 0, 9, 10, 12, 13]);
     } else if !choices.is_empty() && random.once_in(8) {
         words.values[random.pick(&choices)] = random.pick(&WORDS);
     } else if random.below(3) > 0 {
@@ -73,7 +73,7 @@ fn damage_words(words: &mut Vec<i32>, random: &mut Random) {
         1 => words.push(random.pick(&WORDS)),
         2 => words.insert(at, random.pick(&WORDS)),
         3 => drop(words.remove(at)),
-        4 => words[0] = random.between(-1, 28) + random.pick(&[0, 100]),
+        4 => words[0] = random.between(-1, 33) + random.pick(&[0, 100]),
         5 => words.truncate(words.len() - 1),
         6 => words[at] = words[at].wrapping_add(random.pick(&[-1, 1])),
         7 => words[at] = random.bits() as i32,

@@ -252,7 +252,7 @@ fn about_a_centre(pos: i32, random: &mut Random) -> i32 {
 }
 
 /// A link to a neighbour or the one behind that, on either side, to the edge itself, to any edge, or none.
-fn near_link(ix: usize, count: usize, random: &mut Random) -> Option<u16> {
+pub fn near_link(ix: usize, count: usize, random: &mut Random) -> Option<u16> {
     let link = match random.below(8) {
         0..=1 => return None,
         2 => random.below(count),

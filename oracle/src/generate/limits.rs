@@ -105,6 +105,7 @@ fn limit(name: &str, word: i32, random: &mut Random) -> i32 {
         "least" => &[0, 65_535],
         "touch" | "mark" | "own answer" => return random.pick(&[0, 1, 255]),
         "points" | "contours" => return random.pick(&[0, 1, word + 1, 4_096, 65_535]).min(65_535),
+        "count" => return random.pick(&[0, 1, word + 1, 65_534, 65_535]).min(65_535),
         "cursor" => return random.pick(&[0, word.saturating_add(1), i32::MAX - 1, i32::MAX]),
         "segment.pos" => return side(random.pick(&POSITIONS), true, random).min(32_767),
         "segment.delta" | "segment.min_coord" | "segment.max_coord" | "segment.height"
@@ -203,7 +204,7 @@ fn resize_on_edges(job: &mut Job, random: &mut Random) {
             resize_edges(edges, random);
             *top_to_bottom |= random.once_in(4);
         }
-        Job::Serif(edges, ..) | Job::Bounds(edges, _) => {
+        Job::Serif(edges, ..) | Job::Bounds(edges, _) | Job::Remaining(edges, _) => {
             resize_edges(edges, random);
         }
         Job::Gaps(edges, least, _) => {

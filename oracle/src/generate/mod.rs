@@ -16,6 +16,7 @@ pub mod patterns;
 mod points;
 mod random;
 mod references;
+mod remaining;
 mod saved;
 mod segments;
 pub mod small_axes;
@@ -104,6 +105,7 @@ fn job(call: usize, small: bool, random: &mut Random) -> Job {
         124 => axes::turn_over(small, random),
         127 => gaps(small, random),
         128 => edge_points::job(small, random),
+        130 => remaining::job(small, random),
         _ => on_edges(call, small, random),
     }
 }

@@ -12,6 +12,11 @@ pub fn fixed_div(a: i32, b: i32) -> i32 {
     nearest(i64::from(a) * 65_536, i64::from(b))
 }
 
+/// a·b / c to the nearest, halves away from zero.
+pub fn fixed_mul_div(a: i32, b: i32, c: i32) -> i32 {
+    nearest(i64::from(a) * i64::from(b), i64::from(c))
+}
+
 /// A quotient to the nearest, halves away from zero; accepted input keeps it within 32 bits.
 fn nearest(dividend: i64, divisor: i64) -> i32 {
     let size = (dividend.abs() + divisor.abs() / 2) / divisor.abs();

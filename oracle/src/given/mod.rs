@@ -41,11 +41,13 @@ pub mod topo_edges {
     include!(concat!(env!("OUT_DIR"), "/topo_edges.rs"));
 }
 
-/// hint/edges.rs: fitting and the lowercase m.
+/// hint/edges.rs: fitting, the lowercase m and remaining edges.
 #[allow(clippy::all, unused_parens, unreachable_code)]
 pub mod hint_edges {
     use super::{
-        metrics::{pix_floor, pix_round, stem_width, Scale, ScaleFlags, ScaledAxisMetrics},
+        metrics::{
+            fixed_mul_div, pix_floor, pix_round, stem_width, Scale, ScaleFlags, ScaledAxisMetrics,
+        },
         recorder::{EdgeAction, HintsRecorder},
         style::ScriptGroup,
         topo::{Axis, Dimension, Edge, TopoFlags},

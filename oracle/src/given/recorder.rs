@@ -16,11 +16,14 @@ pub enum Mark {
     Bound,
     Serif,
     LowercaseM,
+    Between,
+    Spaced,
+    RemainingAnchor,
 }
 
 impl Mark {
     /// Every mark, in the order of the numbers.
-    pub const ALL: [Self; 10] = [
+    pub const ALL: [Self; 13] = [
         Self::Nothing,
         Self::BlueAnchor,
         Self::Blue,
@@ -31,6 +34,9 @@ impl Mark {
         Self::Bound,
         Self::Serif,
         Self::LowercaseM,
+        Self::Between,
+        Self::Spaced,
+        Self::RemainingAnchor,
     ];
 }
 
@@ -41,6 +47,8 @@ pub struct HintsRecorder {
     marks: Vec<(usize, Mark)>,
     /// How often the stem pass took its fallback: an edge placed by its linked edge, which is on a zone.
     pub fallbacks: usize,
+    /// The remaining edge that became the anchor.
+    pub anchor: Option<usize>,
 }
 
 impl HintsRecorder {
@@ -66,6 +74,13 @@ impl HintsRecorder {
             // The base is named first.
             EdgeAction::Link => self.give(Mark::Linked, edge2_ix),
             EdgeAction::Bound => self.give(Mark::Bound, [edge_ix]),
+            EdgeAction::Serif => self.give(Mark::Serif, [edge_ix]),
+            EdgeAction::SerifLink1 => self.give(Mark::Between, [edge_ix]),
+            EdgeAction::SerifLink2 => self.give(Mark::Spaced, [edge_ix]),
+            EdgeAction::SerifAnchor => {
+                self.anchor = Some(edge_ix);
+                self.give(Mark::RemainingAnchor, [edge_ix]);
+            }
         }
     }
 
@@ -91,4 +106,8 @@ pub enum EdgeAction {
     Anchor,
     Link,
     Bound,
+    Serif,
+    SerifLink1,
+    SerifLink2,
+    SerifAnchor,
 }

@@ -360,7 +360,7 @@ fn a_mark_is_the_twelfth_word() {
         assert_eq!((words[0], words[13]), (107, number));
         assert!(decode(&words).is_some());
     }
-    for number in [-1, 10, 255, i32::MAX] {
+    for number in [-1, 13, 255, i32::MAX] {
         let mut words = job(Nothing);
         words[13] = number;
         assert!(decode(&words).is_none(), "mark {number}");

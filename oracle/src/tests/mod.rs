@@ -21,6 +21,7 @@ mod path_slips;
 mod references;
 mod references_slips;
 mod refusals;
+mod remaining;
 mod rows;
 mod slips;
 mod words;

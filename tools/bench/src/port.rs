@@ -278,6 +278,7 @@ impl Prepared {
             | Job::Pack(..)
             | Job::TurnOver(..)
             | Job::EdgePoints(..)
+            | Job::Remaining(..)
             | Job::WriteFrame(..)
             | Job::ReadFrame(..) => return Self::by_job(words),
         };
