@@ -104,7 +104,7 @@ static void print_width(int32_t units) {
 
 /* What gave an edge its position, by its mark. */
 static const char *const marks[] = {
-    "nothing yet", "blue anchor", "blue", "linked", "anchor", "stem", "adjusted", "bound", "serif", "lowercase m",
+    "nothing yet", "blue anchor", "blue", "linked", "anchor", "stem", "adjusted", "bound", "serif", "lowercase m", "between", "spaced", "remaining anchor",
 };
 
 /* Prints the edges that a step placed: where each was and is, its stem, and what placed it. */

@@ -24,15 +24,10 @@
  *      khs_lost_gaps then tells whether a gap or a stem between two placed edges is lost to the display, turned or without a row of pixels, as it can happen where few
  *      pixels are left. Show such a glyph at another size, or fitted with KHS_SNAP in place of KHS_KEEP: the unfitted outline was more often worse than
  *      better, where that was looked at.
- *   5. An edge without KHS_FLAG_DONE has not been placed. The caller leaves it, and its points to step 6, or places it as it likes. The Rust code of which this is a
- *      port places all, one after the other. An edge of KHS_LATIN goes by the first of these that it can:
- *        - its serif, whose opos is less than 80 units from its own: by khs_align_serif_edge with that as base;
- *        - itself, where there is no anchor yet: at its opos, to the nearest pixel, and it is the anchor of those behind it;
- *        - the nearest done edges on both sides: between their pos as its opos is between theirs, and at the first one's pos where these are equal;
- *        - the anchor: at its pos and the distance of their opos, to the nearest 32 units.
- *      It is done then, and khs_adjust_link, toward both neighbours, keeps it in order if it has a link. Of KHS_CJK first every edge with a serif goes by that, and is
- *      done; then every other one goes between the nearest edges on both sides that were done before these, as its fpos is between theirs, or, where one side has none,
- *      by khs_align_serif_edge with that of the other as base. None of these calls sets the flag: the caller does, by flags |= KHS_FLAG_DONE.
+ *   5. An edge without KHS_FLAG_DONE has not been placed: serifs, single edges, CJK stems that stand too close. khs_align_remaining_edges places them, by the count and the
+ *      anchor that the stems handed back; the Rust code of which this is a port calls it where that count is not 0 or there is no anchor, and where both are otherwise it changes
+ *      nothing. It may turn edges: ask khs_lost_gaps behind it rather than in front, with least 0 and linked 0, where the order is to be kept. A caller may leave such
+ *      an edge instead, and its points to step 6, or place it by khs_align_serif_edge and khs_adjust_link or as it likes, and set its flag, by flags |= KHS_FLAG_DONE.
  *   6. khs_align_edge_points moves the points of every segment to its edge's pos, and touches them: those of done edges alone, or of all. Strong points are the caller's:
  *      those that are not touched now and not weak, which a point is that is very near another one or has no clear direction. The Rust code places them by the edges
  *      around them, and touches them; left out, they go with the weak ones.
@@ -80,9 +75,9 @@
  *   1. KHS_NOT_WORDS: the length of edges or segments is not that of whole records, or a room, for built edges or for alterations, has not exactly its length.
  *   2. KHS_TOO_LONG: there are more edges or segments than their limit, or, in khs_align_edge_points, more points, or not as many marks. None of their words has been read then.
  *   3. KHS_NOT_WORDS: a word is none of its field's values. The fields are those of the two structs, and also these numbers of a call: a direction, dimension,
- *      group, rule or neighbour, and a number that is 0 or 1. So dim 2 and stem_adjust -1 are KHS_NOT_WORDS.
+ *      group, rule or neighbour, a number that is 0 or 1, and the count of khs_align_remaining_edges. So dim 2 and stem_adjust -1 are KHS_NOT_WORDS.
  *   4. KHS_RETIRED, then KHS_BAD_PARAMETER, KHS_BAD_INDEX, KHS_OUT_OF_RANGE and KHS_NO_ROOM; but khs_mend tests KHS_OUT_OF_RANGE, then KHS_BAD_INDEX and
- *      KHS_BROKEN_RING.
+ *      KHS_BROKEN_RING; and khs_align_remaining_edges tests KHS_TOO_STEEP behind KHS_OUT_OF_RANGE.
  * Every other number of a call takes every word: an edge named in a call, and an anchor other than KHS_NONE, is KHS_BAD_INDEX where it is not below the count
  * of edges, whatever its word; scale, units per em, thresholds, standards and a gap's least width are KHS_BAD_PARAMETER and a delta KHS_OUT_OF_RANGE outside of their
  * limits.
@@ -125,7 +120,8 @@ enum khs_answer {
     KHS_NO_ROOM = 5,       /* building calls for one edge more than 128 */
     KHS_NOT_FRAME = 6,     /* a line of a log is not a whole frame */
     KHS_BROKEN_RING = 7,   /* the segments of an edge are no sound ring; in khs_mend: none can be made of them, since there is none */
-    KHS_TOO_STEEP = 8,     /* an untouched point lies between two touched ones that were 2 units apart and are 65,536 or more, or were 3 and are 98,304 or more */
+    KHS_TOO_STEEP = 8,     /* an untouched point lies between two touched ones that were 2 units apart and are 65,536 or more, or were 3 and are 98,304 or more; in
+                            * khs_align_remaining_edges: an edge would be given a pos that is not accepted */
     KHS_NOT_MATCHING = 9,  /* the lists of khs_align_with_references are not what khs_remember_references writes for these marks and contours */
     KHS_RETIRED = 10,      /* the order from top to bottom is asked for, which is retired: on either axis and for either group */
     KHS_NOT_WORDS = 255    /* a length is not that of whole records, a room has not exactly its length, or a word is none of its field's values */
@@ -145,16 +141,19 @@ enum { KHS_FINISHED = 0, KHS_MOVE = 1, KHS_LINE = 2, KHS_CURVE = 3, KHS_CLOSE = 
 /* The mark of an edge: what last gave it its position, if only the one that it had. A call writes mark where it writes pos, but for an edge that is done already when
  * it is put on its zone: that one keeps its mark. No call reads marks: positions, answers and refusals are as without them. */
 enum khs_mark {
-    KHS_MARK_NOTHING = 0,     /* nothing yet: it stands where building put it */
-    KHS_MARK_BLUE_ANCHOR = 1, /* its blue zone, the first zone that the call came to */
-    KHS_MARK_BLUE = 2,        /* its blue zone, another one */
-    KHS_MARK_LINKED = 3,      /* an edge on the other side of the stem, at the fitted width from it */
-    KHS_MARK_ANCHOR = 4,      /* its own stem, the first one, where there was no anchor yet */
-    KHS_MARK_STEM = 5,        /* its stem, both of whose edges were placed */
-    KHS_MARK_ADJUSTED = 6,    /* its link, which was done before, for a stem beside an anchor */
-    KHS_MARK_BOUND = 7,       /* its neighbour, which it had passed */
-    KHS_MARK_SERIF = 8,       /* the edge that it was placed by as a serif */
-    KHS_MARK_LOWERCASE_M = 9  /* the rule of the lowercase m, whose third stem it moves with */
+    KHS_MARK_NOTHING = 0,          /* nothing yet: it stands where building put it */
+    KHS_MARK_BLUE_ANCHOR = 1,      /* its blue zone, the first zone that the call came to */
+    KHS_MARK_BLUE = 2,             /* its blue zone, another one */
+    KHS_MARK_LINKED = 3,           /* an edge on the other side of the stem, at the fitted width from it */
+    KHS_MARK_ANCHOR = 4,           /* its own stem, the first one, where there was no anchor yet */
+    KHS_MARK_STEM = 5,             /* its stem, both of whose edges were placed */
+    KHS_MARK_ADJUSTED = 6,         /* its link, which was done before, for a stem beside an anchor */
+    KHS_MARK_BOUND = 7,            /* its neighbour, which it had passed */
+    KHS_MARK_SERIF = 8,            /* the edge that it was placed by as a serif */
+    KHS_MARK_LOWERCASE_M = 9,      /* the rule of the lowercase m, whose third stem it moves with */
+    KHS_MARK_BETWEEN = 10,         /* the nearest done edges on both sides, between which it was placed */
+    KHS_MARK_SPACED = 11,          /* the anchor, from which it was placed at its distance */
+    KHS_MARK_REMAINING_ANCHOR = 12 /* itself, as the anchor of the edges that were left */
 };
 
 enum { KHS_EDGE_WORDS = 12, KHS_SEGMENT_WORDS = 15, KHS_MOST_EDGES = 128, KHS_MOST_SEGMENTS = 512 };
@@ -175,7 +174,7 @@ struct khs_edge {
     int32_t serif;       /* link: the edge that this one is a serif of */
     int32_t first;       /* index of its first segment, as building wrote it; held against no list but by khs_turn_over, khs_pack_axis and khs_align_edge_points */
     int32_t last;        /* index of its last segment; the same */
-    int32_t mark;        /* 0 to 9, of enum khs_mark: a negative word or one above 9 is KHS_NOT_WORDS */
+    int32_t mark;        /* 0 to 12, of enum khs_mark: a negative word or one above 12 is KHS_NOT_WORDS */
 };
 
 /* The words of a segment, in the same way. Link and serif, in linking also next, and in khs_turn_over, khs_pack_axis and khs_align_edge_points next and edge, are tested to be below
@@ -381,6 +380,27 @@ uint8_t khs_align_stem_edges(int32_t *edges, khs_length edges_len, int32_t dim, 
  * Answers: KHS_DONE, KHS_TOO_LONG, KHS_RETIRED, KHS_BAD_PARAMETER, KHS_BAD_INDEX, KHS_OUT_OF_RANGE, KHS_NOT_WORDS. */
 uint8_t khs_align_blues_and_stems(int32_t *edges, khs_length edges_len, int32_t dim, int32_t group, int32_t stem_adjust, int32_t top_to_bottom, int32_t rule,
                                   const int32_t *standards, khs_length standards_len, int32_t *count, int32_t *anchor);
+
+/* Places the edges that zones and stems have left, those without KHS_FLAG_DONE, one behind the other.
+ * dim: a dimension, which decides nothing. group: a group. count: 0 to 65,535, else KHS_NOT_WORDS: how many edges are left, as the stem pass counts them; read for KHS_CJK.
+ * anchor: the edge that is the anchor, or KHS_NONE; read for KHS_LATIN, and tested for both.
+ * An edge of KHS_LATIN goes by the first of these that it can:
+ *   - its serif, where that one's opos is less than 80 units from its own, done or not: as far from its pos as its opos is from its opos. KHS_MARK_SERIF.
+ *   - itself, where there is no anchor yet, even between done edges: at its opos, to the nearest pixel; it is the anchor of those behind it. KHS_MARK_REMAINING_ANCHOR.
+ *   - the nearest done edges before and behind it in the list, where both are there: between their pos as its opos is between theirs, to the nearest, halves away from zero, and
+ *     at the first one's pos where these are equal. KHS_MARK_BETWEEN.
+ *   - the anchor: at its pos and the distance of their opos and 16, down to a multiple of 32. KHS_MARK_SPACED.
+ * It is done then, so that those behind it may go by it; and khs_adjust_link toward the previous and then toward the next edge holds it, KHS_MARK_BOUND. Behind the call every edge is done.
+ * Of KHS_CJK every edge with a serif goes by that first, at any distance, KHS_MARK_SERIF; it is done, and lowers the count, not below 0. Where the count is not 0 then, every other
+ * one goes between the nearest done edges before and behind it, as its fpos is between theirs, KHS_MARK_BETWEEN, or, where there is one of them alone, as far from it as its opos
+ * is, KHS_MARK_SERIF, or stays. These are not done, and nothing goes by them.
+ * KHS_TOO_STEEP, behind the other answers, where a pos that is given on the way, also one that is then held to a neighbour's, is not from -16,777,216 to 16,777,216, as it can happen
+ * where edges that are close by opos or fpos stand far apart. So what is left is accepted by the other calls over edges as before; khs_align_edge_points holds pos to 65,535.
+ * Where opos do not fall, for KHS_CJK fpos, an edge that is placed between two lies between their pos, ends included; but those may be turned, by this call too: of edges at 40, 50 and 60, of which the last alone is done, and no
+ * anchor, it makes 64, 62 and 60.
+ * Writes pos, mark and flags of edges; found, the anchor: the one that was passed, or the edge that became it, or KHS_NONE.
+ * Answers: KHS_DONE, KHS_TOO_LONG, KHS_BAD_INDEX, KHS_OUT_OF_RANGE, KHS_TOO_STEEP, KHS_NOT_WORDS. */
+uint8_t khs_align_remaining_edges(int32_t *edges, khs_length edges_len, int32_t dim, int32_t group, int32_t count, int32_t anchor, int32_t *found);
 
 /* Evens out the three stems of a lowercase m by moving the third to the distance that the first two have.
  * edges: 6, whose stems begin at edges 0, 2 and 4, or 12, at edges 1, 5 and 9; else KHS_BAD_PARAMETER. group: a group.

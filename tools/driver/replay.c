@@ -46,7 +46,8 @@ static const char *const formats[] = {
     [123] = "SE",         /* pack_axis: segments, edges */
     [124] = "SE",         /* turn_over: segments, edges */
     [127] = "Ewc",        /* lost_gaps: edges, least width, linked */
-    [128] = "SEccNBI"     /* align_edge_points: segments, edges, snap, done alone, currents, touch marks, contour ends */
+    [128] = "SEccNBI",    /* align_edge_points: segments, edges, snap, done alone, currents, touch marks, contour ends */
+    [130] = "Eccil"       /* align_remaining_edges: edges, dimension, group, count, anchor */
 };
 enum { CALLS = sizeof formats / sizeof formats[0], MOST_ITEMS = 10 };
 
@@ -99,7 +100,7 @@ static int is_field(char kind, int32_t word)
     case 'k': return 0 <= word;
     case 'd': return KHS_DIR_NONE <= word && word <= KHS_DIR_DOWN;
     case 'f': return 0 <= word && word <= 15;
-    case 'm': return KHS_MARK_NOTHING <= word && word <= KHS_MARK_LOWERCASE_M;
+    case 'm': return KHS_MARK_NOTHING <= word && word <= KHS_MARK_REMAINING_ANCHOR;
     case 'B': return 0 <= word && word <= 255;
     default: return 0;
     }
@@ -475,6 +476,10 @@ static void answer_edges(const struct job *job)
     case 122:
         say(khs_align_blues_and_stems(LIST(table, len), n[0], n[1], n[2], n[3], n[4], WORDS(*standards), &number, &index));
         say(number);
+        say(index);
+        break;
+    case 130:
+        say(khs_align_remaining_edges(LIST(table, len), n[0], n[1], n[2], n[3], &index));
         say(index);
         break;
     default:

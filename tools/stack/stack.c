@@ -102,6 +102,10 @@ static uint8_t read_frame(void) {
     return khs_read_frame(line, sizeof line, originals, FRAMED, currents, FRAMED, touched, FRAMED, ends, FRAMED, &number, &contours);
 }
 static uint8_t guard(void) { return khs_lost_gaps(edge_words(), EDGE_LIST, 0, adjusted, &first, &second, &third, &fourth, &fifth, &sixth, &seventh); }
+/* Without an anchor, or with one in the middle. */
+static uint8_t remaining(void) {
+    return khs_align_remaining_edges(edge_words(), EDGE_LIST, dim, group, KHS_MOST_EDGES, adjusted ? KHS_MOST_EDGES / 2 : KHS_NONE, &first);
+}
 static uint8_t lowercase_m(void) { return khs_hint_lowercase_m(edge_words(), 12 * KHS_EDGE_WORDS, group); }
 
 static const struct {
@@ -110,7 +114,7 @@ static const struct {
 } calls[] = {{"khs_align_weak_points", weak}, {"khs_align_catalogue", catalogue}, {"khs_remember_references", remember},
              {"khs_align_with_references", with_references}, {"khs_drag_point", drag}, {"khs_link_segments_cjk", linking}, {"khs_compute_edges", building}, {"khs_align_edges_to_blues", blues},
              {"khs_align_linked_edge", linked}, {"khs_align_serif_edge", serif}, {"khs_adjust_link", adjust}, {"khs_latin_remaining_bounds", bounds},
-             {"khs_hint_normal_stem_cjk", stem}, {"khs_align_stem_edges", stems}, {"khs_align_blues_and_stems", joined}, {"khs_hint_lowercase_m", lowercase_m}, {"khs_lost_gaps", guard}, {"khs_align_edge_points", edge_points},
+             {"khs_hint_normal_stem_cjk", stem}, {"khs_align_stem_edges", stems}, {"khs_align_blues_and_stems", joined}, {"khs_align_remaining_edges", remaining}, {"khs_hint_lowercase_m", lowercase_m}, {"khs_lost_gaps", guard}, {"khs_align_edge_points", edge_points},
              {"khs_path_step", step}, {"khs_path", path}, {"khs_mend", mend}, {"khs_pack_axis", pack}, {"khs_turn_over", turn}, {"khs_write_frame", write_frame}, {"khs_read_frame", read_frame}};
 
 /* Segments in pairs, the pairs on 128 heights; edges in stems, each with a zone or done here and there; points touched here and there; the longest frame, all zeros. */

@@ -189,6 +189,16 @@ extern "C" {
         anchor: *mut i32,
     ) -> u8;
 
+    fn khs_align_remaining_edges(
+        edges: *mut i32,
+        edges_len: Length,
+        dim: i32,
+        group: i32,
+        count: i32,
+        anchor: i32,
+        found: *mut i32,
+    ) -> u8;
+
     fn khs_hint_lowercase_m(edges: *mut i32, edges_len: Length, group: i32) -> u8;
 
     fn khs_lost_gaps(
@@ -648,6 +658,17 @@ pub fn align_blues_and_stems(
             anchor,
         )
     }
+}
+
+/// `[dim, group, count, anchor]` are the numbers.
+pub fn align_remaining_edges(
+    edges: &mut [Edge],
+    [dim, group, count, anchor]: [i32; 4],
+    found: &mut i32,
+) -> u8 {
+    let (words, len) = edge_words(edges);
+    // SAFETY: one slice and a place, lent to this call alone.
+    unsafe { khs_align_remaining_edges(words, len, dim, group, count, anchor, found) }
 }
 
 pub fn hint_lowercase_m(edges: &mut [Edge], group: i32) -> u8 {

@@ -220,11 +220,17 @@ pub enum Mark {
     Serif = 8,
     /// The rule of the lowercase m, whose third stem it moves with.
     LowercaseM = 9,
+    /// The nearest done edges on both sides, between which it was placed.
+    Between = 10,
+    /// The anchor, from which it was placed at its distance.
+    Spaced = 11,
+    /// Itself, as the anchor of the edges that were left.
+    RemainingAnchor = 12,
 }
 
 impl Mark {
     /// All marks, by their words.
-    pub const ALL: [Self; 10] = [
+    pub const ALL: [Self; 13] = [
         Self::Nothing,
         Self::BlueAnchor,
         Self::Blue,
@@ -235,6 +241,9 @@ impl Mark {
         Self::Bound,
         Self::Serif,
         Self::LowercaseM,
+        Self::Between,
+        Self::Spaced,
+        Self::RemainingAnchor,
     ];
 
     /// Its name, for logs.
@@ -250,6 +259,9 @@ impl Mark {
             Self::Bound => "bound",
             Self::Serif => "serif",
             Self::LowercaseM => "lowercase m",
+            Self::Between => "between",
+            Self::Spaced => "spaced",
+            Self::RemainingAnchor => "remaining anchor",
         }
     }
 }

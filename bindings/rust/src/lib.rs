@@ -32,6 +32,7 @@ mod path;
 mod records;
 mod references;
 mod refusal;
+mod remaining;
 
 pub use choices::{Dimension, Group, Neighbour, Order, WidthRule};
 pub use edge_points::{align_edge_points, Moving};
@@ -44,6 +45,7 @@ pub use path::{path, path_step, Outline, Path, PathStep, PixelPoint};
 pub use records::{Edge, Segment, EDGE_WORDS, SEGMENT_WORDS};
 pub use references::{drag_point, References};
 pub use refusal::Refusal;
+pub use remaining::align_remaining_edges;
 
 /// The most edges of an axis.
 pub const MOST_EDGES: usize = 128;

@@ -35,7 +35,8 @@ pub enum Refusal {
     NotFrame,
     /// 7: the segments of an edge are no sound ring; in mending: an edge has no segments, of which a ring could be made.
     BrokenRing,
-    /// 8: an untouched point lies between two touched ones that were 2 units apart and are 65,536 or more, or were 3 and are 98,304 or more.
+    /// 8: an untouched point lies between two touched ones that were 2 units apart and are 65,536 or more, or were 3 and are 98,304 or more; of remaining edges: one would be
+    /// given a position that is not accepted.
     TooSteep,
     /// 9: remembered references are not those of these marks and contours.
     NotMatching,
@@ -97,7 +98,7 @@ impl Refusal {
             Self::NoRoom => "the segments make more edges than there is room for",
             Self::NotFrame => "the line is not a whole frame",
             Self::BrokenRing => "the segments of an edge are no sound ring",
-            Self::TooSteep => "two touched points that were close are too far apart for one between them",
+            Self::TooSteep => "two touched points, or two edges, that were close are too far apart for what is placed by them",
             Self::NotMatching => "the references are not those of these marks and contours",
             Self::Retired => "the order from top to bottom is retired",
             Self::NotWords => "a word is none of its field's values",

@@ -156,7 +156,7 @@ fn words_are_read_back() {
         (7, -2),
         (8, 65_536),
         (9, -1),
-        (11, 10),
+        (11, 13),
         (11, -1),
     ] {
         let mut words = words;
@@ -1226,4 +1226,59 @@ fn points_of_edges_refused() {
         Err(Refusal::TooLong)
     );
     assert_eq!((currents, touched), ([1, 2], [7, 0]));
+}
+
+/// Remaining edges on the vertical axis, with two left.
+fn remaining(
+    edges: &mut [Edge],
+    group: Group,
+    anchor: Option<u16>,
+) -> Result<Option<u16>, Refusal> {
+    let stems = Stems {
+        passed_over: 2,
+        anchor,
+    };
+    align_remaining_edges(edges, Dimension::Vertical, group, stems)
+}
+
+#[test]
+fn remaining_edges() {
+    let given = [at(40), at(70), at(100).with_serif(Some(1))];
+    let mut edges = given;
+    assert_eq!(remaining(&mut edges, Group::Latin, None), Ok(Some(0)));
+    assert_eq!(edges.map(|edge| edge.pos()), [64, 96, 126]);
+    assert_eq!(
+        marks(edges),
+        [Mark::RemainingAnchor, Mark::Spaced, Mark::Serif]
+    );
+    assert!(edges.iter().all(|edge| edge.flags() == Flags::DONE));
+    // CJK has one done edge then, by which the others are shifted
+    let mut edges = given;
+    edges[1] = edges[1].with_pos(90);
+    assert_eq!(remaining(&mut edges, Group::Cjk, None), Ok(None));
+    assert_eq!(edges.map(|edge| edge.pos()), [60, 90, 120]);
+    assert_eq!(marks(edges), [Mark::Serif; 3]);
+    let flags = [Flags::NONE, Flags::NONE, Flags::DONE];
+    assert_eq!(edges.map(|edge| edge.flags()), flags);
+    let stems = Stems {
+        passed_over: 0,
+        anchor: Some(1),
+    };
+    let mut edges = [at(5), at(9)];
+    let anchor = align_remaining_edges(&mut edges, Dimension::Horizontal, Group::Cjk, stems);
+    assert_eq!((anchor, edges), (Ok(Some(1)), [at(5), at(9)]));
+}
+
+#[test]
+fn remaining_edges_refused() {
+    for group in [Group::Latin, Group::Cjk] {
+        refuses_edges(&[at(0), at(64)], |edges| remaining(edges, group, None));
+        refused(&[at(0)], Refusal::BadIndex, |edges| {
+            remaining(edges, group, Some(1))
+        });
+        let beyond = [moved(0, 16_777_216), at(1).with_serif(Some(0))];
+        refused(&beyond, Refusal::TooSteep, |edges| {
+            remaining(edges, group, Some(0))
+        });
+    }
 }

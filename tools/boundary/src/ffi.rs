@@ -160,6 +160,15 @@ extern "C" {
         count: *mut i32,
         anchor: *mut i32,
     ) -> u8;
+    pub fn khs_align_remaining_edges(
+        edges: *mut i32,
+        edges_len: usize,
+        dim: i32,
+        group: i32,
+        count: i32,
+        anchor: i32,
+        found: *mut i32,
+    ) -> u8;
     pub fn khs_hint_lowercase_m(edges: *mut i32, edges_len: usize, group: i32) -> u8;
     pub fn khs_lost_gaps(
         edges: *const i32,

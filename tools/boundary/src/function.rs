@@ -28,7 +28,7 @@ const DIRECTION: (i32, i32) = (0, 4);
 const CHOICE: (i32, i32) = (0, 1);
 const INDEX: (i32, i32) = (0, 65_535);
 const LINK: (i32, i32) = (-1, 65_535);
-const MARK: (i32, i32) = (0, 9);
+const MARK: (i32, i32) = (0, 12);
 
 /// An edge: fpos, opos, pos, flags, dir, blue, blue_fitted, link, serif, first, last, mark.
 pub static EDGE: Record = Record {
@@ -71,6 +71,8 @@ pub enum Kind {
     Choice,
     /// 0 to 4.
     Direction,
+    /// 0 to 65,535.
+    Count,
     /// An edge named in the call.
     Named,
     /// An edge or none.
@@ -79,7 +81,7 @@ pub enum Kind {
     Free,
 }
 
-use Kind::{Anchor, Choice, Direction, Free, Named};
+use Kind::{Anchor, Choice, Count, Direction, Free, Named};
 
 /// A function over edges or segments.
 pub struct Function {
@@ -100,7 +102,7 @@ pub struct Function {
 }
 
 /// All of them.
-pub static FUNCTIONS: [Function; 15] = [
+pub static FUNCTIONS: [Function; 16] = [
     Function {
         name: "khs_link_segments_cjk",
         call: 4,
@@ -200,6 +202,16 @@ pub static FUNCTIONS: [Function; 15] = [
         plain: &[0, 0, 0, 0, 0],
         scale: None,
         places: 2,
+    },
+    Function {
+        name: "khs_align_remaining_edges",
+        call: 130,
+        record: &EDGE,
+        numbers: &[Choice, Choice, Count, Anchor],
+        rule: None,
+        plain: &[0, 0, 1, -1],
+        scale: None,
+        places: 1,
     },
     Function {
         name: "khs_hint_lowercase_m",
@@ -475,6 +487,7 @@ fn call(call: i32, lists: &Pointers, n: &[i32]) -> u8 {
                 second,
             ),
             113 => ffi::khs_hint_lowercase_m(table, len, n[0]),
+            130 => ffi::khs_align_remaining_edges(table, len, n[0], n[1], n[2], n[3], first),
             122 => ffi::khs_align_blues_and_stems(
                 table,
                 len,

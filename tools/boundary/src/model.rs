@@ -66,6 +66,7 @@ fn are_words(function: &Function, given: &Given) -> bool {
         && numbers.all(|(kind, number)| match kind {
             Kind::Choice => (0..=1).contains(number),
             Kind::Direction => (0..=4).contains(number),
+            Kind::Count => (0..=65_535).contains(number),
             Kind::Named | Kind::Anchor | Kind::Free => true,
         });
     assert_eq!(
