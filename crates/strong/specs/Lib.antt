@@ -1,0 +1,3 @@
+-- What the contracts of `strong` cite.
+pub mod Strong
+pub mod Steps

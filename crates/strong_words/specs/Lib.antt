@@ -1,0 +1,2 @@
+-- What the contracts of `strong_words` cite.
+pub mod Strong

@@ -1,0 +1,43 @@
+-- Strong points over lent edges, which are not written, and the lent lists of an outline, of which the currents and the touch marks are.
+use mathlib.Core.Path.{_≡_}
+use mathlib.Core.Bool.{true}
+use mathlib.Core.List.{List}
+use Prim.Native.Nat.{ℕ, _≤_}
+use lib.ListN.{length}
+use lib.IntN.{ℤ}
+use Rattle.axis.specs.Accepted.{AxisWithin}
+use Rattle.axis.specs.Limits.{mostPos}
+use Rattle.contours.specs.Limits.{mostPoints}
+use Rattle.contours.specs.Steps.{Coordinates}
+use Rattle.lent.specs.Lent.{Lent, edgesFront, edgesOf}
+use Rattle.edges_in.specs.Whole.{Whole}
+use Rattle.strong.specs.Strong.{Aligned, alignStrong, alignedAll}
+
+-- ---- the call
+-- what it hands back
+abbrev pub alignedBy : List ℤ → List ℤ → List ℤ → List ℤ → List ℕ → List ℕ → Aligned
+alignedBy ws f o c t w = alignStrong (edgesOf ws) f o c t w
+
+-- the currents and the touch marks of it
+abbrev pub lists : Aligned → List ℤ × List ℕ
+lists a = (a .currents, a .touched)
+
+-- what it owes its caller: the answer r, and the currents and touch marks that it leaves, those it was given beside a refusal
+abbrev pub StrongLent : List ℤ → List ℤ → List ℤ → List ℤ → List ℕ → List ℕ → ℕ → List ℤ × List ℕ → Type 0
+StrongLent ws f o c t w = Lent (edgesFront ws true) (alignedBy ws f o c t w .answer) (lists (alignedBy ws f o c t w)) (c, t)
+
+-- ---- its steps
+-- edges and lists that no other test refuses
+pub record Placeable (ws f o : List ℤ) (t w : List ℕ) : Type 0 where
+  pub whole : Whole ws
+  pub axis : AxisWithin mostPos (edgesOf ws)
+  pub points : length f ≤ mostPoints
+  pub originals-length : length o ≡ length f
+  pub marks-length : length t ≡ length f
+  pub weak-length : length w ≡ length f
+  pub originals : Coordinates o
+
+-- the lists with every point at its place
+pub record PlacedAll (ws f o c : List ℤ) (t w : List ℕ) (c′ : List ℤ) (t′ : List ℕ) : Type 0 where
+  pub currents : c′ ≡ alignedAll (edgesOf ws) f o c t w .currents
+  pub touched : t′ ≡ alignedAll (edgesOf ws) f o c t w .touched

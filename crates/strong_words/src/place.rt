@@ -1,0 +1,126 @@
+// Where the points of an outline come to by lent edges.
+use super::search::find_edge;
+use super::search::fpos_in;
+use strong::place::Place;
+use strong::place::between;
+use strong::place::is_placed;
+use strong::place::moved_with;
+use words::edge::EDGE_WORDS;
+use words::edge::OPOS_PLACE;
+use words::edge::POS_PLACE;
+use words::word::word_in;
+ghost use mathlib.Core.Path.{_≡_};
+ghost use Prim.Native.Nat.{_<_};
+ghost use lib.ListN.{length};
+ghost use Rattle.axis.specs.Accepted.{AxisWithin};
+ghost use Rattle.axis.specs.Edge.{edgeAt};
+ghost use Rattle.axis.specs.Limits.{mostPos};
+ghost use Rattle.contours.specs.Steps.{Coordinate, Coordinates};
+ghost use Rattle.words.specs.Edge.{edgesIn};
+ghost use Rattle.lent.specs.Lent.{edgesOf};
+ghost use Rattle.edges_in.specs.Whole.{Whole};
+ghost use Rattle.strong.specs.Strong.{withEdge, placeOf, strongAt, allPlaced};
+ghost use Rattle.strong_words.specs.Strong.{Placeable, PlacedAll};
+
+// The position of an edge.
+fn pos_in(words: &[i32], i: usize) -> i32
+    requires { ⌜ Whole (now words) × (i < edgesIn (now words)) ⌝ }
+    ensures { λ r. ⌜ r ≡ edgeAt (edgesOf (now (words .entry))) i .pos ⌝ }
+{
+    word_in(words, EDGE_WORDS * i + POS_PLACE)
+}
+
+// Where an original comes to with an edge.
+fn with_edge(words: &[i32], i: usize, v: i32) -> Place
+    requires { ⌜ Whole (now words) × AxisWithin mostPos (edgesOf (now words)) × (i < edgesIn (now words)) × Coordinate v ⌝ }
+    ensures { λ r. ⌜ r ≡ withEdge (edgesOf (now (words .entry))) i v ⌝ }
+{
+    let opos = word_in(words, EDGE_WORDS * i + OPOS_PLACE);
+    moved_with(v, opos, pos_in(words, i))
+}
+
+// Where a point comes to, by its font position and its original.
+fn place_in(words: &[i32], u: i32, v: i32) -> Place
+    requires { ⌜ Whole (now words) × AxisWithin mostPos (edgesOf (now words)) × Coordinate v ⌝ }
+    ensures { λ r. ⌜ r ≡ placeOf (edgesOf (now (words .entry))) u v ⌝ }
+{
+    let n = words.len() / EDGE_WORDS;
+    if n == 0 {
+        return Place::Stays;
+    }
+    if u <= fpos_in(words, 0) {
+        return with_edge(words, 0, v);
+    }
+    if fpos_in(words, n - 1) <= u {
+        return with_edge(words, n - 1, v);
+    }
+    let k = find_edge(words, u);
+    let fpos = fpos_in(words, k);
+    let pos = pos_in(words, k);
+    if u == fpos {
+        return Place::At(pos);
+    }
+    between(u, fpos_in(words, k - 1), pos_in(words, k - 1), fpos, pos)
+}
+
+// Where a point of the outline comes to; it stays where it is touched or weak.
+fn strong_at(
+    words: &[i32],
+    fonts: &[i16],
+    originals: &[i32],
+    touched: &[u8],
+    weak: &[u8],
+    i: usize,
+) -> Place
+    requires { ⌜ Placeable (now words) (now fonts) (now originals) (now touched) (now weak) × (i < length (now fonts)) ⌝ }
+    ensures { λ r. ⌜ r ≡ strongAt (edgesOf (now (words .entry))) (now (fonts .entry)) (now (originals .entry)) (now (touched .entry)) (now (weak .entry)) i ⌝ }
+{
+    if touched[i] != 0 {
+        return Place::Stays;
+    }
+    if weak[i] != 0 {
+        return Place::Stays;
+    }
+    place_in(words, fonts[i] as i32, originals[i])
+}
+
+// Whether no point is refused.
+pub fn all_placed(
+    words: &[i32],
+    fonts: &[i16],
+    originals: &[i32],
+    touched: &[u8],
+    weak: &[u8],
+) -> bool
+    requires { ⌜ Placeable (now words) (now fonts) (now originals) (now touched) (now weak) ⌝ }
+    ensures { λ r. ⌜ r ≡ allPlaced (edgesOf (now (words .entry))) (now (fonts .entry)) (now (originals .entry)) (now (touched .entry)) (now (weak .entry)) ⌝ }
+{
+    for i in 0..fonts.len() {
+        if !is_placed(strong_at(words, fonts, originals, touched, weak, i)) {
+            return false;
+        }
+    }
+    true
+}
+
+// Brings every point to its place, and touches those that come to one.
+pub fn place_all(
+    words: &[i32],
+    fonts: &[i16],
+    originals: &[i32],
+    currents: &mut [i32],
+    touched: &mut [u8],
+    weak: &[u8],
+)
+    requires { ⌜ Placeable (now words) (now fonts) (now originals) (now touched) (now weak) × (length (now currents) ≡ length (now fonts)) ⌝ }
+    ensures { λ _. ⌜ PlacedAll (now (words .entry)) (now (fonts .entry)) (now (originals .entry)) (now (currents .entry)) (now (touched .entry)) (now (weak .entry)) (now (currents .exit)) (now (touched .exit)) ⌝ }
+{
+    for i in 0..fonts.len() {
+        let place = strong_at(words, fonts, originals, touched, weak, i);
+        let Place::At(z) = place else {
+            continue;
+        };
+        currents[i] = z;
+        touched[i] = 1;
+    }
+}

@@ -1,0 +1,37 @@
+// Which lists of an outline are refused by their lengths and by their coordinates.
+use outline::accept::range_refusal;
+use outline::limits::MOST_COORDINATE;
+use outline::limits::MOST_POINTS;
+use refusals::order::TOO_LONG;
+use refusals::order::or_refused;
+ghost use mathlib.Core.Path.{_≡_};
+ghost use mathlib.Core.Bool.{_&&_};
+ghost use Rattle.refusals.specs.Refusal.{refusal};
+ghost use Rattle.contours.specs.Limits.{mostCoordinate};
+ghost use Rattle.outline.specs.Weak.{coordinatesHold};
+ghost use Rattle.strong.specs.Strong.{listTests};
+
+// The refusal by the lengths, or 0.
+pub fn list_refusal(
+    fonts: &[i16],
+    originals: &[i32],
+    currents: &[i32],
+    touched: &[u8],
+    weak: &[u8],
+) -> u8
+    ensures { λ r. ⌜ r ≡ refusal (listTests (now (fonts .entry)) (now (originals .entry)) (now (currents .entry)) (now (touched .entry)) (now (weak .entry))) ⌝ }
+{
+    let n = fonts.len();
+    let answer = or_refused(0, n <= MOST_POINTS, TOO_LONG);
+    let answer = or_refused(answer, originals.len() == n, TOO_LONG);
+    let answer = or_refused(answer, currents.len() == n, TOO_LONG);
+    let answer = or_refused(answer, touched.len() == n, TOO_LONG);
+    or_refused(answer, weak.len() == n, TOO_LONG)
+}
+
+// Whether originals and currents are within the limit of coordinates.
+pub fn coordinates_hold(originals: &[i32], currents: &[i32]) -> bool
+    ensures { λ r. ⌜ r ≡ (coordinatesHold mostCoordinate (now (originals .entry)) && coordinatesHold mostCoordinate (now (currents .entry))) ⌝ }
+{
+    range_refusal(originals, currents, MOST_COORDINATE) == 0
+}
