@@ -1,11 +1,13 @@
 -- Where a point comes to, case by case; and that the sums, the quotient and the product fit.
-use mathlib.Core.Path.{_≡_, refl, sym, ap, subst, _∙_}
-use mathlib.Core.Bool.{Bool, true, false, cond}
+use mathlib.Core.Path.{_≡_}
+use mathlib.Core.Bool.{true, false}
+use mathlib.Core.List.{List}
 use Prim.Native.Nat.{ℕ, _+_, _-_, _≤_, _<_}
 use native.Mathlib.Omega.{arith}
-use lib.IntN.{ℤ, pos, natAbs, _+ℤ_, _-ℤ_}
+use lib.ListN.{getD}
+use lib.IntN.{ℤ, natAbs, _+ℤ_, _-ℤ_}
 use lib.Signed.{leZ, _<ℤ_}
-use borrow.Author.Tests.{ne-eqb, eq-eqb}
+use borrow.Author.Tests.{ne-eqb, eq-eqb, lt-ltb}
 use mir.Syntax.{w32}
 use mir.Val.{SFits}
 use Rattle.signed.specs.Parts.{up, dn}
@@ -21,9 +23,10 @@ use Rattle.axis.specs.Refusals.{within}
 use Rattle.fixed.specs.Point.{mulFix, divFix}
 use Rattle.fixed.specs.Divide.{tooSteep}
 use Rattle.fixed.proofs.Interpolation as Interpolation
+use Rattle.contours.specs.Contour.{at}
 use Rattle.strong.specs.declared.place.Place.{Place}
 use Rattle.strong.specs.declared.place.Place.the-variants.{Stays, At, Beyond}
-use Rattle.strong.specs.Strong.{fposAt, found, movedWith, between, withEdge, onOrBefore, placeOf}
+use Rattle.strong.specs.Strong.{fposAt, found, movedWith, between, withEdge, onOrBefore, placeOf, strongAt}
 use Rattle.strong.specs.Steps.{Inside}
 
 -- ---- with an edge
@@ -103,3 +106,19 @@ module _ (axis : Axis) (u : ℤ) (k : ℕ) where
   pub place-before : (u ≡ fposAt axis k → ⊥) → onOrBefore axis u k ≡ between u (fposAt axis (k - 1)) (edgeAt axis (k - 1) .pos) (fposAt axis k) (edgeAt axis k .pos)
   unfolding onOrBefore
   place-before n = cond-false _ _ _ (eqZ-no u (fposAt axis k) n)
+
+-- ---- a point of an outline
+module _ (axis : Axis) (f o : List ℤ) (t w : List ℕ) (i : ℕ) where
+  -- touched, weak, or neither
+  pub strong-touched : (getD t i 0 ≡ 0 → ⊥) → strongAt axis f o t w i ≡ Stays
+  unfolding strongAt
+  strong-touched n = rw (lt-ltb 0 (getD t i 0) (omega (arith, n)))
+
+  module _ (e : getD t i 0 ≡ 0) where
+    pub strong-weak : (getD w i 0 ≡ 0 → ⊥) → strongAt axis f o t w i ≡ Stays
+    unfolding strongAt
+    strong-weak n = rw (e, lt-ltb 0 (getD w i 0) (omega (arith, n)))
+
+    pub strong-placed : getD w i 0 ≡ 0 → strongAt axis f o t w i ≡ placeOf axis (at f i) (at o i)
+    unfolding strongAt
+    strong-placed g = rw (e, g)

@@ -6,13 +6,14 @@ use Prim.Native.Nat.{ℕ, zero, suc, _+_, _-_, _/_, _≤_, _<_}
 use native.Mathlib.Nat.{eq-or-lt-of-le}
 use native.Mathlib.Numerals.{add-one}
 use native.Mathlib.Omega.{arith}
-use borrow.Author.Tests.{ltb-true, ltb-false, lt-ltb, le-ltb}
+use borrow.Author.Tests.{ltb-true, ltb-false, lt-ltb, le-ltb, le-leb, lt-leb}
 use lib.Dec.{ltb, leb}
 use lib.IntN.{ℤ}
 use lib.Signed.{ltZ, leZ, _≤ℤ_, _<ℤ_}
 use Rattle.signed.specs.Equality.{eqZ}
 use Rattle.signed.specs.Parts.{up, dn}
 use Rattle.signed.proofs.Signed.{is-≤ℤ, is-<ℤ, to-≤ℤ, to-lt-false, lt-or-le, eqZ-true, eqZ-yes, eqZ-no, eqZ-apart, to-≡}
+use Rattle.signed.proofs.Choices.{cond-true, cond-false}
 use Rattle.signed.proofs.Order.{le-false, lt-false, of-≤ℤ, of-<ℤ, to-<ℤ, of-≡}
 use Rattle.axis.specs.declared.edge.Axis.{Axis}
 use Rattle.strong.specs.Strong.{mostOneByOne, oneByOne, middle, byHalving, fposAt, found}
@@ -42,6 +43,9 @@ first-is f u i (suc n) = by (leZ u (f i)) refl (first-is f u (suc i) n)
     }
 
 -- what is left of n numbers from i on, turn by turn
+pub one-start : (f : ℕ → ℤ) (u : ℤ) (n : ℕ) → oneByOne f u 0 n ≡ oneByOne f u 0 (n - 0)
+one-start f u n = let q : n ≡ n - 0 = omega arith in ap (oneByOne f u 0) q
+
 module _ (f : ℕ → ℤ) (u : ℤ) (n i : ℕ) where
   pub one-here : i < n → leZ u (f i) ≡ true → oneByOne f u i (n - i) ≡ i
   unfolding oneByOne
@@ -102,7 +106,10 @@ enough-steps f u (suc m) (suc n) lo hi a b =
     by false p below behind = refl
     by true p below behind = let l = ltb-true lo hi p in rw (below l, behind l)
 
--- what one step leaves, where as many steps are left as numbers
+-- what is left between lo and hi, step by step
+pub steps-start : (f : ℕ → ℤ) (u : ℤ) (n : ℕ) → byHalving f u n 0 n ≡ byHalving f u (n - 0) 0 n
+steps-start f u n = let q : n ≡ n - 0 = omega arith in ap (λ (k : ℕ). byHalving f u k 0 n) q
+
 module _ (f : ℕ → ℤ) (u : ℤ) (lo hi : ℕ) (l : lo < hi) where
   one-step :
       byHalving f u (hi - lo) lo hi
@@ -133,6 +140,15 @@ unfolding byHalving
 steps-end f u lo hi l = let e : hi - lo ≡ 0 = omega arith in ap (λ (k : ℕ). byHalving f u k lo hi) e
 
 -- ---- the edge that is found
+-- by which search
+pub found-few : (axis : Axis) (u : ℤ) → axis .len ≤ mostOneByOne → found axis u ≡ oneByOne (fposAt axis) u 0 (axis .len)
+unfolding found
+found-few axis u h = cond-true _ _ _ (le-leb (axis .len) mostOneByOne h)
+
+pub found-many : (axis : Axis) (u : ℤ) → mostOneByOne < axis .len → found axis u ≡ byHalving (fposAt axis) u (axis .len) 0 (axis .len)
+unfolding found
+found-many axis u h = cond-false _ _ _ (lt-leb (axis .len) mostOneByOne h)
+
 module _ (axis : Axis) (u : ℤ) (h : Inside axis u) where
   abbrev n : ℕ
   n = axis .len

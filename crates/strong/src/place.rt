@@ -11,7 +11,7 @@ ghost use Rattle.signed.specs.Range.{Between};
 ghost use Rattle.axis.specs.Handed.{Short};
 ghost use Rattle.axis.specs.Limits.{mostUnits, mostPos};
 ghost use Rattle.contours.specs.Steps.{Coordinate};
-ghost use Rattle.strong.specs.Strong.{movedWith, between, isPlaced};
+ghost use Rattle.strong.specs.Strong.{movedWith, between, currentAfter, markAfter, isPlaced};
 
 // What becomes of a point: it stays, it comes to a position, or the call is refused for it.
 pub enum Place {
@@ -28,6 +28,28 @@ pub fn is_placed(place: Place) -> bool
         Place::Stays => true,
         Place::At(_) => true,
         Place::Beyond => false,
+    }
+}
+
+// The current of a point by its place.
+pub fn current_after(current: i32, place: Place) -> i32
+    ensures { λ r. ⌜ r ≡ currentAfter current place ⌝ }
+{
+    match place {
+        Place::Stays => current,
+        Place::At(z) => z,
+        Place::Beyond => current,
+    }
+}
+
+// Its touch mark.
+pub fn mark_after(mark: u8, place: Place) -> u8
+    ensures { λ r. ⌜ r ≡ markAfter mark place ⌝ }
+{
+    match place {
+        Place::Stays => mark,
+        Place::At(_) => 1,
+        Place::Beyond => mark,
     }
 }
 

@@ -5,7 +5,7 @@ use mathlib.Core.List.{List, [], _∷_, _++_}
 use Prim.Native.Nat.{ℕ, zero, suc, _<_, _≤_}
 use native.Mathlib.Omega.{arith}
 use borrow.Author.Tests.{leb-true, eqb-true}
-use lib.Dec.{leb}
+use lib.Dec.{leb, eqb}
 use lib.ListN.{length}
 use lib.IntN.{ℤ}
 use Rattle.signed.proofs.Signed.{natAbs-is}
@@ -36,6 +36,16 @@ two-ranges o c = by (coordinatesHold mostCoordinate o)
     by : (x : Bool) → cond x (cond (coordinatesHold mostCoordinate c) 0 outOfRange) outOfRange ≡ cond (x && coordinatesHold mostCoordinate c) 0 outOfRange
     by true = refl
     by false = refl
+
+-- and both hold where neither refuses
+pub range-told : (o c : List ℤ) → eqb (refusal (rangeTests mostCoordinate o c)) 0 ≡ (coordinatesHold mostCoordinate o && coordinatesHold mostCoordinate c)
+unfolding refusal
+range-told o c = by (coordinatesHold mostCoordinate o) (coordinatesHold mostCoordinate c)
+  where
+    by : (x y : Bool) → eqb (cond x (cond y 0 outOfRange) outOfRange) 0 ≡ (x && y)
+    by true true = refl
+    by true false = refl
+    by false y = refl
 
 -- a refusal by the tests in front or by the first of a call's own is one whatever stands behind them
 module _ (fronts : List Test) (a t g : ℕ) (e : a ≡ refusedOr fronts t) where

@@ -15,9 +15,9 @@ use Rattle.contours.specs.Contour.{at, isTouched}
 use Rattle.words.specs.Word.{firsts}
 use Rattle.words.proofs.Places.{firsts-at}
 use Rattle.words.proofs.Tables.{firsts-length}
-use Rattle.strong.specs.declared.place.Place.{Place}
 use Rattle.strong.specs.declared.place.Place.the-variants.{Stays}
 use Rattle.strong.specs.Strong.{placeOf, strongAt}
+use Rattle.strong_words.specs.Strong.{Placeable}
 
 -- the first i places of `now` are those of a sequence, and the others are as they were
 pub record Upto {A : Type 0} (d : A) (f : ℕ → A) (i : ℕ) (old now : List A) : Type 0 where
@@ -59,3 +59,15 @@ module _ {A : Type 0} (d : A) (f : ℕ → A) where
 pub own-marks : (axis : Axis) (f o : List ℤ) (t t′ w : List ℕ) (i : ℕ) → getD t′ i 0 ≡ getD t i 0 → strongAt axis f o t′ w i ≡ strongAt axis f o t w i
 unfolding strongAt
 own-marks axis f o t t′ w i e = ap (λ (m : ℕ). cond (ltb 0 m || isTouched w i) Stays (placeOf axis (at f i) (at o i))) e
+
+-- and can be placed as before where only marks were changed
+pub still : {ws f o : List ℤ} {t t′ w : List ℕ} → Placeable ws f o t w → length t′ ≡ length t → Placeable ws f o t′ w
+still p e = record {
+  whole = p .whole;
+  axis = p .axis;
+  points = p .points;
+  originals-length = p .originals-length;
+  marks-length = e ∙ p .marks-length;
+  weak-length = p .weak-length;
+  originals = p .originals;
+}

@@ -3,7 +3,9 @@ use super::search::find_edge;
 use super::search::fpos_in;
 use strong::place::Place;
 use strong::place::between;
+use strong::place::current_after;
 use strong::place::is_placed;
+use strong::place::mark_after;
 use strong::place::moved_with;
 use words::edge::EDGE_WORDS;
 use words::edge::OPOS_PLACE;
@@ -95,7 +97,8 @@ pub fn all_placed(
     requires { ⌜ Placeable (now words) (now fonts) (now originals) (now touched) (now weak) ⌝ }
     ensures { λ r. ⌜ r ≡ allPlaced (edgesOf (now (words .entry))) (now (fonts .entry)) (now (originals .entry)) (now (touched .entry)) (now (weak .entry)) ⌝ }
 {
-    for i in 0..fonts.len() {
+    let n = fonts.len();
+    for i in 0..n {
         if !is_placed(strong_at(words, fonts, originals, touched, weak, i)) {
             return false;
         }
@@ -115,12 +118,12 @@ pub fn place_all(
     requires { ⌜ Placeable (now words) (now fonts) (now originals) (now touched) (now weak) × (length (now currents) ≡ length (now fonts)) ⌝ }
     ensures { λ _. ⌜ PlacedAll (now (words .entry)) (now (fonts .entry)) (now (originals .entry)) (now (currents .entry)) (now (touched .entry)) (now (weak .entry)) (now (currents .exit)) (now (touched .exit)) ⌝ }
 {
-    for i in 0..fonts.len() {
+    let n = fonts.len();
+    for i in 0..n {
         let place = strong_at(words, fonts, originals, touched, weak, i);
-        let Place::At(z) = place else {
-            continue;
-        };
-        currents[i] = z;
-        touched[i] = 1;
+        let current = current_after(currents[i], place);
+        let mark = mark_after(touched[i], place);
+        currents[i] = current;
+        touched[i] = mark;
     }
 }
