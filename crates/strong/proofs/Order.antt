@@ -82,7 +82,7 @@ module _ (axis : Axis) (rise : Rising axis) (short : Shorts axis) where
         let p1 = edgeAt axis (k - 1) .pos in
         let p2 = edgeAt axis k .pos in
         let s = step u (fposAt axis (k - 1)) p1 (fposAt axis k) p2 in
-        let i = inside u (fposAt axis (k - 1)) p1 (fposAt axis k) p2 (o .low) (o .high) (short (k - 1)) (short k) in
+        let i = inside u (fposAt axis (k - 1)) p1 (fposAt axis k) p2 (o .low) (o .high) (short (k - 1) (omega (arith, a .inside))) (short k (a .inside)) in
         to-≤ℤ z p2 (omega (arith, of-≡ z _ (o .there), add-law p1 s, i .not-above, sub-law p2 p1, one-zero (p2 -ℤ p1), of-≤ℤ p1 p2 climbs))
 
     not-below : OnIt axis u k z ⊎ InFront axis u k z → edgeAt axis (k - 1) .pos ≤ℤ z
@@ -91,7 +91,7 @@ module _ (axis : Axis) (rise : Rising axis) (short : Shorts axis) where
         let p1 = edgeAt axis (k - 1) .pos in
         let p2 = edgeAt axis k .pos in
         let s = step u (fposAt axis (k - 1)) p1 (fposAt axis k) p2 in
-        let i = inside u (fposAt axis (k - 1)) p1 (fposAt axis k) p2 (o .low) (o .high) (short (k - 1)) (short k) in
+        let i = inside u (fposAt axis (k - 1)) p1 (fposAt axis k) p2 (o .low) (o .high) (short (k - 1) (omega (arith, a .inside))) (short k (a .inside)) in
         to-≤ℤ p1 z (omega (arith, of-≡ z _ (o .there), add-law p1 s, i .not-below, sub-law p2 p1, one-zero (p2 -ℤ p1), of-≤ℤ p1 p2 climbs))
 
   -- in front of one edge both, the one farther behind does not come in front of the other
@@ -106,8 +106,8 @@ module _ (axis : Axis) (rise : Rising axis) (short : Shorts axis) where
       (omega (arith, sub-law u f1, sub-law u′ f1, of-≤ℤ u u′ h))
       (omega (arith, sub-law f2 f1, of-<ℤ f1 u (o .low), of-<ℤ u f2 (o .high)))
       in
-      let i = inside u f1 p1 f2 p2 (o .low) (o .high) (short (k - 1)) (short k) in
-      let i′ = inside u′ f1 p1 f2 p2 (o′ .low) (o′ .high) (short (k - 1)) (short k) in
+      let i = inside u f1 p1 f2 p2 (o .low) (o .high) (short (k - 1) (omega (arith, a .inside))) (short k (a .inside)) in
+      let i′ = inside u′ f1 p1 f2 p2 (o′ .low) (o′ .high) (short (k - 1) (omega (arith, a .inside))) (short k (a .inside)) in
       to-≤ℤ z z′
       (omega (
         arith,

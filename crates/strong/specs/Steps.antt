@@ -27,4 +27,4 @@ pub record Rising (axis : Axis) : Type 0 where
 
 -- font positions are of 16 bits, as those of every edge that is passed
 abbrev pub Shorts : Axis → Type 0
-Shorts axis = (i : ℕ) → Short (fposAt axis i)
+Shorts axis = (i : ℕ) → i < axis .len → Short (fposAt axis i)

@@ -3,3 +3,4 @@
 pub mod Reading
 pub mod Walks
 pub mod Lending
+pub mod Outcomes

@@ -1,12 +1,14 @@
 -- Strong points over lent edges, which are not written, and the lent lists of an outline, of which the currents and the touch marks are.
 use mathlib.Core.Path.{_≡_}
-use mathlib.Core.Bool.{true}
+use mathlib.Core.Bool.{true, _||_}
 use mathlib.Core.List.{List}
-use Prim.Native.Nat.{ℕ, _≤_}
-use lib.ListN.{length}
+use mathlib.Core.Logic.{_⊎_}
+use Prim.Native.Nat.{ℕ, _≤_, _<_}
+use lib.ListN.{length, getD}
 use lib.IntN.{ℤ}
 use Rattle.axis.specs.Accepted.{AxisWithin}
 use Rattle.axis.specs.Limits.{mostPos}
+use Rattle.contours.specs.Contour.{at, isTouched}
 use Rattle.contours.specs.Limits.{mostPoints}
 use Rattle.contours.specs.Steps.{Coordinates}
 use Rattle.lent.specs.Lent.{Lent, edgesFront, edgesOf}
@@ -41,3 +43,11 @@ pub record Placeable (ws f o : List ℤ) (t w : List ℕ) : Type 0 where
 pub record PlacedAll (ws f o c : List ℤ) (t w : List ℕ) (c′ : List ℤ) (t′ : List ℕ) : Type 0 where
   pub currents : c′ ≡ alignedAll (edgesOf ws) f o c t w .currents
   pub touched : t′ ≡ alignedAll (edgesOf ws) f o c t w .touched
+
+-- ---- what it may change
+-- the lists keep their lengths; a point that was touched or weak keeps its current and its mark, and every other keeps its mark or has 1
+pub record Changes (c : List ℤ) (t w : List ℕ) (c′ : List ℤ) (t′ : List ℕ) : Type 0 where
+  pub currents-length : length c′ ≡ length c
+  pub marks-length : length t′ ≡ length t
+  pub left : (i : ℕ) → i < length c → (isTouched t i || isTouched w i) ≡ true → (at c′ i ≡ at c i) × (getD t′ i 0 ≡ getD t i 0)
+  pub marks : (i : ℕ) → i < length t → (getD t′ i 0 ≡ getD t i 0) ⊎ (getD t′ i 0 ≡ 1)

@@ -1,6 +1,6 @@
 // The public call (the Rust's `align_strong_points`, for one axis).
-use super::place::all_placed;
 use super::place::place_all;
+use super::refuse::all_placed;
 use super::refuse::coordinates_hold;
 use super::refuse::list_refusal;
 use edges_test::test::edges_test;

@@ -4,7 +4,6 @@ use super::search::fpos_in;
 use strong::place::Place;
 use strong::place::between;
 use strong::place::current_after;
-use strong::place::is_placed;
 use strong::place::mark_after;
 use strong::place::moved_with;
 use words::edge::EDGE_WORDS;
@@ -17,11 +16,11 @@ ghost use lib.ListN.{length};
 ghost use Rattle.axis.specs.Accepted.{AxisWithin};
 ghost use Rattle.axis.specs.Edge.{edgeAt};
 ghost use Rattle.axis.specs.Limits.{mostPos};
-ghost use Rattle.contours.specs.Steps.{Coordinate, Coordinates};
+ghost use Rattle.contours.specs.Steps.{Coordinate};
 ghost use Rattle.words.specs.Edge.{edgesIn};
 ghost use Rattle.lent.specs.Lent.{edgesOf};
 ghost use Rattle.edges_in.specs.Whole.{Whole};
-ghost use Rattle.strong.specs.Strong.{withEdge, placeOf, strongAt, allPlaced};
+ghost use Rattle.strong.specs.Strong.{withEdge, placeOf, strongAt};
 ghost use Rattle.strong_words.specs.Strong.{Placeable, PlacedAll};
 
 // The position of an edge.
@@ -66,7 +65,7 @@ fn place_in(words: &[i32], u: i32, v: i32) -> Place
 }
 
 // Where a point of the outline comes to; it stays where it is touched or weak.
-fn strong_at(
+pub fn strong_at(
     words: &[i32],
     fonts: &[i16],
     originals: &[i32],
@@ -84,26 +83,6 @@ fn strong_at(
         return Place::Stays;
     }
     place_in(words, fonts[i] as i32, originals[i])
-}
-
-// Whether no point is refused.
-pub fn all_placed(
-    words: &[i32],
-    fonts: &[i16],
-    originals: &[i32],
-    touched: &[u8],
-    weak: &[u8],
-) -> bool
-    requires { ⌜ Placeable (now words) (now fonts) (now originals) (now touched) (now weak) ⌝ }
-    ensures { λ r. ⌜ r ≡ allPlaced (edgesOf (now (words .entry))) (now (fonts .entry)) (now (originals .entry)) (now (touched .entry)) (now (weak .entry)) ⌝ }
-{
-    let n = fonts.len();
-    for i in 0..n {
-        if !is_placed(strong_at(words, fonts, originals, touched, weak, i)) {
-            return false;
-        }
-    }
-    true
 }
 
 // Brings every point to its place, and touches those that come to one.

@@ -1,4 +1,4 @@
--- `strong_words::place::all_placed` meets its contract. Assumes nothing.
+-- `strong_words::refuse::all_placed` meets its contract. Assumes nothing.
 use borrow.Author.Needs.{needs}
 use native.Mathlib.Omega.{arith}
 use mathlib.Core.Path.{_≡_, refl, sym, ap, _∙_}
@@ -10,8 +10,8 @@ use Rattle.axis.specs.Refusals.{every}
 use Rattle.axis.proofs.Tests.{every-none, every-more, every-fails, every-done}
 use Rattle.lent.specs.Lent.{edgesOf}
 use Rattle.strong.specs.Strong.{strongAt, isPlaced, allPlaced}
-use Rattle.strong_words.proofs.place.all_placed.Statement.{statement}
-use Rattle.strong_words.proofs.place.all_placed.Tie as tie
+use Rattle.strong_words.proofs.refuse.all_placed.Statement.{statement}
+use Rattle.strong_words.proofs.refuse.all_placed.Tie as tie
 
 abbrev Inv-loop : tie.InvT-loop
 Inv-loop words fonts originals touched weak n i₀ i =
