@@ -15,14 +15,14 @@ use Rattle.axis.specs.declared.edge.Axis.{Axis}
 use Rattle.axis.specs.Edge.{edgeAt}
 use Rattle.axis.specs.Limits.{mostPos}
 use Rattle.axis.specs.Refusals.{within}
-use Rattle.fixed.specs.Point.{mulFix, divFix}
+use Rattle.fixed.specs.Point.{mulFix}
 use Rattle.fixed.specs.Divide.{tooSteep}
 use Rattle.fixed.proofs.Interpolation as Interpolation
 use Rattle.fixed.proofs.Rounding.{mul-grows}
 use Rattle.strong.specs.declared.place.Place.{Place}
 use Rattle.strong.specs.declared.place.Place.the-variants.{Stays, At, Beyond}
-use Rattle.strong.specs.Strong.{fposAt, found, movedWith, between, withEdge, onOrBefore, placeOf}
-use Rattle.strong.specs.Steps.{Inside, Around, Rising, Shorts}
+use Rattle.strong.specs.Strong.{fposAt, found, movedWith, between, onOrBefore, placeOf}
+use Rattle.strong.specs.Steps.{Around, Rising, Shorts}
 use Rattle.strong.proofs.Places.{step, inside, place-on, place-before, place-none, place-low, place-high, place-inside, lies-inside}
 use Rattle.strong.proofs.Search.{around, strictly}
 

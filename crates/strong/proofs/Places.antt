@@ -2,7 +2,7 @@
 use mathlib.Core.Path.{_≡_}
 use mathlib.Core.Bool.{true, false}
 use mathlib.Core.List.{List}
-use Prim.Native.Nat.{ℕ, _+_, _-_, _≤_, _<_}
+use Prim.Native.Nat.{ℕ, _+_, _-_, _<_}
 use native.Mathlib.Omega.{arith}
 use lib.ListN.{getD}
 use lib.IntN.{ℤ, natAbs, _+ℤ_, _-ℤ_}
@@ -10,7 +10,6 @@ use lib.Signed.{leZ, _<ℤ_}
 use borrow.Author.Tests.{ne-eqb, eq-eqb, lt-ltb}
 use mir.Syntax.{w32}
 use mir.Val.{SFits}
-use Rattle.signed.specs.Parts.{up, dn}
 use Rattle.signed.specs.Range.{Between}
 use Rattle.signed.proofs.Signed.{natAbs-is, one-zero, sub-law, add-law, to-sfits, eqZ-yes, eqZ-no}
 use Rattle.signed.proofs.Order.{le-false, of-<ℤ, to-<ℤ}
@@ -24,7 +23,6 @@ use Rattle.fixed.specs.Point.{mulFix, divFix}
 use Rattle.fixed.specs.Divide.{tooSteep}
 use Rattle.fixed.proofs.Interpolation as Interpolation
 use Rattle.contours.specs.Contour.{at}
-use Rattle.strong.specs.declared.place.Place.{Place}
 use Rattle.strong.specs.declared.place.Place.the-variants.{Stays, At, Beyond}
 use Rattle.strong.specs.Strong.{fposAt, found, movedWith, between, withEdge, onOrBefore, placeOf, strongAt}
 use Rattle.strong.specs.Steps.{Inside}

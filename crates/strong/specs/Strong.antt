@@ -8,7 +8,7 @@ use lib.ListN.{length, getD}
 use lib.IntN.{ℤ, _+ℤ_, _-ℤ_}
 use lib.Signed.{ltZ, leZ}
 use Rattle.signed.specs.Equality.{eqZ}
-use Rattle.refusals.specs.Refusal.{Test, _unless_, tooLong, outOfRange, steep, refusal, answered}
+use Rattle.refusals.specs.Refusal.{Test, _unless_, tooLong, steep, refusal, answered}
 use Rattle.axis.specs.declared.edge.Axis.{Axis}
 use Rattle.axis.specs.Edge.{edgeAt}
 use Rattle.axis.specs.Limits.{mostPos}

@@ -9,8 +9,8 @@ use lib.Dec.{leb, eqb}
 use lib.ListN.{length}
 use lib.IntN.{ℤ}
 use Rattle.signed.proofs.Signed.{natAbs-is}
-use Rattle.refusals.specs.Refusal.{Test, _unless_, badIndex, outOfRange, steep, refusal, answered}
-use Rattle.refusals.proofs.Tests.{and-first, and-second, all-hold, own-first, answered-no}
+use Rattle.refusals.specs.Refusal.{Test, _unless_, outOfRange, steep, refusal, answered}
+use Rattle.refusals.proofs.Tests.{and-first, all-hold, own-first, answered-no}
 use Rattle.axis.specs.declared.edge.Axis.{Axis}
 use Rattle.axis.specs.Limits.{mostEdges}
 use Rattle.axis.specs.Refusals.{edgesShort, edgesIndexed, edgesInRange}
@@ -18,7 +18,6 @@ use Rattle.contours.specs.Limits.{mostCoordinate, mostPoints}
 use Rattle.contours.specs.Contour.{at}
 use Rattle.outline.specs.Weak.{coordinatesHold, rangeTests}
 use Rattle.outline.proofs.Refusals.{coordinates-of}
-use Rattle.words.specs.Edge.{edgesIn}
 use Rattle.lent.specs.Lent.{refusedOr, edgesFront, edgesOf}
 use Rattle.lent.proofs.Kept.{passed}
 use Rattle.edges_in.proofs.Wholes.{edges-len}

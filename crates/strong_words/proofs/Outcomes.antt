@@ -1,6 +1,6 @@
 -- The outcome of the call: it is determined; what it may change; and that the points of an accepted outline keep their order.
 use mathlib.Core.Path.{_≡_, refl, sym, ap, subst, _∙_}
-use mathlib.Core.Bool.{Bool, true, false, cond, _||_}
+use mathlib.Core.Bool.{true, false, cond, _||_}
 use mathlib.Core.List.{List, append-nil}
 use mathlib.Core.Logic.{_⊎_, inl, inr}
 use Prim.Native.Nat.{ℕ, zero, suc, _-_, _<_}
@@ -27,7 +27,7 @@ use Rattle.lent.proofs.Kept.{passed, not-new}
 use Rattle.edges_in.proofs.Wholes.{shown-whole, edges-len}
 use Rattle.strong.specs.declared.place.Place.{Place}
 use Rattle.strong.specs.declared.place.Place.the-variants.{Stays, At, Beyond}
-use Rattle.strong.specs.Strong.{fposAt, strongAt, currentAfter, markAfter, allPlaced, strongTests, Aligned, alignedAll, refusedBy, alignStrong}
+use Rattle.strong.specs.Strong.{fposAt, strongAt, currentAfter, markAfter, allPlaced, strongTests, alignedAll, refusedBy, alignStrong}
 use Rattle.strong.specs.Steps.{Rising, Shorts}
 use Rattle.strong.proofs.Outcomes.{stays, points-order}
 use Rattle.strong_words.specs.Strong.{lists, StrongLent, Changes}

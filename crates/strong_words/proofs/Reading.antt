@@ -1,6 +1,6 @@
 -- The fields of an edge that strong points read, by their words.
 use mathlib.Core.Path.{_≡_, sym, ap, subst, _∙_}
-use mathlib.Core.Bool.{true, false, _&&_}
+use mathlib.Core.Bool.{true, false}
 use mathlib.Core.List.{List}
 use Prim.Native.Nat.{ℕ, _+_, _-_, _*_, _≤_, _<_}
 use native.Mathlib.Omega.{arith}
@@ -17,7 +17,7 @@ use Rattle.axis.specs.Edge.{edgeAt}
 use Rattle.axis.specs.Handed.{Short}
 use Rattle.axis.specs.Limits.{mostPos}
 use Rattle.axis.specs.Refusals.{inside}
-use Rattle.words.specs.Edge.{edgeSize, oposPlace, posPlace, edgesIn, edgeFrom, edgeWords, wordOfEdge}
+use Rattle.words.specs.Edge.{edgeSize, oposPlace, posPlace, edgesIn, edgeWords, wordOfEdge}
 use Rattle.words.specs.Field.{shortOf}
 use Rattle.words.specs.Word.{wordAt}
 use Rattle.lent.specs.Lent.{edgesOf}

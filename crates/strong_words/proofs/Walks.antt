@@ -1,7 +1,7 @@
 -- Lists of which the first places are written anew, one after the other, and what is read of the marks meanwhile.
 use mathlib.Core.Path.{_≡_, refl, sym, ap, _∙_}
-use mathlib.Core.Bool.{Bool, _||_, cond}
-use mathlib.Core.List.{List, _++_, append-nil}
+use mathlib.Core.Bool.{_||_, cond}
+use mathlib.Core.List.{List, append-nil}
 use mathlib.Core.Logic.{⊎-elim}
 use Prim.Native.Nat.{ℕ, _+_, _≤_, _<_}
 use native.Mathlib.Nat.{eq-or-lt-of-le}

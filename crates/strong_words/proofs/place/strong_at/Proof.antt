@@ -2,11 +2,9 @@
 use borrow.Author.Needs.{needs}
 use native.Mathlib.Omega.{arith}
 use mathlib.Core.Path.{_≡_, sym, subst, _∙_}
-use Prim.Native.Nat.{ℕ}
-use lib.IntN.{ℤ}
 use mir.Syntax.{w16, w32}
 use mir.Val.{toZ, ofZ}
-use Rattle.signed.proofs.Signed.{is, got, fits-in}
+use Rattle.signed.proofs.Signed.{is, got}
 use Rattle.signed.proofs.Reading.{cast-16, back-16}
 use Rattle.signed.proofs.By.{by₂}
 use Rattle.contours.specs.Contour.{at}

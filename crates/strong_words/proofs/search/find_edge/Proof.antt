@@ -1,7 +1,7 @@
 -- `strong_words::search::find_edge` meets its contract. Assumes nothing.
 use borrow.Author.Needs.{needs}
-use mathlib.Core.Path.{_∙_, ap}
-use mir.Syntax.{w32}
+use native.Mathlib.Omega.{arith}
+use mathlib.Core.Path.{ap, _∙_}
 use lib.IntN.{ℤ}
 use Rattle.signed.proofs.Signed.{is}
 use Rattle.words.specs.Edge.{edgesIn}
@@ -18,7 +18,7 @@ returns : tie.Need-returns
 returns c =
     let s = c .before .before in
     let ws = s .args .words .now in
-    c .one-by-one .ensures ∙ ap (λ (z : ℤ). oneByOne (fposAt (edgesOf ws)) z 0 (edgesIn ws)) (is (s .fits .u)) ∙ few-found ws (s .args .u) (c .before .if1 .taken)
+    c .one-by-one .ensures ∙ ap (λ (z : ℤ). oneByOne (fposAt (edgesOf ws)) z 0 (edgesIn ws)) (is (s .fits .u)) ∙ few-found ws (s .args .u) (omega (arith, c .before .if1 .taken))
 
 by-halving-requires : tie.Need-by-halving-requires
 by-halving-requires c κs = search needs
@@ -27,7 +27,7 @@ returns-2 : tie.Need-returns-2
 returns-2 c =
     let s = c .before .before in
     let ws = s .args .words .now in
-    c .by-halving .ensures ∙ ap (λ (z : ℤ). byHalving (fposAt (edgesOf ws)) z (edgesIn ws) 0 (edgesIn ws)) (is (s .fits .u)) ∙ many-found ws (s .args .u) (c .before .if1 .left)
+    c .by-halving .ensures ∙ ap (λ (z : ℤ). byHalving (fposAt (edgesOf ws)) z (edgesIn ws) 0 (edgesIn ws)) (is (s .fits .u)) ∙ many-found ws (s .args .u) (omega (arith, c .before .if1 .left))
 
 pub find-edge-spec : {M : Type 1} → statement M
 find-edge-spec = tie.close (tie.spec one-by-one-requires returns by-halving-requires returns-2)
