@@ -79,7 +79,9 @@ const FITTING: &[&str] = &[
 /// Taken from hint/outline.rs.
 const POINTS: &[&str] = &[
     "align_edge_points",
+    "align_strong_points",
     "align_weak_points",
+    "store_point",
     "iup_shift",
     "iup_interpolate",
 ];

@@ -9,7 +9,7 @@ use crate::{
     path::Step,
     references,
     refusals::{Answer, Refusal},
-    remaining, text, turn,
+    remaining, strong, text, turn,
     words::{self, Words},
 };
 
@@ -58,6 +58,7 @@ pub fn answer(job: Job) -> Words {
         | Job::Pack(..)
         | Job::TurnOver(..)
         | Job::EdgePoints(..)
+        | Job::Strong(..)
         | Job::Gaps(..)
         | Job::WriteFrame(..)
         | Job::ReadFrame(_) => of_requests(&mut w, job),
@@ -129,6 +130,11 @@ fn of_requests(w: &mut Words, job: Job) {
         Job::EdgePoints(segments, edges, mut given) => {
             let result = edge_points::align_edge_points(&segments, &edges, &mut given);
             done(w, result);
+            w.numbers("currents", "current", &given.currents);
+            w.numbers("touch marks", "touch", &given.touches);
+        }
+        Job::Strong(edges, mut given) => {
+            done(w, strong::align_strong_points(&edges, &mut given));
             w.numbers("currents", "current", &given.currents);
             w.numbers("touch marks", "touch", &given.touches);
         }

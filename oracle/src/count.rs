@@ -65,6 +65,22 @@ const UNREACHABLE: &[(&str, &str, bool, &str)] = &[
         false,
         "the points of a segment with an edge are in the outline",
     ),
+    ("hint/outline.rs", "let edge = edges.first()?", false, SOME_EDGE),
+    ("hint/outline.rs", "let edge = edges.last()?", false, SOME_EDGE),
+    (
+        "hint/outline.rs",
+        "if let Some((min_ix, edge)) = edges .iter() .enumerate() .find(|(_ix, edge)| edge.fpos as i32 >= u)",
+        false,
+        WITHIN,
+    ),
+    (
+        "hint/outline.rs",
+        "if let Some(before_ix) = min_ix.checked_sub(1)",
+        false,
+        WITHIN,
+    ),
+    ("hint/outline.rs", "let edge_before = edges.get(before_ix)?", false, WITHIN),
+    ("hint/outline.rs", "let edge_after = edges.get(min_ix)?", false, WITHIN),
     (
         "hint/outline.rs",
         "let points = outline.points.get_mut(contour.range())?",
@@ -108,6 +124,12 @@ const UNREACHABLE: &[(&str, &str, bool, &str)] = &[
 
 /// Why nothing is built from top to bottom.
 const OLD_ORDER: &str = "top to bottom is refused by 10";
+
+/// Why there is an edge.
+const SOME_EDGE: &str = "without edges nothing is asked";
+
+/// Why a strong point has an edge on both sides.
+const WITHIN: &str = "the first edge is before the point, and the last one behind it";
 
 /// Why a point is always found.
 const CONTOUR: &str = "the points of a contour are in the outline";

@@ -3,8 +3,8 @@
 use crate::{
     job::{
         Building, Catalogue, CjkStem, Dimension, Direction, Edge, EdgePoints, Job, Joined, Mark,
-        Points, References, Remaining, ScaledWidth, ScriptGroup, Segment, Stems, Table, TopoFlags,
-        Walk, WidthRule,
+        Points, References, Remaining, ScaledWidth, ScriptGroup, Segment, Stems, Strong, Table,
+        TopoFlags, Walk, WidthRule,
     },
     limits::{EDGES, LENT, NUMBERS, SEGMENTS},
 };
@@ -228,6 +228,7 @@ impl Reader<'_> {
             127 => Job::Gaps(self.edges()?, self.word()?, self.choice()?),
             128 => Job::EdgePoints(self.segments()?, self.edges()?, self.edge_points()?),
             130 => Job::Remaining(self.edges()?, self.remaining()?),
+            131 => Job::Strong(self.edges()?, self.strong()?),
             _ => return None,
         })
     }
@@ -326,6 +327,17 @@ impl Reader<'_> {
             group: self.group()?,
             count: self.number()?,
             anchor: self.index()?,
+        })
+    }
+
+    /// What strong points are told.
+    fn strong(&mut self) -> Option<Strong> {
+        Some(Strong {
+            fonts: self.numbers()?,
+            originals: self.numbers()?,
+            currents: self.numbers()?,
+            touches: self.numbers()?,
+            weak: self.numbers()?,
         })
     }
 

@@ -89,8 +89,10 @@ fn flush(text: &mut String, title: &str, row: &mut String) {
 fn field(name: &str, value: i32) -> String {
     match name {
         "call" => String::new(),
-        "original" | "current" | "touch" | "end" | "standard" | "x" | "y" | "mark" | "points"
-        | "contours" | "own answer" | "number before" | "number behind" => format!(" {value}"),
+        "font" | "original" | "current" | "touch" | "weak" | "end" | "standard" | "x" | "y"
+        | "mark" | "points" | "contours" | "own answer" | "number before" | "number behind" => {
+            format!(" {value}")
+        }
         "place.x" => format!(" ({}", f32::from_bits(value as u32)),
         "place.y" => format!(" {})", f32::from_bits(value as u32)),
         "no place" if value == 0 => String::new(),

@@ -135,6 +135,16 @@ pub struct EdgePoints {
     pub ends: Vec<u16>,
 }
 
+/// What strong points are told beside their edges: the points.
+#[derive(Clone, PartialEq, Debug)]
+pub struct Strong {
+    pub fonts: Vec<i16>,
+    pub originals: Vec<i32>,
+    pub currents: Vec<i32>,
+    pub touches: Vec<u8>,
+    pub weak: Vec<u8>,
+}
+
 /// A public call and what it is given; the fields stand in the order of the words.
 #[derive(Clone, PartialEq, Debug)]
 pub enum Job {
@@ -165,6 +175,7 @@ pub enum Job {
     Gaps(Table<Edge>, i32, bool),
     EdgePoints(Table<Segment>, Table<Edge>, EdgePoints),
     Remaining(Table<Edge>, Remaining),
+    Strong(Table<Edge>, Strong),
     WriteFrame(Points, Vec<u8>),
     ReadFrame(Vec<u8>),
 }
@@ -200,6 +211,7 @@ pub const CALLS: &[(usize, &str)] = &[
     (127, "lost_gaps"),
     (128, "align_edge_points"),
     (130, "align_remaining_edges"),
+    (131, "align_strong_points"),
 ];
 
 /// The name of the call that a word names, if it names one.

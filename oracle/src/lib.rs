@@ -27,6 +27,7 @@ pub mod references;
 pub mod refusals;
 pub mod remaining;
 pub mod streams;
+pub mod strong;
 pub mod text;
 pub mod turn;
 pub mod weak;

@@ -6,11 +6,11 @@ use crate::{
     given::metrics::fixed_mul,
     job::{
         Building, Catalogue, CjkStem, Dimension, Edge, EdgePoints, Joined, Points, References,
-        Remaining, ScriptGroup, Segment, Stems, Table, TopoFlags, Walk, WidthRule,
+        Remaining, ScriptGroup, Segment, Stems, Strong, Table, TopoFlags, Walk, WidthRule,
     },
     limits::*,
     mend::is_sound,
-    remaining, weak,
+    remaining, strong, weak,
 };
 use std::collections::BTreeSet;
 
@@ -289,6 +289,25 @@ fn moving_edges<'a>(
     named
         .map(|ix| &edges.items[usize::from(ix)])
         .filter(|edge| !given.done_alone || edge.flags.contains(TopoFlags::DONE))
+}
+
+/// Strong points: the edges, the points, and that each of those that are placed has a place.
+pub fn strong(table: &Table<Edge>, given: &Strong) -> Answer<()> {
+    let count = given.fonts.len();
+    let lengths = [
+        given.originals.len(),
+        given.currents.len(),
+        given.touches.len(),
+        given.weak.len(),
+    ];
+    refuse(
+        1,
+        table.count > EDGES || count > POINTS || lengths.iter().any(|len| *len != count),
+    )?;
+    edges(table, &[])?;
+    let mut coordinates = given.originals.iter().chain(&given.currents);
+    refuse(4, coordinates.any(|c| !COORDINATE.contains(c)))?;
+    refuse(8, strong::placed(&table.items, given).is_none())
 }
 
 /// Mending an axis: of its indices those alone that nothing can be made of.

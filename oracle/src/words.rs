@@ -328,7 +328,7 @@ fn build(w: &mut Words, segments: &Table<Segment>, edges: &Table<Edge>, given: &
     w.put("width threshold", given.width);
 }
 
-/// Calls 106 to 113, 122, 127 and 130: a table of edges first.
+/// Calls 106 to 113, 122, 127, 130 and 131: a table of edges first.
 fn on_edges(w: &mut Words, job: &Job) {
     let (call, edges) = match job {
         Job::Blues(edges, ..) => (106, edges),
@@ -342,6 +342,7 @@ fn on_edges(w: &mut Words, job: &Job) {
         Job::Joined(edges, ..) => (122, edges),
         Job::Gaps(edges, ..) => (127, edges),
         Job::Remaining(edges, ..) => (130, edges),
+        Job::Strong(edges, ..) => (131, edges),
         _ => unreachable!("the other calls are not on a table of edges"),
     };
     w.put("call", call);
@@ -387,6 +388,13 @@ fn behind_edges(w: &mut Words, job: &Job) {
             w.group(given.group);
             w.put("count", given.count.into());
             w.index("anchor", given.anchor);
+        }
+        Job::Strong(_, given) => {
+            w.numbers("font positions", "font", &given.fonts);
+            w.numbers("originals", "original", &given.originals);
+            w.numbers("currents", "current", &given.currents);
+            w.numbers("touch marks", "touch", &given.touches);
+            w.numbers("weak marks", "weak", &given.weak);
         }
         _ => unreachable!("the other calls are not on a table of edges"),
     }

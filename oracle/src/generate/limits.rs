@@ -1,7 +1,8 @@
 //! Jobs at document 01's limits, and just beyond.
 
 use super::{
-    catalogue, drag, edge_points, edges, frames, job, path, references, saved, segments, Random,
+    catalogue, drag, edge_points, edges, frames, job, path, references, saved, segments, strong,
+    Random,
 };
 use crate::{
     job::{
@@ -103,13 +104,13 @@ fn limit(name: &str, word: i32, random: &mut Random) -> i32 {
         "units per em" => &[16, 16_384],
         "standard" => &[1, 16_383],
         "least" => &[0, 65_535],
-        "touch" | "mark" | "own answer" => return random.pick(&[0, 1, 255]),
+        "touch" | "weak" | "mark" | "own answer" => return random.pick(&[0, 1, 255]),
         "points" | "contours" => return random.pick(&[0, 1, word + 1, 4_096, 65_535]).min(65_535),
         "count" => return random.pick(&[0, 1, word + 1, 65_534, 65_535]).min(65_535),
         "cursor" => return random.pick(&[0, word.saturating_add(1), i32::MAX - 1, i32::MAX]),
         "segment.pos" => return side(random.pick(&POSITIONS), true, random).min(32_767),
         "segment.delta" | "segment.min_coord" | "segment.max_coord" | "segment.height"
-        | "edge.fpos" => return random.pick(&[-32_768, 32_767, 0]),
+        | "edge.fpos" | "font" => return random.pick(&[-32_768, 32_767, 0]),
         _ => return word,
     };
     let two_sided = matches!(
@@ -139,6 +140,7 @@ fn resize(job: &mut Job, random: &mut Random) {
         Job::MidPos(..) | Job::MidDelta(..) => {}
         Job::Weak(points) => resize_points(points, random),
         Job::TurnOver(segments, edges) => resize_axis(segments, edges, random),
+        Job::Strong(edges, given) => strong::resize(edges, given, random),
         Job::EdgePoints(segments, edges, given) => {
             edge_points::resize(segments, edges, given, random);
         }

@@ -20,6 +20,7 @@ mod remaining;
 mod saved;
 mod segments;
 pub mod small_axes;
+pub mod strong;
 
 pub use files::file;
 pub use logs::{good_log, log};
@@ -106,6 +107,7 @@ fn job(call: usize, small: bool, random: &mut Random) -> Job {
         127 => gaps(small, random),
         128 => edge_points::job(small, random),
         130 => remaining::job(small, random),
+        131 => strong::job(small, random),
         _ => on_edges(call, small, random),
     }
 }

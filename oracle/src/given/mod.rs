@@ -55,14 +55,16 @@ pub mod hint_edges {
     include!(concat!(env!("OUT_DIR"), "/hint_edges.rs"));
 }
 
-/// hint/outline.rs: edge points and weak points.
+/// hint/outline.rs: edge points, strong points and weak points.
 #[allow(clippy::all, unused_parens)]
 pub mod hint_outline {
     use super::{
         metrics::{fixed_div, fixed_mul, Scale, ScaleFlags},
         outline::{Outline, Point, PointMarker},
+        recorder::HintsRecorder,
         style::ScriptGroup,
         topo::{Axis, Dimension},
     };
+    use std::cmp::Ordering;
     include!(concat!(env!("OUT_DIR"), "/hint_outline.rs"));
 }

@@ -1,6 +1,6 @@
 //! Directions, points and contours, as far as the given Rust needs them.
 
-use std::ops::Range;
+use std::ops::{BitOr, Range};
 
 /// A direction: right and left are opposite, up and down are opposite.
 #[derive(Copy, Clone, PartialEq, Eq, Debug, Default)]
@@ -32,7 +32,7 @@ pub enum Orientation {
     CounterClockwise,
 }
 
-/// The touch marks of a point.
+/// The marks of a point.
 #[derive(Copy, Clone, Default)]
 pub struct PointMarker(u8);
 
@@ -41,6 +41,8 @@ impl PointMarker {
     pub const TOUCHED_X: Self = Self(1);
     /// Touched on the vertical axis.
     pub const TOUCHED_Y: Self = Self(2);
+    /// Weak: left to the weak points' interpolation.
+    pub const WEAK_INTERPOLATION: Self = Self(4);
 
     /// This mark or none.
     pub fn when(self, touched: bool) -> Self {
@@ -62,10 +64,20 @@ impl PointMarker {
     }
 }
 
-/// A point: original and current coordinates, the scratch `u` and `v`, and the next point around its contour.
+impl BitOr for PointMarker {
+    type Output = Self;
+
+    fn bitor(self, other: Self) -> Self {
+        Self(self.0 | other.0)
+    }
+}
+
+/// A point: coordinates in font units, original and current ones, the scratch `u` and `v`, and the next point around its contour.
 #[derive(Copy, Clone, Default)]
 pub struct Point {
     pub flags: PointMarker,
+    pub fx: i32,
+    pub fy: i32,
     pub ox: i32,
     pub oy: i32,
     pub x: i32,

@@ -84,6 +84,19 @@ impl HintsRecorder {
         }
     }
 
+    /// Called by the given Rust for a strong point before the first edge; points have no marks of this kind.
+    pub fn record_ip_before(&mut self, _dim: Dimension, _point_ix: usize) {}
+
+    /// The same behind the last edge.
+    pub fn record_ip_after(&mut self, _dim: Dimension, _point_ix: usize) {}
+
+    /// The same on an edge.
+    pub fn record_ip_on(&mut self, _dim: Dimension, _point_ix: usize, _edge_ix: usize) {}
+
+    /// The same between two edges.
+    pub fn record_ip_between(&mut self, _dim: Dimension, _point: usize, _low: usize, _high: usize) {
+    }
+
     /// Gives a mark to edges.
     pub fn give(&mut self, mark: Mark, edges: impl IntoIterator<Item = usize>) {
         self.marks.extend(edges.into_iter().map(|ix| (ix, mark)));

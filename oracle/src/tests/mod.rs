@@ -24,6 +24,7 @@ mod refusals;
 mod remaining;
 mod rows;
 mod slips;
+mod strong;
 mod words;
 
 use crate::{

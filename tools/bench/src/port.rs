@@ -279,6 +279,7 @@ impl Prepared {
             | Job::TurnOver(..)
             | Job::EdgePoints(..)
             | Job::Remaining(..)
+            | Job::Strong(..)
             | Job::WriteFrame(..)
             | Job::ReadFrame(..) => return Self::by_job(words),
         };
