@@ -28,9 +28,9 @@
  *      anchor that the stems handed back; the Rust code of which this is a port calls it where that count is not 0 or there is no anchor, and where both are otherwise it changes
  *      nothing. It may turn edges: ask khs_lost_gaps behind it rather than in front, with least 0 and linked 0, where the order is to be kept. A caller may leave such
  *      an edge instead, and its points to step 6, or place it by khs_align_serif_edge and khs_adjust_link or as it likes, and set its flag, by flags |= KHS_FLAG_DONE.
- *   6. khs_align_edge_points moves the points of every segment to its edge's pos, and touches them: those of done edges alone, or of all. Strong points are the caller's:
- *      those that are not touched now and not weak, which a point is that is very near another one or has no clear direction. The Rust code places them by the edges
- *      around them, and touches them; left out, they go with the weak ones.
+ *   6. khs_align_edge_points moves the points of every segment to its edge's pos, and touches them: those of done edges alone, or of all. khs_align_strong_points moves
+ *      those that are not touched now and not weak by the edges around them, and touches them; left out, they go with the weak ones, which breaks slanted strokes where few
+ *      pixels are left.
  *      khs_align_weak_points moves the points that are not touched then, and khs_align_catalogue those of many outlines at once. Where one touched point is moved by hand
  *      afterwards, khs_drag_point moves those that depend on it.
  *   7. When both axes are fitted, khs_path makes the path for a rasteriser of the points, in pixels.
@@ -66,7 +66,7 @@
  * records too: KHS_EDGE_WORDS means one edge, and KHS_SEGMENT_WORDS one segment. Of every list and of every place for a result:
  *   - A list of length 0 may be NULL, as an empty std::vector's data() may be: nothing is read or written through its pointer, whatever that is. Every other list has a
  *     pointer, standards with KHS_KEEP too, and so has every place for a result.
- *   - Its pointer is aligned as C asks of its type: to 4 bytes for int32_t, uint32_t and float, 2 for uint16_t.
+ *   - Its pointer is aligned as C asks of its type: to 4 bytes for int32_t, uint32_t and float, 2 for uint16_t and int16_t.
  *   - It overlaps no other list or place of the same call, unless both are const.
  * A call that is given anything else, or a length beyond its list, is undefined, as in C; everything else that can be passed is answered.
  *
@@ -77,7 +77,8 @@
  *   3. KHS_NOT_WORDS: a word is none of its field's values. The fields are those of the two structs, and also these numbers of a call: a direction, dimension,
  *      group, rule or neighbour, a number that is 0 or 1, and the count of khs_align_remaining_edges. So dim 2 and stem_adjust -1 are KHS_NOT_WORDS.
  *   4. KHS_RETIRED, then KHS_BAD_PARAMETER, KHS_BAD_INDEX, KHS_OUT_OF_RANGE and KHS_NO_ROOM; but khs_mend tests KHS_OUT_OF_RANGE, then KHS_BAD_INDEX and
- *      KHS_BROKEN_RING; and khs_align_remaining_edges tests KHS_TOO_STEEP behind KHS_OUT_OF_RANGE.
+ *      KHS_BROKEN_RING; khs_align_strong_points tests here first whether its lists of points are KHS_TOO_LONG; and khs_align_remaining_edges and khs_align_strong_points
+ *      test KHS_TOO_STEEP behind KHS_OUT_OF_RANGE.
  * Every other number of a call takes every word: an edge named in a call, and an anchor other than KHS_NONE, is KHS_BAD_INDEX where it is not below the count
  * of edges, whatever its word; scale, units per em, thresholds, standards and a gap's least width are KHS_BAD_PARAMETER and a delta KHS_OUT_OF_RANGE outside of their
  * limits.
@@ -121,7 +122,8 @@ enum khs_answer {
     KHS_NOT_FRAME = 6,     /* a line of a log is not a whole frame */
     KHS_BROKEN_RING = 7,   /* the segments of an edge are no sound ring; in khs_mend: none can be made of them, since there is none */
     KHS_TOO_STEEP = 8,     /* an untouched point lies between two touched ones that were 2 units apart and are 65,536 or more, or were 3 and are 98,304 or more; in
-                            * khs_align_remaining_edges: an edge would be given a pos that is not accepted */
+                            * khs_align_remaining_edges: an edge would be given a pos that is not accepted; in khs_align_strong_points: the same of a point, or it lies between
+                            * two edges whose pos are 32,768 times as far apart as their fpos, or more */
     KHS_NOT_MATCHING = 9,  /* the lists of khs_align_with_references are not what khs_remember_references writes for these marks and contours */
     KHS_RETIRED = 10,      /* the order from top to bottom is asked for, which is retired: on either axis and for either group */
     KHS_NOT_WORDS = 255    /* a length is not that of whole records, a room has not exactly its length, or a word is none of its field's values */
@@ -449,6 +451,28 @@ uint8_t khs_lost_gaps(const int32_t *edges, khs_length edges_len, int32_t least,
  * Writes currents and touched. Answers: KHS_DONE, KHS_TOO_LONG, KHS_BAD_INDEX, KHS_OUT_OF_RANGE, KHS_NOT_WORDS. */
 uint8_t khs_align_edge_points(const int32_t *segments, khs_length segments_len, const int32_t *edges, khs_length edges_len, int32_t snap, int32_t done_alone,
                               int32_t *currents, khs_length currents_len, uint8_t *touched, khs_length touched_len, const uint16_t *ends, khs_length ends_len);
+
+/* Moves the strong points of one axis, those that are neither touched nor weak, by the edges around them, and touches them: so a slanted stroke goes with the stems that it joins.
+ * edges: at most 128, as building leaves them, by rising fpos; not written. Those that are not done count like the others: place them first, by khs_align_remaining_edges.
+ * fonts, originals, currents, touched, weak: one entry for each point, at most 4,096, else KHS_TOO_LONG, and so it is where two of the five differ in length. fonts are the positions
+ * of the points in design units; originals and currents as in khs_align_weak_points; any nonzero mark means touched, or weak.
+ * Weak are the points that are very near other points, or that lack a dominant direction inward or outward. A caller who has no such marks passes none: every weak mark is 0
+ * then, and every point that is not touched is moved here.
+ * A strong point with its place u in fonts
+ *   - at or below the first edge's fpos moves with that edge: to its pos and as far from it as the original is from its opos;
+ *   - else at or above the last edge's moves with that one in the same way;
+ *   - else on an edge's fpos comes to its pos: of up to eight edges to that of the first one there, of more to that of the one that halving finds;
+ *   - else comes between the two edges around it: to the lower one's pos and the fixed product of u less its fpos and the fixed quotient of their pos by their fpos, both to the nearest,
+ *     halves away from zero, which lies between their pos, ends included.
+ * Its mark becomes 1. Every other point keeps its current and its mark. Without edges nothing is moved.
+ * KHS_TOO_STEEP, behind the other answers, where a strong point lies strictly between two edges whose pos are at least 32,768 times as far apart as their fpos, or would come to
+ * a place that is not from -16,777,216 to 16,777,216. Currents that are left may be beyond what khs_align_weak_points accepts.
+ * Where fpos and pos of the edges do not fall, points keep the order of their fonts and originals, to the unit: all those between the first and the last edge among themselves, those
+ * below and those above, and all of them where originals and opos are scaled from design units by one scale.
+ * Writes currents and touched. Answers: KHS_DONE, KHS_TOO_LONG, KHS_BAD_INDEX, KHS_OUT_OF_RANGE, KHS_TOO_STEEP, KHS_NOT_WORDS. */
+uint8_t khs_align_strong_points(const int32_t *edges, khs_length edges_len, const int16_t *fonts, khs_length fonts_len, const int32_t *originals,
+                                khs_length originals_len, int32_t *currents, khs_length currents_len, uint8_t *touched, khs_length touched_len, const uint8_t *weak,
+                                khs_length weak_len);
 
 /* The path of an outline is a list of steps. Each contour gives a KHS_MOVE to its start, lines and quadratic curves around it, and a KHS_CLOSE; a straight way
  * back to the start is left to the close. The start is the contour's first point that is on the curve, or where none is, halfway between its last and its first

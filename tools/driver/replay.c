@@ -17,7 +17,7 @@ enum {
 };
 
 /* What each call's job holds behind the call's number, NULL where that is no call: w a word, i an index, l an index or none, c a choice, d a direction, k a cursor; lists
- * with their counts in front: N numbers, B bytes, I indices, S segments, E edges, L lent edges. */
+ * with their counts in front: N numbers, H 16-bit numbers, B bytes, I indices, S segments, E edges, L lent edges. */
 static const char *const formats[] = {
     [1] = "ww",           /* compute_mid_pos: min, max */
     [2] = "ww",           /* compute_mid_delta: min, max */
@@ -47,7 +47,8 @@ static const char *const formats[] = {
     [124] = "SE",         /* turn_over: segments, edges */
     [127] = "Ewc",        /* lost_gaps: edges, least width, linked */
     [128] = "SEccNBI",    /* align_edge_points: segments, edges, snap, done alone, currents, touch marks, contour ends */
-    [130] = "Eccil"       /* align_remaining_edges: edges, dimension, group, count, anchor */
+    [130] = "Eccil",      /* align_remaining_edges: edges, dimension, group, count, anchor */
+    [131] = "EHNNBB"      /* align_strong_points: edges, font positions, originals, currents, touch marks, weak marks */
 };
 enum { CALLS = sizeof formats / sizeof formats[0], MOST_ITEMS = 10 };
 
@@ -93,7 +94,7 @@ static int is_field(char kind, int32_t word)
 {
     switch (kind) {
     case 'w': case 'N': return 1;
-    case 's': return -32768 <= word && word <= 32767;
+    case 's': case 'H': return -32768 <= word && word <= 32767;
     case 'i': case 'I': return 0 <= word && word <= MOST_INDEX;
     case 'l': return KHS_NONE <= word && word <= MOST_INDEX;
     case 'c': return word == 0 || word == 1;
@@ -147,7 +148,7 @@ static int read_job(int32_t *words, size_t len, struct job *job)
     job->call = words[0];
     size_t at = 1, numbers = 0, lists = 0;
     for (const char *kind = formats[job->call]; *kind != '\0'; kind++) {
-        if (strchr("NBISEL", *kind)) {
+        if (strchr("NHBISEL", *kind)) {
             size_t taken = read_list(*kind, words + at, len - at, &job->list[lists++]);
             if (taken == 0)
                 return 0;
@@ -423,6 +424,22 @@ static void answer_axis(const struct job *job)
         say_list(segments->count - kept, table + front, freed);
 }
 
+/* Strong points, whose answer has no edges. */
+static void answer_strong(const struct job *job)
+{
+    static int16_t fonts[MOST_NUMBERS];
+    static uint8_t weak[MOST_NUMBERS];
+    const struct list *list = job->list;
+    khs_length len = lend(&list[0], KHS_EDGE_WORDS, KHS_MOST_EDGES);
+    for (size_t i = 0; i < list[1].size; i++)
+        fonts[i] = (int16_t)list[1].words[i];
+    read_bytes(&list[4], marks);
+    read_bytes(&list[5], weak);
+    say(khs_align_strong_points(LIST(table, len), READ(fonts, list[1]), WORDS(list[2]), WORDS(list[3]), READ(marks, list[4]), READ(weak, list[5])));
+    say_list(list[3].count, list[3].words, list[3].size);
+    say_bytes(marks, list[4].size);
+}
+
 /* The guard, whose answer has no edges. */
 static void answer_gaps(const struct job *job)
 {
@@ -519,6 +536,7 @@ static void answer_line(size_t len)
     case 124: answer_axis(&job); break;
     case 127: answer_gaps(&job); break;
     case 128: answer_edge_points(&job); break;
+    case 131: answer_strong(&job); break;
     default: answer_edges(&job);
     }
 }

@@ -10,7 +10,8 @@ enum { DEPTH = 1 << 20, NEAR = 512, PAINT = 0xA5, POINTS = 4096, STANDARDS = 16,
 static struct khs_segment segments[KHS_MOST_SEGMENTS];
 static struct khs_edge edges[KHS_MOST_EDGES];
 static int32_t originals[POINTS], currents[POINTS], standards[STANDARDS];
-static uint8_t touched[POINTS];
+static uint8_t touched[POINTS], weak_marks[POINTS];
+static int16_t fonts[POINTS];
 static uint16_t ends[POINTS / 4], point_counts[] = {POINTS}, contour_counts[] = {POINTS / 4};
 static uint16_t before[POINTS], behind[POINTS];
 static uint8_t own_answer;
@@ -97,6 +98,7 @@ static uint8_t edge_points(void) {
     }
     return khs_align_edge_points(segment_words(), SEGMENT_LIST, edge_words(), EDGE_LIST, dim, group, currents, POINTS, touched, POINTS, ends, POINTS / 4);
 }
+static uint8_t strong(void) { return khs_align_strong_points(edge_words(), EDGE_LIST, fonts, POINTS, originals, POINTS, currents, POINTS, touched, POINTS, weak_marks, POINTS); }
 static uint8_t write_frame(void) { return khs_write_frame(originals, FRAMED, currents, FRAMED, touched, FRAMED, ends, FRAMED / 4, line, sizeof line, &number); }
 static uint8_t read_frame(void) {
     return khs_read_frame(line, sizeof line, originals, FRAMED, currents, FRAMED, touched, FRAMED, ends, FRAMED, &number, &contours);
@@ -114,10 +116,10 @@ static const struct {
 } calls[] = {{"khs_align_weak_points", weak}, {"khs_align_catalogue", catalogue}, {"khs_remember_references", remember},
              {"khs_align_with_references", with_references}, {"khs_drag_point", drag}, {"khs_link_segments_cjk", linking}, {"khs_compute_edges", building}, {"khs_align_edges_to_blues", blues},
              {"khs_align_linked_edge", linked}, {"khs_align_serif_edge", serif}, {"khs_adjust_link", adjust}, {"khs_latin_remaining_bounds", bounds},
-             {"khs_hint_normal_stem_cjk", stem}, {"khs_align_stem_edges", stems}, {"khs_align_blues_and_stems", joined}, {"khs_align_remaining_edges", remaining}, {"khs_hint_lowercase_m", lowercase_m}, {"khs_lost_gaps", guard}, {"khs_align_edge_points", edge_points},
+             {"khs_hint_normal_stem_cjk", stem}, {"khs_align_stem_edges", stems}, {"khs_align_blues_and_stems", joined}, {"khs_align_remaining_edges", remaining}, {"khs_hint_lowercase_m", lowercase_m}, {"khs_lost_gaps", guard}, {"khs_align_edge_points", edge_points}, {"khs_align_strong_points", strong},
              {"khs_path_step", step}, {"khs_path", path}, {"khs_mend", mend}, {"khs_pack_axis", pack}, {"khs_turn_over", turn}, {"khs_write_frame", write_frame}, {"khs_read_frame", read_frame}};
 
-/* Segments in pairs, the pairs on 128 heights; edges in stems, each with a zone or done here and there; points touched here and there; the longest frame, all zeros. */
+/* Segments in pairs, the pairs on 128 heights; edges in stems, each with a zone or done here and there; points touched and weak here and there; the longest frame, all zeros. */
 static void fill(void) {
     for (int32_t i = 0; i < KHS_MOST_SEGMENTS; i++) {
         segments[i] = (struct khs_segment){
@@ -141,6 +143,8 @@ static void fill(void) {
         originals[i] = i % 100 * 7;
         currents[i] = originals[i] + 9;
         touched[i] = i % 3 == 0;
+        fonts[i] = (int16_t)(i % 5300);
+        weak_marks[i] = i % 7 == 0;
     }
     for (int32_t i = 0; i < POINTS / 4; i++) {
         ends[i] = (uint16_t)(4 * i + 3);

@@ -230,6 +230,21 @@ extern "C" {
         ends_len: Length,
     ) -> u8;
 
+    fn khs_align_strong_points(
+        edges: *const i32,
+        edges_len: Length,
+        fonts: *const i16,
+        fonts_len: Length,
+        originals: *const i32,
+        originals_len: Length,
+        currents: *mut i32,
+        currents_len: Length,
+        touched: *mut u8,
+        touched_len: Length,
+        weak: *const u8,
+        weak_len: Length,
+    ) -> u8;
+
     fn khs_path_step(
         xs: *const i32,
         xs_len: Length,
@@ -716,6 +731,35 @@ pub fn align_edge_points(
             touched_len,
             ends.as_ptr(),
             length(ends),
+        )
+    }
+}
+
+pub fn align_strong_points(
+    edges: &[Edge],
+    fonts: &[i16],
+    originals: &[i32],
+    currents: &mut [i32],
+    touched: &mut [u8],
+    weak: &[u8],
+) -> u8 {
+    let (words, len) = read_edges(edges);
+    let (currents_len, touched_len) = (length(currents), length(touched));
+    // SAFETY: six slices, of which `currents` and `touched` are lent to this call alone.
+    unsafe {
+        khs_align_strong_points(
+            words,
+            len,
+            fonts.as_ptr(),
+            length(fonts),
+            originals.as_ptr(),
+            length(originals),
+            currents.as_mut_ptr(),
+            currents_len,
+            touched.as_mut_ptr(),
+            touched_len,
+            weak.as_ptr(),
+            length(weak),
         )
     }
 }

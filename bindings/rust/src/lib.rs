@@ -33,6 +33,7 @@ mod records;
 mod references;
 mod refusal;
 mod remaining;
+mod strong;
 
 pub use choices::{Dimension, Group, Neighbour, Order, WidthRule};
 pub use edge_points::{align_edge_points, Moving};
@@ -46,6 +47,7 @@ pub use records::{Edge, Segment, EDGE_WORDS, SEGMENT_WORDS};
 pub use references::{drag_point, References};
 pub use refusal::Refusal;
 pub use remaining::align_remaining_edges;
+pub use strong::align_strong_points;
 
 /// The most edges of an axis.
 pub const MOST_EDGES: usize = 128;

@@ -35,8 +35,8 @@ pub enum Refusal {
     NotFrame,
     /// 7: the segments of an edge are no sound ring; in mending: an edge has no segments, of which a ring could be made.
     BrokenRing,
-    /// 8: an untouched point lies between two touched ones that were 2 units apart and are 65,536 or more, or were 3 and are 98,304 or more; of remaining edges: one would be
-    /// given a position that is not accepted.
+    /// 8: an untouched point lies between two touched ones that were 2 units apart and are 65,536 or more, or were 3 and are 98,304 or more; of remaining edges and of strong
+    /// points: one would be given a position that is not accepted; of these also: one lies between two edges that are 32,768 times as far apart as their font positions, or more.
     TooSteep,
     /// 9: remembered references are not those of these marks and contours.
     NotMatching,

@@ -1282,3 +1282,58 @@ fn remaining_edges_refused() {
         });
     }
 }
+
+/// Currents and marks of points at font positions, of which the second is touched and the third weak; their originals are twice these.
+fn strong<const N: usize>(edges: &[Edge], fonts: [i16; N]) -> Result<([i32; N], [u8; N]), Refusal> {
+    let originals = fonts.map(|font| 2 * i32::from(font));
+    let (mut currents, mut touched, mut weak) = ([-1; N], [0; N], [0; N]);
+    (touched[1], weak[2]) = (9, 1);
+    align_strong_points(
+        edges,
+        &fonts,
+        &originals,
+        &mut currents,
+        &mut touched,
+        &weak,
+    )
+    .inspect_err(|_| assert_eq!((currents, touched[0]), ([-1; N], 0)))?;
+    Ok((currents, touched))
+}
+
+#[test]
+fn strong_points() {
+    let edge = |fpos: i16, pos: i32| at(2 * i32::from(fpos)).with_fpos(fpos).with_pos(pos);
+    let edges = [edge(0, 10), edge(10, 64), edge(10, 70), edge(20, 100)];
+    assert_eq!(
+        strong(&edges, [-3, 0, 5, 0, 5, 10, 15, 20, 21]),
+        Ok((
+            [4, -1, -1, 10, 37, 64, 85, 100, 102],
+            [1, 9, 0, 1, 1, 1, 1, 1, 1]
+        ))
+    );
+    assert_eq!(strong(&[], [1, 2, 3]), Ok(([-1; 3], [0, 9, 0])));
+}
+
+#[test]
+fn strong_points_refused() {
+    let three = |edges: &mut [Edge]| strong(edges, [1, 1, 1]);
+    refuses_edges(&[at(0), at(64)], three);
+    let steep = |pos: i32| [at(0), at(0).with_fpos(2).with_pos(pos)];
+    assert_eq!(
+        strong(&steep(65_535), [1, 1, 1]).map(|told| told.0[0]),
+        Ok(32_768)
+    );
+    refused(&steep(65_536), Refusal::TooSteep, three);
+    refused(&[at(0).with_pos(16_777_216)], Refusal::TooSteep, three);
+    let (mut currents, mut touched) = ([7, 8], [0, 0]);
+    let lists = (&mut currents, &mut touched);
+    let short = [
+        align_strong_points(&[], &[0], &[0, 0], lists.0, lists.1, &[0, 0]),
+        align_strong_points(&[], &[0, 0], &[0], lists.0, lists.1, &[0, 0]),
+        align_strong_points(&[], &[0, 0], &[0, 0], &mut lists.0[..1], lists.1, &[0, 0]),
+        align_strong_points(&[], &[0, 0], &[0, 0], lists.0, &mut lists.1[..1], &[0, 0]),
+        align_strong_points(&[], &[0, 0], &[0, 0], lists.0, lists.1, &[0]),
+    ];
+    assert_eq!(short, [Err(Refusal::TooLong); 5]);
+    assert_eq!((currents, touched), ([7, 8], [0, 0]));
+}

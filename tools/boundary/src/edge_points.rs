@@ -1,11 +1,12 @@
 //! Edge points: the lists of an axis, two choices and the lists of points.
 
 use crate::{
-    cases::{damage_word, lengthen, WORDS},
+    cases::WORDS,
     ffi,
-    function::{Record, EDGE, EMPTY_EDGE, SEGMENT},
-    memory::{with_and_without, Memory, Side, SHUT_WORDS},
-    model::{is_record, NOT_WORDS},
+    function::{EDGE, EMPTY_EDGE, SEGMENT},
+    lists::{answer_to_lists, push_list, push_records, records, Words},
+    memory::{with_and_without, Memory, Side},
+    model::NOT_WORDS,
     references::job,
     tally::Tally,
 };
@@ -14,7 +15,7 @@ use oracle::{
     decode::decode,
     generate::{self, Random},
     job::Job,
-    limits::{NUMBERS, POINTS},
+    limits::POINTS,
     refusals::{refuse, Answer, Refusal},
     words::encode,
 };
@@ -35,55 +36,6 @@ struct Given {
     currents: Vec<i32>,
     touches: Vec<u8>,
     ends: Vec<u16>,
-}
-
-/// A list of records: its words, or how many they are of a list that cannot be read.
-#[derive(Clone, Debug, PartialEq)]
-enum Words {
-    Open(Vec<i32>),
-    Shut(usize),
-}
-
-impl Words {
-    /// The length of the list.
-    fn len(&self) -> usize {
-        match self {
-            Self::Open(words) => words.len(),
-            Self::Shut(len) => *len,
-        }
-    }
-
-    /// The words of a list that can be read.
-    fn open(&self) -> &[i32] {
-        match self {
-            Self::Open(words) => words,
-            Self::Shut(_) => &[],
-        }
-    }
-
-    /// The same, to be changed.
-    fn open_mut(&mut self) -> Option<&mut Vec<i32>> {
-        match self {
-            Self::Open(words) => Some(words),
-            Self::Shut(_) => None,
-        }
-    }
-
-    /// Lends the list.
-    fn lend(&self, memory: &mut Memory, side: Side) -> *const i32 {
-        match self {
-            Self::Open(words) => memory.lend(words, side),
-            Self::Shut(_) => memory.shut(),
-        }
-    }
-
-    /// What a lent list holds now.
-    fn held(&self, memory: &Memory) -> Self {
-        match self {
-            Self::Open(_) => Self::Open(memory.held().to_vec()),
-            Self::Shut(len) => Self::Shut(*len),
-        }
-    }
 }
 
 /// Compares the function on so many random cases, and on small ones one after the other.
@@ -139,22 +91,14 @@ fn run(memories: &mut [Memory; 5], given: &Given, side: Side) -> Option<(u8, Giv
 
 /// What the function has to do: the order of answers that `model` has, of two lists of records and of two of points, and behind it the oracle.
 fn by_oracle(given: &mut Given) -> Answer<()> {
-    let lists = [(&given.segments, &SEGMENT), (&given.edges, &EDGE)];
-    let is_whole = |(words, record): &(&Words, &Record)| words.len().is_multiple_of(record.words);
-    refuse(NOT_WORDS.into(), !lists.iter().all(is_whole))?;
-    let fits = |(words, record): &(&Words, &Record)| words.len() / record.words <= record.most;
-    refuse(1, !lists.iter().all(fits))?;
+    let records = answer_to_lists(&[(&given.segments, &SEGMENT), (&given.edges, &EDGE)])?;
     let points = given.currents.len();
     refuse(1, points > POINTS || given.touches.len() != points)?;
-    let are_records = |(words, record): &(&Words, &Record)| {
-        let mut records = words.open().chunks(record.words);
-        records.all(|words| is_record(record, words))
-    };
     let is_choice = |number: &i32| (0..=1).contains(number);
     let are_choices = [given.snap, given.done_alone].iter().all(is_choice);
-    let words = lists.iter().all(are_records) && are_choices;
     let job = decode(&job_words(given));
-    assert_eq!(words, job.is_some(), "the oracle reads words otherwise");
+    let is_job = records && are_choices;
+    assert_eq!(is_job, job.is_some(), "the oracle reads words otherwise");
     let Some(job) = job else {
         return Err(Refusal(NOT_WORDS.into()));
     };
@@ -169,10 +113,8 @@ fn by_oracle(given: &mut Given) -> Answer<()> {
 /// The job that asks the oracle for the same.
 fn job_words(given: &Given) -> Vec<i32> {
     let mut job = vec![CALL as i32];
-    for (words, record) in [(&given.segments, &SEGMENT), (&given.edges, &EDGE)] {
-        job.push((words.len() / record.words) as i32);
-        job.extend(words.open());
-    }
+    push_records(&mut job, &given.segments, &SEGMENT);
+    push_records(&mut job, &given.edges, &EDGE);
     job.extend([given.snap, given.done_alone]);
     push_list(&mut job, &given.currents);
     push_list(&mut job, &given.touches);
@@ -180,42 +122,23 @@ fn job_words(given: &Given) -> Vec<i32> {
     job
 }
 
-/// Appends a list of points to a job; one that is longer than a job's is too long all the same.
-fn push_list<T: Copy + Into<i32>>(job: &mut Vec<i32>, list: &[T]) {
-    job.push(list.len().min(NUMBERS) as i32);
-    job.extend(list.iter().take(NUMBERS).map(|number| (*number).into()));
-}
-
 /// A job as C passes it; of a list that is too long some records are made up.
 fn passed(job: &Job, random: &mut Random) -> Given {
-    let Job::EdgePoints(segments, edges, given) = job else {
+    let Job::EdgePoints(_, _, given) = job else {
         unreachable!("the job is of the call that was asked for");
     };
     let words = encode(job).values;
-    let (mut table, rest) = records(&words[1..], &SEGMENT);
-    let (mut edge_table, _) = records(rest, &EDGE);
-    if segments.count > SEGMENT.most {
-        lengthen(&SEGMENT, &mut table, random);
-    }
-    if edges.count > EDGE.most {
-        lengthen(&EDGE, &mut edge_table, random);
-    }
+    let (segments, rest) = records(&words[1..], &SEGMENT, random);
+    let (edges, _) = records(rest, &EDGE, random);
     Given {
-        segments: Words::Open(table),
-        edges: Words::Open(edge_table),
+        segments,
+        edges,
         snap: given.snap.into(),
         done_alone: given.done_alone.into(),
         currents: given.currents.clone(),
         touches: given.touches.clone(),
         ends: given.ends.clone(),
     }
-}
-
-/// The records at the head of a job's words, and what stands behind them.
-fn records<'a>(words: &'a [i32], record: &Record) -> (Vec<i32>, &'a [i32]) {
-    let carried = (words[0] as usize).min(record.most) * record.words;
-    let (table, rest) = words[1..].split_at(carried);
-    (table.to_vec(), rest)
 }
 
 /// A job of the oracle, as it is or damaged up to three times.
@@ -231,29 +154,9 @@ fn random_case(random: &mut Random) -> Given {
 /// Damages what is given in one way.
 fn damage(given: &mut Given, random: &mut Random) {
     let at = random.below(given.currents.len().max(1));
-    let is_edges = random.coin();
-    let (list, record) = if is_edges {
-        (&mut given.edges, &EDGE)
-    } else {
-        (&mut given.segments, &SEGMENT)
-    };
     match random.below(12) {
-        0..=3 => damage_word(list.open_mut().map_or(&mut [], |words| words), random),
-        4 => {
-            if let Some(words) = list.open_mut() {
-                let len = words.len() + random.below(2 * record.words);
-                words.resize(len.saturating_sub(record.words), random.pick(&WORDS));
-            }
-        }
-        5 => {
-            let least = (record.most + 1) * record.words;
-            let len = least + random.below(SHUT_WORDS - least);
-            *list = Words::Shut(if random.coin() {
-                len / record.words * record.words
-            } else {
-                len
-            });
-        }
+        0..=5 if random.coin() => given.edges.damage(&EDGE, random),
+        0..=5 => given.segments.damage(&SEGMENT, random),
         6 => given.snap = random.pick(&WORDS),
         7 => given.done_alone = random.pick(&WORDS),
         8 => given

@@ -197,6 +197,20 @@ extern "C" {
         ends: *const u16,
         ends_len: usize,
     ) -> u8;
+    pub fn khs_align_strong_points(
+        edges: *const i32,
+        edges_len: usize,
+        fonts: *const i16,
+        fonts_len: usize,
+        originals: *const i32,
+        originals_len: usize,
+        currents: *mut i32,
+        currents_len: usize,
+        touched: *mut u8,
+        touched_len: usize,
+        weak: *const u8,
+        weak_len: usize,
+    ) -> u8;
     pub fn khs_path_step(
         xs: *const i32,
         xs_len: usize,

@@ -9,11 +9,13 @@ mod edge_points;
 mod ffi;
 mod frames;
 mod function;
+mod lists;
 mod memory;
 mod model;
 mod path;
 mod points;
 mod references;
+mod strong;
 mod tally;
 
 use function::{Function, Given, Memories, Outcome, FUNCTIONS};
@@ -39,6 +41,7 @@ fn main() -> ExitCode {
     tallies.push(drag::drags(count as usize, random));
     tallies.extend(frames::frames(count as usize, random));
     tallies.push(edge_points::edge_points(count as usize, random));
+    tallies.push(strong::strong_points(count as usize, random));
     for function in &FUNCTIONS {
         tallies.push(compare(function, count as usize, random));
     }
