@@ -10,7 +10,7 @@ use std::ops::RangeInclusive;
 /// A job of edge points.
 pub fn job(small: bool, random: &mut Random) -> Job {
     let (mut segments, mut edges) = axes::axis(small, random);
-    let given = given(small, random);
+    let mut given = given(small, random);
     let contours = contours(&given.ends);
     let done = random.pick(&[1, 2, 2, 4]);
     for edge in &mut edges {
@@ -24,7 +24,12 @@ pub fn job(small: bool, random: &mut Random) -> Job {
         on_contour(segment, &contours, random);
     }
     match random.below(24) {
-        0 => stray(&mut segments, given.currents.len(), random),
+        0 => {
+            stray(&mut segments, given.currents.len(), random);
+            if random.coin() {
+                go_beyond(&mut segments, &mut edges, &mut given, random);
+            }
+        }
         1 => leave_far(&mut edges, random),
         // one that nobody names, or that is not done where done ones alone are moved by
         2..=5 => edges.push(Edge {
@@ -151,6 +156,20 @@ fn stray(segments: &mut [Segment], count: usize, random: &mut Random) {
     }
     if random.once_in(4) {
         segments[at].first_ix = segments[at].last_ix;
+    }
+}
+
+/// Puts a current, a score or an edge's position beyond its limit: a walk that leaves its contour is told first.
+fn go_beyond(
+    segments: &mut [Segment],
+    edges: &mut [Edge],
+    given: &mut EdgePoints,
+    random: &mut Random,
+) {
+    match random.below(3) {
+        0 => given.currents.iter_mut().for_each(|c| *c = 65_536),
+        1 => segments.iter_mut().for_each(|segment| segment.score = -1),
+        _ => edges.iter_mut().for_each(|edge| edge.pos = 65_536),
     }
 }
 
