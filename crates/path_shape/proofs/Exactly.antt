@@ -10,8 +10,8 @@ use Rattle.contours.specs.Contour.{at}
 use Rattle.pixels.specs.Exact.{over, Exactly}
 use Rattle.pixels.proofs.Exact.{over-exact}
 use Rattle.path_trip.specs.Path.{Points}
-use Rattle.path_shape.specs.Legs.{Spot, point, between, spotPlace}
-use Rattle.path_shape.specs.Doubled.{doubled}
+use Rattle.path_trip.specs.Legs.{Spot, point, between, spotPlace}
+use Rattle.path_trip.specs.Doubled.{doubled}
 
 -- a value is also twice as much over twice as much
 twice : (x : Float) (s : Bool) (a c : ℕ) → HasValue x s a c → HasValue x s (a + a) (2 * c)

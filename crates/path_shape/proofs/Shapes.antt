@@ -14,9 +14,9 @@ use Rattle.outline.specs.Weak.{endsHold}
 use Rattle.path_trip.specs.Path.{Points, points, onCurve, from, front, rest}
 use Rattle.path.specs.Handing.{pathTests}
 use Rattle.path.proofs.Named.{accepted}
-use Rattle.path_shape.specs.Legs.{point, tourBy, tourOf, pictureOf}
+use Rattle.path_trip.specs.Legs.{point, tourBy, tourOf, pictureOf}
 use Rattle.path_shape.specs.Shape.{here, lastOn, Shaped, AllShaped}
-use Rattle.path_shape.proofs.Pictures.{steps-are}
+use Rattle.path_trip.proofs.Pictures.{steps-are}
 use Rattle.path_shape.proofs.Ends.{occurs, here-not, here-is, ends-are, lines-few, occurs-two, occurs-once, parts-whole, first-on, none-on}
 
 neither-way : (b : Bool) → _≡_ {A = ℕ} (cond b 0 0) 0

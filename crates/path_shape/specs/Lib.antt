@@ -1,5 +1,3 @@
--- The words of the theorems on paths: the steps of a contour by indices of points, the shape that they have, the numbers of places, and the steps that calls hand out one after the other.
-pub mod Legs
+-- The words of the theorems on paths: the shape that the steps of a contour have, and the steps that calls hand out one after the other.
 pub mod Shape
-pub mod Doubled
 pub mod Stepping

@@ -5,7 +5,7 @@ use mathlib.Core.List.{List, [], _∷_}
 use Prim.Native.Nat.{ℕ, suc, _+_, _≤_, _<_}
 use lib.Dec.{eqb}
 use Rattle.path_trip.specs.Path.{Points, onCurve, roundOf, stepsOf}
-use Rattle.path_shape.specs.Legs.{Spot, point, between, Leg, line, curve, Tour, tourOf, legsOf, pictureOf}
+use Rattle.path_trip.specs.Legs.{Spot, point, between, Leg, line, curve, Tour, tourOf, legsOf, pictureOf}
 
 -- ---- how often a point is an end
 -- 1 where j is the point i, else 0

@@ -3,10 +3,10 @@ use mathlib.Core.Path.{_≡_, refl, ap, _∙_}
 use mathlib.Core.Bool.{Bool, true, false, cond}
 use mathlib.Core.List.{List, [], _∷_, _++_}
 use Prim.Native.Nat.{ℕ, suc, _-_}
 use Rattle.path_trip.specs.declared.step.PathStep.{PathStep}
 use Rattle.path_trip.specs.declared.step.PathStep.the-variants.{Move, Line, Curve, Close}
 use Rattle.path_trip.specs.Path.{Points, place, middle, onCurve, from, front, rest, roundBy, roundOf, curveEnd, walked, stepsOf}
-use Rattle.path_shape.specs.Legs.{Spot, point, between, line, curve, spotPlace, pictures, curveTo, legs, tourBy, tourOf, pictureOf}
+use Rattle.path_trip.specs.Legs.{Spot, point, between, line, curve, spotPlace, pictures, curveTo, legs, tourBy, tourOf, pictureOf}
 
 module _ (o : Points) (start : Spot) where
   -- where a curve ends

@@ -2,7 +2,7 @@
 use mathlib.Core.List.{List}
 use lib.IntN.{ℤ, _+ℤ_}
 use Rattle.contours.specs.Contour.{at}
-use Rattle.path_shape.specs.Legs.{Spot, point, between}
+use Rattle.path_trip.specs.Legs.{Spot, point, between}
 
 -- twice the coordinate of a place, in units: this over 128 is its number in pixels
 abbrev pub doubled : List ℤ → Spot → ℤ

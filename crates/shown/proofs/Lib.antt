@@ -1,0 +1,2 @@
+-- `Worked`, small outlines by hand.
+pub mod Worked

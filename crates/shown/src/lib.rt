@@ -1,0 +1,1 @@
+// What the display shows of an outline, black pixels and their Euler number: the definitions.

@@ -1,0 +1,5 @@
+-- The laws by subject: `Euler`, the Euler number by turns; `Ceilings`, columns behind a crossing; `Closed`, chains that close, and the places of curves; `Totals`, rows of changes.
+pub mod Euler
+pub mod Ceilings
+pub mod Closed
+pub mod Totals
