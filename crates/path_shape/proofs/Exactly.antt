@@ -10,7 +10,9 @@ use Rattle.contours.specs.Contour.{at}
 use Rattle.pixels.specs.Exact.{over, Exactly}
 use Rattle.pixels.proofs.Exact.{over-exact}
 use Rattle.path_trip.specs.Path.{Points}
-use Rattle.path_trip.specs.Legs.{Spot, point, between, spotPlace}
+use Rattle.path_trip.specs.declared.tour.Spot.{Spot}
+use Rattle.path_trip.specs.declared.tour.Spot.the-variants.{Point, Between}
+use Rattle.path_trip.specs.Legs.{spotPlace}
 use Rattle.path_trip.specs.Doubled.{doubled}
 
 -- a value is also twice as much over twice as much
@@ -27,8 +29,8 @@ by-128 (negsuc n) =
 
 -- a place of a path
 pub exact : (o : Points) (s : Spot) → Exactly (spotPlace o s .x) (doubled (o .xs) s) 128 × Exactly (spotPlace o s .y) (doubled (o .ys) s) 128
-exact o (point i) = (by-128 (at (o .xs) i), by-128 (at (o .ys) i))
-exact o (between i j) = (over-exact (at (o .xs) i +ℤ at (o .xs) j) 7, over-exact (at (o .ys) i +ℤ at (o .ys) j) 7)
+exact o (Point i) = (by-128 (at (o .xs) i), by-128 (at (o .ys) i))
+exact o (Between i j) = (over-exact (at (o .xs) i +ℤ at (o .xs) j) 7, over-exact (at (o .ys) i +ℤ at (o .ys) j) 7)
 
 -- zero has no sign
 pub zero-plus : (k : ℕ) → over (pos 0) k ≡ fin false 0 (pos 0)

@@ -14,7 +14,8 @@ use Rattle.outline.specs.Weak.{endsHold}
 use Rattle.path_trip.specs.Path.{Points, points, onCurve, from, front, rest}
 use Rattle.path.specs.Handing.{pathTests}
 use Rattle.path.proofs.Named.{accepted}
-use Rattle.path_trip.specs.Legs.{point, tourBy, tourOf, pictureOf}
+use Rattle.path_trip.specs.declared.tour.Spot.the-variants.{Point}
+use Rattle.path_trip.specs.Legs.{tourBy, tourOf, pictureOf}
 use Rattle.path_shape.specs.Shape.{here, lastOn, Shaped, AllShaped}
 use Rattle.path_trip.proofs.Pictures.{steps-are}
 use Rattle.path_shape.proofs.Ends.{occurs, here-not, here-is, ends-are, lines-few, occurs-two, occurs-once, parts-whole, first-on, none-on}
@@ -54,14 +55,14 @@ module _ (o : Points) (a e : ℕ) (h : a ≤ e) where
         steps = steps-are o a e ∙ ap (λ (l : List ℕ). pictureOf o (tourBy a e (front o whole) l)) q;
         starts = (g .low, omega (arith, g .high), g .on, g .off);
         once = λ i x y on n.
-            let z = here-not i f (λ p. n (ap point (sym p))) in
+            let z = here-not i f (λ p. n (ap Point (sym p))) in
             let w = ap (cond (lastOn o true walk) 0) z ∙ neither-way (lastOn o true walk) in
-            ends-are o (point f) i on walk ∙ omega (arith, z, w, parted i f behind q x y, occurs-two i behind (front o whole));
+            ends-are o (Point f) i on walk ∙ omega (arith, z, w, parted i f behind q x y, occurs-two i behind (front o whole));
         start-ends =
             let z = here-is f f refl in
             let m = parted f f behind q (g .low) (omega (arith, g .high)) in
             let w : occurs f walk ≡ 0 = omega (arith, z, m, occurs-two f behind (front o whole)) in
-            (omega (arith, w, lines-few o (point f) f true walk), ends-are o (point f) f (g .on) walk ∙ (λ k. w k + cond (lastOn o true walk) 0 (z k)) ∙ omega arith);
+            (omega (arith, w, lines-few o (Point f) f true walk), ends-are o (Point f) f (g .on) walk ∙ (λ k. w k + cond (lastOn o true walk) 0 (z k)) ∙ omega arith);
       }
 
 -- every contour of an outline whose ends hold

@@ -6,7 +6,9 @@ use Prim.Native.Nat.{ℕ, suc, _-_}
 use Rattle.path_trip.specs.declared.step.PathStep.{PathStep}
 use Rattle.path_trip.specs.declared.step.PathStep.the-variants.{Move, Line, Curve, Close}
 use Rattle.path_trip.specs.Path.{Points, place, middle, onCurve, from, front, rest, roundBy, roundOf, curveEnd, walked, stepsOf}
-use Rattle.path_trip.specs.Legs.{Spot, point, between, line, curve, spotPlace, pictures, curveTo, legs, tourBy, tourOf, pictureOf}
+use Rattle.path_trip.specs.declared.tour.Spot.{Spot}
+use Rattle.path_trip.specs.declared.tour.Spot.the-variants.{Point, Between}
+use Rattle.path_trip.specs.Legs.{line, curve, spotPlace, pictures, curveTo, legs, tourBy, tourOf, pictureOf}
 
 module _ (o : Points) (start : Spot) where
   -- where a curve ends
@@ -15,7 +17,7 @@ module _ (o : Points) (start : Spot) where
   curve-end i [] = refl
   curve-end i (j ∷ js) = by (onCurve o j)
     where
-      by : (b : Bool) → cond b (place o j) (middle o i j) ≡ spotPlace o (cond b (point j) (between i j))
+      by : (b : Bool) → cond b (place o j) (middle o i j) ≡ spotPlace o (cond b (Point j) (Between i j))
       by true = refl
       by false = refl
 
@@ -48,3 +50,8 @@ steps-are o a e =
     let f = front o (from a (suc e - a)) in
     let r = rest o (from a (suc e - a)) in
     ap (stepsOf o) (round-is o a e f r) ∙ ap (λ (l : List PathStep). Move (spotPlace o (tourBy a e f r .start)) ∷ l) (walk-is o (tourBy a e f r .start) true (tourBy a e f r .walk))
+
+-- and its start and walk
+pub round-of : (o : Points) (a e : ℕ) → roundOf o a e ≡ record { start = spotPlace o (tourOf o a e .start); walk = tourOf o a e .walk }
+unfolding roundOf tourOf
+round-of o a e = round-is o a e (front o (from a (suc e - a))) (rest o (from a (suc e - a)))

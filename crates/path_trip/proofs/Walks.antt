@@ -10,9 +10,11 @@ use borrow.Author.Tests.{lt-ltb, le-ltb}
 use Rattle.signed.proofs.Signed.{lt-or-le}
 use lib.ListN.{length, getD, length-append, List·getD-append}
 use lib.Seq.{getD-append-add}
-use Rattle.pixels.specs.declared.PixelPoint.{PixelPoint}
-use Rattle.path_trip.specs.Path.{Points, onCurve, place, middle, from, front, rest, Round, roundBy, roundOf}
-use Rattle.path_trip.specs.Trips.{First, around, Walk}
+use Rattle.path_trip.specs.Path.{Points, onCurve, from, front, rest}
+use Rattle.path_trip.specs.declared.tour.Spot.{Spot}
+use Rattle.path_trip.specs.declared.tour.Spot.the-variants.{Point, Between}
+use Rattle.path_trip.specs.Legs.{Tour, tourBy, tourOf}
+use Rattle.path_trip.specs.Trips.{First, Inside, around, Walk}
 
 -- ---- `from`
 -- how many
@@ -73,21 +75,21 @@ module _ (o : Points) where
   unfolding from rest
   rest-none a = refl
 
--- ---- the round of a contour
+-- ---- the tour of a contour
 -- with an on-curve point
-round-some : (o : Points) (a e : ℕ) (before : List ℕ) (f : ℕ) (behind l : List ℕ) → l ≡ f ∷ behind → roundBy o a e before l ≡ record { start = place o f; walk = behind ++ before }
-unfolding roundBy
-round-some o a e before f behind l q = rw q
+by-some : (a e : ℕ) (before : List ℕ) (f : ℕ) (behind l : List ℕ) → l ≡ f ∷ behind → tourBy a e before l ≡ record { start = Point f; walk = behind ++ before }
+unfolding tourBy
+by-some a e before f behind l q = rw q
 
 -- with none
-round-none : (o : Points) (a e : ℕ) (before l : List ℕ) → l ≡ [] → roundBy o a e before l ≡ record { start = middle o e a; walk = from a (suc e - a) }
-unfolding roundBy
-round-none o a e before l q = rw q
+by-none : (a e : ℕ) (before l : List ℕ) → l ≡ [] → tourBy a e before l ≡ record { start = Between e a; walk = from a (suc e - a) }
+unfolding tourBy
+by-none a e before l q = rw q
 
 module _ (o : Points) (a e f : ℕ) (h : a < e) (r : First (o .marks) a e f) where
-  some-round : f < e → roundOf o a (e - 1) ≡ record { start = place o f; walk = from (f + 1) (e - f - 1) ++ from a (f - a) }
-  unfolding roundOf
-  some-round l =
+  some-tour : f < e → tourOf o a (e - 1) ≡ record { start = Point f; walk = from (f + 1) (e - f - 1) ++ from a (f - a) }
+  unfolding tourOf
+  some-tour l =
       let n = suc (e - 1) - a in
       let fa : a + (f - a) ≡ f = omega (arith, r .low) in
       let here : 0 < getD (o .marks) (a + (f - a)) 0 = rw fa (r .here l) in
@@ -97,16 +99,16 @@ module _ (o : Points) (a e f : ℕ) (h : a < e) (r : First (o .marks) a e f) whe
       let p = front-clear o (f - a) a n (omega (arith, r .low)) cl ∙ ap (λ x. from a (f - a) ++ x) (front-on o (a + (f - a)) m (n - (f - a)) nm here) ∙ append-nil _ in
       let q = rest-clear o (f - a) a n (omega (arith, r .low)) cl ∙ rest-on o (a + (f - a)) m (n - (f - a)) nm here in
       let fs : suc (a + (f - a)) ≡ f + 1 = omega arith in
-      round-some o a (e - 1) _ _ _ _ q ∙ λ i. record { start = place o (fa i); walk = from (fs i) m ++ p i }
+      by-some a (e - 1) _ _ _ _ q ∙ λ i. record { start = Point (fa i); walk = from (fs i) m ++ p i }
 
-  none-round : e ≤ f → roundOf o a (e - 1) ≡ record { start = middle o (e - 1) a; walk = from a (e - a) }
-  unfolding roundOf
-  none-round l =
+  none-tour : e ≤ f → tourOf o a (e - 1) ≡ record { start = Between (e - 1) a; walk = from a (e - a) }
+  unfolding tourOf
+  none-tour l =
       let n = suc (e - 1) - a in
       let na : n ≡ e - a = omega arith in
       let z0 : n - n ≡ 0 = omega arith in
       let q = rest-clear o n a n (omega arith) (λ z x y. r .clear z (omega (arith, r .high)) y) ∙ ap (λ k. rest o (from (a + n) k)) z0 ∙ rest-none o (a + n) in
-      round-none o a (e - 1) _ _ q ∙ λ i. record { start = middle o (e - 1) a; walk = from a (na i) }
+      by-none a (e - 1) _ _ q ∙ λ i. record { start = Between (e - 1) a; walk = from a (na i) }
 
 -- ---- the walks go around
 -- below the end
@@ -145,10 +147,23 @@ module _ (a e f : ℕ) (h : a < e) (low : a ≤ f) (l : f < e) where
 walk-none : (a e : ℕ) → a < e → Walk (from a (e - a)) a e a (e - a)
 walk-none a e h = record { len = length-from a (e - a); each = λ j x. at-from a (e - a) j x ∙ sym (around-low a e (a + j) (omega arith)); inside = omega arith; from-a = omega arith }
 
--- ---- what `trip_of` finds
+-- ---- what `tour_of` finds
 module _ (o : Points) (a e f : ℕ) (h : a < e) (r : First (o .marks) a e f) where
-  pub trip-some : f < e → (p : PixelPoint) → p ≡ place o f → (p ≡ roundOf o a (e - 1) .start) × Walk (roundOf o a (e - 1) .walk) a e (f + 1) (e - a - 1)
-  trip-some l p q = (q ∙ ap (λ x. x .start) (sym (some-round o a e f h r l)), subst (λ (w : Round). Walk (w .walk) a e (f + 1) (e - a - 1)) (sym (some-round o a e f h r l)) (walk-some a e f h (r .low) l))
+  pub tour-some : f < e → (Point f ≡ tourOf o a (e - 1) .start) × Inside e (Point f) × Walk (tourOf o a (e - 1) .walk) a e (f + 1) (e - a - 1)
+  tour-some l = (
+    ap (λ (x : Tour). x .start) (sym (some-tour o a e f h r l)),
+    l,
+    subst (λ (w : Tour). Walk (w .walk) a e (f + 1) (e - a - 1)) (sym (some-tour o a e f h r l)) (walk-some a e f h (r .low) l),
+  )
 
-  pub trip-none : e ≤ f → (p : PixelPoint) → p ≡ middle o (e - 1) a → (p ≡ roundOf o a (e - 1) .start) × Walk (roundOf o a (e - 1) .walk) a e a (e - a)
-  trip-none l p q = (q ∙ ap (λ x. x .start) (sym (none-round o a e f h r l)), subst (λ (w : Round). Walk (w .walk) a e a (e - a)) (sym (none-round o a e f h r l)) (walk-none a e h))
+  pub tour-none : e ≤ f → (Between (e - 1) a ≡ tourOf o a (e - 1) .start) × Inside e (Between (e - 1) a) × Walk (tourOf o a (e - 1) .walk) a e a (e - a)
+  tour-none l = (
+    ap (λ (x : Tour). x .start) (sym (none-tour o a e f h r l)),
+    (omega arith, h),
+    subst (λ (w : Tour). Walk (w .walk) a e a (e - a)) (sym (none-tour o a e f h r l)) (walk-none a e h),
+  )
+
+-- what is below a smaller count
+pub inside-more : (n m : ℕ) → n ≤ m → (s : Spot) → Inside n s → Inside m s
+inside-more n m h (Point i) l = omega arith
+inside-more n m h (Between i j) l = (omega (arith, l .0), omega (arith, l .1))

@@ -2,9 +2,10 @@
 use mathlib.Core.List.{List}
 use lib.IntN.{ℤ, _+ℤ_}
 use Rattle.contours.specs.Contour.{at}
-use Rattle.path_trip.specs.Legs.{Spot, point, between}
+use Rattle.path_trip.specs.declared.tour.Spot.{Spot}
+use Rattle.path_trip.specs.declared.tour.Spot.the-variants.{Point, Between}
 
 -- twice the coordinate of a place, in units: this over 128 is its number in pixels
 abbrev pub doubled : List ℤ → Spot → ℤ
-doubled l (point i) = at l i +ℤ at l i
-doubled l (between i j) = at l i +ℤ at l j
+doubled l (Point i) = at l i +ℤ at l i
+doubled l (Between i j) = at l i +ℤ at l j

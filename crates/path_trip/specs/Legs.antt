@@ -5,12 +5,9 @@ use Prim.Native.Nat.{ℕ, suc, _-_}
 use Rattle.pixels.specs.declared.PixelPoint.{PixelPoint}
 use Rattle.path_trip.specs.declared.step.PathStep.{PathStep}
 use Rattle.path_trip.specs.declared.step.PathStep.the-variants.{Move, Line, Curve, Close}
+use Rattle.path_trip.specs.declared.tour.Spot.{Spot}
+use Rattle.path_trip.specs.declared.tour.Spot.the-variants.{Point, Between}
 use Rattle.path_trip.specs.Path.{Points, place, middle, onCurve, from, front, rest}
-
--- a place by index: that of a point, or halfway between two points
-pub data Spot : Type 0 where
-  point : ℕ → Spot
-  between : ℕ → ℕ → Spot
 
 -- a line to a point, or a curve by a point as control to a place
 pub data Leg : Type 0 where
@@ -19,8 +16,8 @@ pub data Leg : Type 0 where
 
 -- ---- the picture
 abbrev pub spotPlace : Points → Spot → PixelPoint
-spotPlace o (point i) = place o i
-spotPlace o (between i j) = middle o i j
+spotPlace o (Point i) = place o i
+spotPlace o (Between i j) = middle o i j
 
 abbrev pub pictured : Points → Leg → PathStep
 pictured o (line i) = Line (place o i)
@@ -34,7 +31,7 @@ pictures o (l ∷ ls) = pictured o l ∷ pictures o ls
 -- where the curve by the off-curve point i ends, with these points to come
 unfoldable pub curveTo : Points → Spot → ℕ → List ℕ → Spot
 curveTo o start i [] = start
-curveTo o start i (j ∷ js) = cond (onCurve o j) (point j) (between i j)
+curveTo o start i (j ∷ js) = cond (onCurve o j) (Point j) (Between i j)
 
 -- the legs from these points on; `on`: whether the point in front of them is on the curve
 unfoldable pub legs : Points → Spot → Bool → List ℕ → List Leg
@@ -48,8 +45,8 @@ pub record Tour : Type 0 where
   pub walk : List ℕ
 
 unfoldable pub tourBy : ℕ → ℕ → List ℕ → List ℕ → Tour
-tourBy a e before [] = record { start = between e a; walk = from a (suc e - a) }
-tourBy a e before (f ∷ behind) = record { start = point f; walk = behind ++ before }
+tourBy a e before [] = record { start = Between e a; walk = from a (suc e - a) }
+tourBy a e before (f ∷ behind) = record { start = Point f; walk = behind ++ before }
 
 unfoldable pub tourOf : Points → ℕ → ℕ → Tour
 tourOf o a e = tourBy a e (front o (from a (suc e - a))) (rest o (from a (suc e - a)))

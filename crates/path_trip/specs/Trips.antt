@@ -8,6 +8,8 @@ use lib.ListN.{length, getD}
 use lib.IntN.{ℤ, natAbs}
 use Rattle.contours.specs.Limits.{mostPoints, mostResult}
 use Rattle.contours.specs.Contour.{at}
+use Rattle.path_trip.specs.declared.tour.Spot.{Spot}
+use Rattle.path_trip.specs.declared.tour.Spot.the-variants.{Point, Between}
 use Rattle.path_trip.specs.Path.{Points}
 
 -- every coordinate of the list is one that weak points can leave
@@ -37,6 +39,11 @@ pub record First (t : List ℕ) (a e f : ℕ) : Type 0 where
 -- the index i, come around from e to a
 abbrev pub around : ℕ → ℕ → ℕ → ℕ
 around a e i = cond (ltb i e) i (i - e + a)
+
+-- a spot is of points below n
+abbrev pub Inside : ℕ → Spot → Type 0
+Inside n (Point i) = i < n
+Inside n (Between i j) = (i < n) × (j < n)
 
 -- w goes around the contour from s on, by n points
 pub record Walk (w : List ℕ) (a e s n : ℕ) : Type 0 where

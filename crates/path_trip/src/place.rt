@@ -1,4 +1,5 @@
 // Places of an outline's points.
+use super::tour::Spot;
 use pixels::PixelPoint;
 use pixels::halfway_point;
 use pixels::pixel_point;
@@ -6,7 +7,8 @@ ghost use mathlib.Core.Path.{_≡_};
 ghost use Prim.Native.Nat.{_<_};
 ghost use lib.ListN.{length};
 ghost use Rattle.path_trip.specs.Path.{points, place, middle};
-ghost use Rattle.path_trip.specs.Trips.{Admitted};
+ghost use Rattle.path_trip.specs.Legs.{spotPlace};
+ghost use Rattle.path_trip.specs.Trips.{Admitted, Inside};
 
 // The place of the point `i`.
 pub fn place_of(xs: &[i32], ys: &[i32], marks: &[u8], i: usize) -> PixelPoint
@@ -30,4 +32,16 @@ pub fn middle_of(xs: &[i32], ys: &[i32], marks: &[u8], i: usize, j: usize) -> Pi
     let u = xs[j];
     let v = ys[j];
     halfway_point(x, y, u, v)
+}
+
+// The place that a spot names.
+pub fn spot_place(xs: &[i32], ys: &[i32], marks: &[u8], spot: Spot) -> PixelPoint
+    requires { ⌜ Admitted (points (now xs) (now ys) (now marks)) ⌝ }
+    requires { ⌜ Inside (length (now xs)) spot ⌝ }
+    ensures { λ r. ⌜ r ≡ spotPlace (points (now (xs .entry)) (now (ys .entry)) (now (marks .entry))) spot ⌝ }
+{
+    match spot {
+        Spot::Point(i) => place_of(xs, ys, marks, i),
+        Spot::Between(i, j) => middle_of(xs, ys, marks, i, j),
+    }
 }

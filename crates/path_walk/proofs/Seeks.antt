@@ -1,6 +1,6 @@
 -- Step k of a list of steps: one point of a walk at a time, one contour at a time.
 use mathlib.Core.Path.{_≡_, refl, sym, ap, _∙_}
-use mathlib.Core.Bool.{Bool, true, false}
+use mathlib.Core.Bool.{Bool, true, false, cond}
 use mathlib.Core.List.{List, [], _∷_, _++_}
 use Prim.Native.Nat.{ℕ, zero, suc, _+_, _-_, _≤_, _<_}
 use native.Mathlib.Numerals.{add-one}
@@ -9,11 +9,12 @@ use lib.ListN.{length, getD, drop, drop-of-length-le}
 use Rattle.pixels.specs.declared.PixelPoint.{PixelPoint}
 use Rattle.path_trip.specs.declared.step.PathStep.{PathStep}
 use Rattle.path_trip.specs.declared.step.PathStep.the-variants.{Move, Line, Curve, Close}
+use Rattle.path_walk.specs.declared.walk.End.the-variants.{Start, Point, Between}
 use Rattle.path_walk.specs.declared.walk.Sought.{Sought}
 use Rattle.path_walk.specs.declared.walk.Sought.the-variants.{Here, Past}
 use Rattle.path_trip.specs.Path.{Points, place, middle, onCurve, Round, roundOf, curveEnd, walked, stepsOf, pathFrom, path}
 use Rattle.path_trip.specs.Trips.{around, Walk}
-use Rattle.path_walk.specs.Steps.{seek, countOf, stepOf}
+use Rattle.path_walk.specs.Steps.{seek, countOf, stepOf, endOf, endPlace}
 use Rattle.outline.proofs.Refusals.{drop-one}
 
 -- ---- one list of steps
@@ -62,6 +63,29 @@ in-past [] k l e = omega arith
 in-past (t ∷ p) zero l e = let z : _≡_ {A = ℕ} 0 1 = cc in let y : ⊥ = omega arith in absurd y
 in-past (t ∷ p) (suc k) l e = omega (arith, in-past p k l e)
 
+-- ---- a walk
+module _ (w : List ℕ) (a e s n : ℕ) (t : Walk w a e s n) where
+  -- from its place j on
+  one-more : (j : ℕ) → j < n → drop j w ≡ around a e (s + j) ∷ drop (j + 1) w
+  one-more j h = drop-one w j 0 (omega (arith, t .len)) ∙ ap (λ i. i ∷ drop (j + 1) w) (t .each j h)
+
+  module _ (o : Points) where
+    -- ---- where a curve ends
+    pub end-last : (i j : ℕ) → n - j ≡ 1 → endOf o i (drop (j + 1) w) ≡ Start
+    unfolding endOf
+    end-last i j h = rw (drop-of-length-le w {i = j + 1} (omega (arith, t .len)))
+
+    next-more : (j : ℕ) → j < n → (n - j ≡ 1 → ⊥) → drop (j + 1) w ≡ around a e (s + j + 1) ∷ drop (j + 1 + 1) w
+    next-more j l h = let p : s + (j + 1) ≡ s + j + 1 = omega arith in one-more (j + 1) (omega arith) ∙ ap (λ (i : ℕ). around a e i ∷ drop (j + 1 + 1) w) p
+
+    pub end-on : (i j : ℕ) → j < n → (n - j ≡ 1 → ⊥) → onCurve o (around a e (s + j + 1)) ≡ true → endOf o i (drop (j + 1) w) ≡ Point (around a e (s + j + 1))
+    unfolding endOf
+    end-on i j l h q = rw (next-more j l h, q)
+
+    pub end-off : (i j : ℕ) → j < n → (n - j ≡ 1 → ⊥) → onCurve o (around a e (s + j + 1)) ≡ false → endOf o i (drop (j + 1) w) ≡ Between i (around a e (s + j + 1))
+    unfolding endOf
+    end-off i j l h q = rw (next-more j l h, q)
+
 -- ---- one walk
 module _ (o : Points) (start : PixelPoint) where
   turn-first : (i : ℕ) (is : List ℕ) (on joined : Bool) (k : ℕ) → onCurve o i ≡ on → k < countOf on joined → seek (walked o start joined (i ∷ is)) k ≡ Here (stepOf o start i is)
@@ -98,25 +122,21 @@ module _ (o : Points) (start : PixelPoint) where
   closes joined = refl
 
   module _ (w : List ℕ) (a e s n : ℕ) (t : Walk w a e s n) where
-    -- the walk from its place j on
-    one-more : (j : ℕ) → j < n → drop j w ≡ around a e (s + j) ∷ drop (j + 1) w
-    one-more j h = drop-one w j 0 (omega (arith, t .len)) ∙ ap (λ i. i ∷ drop (j + 1) w) (t .each j h)
-
     pub walk-first : (j : ℕ) → j < n → (on joined : Bool) (k : ℕ) → onCurve o (around a e (s + j)) ≡ on → k < countOf on joined
         → seek (walked o start joined (drop j w)) k ≡ Here (stepOf o start (around a e (s + j)) (drop (j + 1) w))
-    walk-first j h on joined k q l = ap (λ (x : List ℕ). seek (walked o start joined x) k) (one-more j h) ∙ turn-first (around a e (s + j)) (drop (j + 1) w) on joined k q l
+    walk-first j h on joined k q l = ap (λ (x : List ℕ). seek (walked o start joined x) k) (one-more w a e s n t j h) ∙ turn-first (around a e (s + j)) (drop (j + 1) w) on joined k q l
 
     pub walk-next : (j : ℕ) → j < n → (on joined : Bool) (k : ℕ) → onCurve o (around a e (s + j)) ≡ on → countOf on joined ≤ k
         → seek (walked o start joined (drop j w)) k ≡ seek (walked o start on (drop (j + 1) w)) (k - countOf on joined)
-    walk-next j h on joined k q l = ap (λ (x : List ℕ). seek (walked o start joined x) k) (one-more j h) ∙ turn-next (around a e (s + j)) (drop (j + 1) w) on joined k q l
+    walk-next j h on joined k q l = ap (λ (x : List ℕ). seek (walked o start joined x) k) (one-more w a e s n t j h) ∙ turn-next (around a e (s + j)) (drop (j + 1) w) on joined k q l
 
     pub walk-none : (j : ℕ) → j < n → (on joined : Bool) → onCurve o (around a e (s + j)) ≡ on → countOf on joined ≡ 0
         → walked o start joined (drop j w) ≡ walked o start on (drop (j + 1) w)
-    walk-none j h on joined q l = ap (walked o start joined) (one-more j h) ∙ turn-none (around a e (s + j)) (drop (j + 1) w) on joined q l
+    walk-none j h on joined q l = ap (walked o start joined) (one-more w a e s n t j h) ∙ turn-none (around a e (s + j)) (drop (j + 1) w) on joined q l
 
     pub walk-some : (j : ℕ) → j < n → (on joined : Bool) → onCurve o (around a e (s + j)) ≡ on → (countOf on joined ≡ 0 → ⊥)
         → walked o start joined (drop j w) ≡ stepOf o start (around a e (s + j)) (drop (j + 1) w) ∷ walked o start on (drop (j + 1) w)
-    walk-some j h on joined q l = ap (walked o start joined) (one-more j h) ∙ turn-some (around a e (s + j)) (drop (j + 1) w) on joined q l
+    walk-some j h on joined q l = ap (walked o start joined) (one-more w a e s n t j h) ∙ turn-some (around a e (s + j)) (drop (j + 1) w) on joined q l
 
     pub walk-closed : (j : ℕ) → n ≤ j → (joined : Bool) → walked o start joined (drop j w) ≡ Close ∷ []
     walk-closed j h joined = ap (walked o start joined) (drop-of-length-le w {i = j} (omega (arith, t .len))) ∙ closes joined
@@ -127,21 +147,15 @@ module _ (o : Points) (start : PixelPoint) where
     pub walk-past : (j : ℕ) → n ≤ j → (joined : Bool) (k : ℕ) → (k ≡ 0 → ⊥) → seek (walked o start joined (drop j w)) k ≡ Past (k - 1)
     walk-past j h joined k z = ap (λ (x : List PathStep). seek x k) (walk-closed j h joined) ∙ seek-next Close [] k (omega arith) ∙ past-all (k - 1)
 
-    -- ---- where a curve ends
-    pub curve-last : (i j : ℕ) → n - j ≡ 1 → curveEnd o start i (drop (j + 1) w) ≡ start
-    unfolding curveEnd
-    curve-last i j h = rw (drop-of-length-le w {i = j + 1} (omega (arith, t .len)))
-
-    next-more : (j : ℕ) → j < n → (n - j ≡ 1 → ⊥) → drop (j + 1) w ≡ around a e (s + j + 1) ∷ drop (j + 1 + 1) w
-    next-more j l h = let p : s + (j + 1) ≡ s + j + 1 = omega arith in one-more (j + 1) (omega arith) ∙ ap (λ (i : ℕ). around a e i ∷ drop (j + 1 + 1) w) p
-
-    pub curve-on : (i j : ℕ) → j < n → (n - j ≡ 1 → ⊥) → onCurve o (around a e (s + j + 1)) ≡ true → curveEnd o start i (drop (j + 1) w) ≡ place o (around a e (s + j + 1))
-    unfolding curveEnd
-    curve-on i j l h q = rw (next-more j l h, q)
-
-    pub curve-off : (i j : ℕ) → j < n → (n - j ≡ 1 → ⊥) → onCurve o (around a e (s + j + 1)) ≡ false → curveEnd o start i (drop (j + 1) w) ≡ middle o i (around a e (s + j + 1))
-    unfolding curveEnd
-    curve-off i j l h q = rw (next-more j l h, q)
+-- the place of a curve's end
+pub end-place : (o : Points) (start : PixelPoint) (i : ℕ) (is : List ℕ) → curveEnd o start i is ≡ endPlace o start (endOf o i is)
+unfolding curveEnd endOf
+end-place o start i [] = refl
+end-place o start i (j ∷ js) = by (onCurve o j)
+  where
+    by : (b : Bool) → cond b (place o j) (middle o i j) ≡ endPlace o start (cond b (Point j) (Between i j))
+    by true = refl
+    by false = refl
 
 -- the step of a point
 pub step-line : (o : Points) (start : PixelPoint) (i : ℕ) (is : List ℕ) (p : PixelPoint) → onCurve o i ≡ true → p ≡ place o i → Line p ≡ stepOf o start i is

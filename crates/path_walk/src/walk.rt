@@ -12,7 +12,7 @@ ghost use Prim.Native.Nat.{_+_, _-_, _<_};
 ghost use lib.ListN.{drop};
 ghost use Rattle.path_trip.specs.Path.{points, roundOf, curveEnd, stepsOf};
 ghost use Rattle.path_trip.specs.Trips.{Admitted, Within, around, Walk};
-ghost use Rattle.path_walk.specs.Steps.{seek, countOf, stepOf};
+ghost use Rattle.path_walk.specs.Steps.{seek, countOf, stepOf, endOf, EndInside};
 
 // A step of a list of steps, or how far a number is behind the list's end.
 pub enum Sought {
@@ -33,6 +33,42 @@ pub fn count_of(on: bool, joined: bool) -> usize
     1
 }
 
+// Where a curve ends: at its contour's start, at a point, or halfway between two.
+pub enum End {
+    Start,
+    Point(usize),
+    Between(usize, usize),
+}
+
+// Where the curve by the point at place `j` of a walk ends: of `count` points, from `from` on.
+pub fn end_of(
+    xs: &[i32],
+    ys: &[i32],
+    marks: &[u8],
+    a: usize,
+    e: usize,
+    from: usize,
+    count: usize,
+    j: usize,
+) -> End
+    requires { ⌜ Admitted (points (now xs) (now ys) (now marks)) ⌝ }
+    requires { ⌜ Within (points (now xs) (now ys) (now marks)) a e ⌝ }
+    requires { ⌜ Walk (roundOf (points (now xs) (now ys) (now marks)) a (e - 1) .walk) a e from count ⌝ }
+    requires { ⌜ j < count ⌝ }
+    ensures { λ r. ⌜ (r ≡ endOf (points (now (xs .entry)) (now (ys .entry)) (now (marks .entry))) (around a e (from + j))
+        (drop (j + 1) (roundOf (points (now (xs .entry)) (now (ys .entry)) (now (marks .entry))) a (e - 1) .walk))) × EndInside e r ⌝ }
+{
+    if count - j == 1 {
+        return End::Start;
+    }
+    let next = around_at(a, e, from + j + 1);
+    if is_on(marks[next]) {
+        return End::Point(next);
+    }
+    let i = around_at(a, e, from + j);
+    End::Between(i, next)
+}
+
 // Where the curve by the point at place `j` of a trip ends.
 fn curve_end(
     xs: &[i32],
@@ -50,15 +86,12 @@ fn curve_end(
     ensures { λ r. ⌜ r ≡ curveEnd (points (now (xs .entry)) (now (ys .entry)) (now (marks .entry))) (trip .start) (around a e (trip .from + j))
         (drop (j + 1) (roundOf (points (now (xs .entry)) (now (ys .entry)) (now (marks .entry))) a (e - 1) .walk)) ⌝ }
 {
-    if trip.count - j == 1 {
-        return trip.start;
+    let end = end_of(xs, ys, marks, a, e, trip.from, trip.count, j);
+    match end {
+        End::Start => trip.start,
+        End::Point(i) => place_of(xs, ys, marks, i),
+        End::Between(i, k) => middle_of(xs, ys, marks, i, k),
     }
-    let next = around_at(a, e, trip.from + j + 1);
-    if is_on(marks[next]) {
-        return place_of(xs, ys, marks, next);
-    }
-    let i = around_at(a, e, trip.from + j);
-    middle_of(xs, ys, marks, i, next)
 }
 
 // The step of the point at place `j` of a trip, which gives one.

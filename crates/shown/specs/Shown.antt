@@ -9,7 +9,9 @@ use Rattle.shown_rows.specs.Turns.{total, bit, corner, sides, pixel}
 use Rattle.shown_rows.specs.Crossing.{centre}
 use Rattle.shown_rows.specs.Chains.{placeAt}
 use Rattle.path_trip.specs.Path.{Points, from}
-use Rattle.path_trip.specs.Legs.{Spot, point, between, Leg, line, curve, Tour, tourOf, legsOf}
+use Rattle.path_trip.specs.declared.tour.Spot.{Spot}
+use Rattle.path_trip.specs.declared.tour.Spot.the-variants.{Point}
+use Rattle.path_trip.specs.Legs.{Leg, line, curve, Tour, tourOf, legsOf}
 use Rattle.path_trip.specs.Doubled.{doubled}
 
 pub record Place : Type 0 where
@@ -35,8 +37,8 @@ spotAt half m o s = record { x = 256 * halves half m (o .xs) s; y = 256 * halves
 -- the place at k / 16 of the curve from s by the point i to q
 abbrev pub curveAt : ℕ → ℕ → Points → Spot → ℕ → Spot → ℕ → Place
 curveAt half m o s i q k = record {
-  x = placeAt (halves half m (o .xs) s) (halves half m (o .xs) (point i)) (halves half m (o .xs) q) k;
-  y = placeAt (halves half m (o .ys) s) (halves half m (o .ys) (point i)) (halves half m (o .ys) q) k;
+  x = placeAt (halves half m (o .xs) s) (halves half m (o .xs) (Point i)) (halves half m (o .xs) q) k;
+  y = placeAt (halves half m (o .ys) s) (halves half m (o .ys) (Point i)) (halves half m (o .ys) q) k;
 }
 
 unfoldable pub curveBy : ℕ → ℕ → Points → Spot → ℕ → Spot → List ℕ → List Place
@@ -46,7 +48,7 @@ curveBy half m o s i q (k ∷ ks) = curveAt half m o s i q k ∷ curveBy half m 
 -- the places that a contour goes by, from the place s on
 unfoldable pub places : ℕ → ℕ → Points → Spot → List Leg → List Place
 places half m o s [] = []
-places half m o s (line i ∷ ls) = spotAt half m o (point i) ∷ places half m o (point i) ls
+places half m o s (line i ∷ ls) = spotAt half m o (Point i) ∷ places half m o (Point i) ls
 places half m o s (curve i q ∷ ls) = curveBy half m o s i q (from 1 16) ++ places half m o q ls
 
 -- the lines from p by these places, and back to the start

@@ -1,96 +1,66 @@
 -- `path_walk::walk::curve_end` meets its contract. Assumes nothing.
 use borrow.Author.Needs.{needs}
-use mathlib.Core.Path.{sym, ap, _∙_}
-use mathlib.Core.List.{List}
+use mathlib.Core.Path.{_≡_, sym, ap, subst, _∙_}
 use Prim.Native.Nat.{ℕ, _+_, _-_}
 use native.Mathlib.Omega.{arith}
-use lib.Dec.{ltb}
-use lib.ListN.{getD}
-use Rattle.path_trip.specs.Path.{points, Points, place, middle, roundOf}
+use lib.ListN.{drop}
+use Rattle.pixels.specs.declared.PixelPoint.{PixelPoint}
+use Rattle.path_trip.specs.Path.{points, Points, roundOf, curveEnd}
 use Rattle.path_trip.specs.Trips.{around}
-use Rattle.path_walk.proofs.Seeks.{curve-last, curve-on, curve-off}
+use Rattle.path_walk.specs.declared.walk.End.{End}
+use Rattle.path_walk.specs.Steps.{EndInside, endPlace}
+use Rattle.path_walk.proofs.Seeks.{end-place}
 use Rattle.path_walk.proofs.walk.curve_end.Statement.{statement}
 use Rattle.path_walk.proofs.walk.curve_end.Tie as tie
 
 abbrev outline : tie.Start → Points
 outline a = points (a .args .xs .now) (a .args .ys .now) (a .args .marks .now)
 
-abbrev walk : tie.Start → List ℕ
-walk a = roundOf (outline a) (a .args .a) (a .args .e - 1) .walk
+-- where the curve ends
+abbrev place-at : tie.Start → PixelPoint
+place-at a =
+    curveEnd (outline a) (a .args .trip .start) (around (a .args .a) (a .args .e) (a .args .trip .from + a .args .j))
+    (drop (a .args .j + 1) (roundOf (outline a) (a .args .a) (a .args .e - 1) .walk))
 
-sub-if1 : tie.Need-sub-if1
-sub-if1 c = search needs
+-- the place of the end that was found
+found : (c : tie.After-end-of) (x : End) → c .end-of .result ≡ x → endPlace (outline (c .before .before)) (c .before .before .args .trip .start) x ≡ place-at (c .before .before)
+found c x q =
+    let a = c .before .before in
+    ap (endPlace (outline a) (a .args .trip .start)) (sym q ∙ c .end-of .ensures .0) ∙ sym (end-place (outline a) (a .args .trip .start) _ _)
 
-returns : tie.Need-returns
-returns c =
-    let a = c .before .before .before .before in
-    sym (curve-last (outline a) (a .args .trip .start) (walk a) (a .args .a) (a .args .e) (a .args .trip .from) (a .args .trip .count) (a .pre .1 .1 .0)
-    (around (a .args .a) (a .args .e) (a .args .trip .from + a .args .j)) (a .args .j) (c .before .if1 .taken))
+end-of-requires : tie.Need-end-of-requires
+end-of-requires c κs = search needs
 
-add-around-at : tie.Need-add-around-at
-add-around-at c = search needs
+enum-told : tie.Need-enum-told
+enum-told c = search needs
 
-add-around-at-2 : tie.Need-add-around-at-2
-add-around-at-2 c = search needs
-
-around-at-requires : tie.Need-around-at-requires
-around-at-requires c κs = search needs
-
-shared-slice-read-is-on : tie.Need-shared-slice-read-is-on
-shared-slice-read-is-on c = search needs
-
-is-on-requires : tie.Need-is-on-requires
-is-on-requires c κs = search needs
+enum-known-end : tie.Need-enum-known-end
+enum-known-end c = search needs
 
 place-of-requires : tie.Need-place-of-requires
-place-of-requires c κs = let a = c .before .before .before .before .before .before .before .before in (a .pre .0, omega (arith, a .pre .1 .0, c .before .before .before .around-at .ensures))
+place-of-requires c κs =
+    let f = c .before .before .before in
+    let a = f .before .before in
+    (a .pre .0, omega (arith, a .pre .1 .0 .inside, subst (EndInside (a .args .e)) (c .before .end .given .1) (f .end-of .ensures .1)))
 
-returns-2 : tie.Need-returns-2
-returns-2 c =
-    let w = c .before .before .before .before in
-    let a = w .before .before .before .before .before in
-    let p = w .around-at .ensures .0 in
-    c .place-of .ensures ∙ ap (place (outline a)) p
-    ∙ sym (curve-on (outline a) (a .args .trip .start) (walk a) (a .args .a) (a .args .e) (a .args .trip .from) (a .args .trip .count) (a .pre .1 .1 .0)
-    (around (a .args .a) (a .args .e) (a .args .trip .from + a .args .j)) (a .args .j) (a .pre .1 .1 .1) (w .before .before .if1 .left)
-    (ap (λ (k : ℕ). ltb 0 (getD (a .args .marks .now) k 0)) (sym p) ∙ sym (c .before .before .is-on .ensures) ∙ c .before .if2 .taken))
-
-add-around-at-3 : tie.Need-add-around-at-3
-add-around-at-3 c = search needs
-
-around-at-requires-2 : tie.Need-around-at-requires-2
-around-at-requires-2 c κs = search needs
+enum-known-end-2 : tie.Need-enum-known-end-2
+enum-known-end-2 c = search needs
 
 middle-of-requires : tie.Need-middle-of-requires
 middle-of-requires c κs =
-    let a = c .before .before .before .before .before .before .before .before .before .before in
-    (a .pre .0, (omega (arith, a .pre .1 .0, c .around-at2 .ensures), omega (arith, a .pre .1 .0, c .before .before .before .before .before .around-at .ensures)))
+    let f = c .before .before .before in
+    let a = f .before .before in
+    let p = subst (EndInside (a .args .e)) (c .before .end2 .given .1) (f .end-of .ensures .1) in
+    (a .pre .0, (omega (arith, a .pre .1 .0 .inside, p .0), omega (arith, a .pre .1 .0 .inside, p .1)))
+
+returns : tie.Need-returns
+returns c = found (c .before .before .before) _ (c .before .enum-told .given .1)
+
+returns-2 : tie.Need-returns-2
+returns-2 c = c .place-of .ensures ∙ found (c .before .before .before .before) _ (c .before .before .end .given .1)
 
 returns-3 : tie.Need-returns-3
-returns-3 c =
-    let w = c .before .before .before .before .before .before in
-    let a = w .before .before .before .before .before in
-    let p = w .around-at .ensures .0 in
-    let q = c .before .around-at2 .ensures .0 in
-    c .middle-of .ensures ∙ (λ z. middle (outline a) (q z) (p z))
-    ∙ sym (curve-off (outline a) (a .args .trip .start) (walk a) (a .args .a) (a .args .e) (a .args .trip .from) (a .args .trip .count) (a .pre .1 .1 .0)
-    (around (a .args .a) (a .args .e) (a .args .trip .from + a .args .j)) (a .args .j) (a .pre .1 .1 .1) (w .before .before .if1 .left)
-    (ap (λ (k : ℕ). ltb 0 (getD (a .args .marks .now) k 0)) (sym p) ∙ sym (c .before .before .before .before .is-on .ensures) ∙ c .before .before .before .if2 .left))
+returns-3 c = c .middle-of .ensures ∙ found (c .before .before .before .before) _ (c .before .before .end2 .given .1)
 
 pub curve-end-spec : {M : Type 1} → statement M
-curve-end-spec =
-    tie.close
-    (tie.spec
-    sub-if1
-    returns
-    add-around-at
-    add-around-at-2
-    around-at-requires
-    shared-slice-read-is-on
-    is-on-requires
-    place-of-requires
-    returns-2
-    add-around-at-3
-    around-at-requires-2
-    middle-of-requires
-    returns-3)
+curve-end-spec = tie.close (tie.spec end-of-requires enum-told enum-known-end place-of-requires enum-known-end-2 middle-of-requires returns returns-2 returns-3)

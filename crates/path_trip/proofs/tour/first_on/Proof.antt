@@ -1,12 +1,12 @@
--- `path_trip::trip::first_on` meets its contract. The invariant: no point passed is on-curve. Assumes nothing.
+-- `path_trip::tour::first_on` meets its contract. The invariant: no point passed is on-curve. Assumes nothing.
 use borrow.Author.Count.{below-more}
 use borrow.Author.Needs.{needs}
 use native.Mathlib.Omega.{arith}
 use mathlib.Core.Path.{_≡_}
 use Prim.Native.Nat.{ℕ, _≤_, _<_, _-_}
 use lib.ListN.{getD}
-use Rattle.path_trip.proofs.trip.first_on.Statement.{statement}
-use Rattle.path_trip.proofs.trip.first_on.Tie as tie
+use Rattle.path_trip.proofs.tour.first_on.Statement.{statement}
+use Rattle.path_trip.proofs.tour.first_on.Tie as tie
 
 abbrev Inv-loop : tie.InvT-loop
 Inv-loop marks from to i₀ i = (from ≤ i) × (i ≤ to) × ((k : ℕ) → k < i → from ≤ k → getD marks k 0 ≡ 0)
