@@ -90,7 +90,7 @@ fn on_axis(
 }
 
 /// The points with their currents on one axis, each with the next one around its contour; a point of no contour has itself.
-fn points(given: &EdgePoints, dim: Dimension) -> Vec<Point> {
+pub(crate) fn points(given: &EdgePoints, dim: Dimension) -> Vec<Point> {
     let point = |(ix, current): (usize, &i32)| {
         let next_ix = contour_of(&given.ends, ix).map_or(ix, |contour| {
             if ix == *contour.end() {

@@ -1,16 +1,19 @@
 //! The given Rust's calls on what is built once, for benchmarks: what is timed is `run` alone.
 
 use crate::{
-    calls,
+    calls, edge_points,
     given::{
         hint_edges::{self, LinkDir},
         hint_outline,
         metrics::{Scale, ScaledAxisMetrics},
-        outline::Outline,
+        outline::{Outline, Point},
         topo::Axis,
         topo_segments,
     },
-    job::{Building, Dimension, Edge, Job, Points, ScriptGroup, Segment, Table, Walk, WidthRule},
+    job::{
+        Building, Dimension, Edge, EdgePoints, Job, Points, ScriptGroup, Segment, Table, Walk,
+        WidthRule,
+    },
     path::Step,
     plain,
 };
@@ -23,6 +26,7 @@ pub enum Prepared {
     Link(Outline, Axis, Vec<Segment>, i32),
     Build(Axis, Vec<Segment>, ScaledAxisMetrics, Building),
     Edges(Axis, Vec<Edge>, Fitting),
+    EdgePoints(Outline, Vec<Point>, Axis, ScriptGroup),
     Path(Walk, Vec<Step>),
 }
 
@@ -73,6 +77,9 @@ impl Prepared {
                 let segments = axis.segments.clone();
                 Self::Build(axis, segments, calls::building_metrics(&given), given)
             }
+            Job::EdgePoints(segments, edges, given) => {
+                Self::edge_points(segments.items, edges.items, &given)
+            }
             Job::Path(walk) | Job::PathStep(walk, _) => {
                 let most = walk.xs.len() + 2 * walk.ends.len();
                 Self::Path(walk, Vec::with_capacity(most))
@@ -87,6 +94,24 @@ impl Prepared {
             calls::outline(&points, Dimension::Vertical),
             points.currents,
         )
+    }
+
+    /// Edge points on the vertical axis, of every edge: the Rust has no filter of done ones.
+    fn edge_points(segments: Vec<Segment>, edges: Vec<Edge>, given: &EdgePoints) -> Self {
+        assert!(!given.done_alone, "the given Rust moves by every edge");
+        let axis = Axis {
+            dim: Dimension::Vertical,
+            segments,
+            edges,
+            ..Axis::default()
+        };
+        let group = if given.snap {
+            ScriptGroup::Default
+        } else {
+            ScriptGroup::Cjk
+        };
+        let points = edge_points::points(given, axis.dim);
+        Self::EdgePoints(Outline::default(), points, axis, group)
     }
 
     /// A job over edges.
@@ -163,6 +188,7 @@ impl Prepared {
                 axis.edges.clear();
             }
             Self::Edges(axis, edges, _) => axis.edges.clone_from(edges),
+            Self::EdgePoints(outline, points, ..) => outline.points.clone_from(points),
             Self::Path(_, steps) => steps.clear(),
         }
     }
@@ -184,6 +210,12 @@ impl Prepared {
             }
             Self::Build(axis, _, metrics, given) => calls::build(axis, metrics, given),
             Self::Edges(axis, _, fitting) => fitting.run(axis),
+            Self::EdgePoints(outline, _, axis, group) => {
+                let scale = calls::scale(false);
+                black_box(hint_outline::align_edge_points(
+                    outline, axis, *group, &scale,
+                ));
+            }
             Self::Path(walk, steps) => plain::steps(walk, steps),
         }
     }

@@ -258,6 +258,13 @@ pub fn far_edge(job: &mut [i32], size: usize) {
     job[2 + EDGE_WORDS * (size - 1) + 1] = 65_536;
 }
 
+/// Sets the fitted position of the last edge of an axis, whose segments stand in front, beyond where points may be.
+pub fn far_position(job: &mut [i32], _: usize) {
+    let edges = 2 + SEGMENT_WORDS * job[1] as usize;
+    let last = job[edges] as usize - 1;
+    job[edges + 1 + EDGE_WORDS * last + 2] = 65_536;
+}
+
 /// A pass over edges, for each group.
 fn by_group(
     name: &'static str,

@@ -1,4 +1,4 @@
-//! The chain of a glyph, step by step: for each axis linking, building, blue zones and stems in one call, and weak points, and behind both the path.
+//! The chain of a glyph, step by step: for each axis linking, building, blue zones and stems in one call, edge points and weak points, and behind both the path.
 
 use crate::{
     cases::{self, Case, Damage, GROUPS, ROUND},
@@ -54,7 +54,7 @@ struct Step {
 /// Prints the steps of each group's chain, and their sum.
 pub fn run() {
     println!("The chain of a glyph of {POINTS} points with {SEGMENTS} segments and {EDGES} edges on each axis: every step on what the step before left. Not timed is what the caller does on");
-    println!("both sides: linking the default group's segments, giving zones, to two of the heights, and moving the points of edges. The Rust's path is the oracle's plain loop.");
+    println!("both sides: linking the default group's segments, and giving zones, to two of the heights. The Rust's path is the oracle's plain loop.");
     for (_, title) in GROUPS {
         let rows = table::table(title);
         Row::sum(&rows, title, "the chain".to_string(), POINTS).print();
@@ -122,7 +122,14 @@ fn fit(glyph: &Glyph, axis: &Axis, group: i32, steps: &mut Vec<Step>) -> Vec<i32
     let answer = answered("blue zones and stems", EDGES, job, cases::far_edge);
     // answer, count and anchor stand in front of the edges
     edges = records::given(&answer[2..], EDGES);
-    let job = outlines::job(&moved(glyph, axis, &segments, &edges));
+    let mut points = untouched(glyph, axis);
+    let job = moving(&segments, &edges, &points);
+    let answer = answered("edge points", POINTS, job, cases::far_position);
+    // answer and count stand in front of the currents, and a count in front of the touch marks
+    points.currents.copy_from_slice(&answer[2..2 + POINTS]);
+    let marks = &answer[3 + POINTS..];
+    points.touches = marks.iter().map(|mark| *mark as u8).collect();
+    let job = outlines::job(&points);
     answered("weak points", POINTS, job, cases::far_point)[2..].to_vec()
 }
 
@@ -172,24 +179,27 @@ fn fitting(edges: &[Edge], axis: &Axis, group: i32) -> Vec<i32> {
     words
 }
 
-/// The points of an axis: those of segments stand at their edges, which are all done, and are touched.
-fn moved(glyph: &Glyph, axis: &Axis, segments: &[Segment], edges: &[Edge]) -> Points {
+/// The points of an axis, at their originals.
+fn untouched(glyph: &Glyph, axis: &Axis) -> Points {
     let scaled = |place: &[i32; 2]| metrics::fixed_mul(place[axis.dimension as usize], SCALE);
     let originals: Vec<i32> = glyph.places.iter().map(scaled).collect();
-    let mut points = Points {
+    Points {
         currents: originals.clone(),
         touches: vec![0; POINTS],
         originals,
         ends: glyph.ends.clone(),
-    };
-    for segment in segments {
-        let edge = segment.edge().expect("every segment has an edge");
-        let edge = &edges[usize::from(edge)];
-        assert!(edge.flags().contains(Flags::DONE), "an edge is passed over");
-        for ix in segment.first()..=segment.last() {
-            points.currents[usize::from(ix)] = edge.pos();
-            points.touches[usize::from(ix)] = 1;
-        }
     }
-    points
+}
+
+/// A job of edge points, which snap to every edge, as the Rust's do: all are done.
+fn moving(segments: &[Segment], edges: &[Edge], points: &Points) -> Vec<i32> {
+    let done = |edge: &Edge| edge.flags().contains(Flags::DONE);
+    assert!(edges.iter().all(done), "an edge is passed over");
+    let mut words = vec![128];
+    words.extend(records::words(SEGMENTS, segments));
+    words.extend(records::words(EDGES, edges));
+    words.extend([1, 0]);
+    // the call is given all that weak points are but the originals
+    words.extend(&outlines::job(points)[2 + POINTS..]);
+    words
 }

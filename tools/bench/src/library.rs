@@ -93,6 +93,12 @@ pub fn answer(words: &[i32]) -> Vec<i32> {
             answer.extend(places.map(bits));
             answer.push(done.map_or(*cursor as i32, |[next, ..]| next));
         }
+        Prepared::EdgePoints(_, _, _, currents, touches) => {
+            answer.push(currents.len() as i32);
+            answer.extend(currents);
+            answer.push(touches.len() as i32);
+            answer.extend(touches.iter().copied().map(i32::from));
+        }
         Prepared::Job(_, out) => answer.extend(out),
         Prepared::Edges(given, edges, call) => {
             answer.extend(beside(call, done));

@@ -3,8 +3,8 @@
 use crate::records;
 use khsaemudol::{
     BluesAndStems, Bounds, Building, Catalogue, CjkStem, Dimension, Direction, Edge, Group,
-    LostGaps, Neighbour, Order, Outline, PathStep, Refusal, Segment, StemPass, Stems, WidthRule,
-    MOST_EDGES,
+    LostGaps, Moving, Neighbour, Order, Outline, PathStep, Refusal, Segment, StemPass, Stems,
+    WidthRule, MOST_EDGES, SEGMENT_WORDS,
 };
 use oracle::{
     job::{self, Job, Points, ScriptGroup, Walk},
@@ -68,6 +68,8 @@ pub enum Prepared {
         Building,
     ),
     Edges(Vec<Edge>, Vec<Edge>, Call),
+    /// The axis, the points, and their currents and touch marks.
+    EdgePoints(Vec<Segment>, Vec<Edge>, job::EdgePoints, Vec<i32>, Vec<u8>),
     Path(Walk, Vec<u8>, Vec<f32>),
     PathStep(Walk, u32, Option<PathStep>),
     Job(Vec<i32>, Vec<i32>),
@@ -270,6 +272,17 @@ impl Prepared {
                 return Self::Path(walk, vec![0; most], vec![0.0; 4 * most]);
             }
             Job::PathStep(walk, cursor) => return Self::PathStep(walk, cursor, None),
+            Job::EdgePoints(segments, _, given) => {
+                // the edges stand behind the segments
+                let edges = &words[1 + SEGMENT_WORDS * segments.items.len()..];
+                return Self::EdgePoints(
+                    records::given(words, SEGMENTS),
+                    records::given(edges, EDGES),
+                    given,
+                    Vec::new(),
+                    Vec::new(),
+                );
+            }
             Job::Catalogue(given) => return Self::Catalogue(given, Vec::new(), Vec::new()),
             Job::Remember(..)
             | Job::WithReferences(..)
@@ -277,7 +290,6 @@ impl Prepared {
             | Job::Mend(..)
             | Job::Pack(..)
             | Job::TurnOver(..)
-            | Job::EdgePoints(..)
             | Job::Remaining(..)
             | Job::Strong(..)
             | Job::WriteFrame(..)
@@ -308,6 +320,10 @@ impl Prepared {
                 segments.clone_from(given);
             }
             Self::Edges(given, edges, _) => edges.clone_from(given),
+            Self::EdgePoints(_, _, given, currents, touches) => {
+                currents.clone_from(&given.currents);
+                touches.clone_from(&given.touches);
+            }
         }
     }
 
@@ -340,6 +356,15 @@ impl Prepared {
                 Ok(one(edges.len() as i32))
             }
             Self::Edges(_, edges, call) => call.run(edges),
+            Self::EdgePoints(segments, edges, given, currents, touches) => {
+                let moving = Moving {
+                    snap: given.snap,
+                    done_alone: given.done_alone,
+                };
+                let ends = &given.ends;
+                khsaemudol::align_edge_points(segments, edges, moving, currents, touches, ends)
+                    .map(|()| NOTHING)
+            }
             Self::Path(walk, kinds, places) => {
                 let path = khsaemudol::path(&outline(walk), kinds, places)?;
                 Ok(one(path.len() as i32))
