@@ -93,7 +93,8 @@ pub fn answer(words: &[i32]) -> Vec<i32> {
             answer.extend(places.map(bits));
             answer.push(done.map_or(*cursor as i32, |[next, ..]| next));
         }
-        Prepared::EdgePoints(_, _, _, currents, touches) => {
+        Prepared::EdgePoints(_, _, _, currents, touches)
+        | Prepared::Strong(_, _, currents, touches) => {
             answer.push(currents.len() as i32);
             answer.extend(currents);
             answer.push(touches.len() as i32);
@@ -149,7 +150,7 @@ fn table(count: usize, segments: &[khsaemudol::Segment]) -> Vec<i32> {
 /// What stands between the number and the lists: beside a refusal 0 or none.
 fn beside(call: &Call, done: Option<Beside>) -> Vec<i32> {
     let none: &[i32] = match call {
-        Call::Blues(..) => &[-1],
+        Call::Blues(..) | Call::Remaining(_) => &[-1],
         Call::CjkStem(..) => &[0],
         Call::Bounds(_) => &[-1, -1],
         Call::Stems(..) | Call::Joined(..) | Call::Apart(..) => &[0, -1],

@@ -70,6 +70,8 @@ pub enum Prepared {
     Edges(Vec<Edge>, Vec<Edge>, Call),
     /// The axis, the points, and their currents and touch marks.
     EdgePoints(Vec<Segment>, Vec<Edge>, job::EdgePoints, Vec<i32>, Vec<u8>),
+    /// The edges, the points, and their currents and touch marks.
+    Strong(Vec<Edge>, job::Strong, Vec<i32>, Vec<u8>),
     Path(Walk, Vec<u8>, Vec<f32>),
     PathStep(Walk, u32, Option<PathStep>),
     Job(Vec<i32>, Vec<i32>),
@@ -97,6 +99,7 @@ pub enum Call {
     Joined(job::Joined, Rule),
     /// The same by a call each.
     Apart(job::Joined, Rule),
+    Remaining(job::Remaining),
     Gaps(i32, bool),
     M(Group),
 }
@@ -261,6 +264,7 @@ impl Prepared {
                 let rule = Rule::of(given.rule.clone());
                 Call::Joined(given, rule)
             }
+            Job::Remaining(_, given) => Call::Remaining(given),
             Job::Gaps(_, least, linked) => Call::Gaps(least, linked),
             Job::M(_, script) => Call::M(group(script)),
             Job::MLent(_, script) => {
@@ -283,6 +287,10 @@ impl Prepared {
                     Vec::new(),
                 );
             }
+            Job::Strong(_, given) => {
+                let edges = records::given(words, EDGES);
+                return Self::Strong(edges, given, Vec::new(), Vec::new());
+            }
             Job::Catalogue(given) => return Self::Catalogue(given, Vec::new(), Vec::new()),
             Job::Remember(..)
             | Job::WithReferences(..)
@@ -290,8 +298,6 @@ impl Prepared {
             | Job::Mend(..)
             | Job::Pack(..)
             | Job::TurnOver(..)
-            | Job::Remaining(..)
-            | Job::Strong(..)
             | Job::WriteFrame(..)
             | Job::ReadFrame(..) => return Self::by_job(words),
         };
@@ -321,6 +327,10 @@ impl Prepared {
             }
             Self::Edges(given, edges, _) => edges.clone_from(given),
             Self::EdgePoints(_, _, given, currents, touches) => {
+                currents.clone_from(&given.currents);
+                touches.clone_from(&given.touches);
+            }
+            Self::Strong(_, given, currents, touches) => {
                 currents.clone_from(&given.currents);
                 touches.clone_from(&given.touches);
             }
@@ -363,6 +373,16 @@ impl Prepared {
                 };
                 let ends = &given.ends;
                 khsaemudol::align_edge_points(segments, edges, moving, currents, touches, ends)
+                    .map(|()| NOTHING)
+            }
+            Self::Strong(edges, given, currents, touches) => {
+                let job::Strong {
+                    fonts,
+                    originals,
+                    weak,
+                    ..
+                } = given;
+                khsaemudol::align_strong_points(edges, fonts, originals, currents, touches, weak)
                     .map(|()| NOTHING)
             }
             Self::Path(walk, kinds, places) => {
@@ -462,6 +482,16 @@ impl Call {
                     anchor,
                 } = khsaemudol::align_stem_edges(edges, &given)?;
                 two(passed_over as i32, word(anchor))
+            }
+            Self::Remaining(given) => {
+                let (dim, script) = (dimension(given.dim), group(given.group));
+                let stems = Stems {
+                    passed_over: given.count.into(),
+                    anchor: given.anchor,
+                };
+                one(word(khsaemudol::align_remaining_edges(
+                    edges, dim, script, stems,
+                )?))
             }
             Self::Gaps(least, linked) => told(khsaemudol::lost_gaps(edges, *least, *linked)?),
             Self::M(group) => {
