@@ -188,40 +188,23 @@ static uint8_t guard(const struct khs_edge *edges, int32_t count) {
     return answer;
 }
 
-/* The point behind a point on its contour: behind the last one comes the first. */
-static int32_t next_point(int32_t point) {
-    int32_t start = 0;
-    for (int32_t i = 0; i < CONTOURS; i++) {
-        if (point == ends[i]) {
-            return start;
-        }
-        start = ends[i] + 1;
-    }
-    return point + 1;
-}
-
 /* Moves the points of segments whose edges are done with them, and the other points behind these. */
-static uint8_t align_points(const struct axis *axis, const struct khs_segment *segments, const struct khs_edge *edges, int32_t currents[POINTS]) {
+static uint8_t align_points(const struct axis *axis, const struct khs_segment *segments, const struct khs_edge *edges, int32_t count, int32_t currents[POINTS]) {
     int32_t originals[POINTS];
     uint8_t touched[POINTS] = {0};
     int placed = 0;
     for (int32_t i = 0; i < POINTS; i++) {
         originals[i] = currents[i] = scaled(axis->points[i]);
     }
-    for (int32_t i = 0; i < axis->count; i++) {
-        if (segments[i].edge == KHS_NONE || !(edges[segments[i].edge].flags & KHS_FLAG_DONE)) {
-            continue;
-        }
-        for (int32_t point = segments[i].first;; point = next_point(point)) {
-            currents[point] = edges[segments[i].edge].pos;
-            touched[point] = 1;
-            placed++;
-            if (point == segments[i].last) {
-                break;
-            }
-        }
+    uint8_t answer = khs_align_edge_points((const int32_t *)segments, (khs_length)axis->count * KHS_SEGMENT_WORDS, (const int32_t *)edges, (khs_length)count * KHS_EDGE_WORDS, 1, 1,
+                                           currents, POINTS, touched, POINTS, ends, CONTOURS);
+    if (answer != KHS_DONE) {
+        return answer;
     }
-    uint8_t answer = khs_align_weak_points(originals, POINTS, currents, POINTS, touched, POINTS, ends, CONTOURS);
+    for (int32_t i = 0; i < POINTS; i++) {
+        placed += touched[i];
+    }
+    answer = khs_align_weak_points(originals, POINTS, currents, POINTS, touched, POINTS, ends, CONTOURS);
     if (answer == KHS_DONE) {
         printf("  points    %d of %d placed with their edges, the others aligned\n", placed, POINTS);
     }
@@ -244,7 +227,7 @@ static uint8_t fit(const struct axis *axis, int32_t points[POINTS]) {
     if (answer == KHS_DONE) {
         answer = guard(edges, count);
     }
-    return answer == KHS_DONE ? align_points(axis, segments, edges, points) : answer;
+    return answer == KHS_DONE ? align_points(axis, segments, edges, count, points) : answer;
 }
 
 /* Prints a place in pixels as the decimal that it is: a whole number of 128ths has at most seven digits behind its point. */

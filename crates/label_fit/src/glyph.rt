@@ -53,6 +53,12 @@ pub fn settled(mut glyph: Glyph, points: [i32; MOST_NUMBERS]) -> Glyph {
     glyph
 }
 
+// The words of the job that has a glyph's segments, as an array whose length a caller knows.
+pub fn words_of(glyph: Glyph) -> [i32; MOST_WORDS] {
+    let topo = glyph.topo;
+    topo
+}
+
 // The edges of a glyph, as an array whose length a caller knows.
 pub fn edges_of(glyph: Glyph) -> [i32; TABLE_WORDS] {
     let edges = glyph.edges;

@@ -31,7 +31,7 @@ pub fn tail(words: &[i32], at: usize) -> &[i32] {
 }
 
 // How many segments a job has: at most one more than a call takes.
-fn segments(words: &[i32]) -> usize
+pub fn segments(words: &[i32]) -> usize
     ensures { λ r. ⌜ r ≤ mostSegments + 1 ⌝ }
 {
     least(size_of(word_at(words, 1)), TOO_MANY)

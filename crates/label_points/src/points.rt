@@ -1,14 +1,14 @@
 // The points of an axis: those of the edges placed with them, the others aligned.
 use axis::accept::least;
+use khsaemudol::khs_align_edge_points;
 use khsaemudol::khs_align_weak_points;
 use label_fit::glyph::Glyph;
+use label_fit::glyph::edge_words;
+use label_fit::glyph::edges_of;
 use label_fit::glyph::settled;
 use label_fit::glyph::stopped;
-use label_fit::topo::tail;
-use label_print::edges::POS;
-use label_print::edges::done;
-use label_print::edges::field;
-use label_print::edges::place_of;
+use label_fit::glyph::words_of;
+use label_fit::topo::segments;
 use label_print::print::refused;
 use label_print::print::show;
 use lines::limits::MOST_NUMBERS;
@@ -20,11 +20,10 @@ use words::word::word_at;
 ghost use Prim.Native.Nat.{_≤_};
 ghost use Rattle.lines.specs.Limits.{mostNumbers};
 
-// A point before it is aligned: where it is, and 1 where its edge placed it.
-struct Point {
-    pos: i32,
-    touched: u8,
-}
+// Points come to their edge's position, and edges that are not done move none.
+const SNAP: i32 = 1;
+
+const DONE_ALONE: i32 = 1;
 
 // How many numbers a list has that stands at a place of a job: at most as many as a job can carry.
 pub fn numbers_at(words: &[i32], at: usize) -> usize
@@ -47,75 +46,97 @@ pub fn ends_of(words: &[i32], at: usize) -> [u16; MOST_NUMBERS]
     ends
 }
 
-// Point i of a job with n points. Its mark is the number of the segment that it is on, counted from 1; where the segment's edge is done, the point is placed with it.
-fn point_of(words: &[i32], n: usize, i: usize, glyph: Glyph) -> Point
-    requires { ⌜ (n ≤ mostNumbers) × (i ≤ mostNumbers) ⌝ }
-    ensures { λ r. ⌜ r .touched ≤ 1 ⌝ }
-{
-    let topo = glyph.topo;
-    let edges = glyph.edges;
-    let segment = least(size_of(word_at(words, 4 + 2 * n + i)), 255);
-    let edge = place_of(word_at(&topo, SEGMENT_WORDS * segment));
-    if 0 < segment {
-        if done(&edges, edge) {
-            return Point {
-                pos: field(&edges, edge, POS),
-                touched: 1,
-            };
-        }
-    }
-    Point {
-        pos: word_at(words, 2 + i),
-        touched: 0,
-    }
-}
-
-// The glyph with n points aligned, of which some were placed.
-fn align(
-    words: &[i32],
-    n: usize,
-    placed: usize,
-    mut currents: [i32; MOST_NUMBERS],
-    touched: [u8; MOST_NUMBERS],
-    glyph: Glyph,
-) -> Glyph
+// The originals of a job with n points, which are where they start.
+fn originals_of(words: &[i32], n: usize) -> [i32; MOST_NUMBERS]
     requires { ⌜ n ≤ mostNumbers ⌝ }
 {
-    let originals = tail(words, 2);
-    let m = least(n, originals.len());
-    let ends = ends_of(words, 4 + 3 * n);
-    let contours = numbers_at(words, 4 + 3 * n);
-    let answer = khs_align_weak_points(
-        &originals[0..m],
-        &mut currents[0..n],
-        &touched[0..n],
-        &ends[0..contours],
-    );
-    if refused(b"  points    ", answer) {
-        return stopped(glyph);
+    let mut originals = [0i32; MOST_NUMBERS];
+    let mut i = 0;
+    while i < n {
+        originals[i] = word_at(words, 2 + i);
+        i += 1;
     }
-    let numbers = [count_word(placed), count_word(n)];
+    originals
+}
+
+// 1 where a mark says that a point is touched.
+fn one_of(mark: u8) -> usize
+    ensures { λ r. ⌜ r ≤ 1 ⌝ }
+{
+    if mark == 0 {
+        return 0;
+    }
+    1
+}
+
+// How many points are touched.
+fn touched_of(touched: &[u8]) -> usize {
+    let mut count = 0;
+    let mut i = 0;
+    while i < touched.len() {
+        count += one_of(touched[i]);
+        i += 1;
+    }
+    count
+}
+
+// Moves the points of done edges with these, and aligns the others; the answer is the first refusal, or 0.
+fn align(
+    originals: &[i32],
+    segments: &[i32],
+    edges: &[i32],
+    ends: &[u16],
+    currents: &mut [i32],
+    touched: &mut [u8],
+) -> u8 {
+    let answer = khs_align_edge_points(segments, edges, SNAP, DONE_ALONE, currents, touched, ends);
+    if 0 < answer {
+        return answer;
+    }
+    khs_align_weak_points(originals, currents, touched, ends)
+}
+
+// The same, told: whether it was done.
+fn aligned(
+    originals: &[i32],
+    segments: &[i32],
+    edges: &[i32],
+    ends: &[u16],
+    currents: &mut [i32],
+    touched: &mut [u8],
+) -> bool {
+    let answer = align(originals, segments, edges, ends, currents, touched);
+    if refused(b"  points    ", answer) {
+        return false;
+    }
+    let numbers = [count_word(touched_of(touched)), count_word(originals.len())];
     show(
         b"# of # placed with their edges, the others aligned\n",
         &numbers,
     );
-    settled(glyph, currents)
+    true
 }
 
-// Fits the points of a job, whose originals are where they start.
+// Fits the points of a job.
 pub fn weak(words: &[i32], glyph: Glyph) -> Glyph {
     let n = numbers_at(words, 1);
-    let mut currents = [0i32; MOST_NUMBERS];
+    let originals = originals_of(words, n);
+    let ends = ends_of(words, 4 + 3 * n);
+    let contours = numbers_at(words, 4 + 3 * n);
+    let topo = words_of(glyph);
+    let end = 2 + SEGMENT_WORDS * segments(&topo);
+    let edges = edges_of(glyph);
+    let mut currents = originals;
     let mut touched = [0u8; MOST_NUMBERS];
-    let mut placed = 0;
-    let mut i = 0;
-    while i < n {
-        let point = point_of(words, n, i, glyph);
-        let pos = point.pos;
-        currents[i] = pos;
-        touched[i] = point.touched;
-        placed += point.touched as usize;
-        i += 1;
+    if aligned(
+        &originals[0..n],
+        &topo[2..end],
+        &edges[0..edge_words(glyph)],
+        &ends[0..contours],
+        &mut currents[0..n],
+        &mut touched[0..n],
+    ) {
+        return settled(glyph, currents);
     }
-    align(words, n, placed, currents, touched, glyph)
+    stopped(glyph)
 }

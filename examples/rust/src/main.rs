@@ -2,9 +2,9 @@
 //! label, drawn in 1,000 design units to the em; examples/three.c does the same in C.
 
 use khsaemudol::{
-    align_blues_and_stems, align_weak_points, compute_edges, lost_gaps, path, BluesAndStems,
-    Building, Dimension, Direction, Edge, Flags, Group, LostGaps, LostPair, Order, Outline,
-    PathStep, Refusal, Segment, Stems, WidthRule, MOST_EDGES,
+    align_blues_and_stems, align_edge_points, align_weak_points, compute_edges, lost_gaps, path,
+    BluesAndStems, Building, Dimension, Direction, Edge, Flags, Group, LostGaps, LostPair, Moving,
+    Order, Outline, PathStep, Refusal, Segment, Stems, WidthRule, MOST_EDGES,
 };
 
 /// Units of a pixel.
@@ -230,15 +230,6 @@ fn guard(edges: &[Edge]) -> Result<(), Refusal> {
     Ok(())
 }
 
-/// The point behind a point on its contour: behind the last one comes the first.
-fn next_point(point: u16) -> u16 {
-    match ENDS.iter().position(|end| *end == point) {
-        Some(0) => 0,
-        Some(contour) => ENDS[contour - 1] + 1,
-        None => point + 1,
-    }
-}
-
 /// Moves the points of segments whose edges are done with them, and the other points behind these.
 fn align_points(
     points: [i32; POINTS],
@@ -248,20 +239,11 @@ fn align_points(
     let originals = points.map(scaled);
     let mut currents = originals;
     let mut touched = [0; POINTS];
-    for segment in segments {
-        let edge = segment.edge().map(|ix| edges[usize::from(ix)]);
-        if let Some(edge) = edge.filter(|edge| edge.flags().contains(Flags::DONE)) {
-            let mut point = segment.first();
-            loop {
-                currents[usize::from(point)] = edge.pos();
-                touched[usize::from(point)] = 1;
-                if point == segment.last() {
-                    break;
-                }
-                point = next_point(point);
-            }
-        }
-    }
+    let moving = Moving {
+        snap: true,
+        done_alone: true,
+    };
+    align_edge_points(segments, edges, moving, &mut currents, &mut touched, &ENDS)?;
     align_weak_points(&originals, &mut currents, &touched, &ENDS)?;
     let placed = touched.iter().filter(|mark| **mark != 0).count();
     println!("  points    {placed} of {POINTS} placed with their edges, the others aligned");

@@ -5,9 +5,9 @@ use crate::{
     size::PIXEL,
 };
 use khsaemudol::{
-    align_blues_and_stems, align_weak_points, compute_edges, hint_lowercase_m, link_segments_cjk,
-    lost_gaps, path, BluesAndStems, Dimension, Edge, Flags, LostGaps, Mark, Outline, PathStep,
-    Refusal, Segment, MOST_EDGES,
+    align_blues_and_stems, align_edge_points, align_weak_points, compute_edges, hint_lowercase_m,
+    link_segments_cjk, lost_gaps, path, BluesAndStems, Dimension, Edge, Flags, LostGaps, Mark,
+    Moving, Outline, PathStep, Refusal, Segment, MOST_EDGES,
 };
 use std::ops::RangeInclusive;
 
@@ -215,14 +215,18 @@ fn align_points(
 ) -> Result<(Vec<i32>, Vec<Placing>), Refusal> {
     let mut currents = axis.originals.clone();
     let mut touched = vec![0; currents.len()];
-    for (point, segment) in axis.segment_of.iter().enumerate() {
-        let edge = segment.and_then(|segment| segments[segment].edge());
-        let edge = edge.map(|edge| edges[usize::from(edge)]);
-        if let Some(edge) = edge.filter(|edge| edge.flags().contains(Flags::DONE)) {
-            currents[point] = edge.pos();
-            touched[point] = 1;
-        }
-    }
+    let moving = Moving {
+        snap: true,
+        done_alone: true,
+    };
+    align_edge_points(
+        segments,
+        edges,
+        moving,
+        &mut currents,
+        &mut touched,
+        &axis.ends,
+    )?;
     align_weak_points(&axis.originals, &mut currents, &touched, &axis.ends)?;
     Ok((currents, placings(&touched, &axis.ends)))
 }
