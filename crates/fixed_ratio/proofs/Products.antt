@@ -1,13 +1,12 @@
 -- A product from the 16-bit halves of its factors, and products and quotients by the signs of the two.
 use mathlib.Core.Path.{_≡_, refl, ap}
-use Prim.Native.Nat.{ℕ, suc, _+_, _*_, _/_, _%_, _≤_, zero-le}
+use Prim.Native.Nat.{ℕ, _+_, _*_, _/_, _%_, _≤_, zero-le}
 use native.Mathlib.Nat.{mul-le-mul}
 use native.Mathlib.Omega.{arith}
 use borrow.Author.Tests.{le-ltb}
 use lib.IntN.{ℤ, pos, negsuc, natAbs, _*ℤ_}
 use Rattle.fixed.specs.Point.{rounded, roundedZ}
 use Rattle.fixed.specs.Steps.{signedLike}
-use Rattle.fixed_ratio.specs.Ratio.{mostProduct}
 
 -- ---- from halves
 -- the products of the halves of x and y, how large they are and what they make together

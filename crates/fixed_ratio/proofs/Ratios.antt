@@ -1,15 +1,14 @@
 -- How large a ratio is, and where it lies: by a part of the divisor no more than the whole.
-use mathlib.Core.Path.{_≡_, refl, ap, _∙_}
-use Prim.Native.Nat.{ℕ, zero, suc, _+_, _*_, _≤_, _<_}
-use native.Mathlib.Nat.{mul-le-mul-right, mul-le-mul}
+use mathlib.Core.Path.{_≡_, refl, ap}
+use Prim.Native.Nat.{ℕ, zero, suc, _*_, _≤_, _<_}
+use native.Mathlib.Nat.{mul-le-mul-right}
 use native.Mathlib.Omega.{arith}
 use mathlib.Core.Logic.{⊎-elim}
 use lib.IntN.{ℤ, pos, negsuc, negℤ, natAbs, _*ℤ_}
 use Rattle.signed.specs.Parts.{up, dn}
-use Rattle.signed.specs.Range.{Between}
-use Rattle.signed.proofs.Signed.{up-neg, dn-neg, times-up, times-dn, natAbs-mul, natAbs-is, one-zero, abs-of, lt-or-le}
+use Rattle.signed.proofs.Signed.{up-neg, dn-neg, times-up, times-dn, natAbs-mul, lt-or-le}
 use Rattle.fixed.specs.Point.{rounded, roundedZ}
-use Rattle.fixed.proofs.Rounding.{Rounded, rounded-law, rounded-at-most, rounded-grows, rounded-zero}
+use Rattle.fixed.proofs.Rounding.{rounded-law, rounded-at-most, rounded-grows, rounded-zero}
 use Rattle.fixed_ratio.specs.Ratio.{mulDiv}
 
 -- ---- its size

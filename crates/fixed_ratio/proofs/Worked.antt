@@ -1,8 +1,8 @@
 -- Values worked out by hand: halves go away from zero, whatever the three signs are; and the largest that remaining edges ask for.
 use mathlib.Core.Path.{_≡_, refl}
-use mathlib.Core.List.{List, [], _∷_, map}
+use mathlib.Core.List.{[], _∷_, map}
 use Prim.Native.Nat.{ℕ}
-use lib.IntN.{ℤ, pos, negsuc, negℤ}
+use lib.IntN.{ℤ, pos, negℤ}
 use Rattle.fixed.specs.Point.{rounded, roundedZ}
 use Rattle.fixed_ratio.specs.Ratio.{mulDiv}
 

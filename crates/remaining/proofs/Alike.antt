@@ -1,6 +1,6 @@
 -- Edges that are alike but for their marks are placed alike.
-use mathlib.Core.Path.{_≡_, refl, sym, ap, subst, _∙_}
-use mathlib.Core.Bool.{Bool, cond, _||_}
+use mathlib.Core.Path.{_≡_, refl, ap, subst, _∙_}
+use mathlib.Core.Bool.{cond, _||_}
 use Prim.Native.Nat.{ℕ, zero, suc, _+_, _-_}
 use lib.Dec.{eqb}
 use lib.IntN.{ℤ}
@@ -9,7 +9,6 @@ use Rattle.axis.specs.declared.kinds.Group.the-variants.{Default, Cjk}
 use Rattle.axis.specs.declared.kinds.Link.{Link}
 use Rattle.axis.specs.declared.kinds.Link.the-variants as Links
 use Rattle.axis.specs.declared.kinds.Mark.{Mark}
-use Rattle.axis.specs.declared.edge.Edge.{Edge}
 use Rattle.axis.specs.declared.edge.Axis.{Axis}
 use Rattle.axis.specs.Edge.{edgeAt}
 use Rattle.axis.specs.Limits.{mostPos}
@@ -24,9 +23,9 @@ use Rattle.remaining.specs.declared.kinds.Round.{Round}
 use Rattle.remaining.specs.declared.kinds.Round.the-variants as Rounds
 use Rattle.remaining.specs.declared.kinds.Way.{Way}
 use Rattle.remaining.specs.declared.kinds.Way.the-variants as Ways
-use Rattle.remaining.specs.Plan.{plan, anchoredAt, oneLess, asBeyond, staysPlan, serifPlan, isNear, anchorPlan, spacedPlan, latinBetween, cjkBetween}
-use Rattle.remaining.specs.Remaining.{State, state, doneBefore, doneFrom, doneBehind, nearOf, byBounds, byAnchor, bySerif, serifsPlan, othersPlan, latinPlan, planOf, fixAt, stored, carriedOut}
-use Rattle.remaining.specs.Remaining.{visit, visited, othersVisited, passOf}
+use Rattle.remaining.specs.Plan.{oneLess, staysPlan, serifPlan, isNear, anchorPlan, spacedPlan, latinBetween, cjkBetween}
+use Rattle.remaining.specs.Remaining.{State, doneBefore, doneFrom, doneBehind, nearOf, byBounds, byAnchor, bySerif, serifsPlan, othersPlan, planOf, fixAt, stored, carriedOut}
+use Rattle.remaining.specs.Remaining.{visit, visited, passOf}
 
 -- two states are alike
 pub record AlikeState (s t : State) : Type 0 where

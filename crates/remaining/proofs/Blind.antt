@@ -1,7 +1,7 @@
 -- The answer, the anchor and the positions are as without marks.
-use mathlib.Core.Path.{_≡_, refl, ap, _∙_}
+use mathlib.Core.Path.{_≡_, refl}
 use mathlib.Core.Bool.{not}
-use mathlib.Core.List.{List, [], _∷_}
+use mathlib.Core.List.{[], _∷_}
 use Prim.Native.Nat.{ℕ}
 use lib.Dec.{leb}
 use Rattle.refusals.specs.Refusal.{_unless_, tooLong, badIndex, outOfRange, steep, refusal}
@@ -13,7 +13,7 @@ use Rattle.axis.specs.Limits.{mostEdges}
 use Rattle.axis.specs.Mark.{Blind}
 use Rattle.axis.specs.Refusals.{linkHolds}
 use Rattle.axis.proofs.Alike.{AlikeAxis, alike-len, indices-alike, numbers-alike, answered-alike, blind}
-use Rattle.remaining.specs.Remaining.{state, begun, remaining, outcome, remainingOf, remainingTests, alignRemainingEdges, withoutMarks}
+use Rattle.remaining.specs.Remaining.{state, begun, remaining, remainingOf, remainingTests, alignRemainingEdges, withoutMarks}
 use Rattle.remaining.proofs.Alike.{AlikeState, pass-alike}
 
 module _ (group : Group) (count : ℕ) (anchor : Link) where

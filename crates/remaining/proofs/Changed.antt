@@ -1,10 +1,9 @@
 -- What the call changes: position and done of edges below the count, with a mark of remaining edges, and nothing else; a refusal nothing.
 use mathlib.Core.Path.{_≡_, refl, sym, subst}
-use mathlib.Core.Bool.{Bool, true, _||_}
-use mathlib.Core.List.{List, [], _∷_}
+use mathlib.Core.Bool.{true, _||_}
 use Prim.Native.Nat.{ℕ, zero, suc, _<_}
 use native.Mathlib.Omega.{arith}
-use borrow.Author.Tests.{lt-ltb, eqb-true}
+use borrow.Author.Tests.{lt-ltb}
 use lib.Dec.{eqb, ltb}
 use lib.IntN.{ℤ}
 use Rattle.signed.proofs.Choices.{either-way}
@@ -22,7 +21,7 @@ use Rattle.axis.specs.Mark.{among}
 use Rattle.axis.specs.Limits.{mostPos}
 use Rattle.axis.specs.Refusals.{within}
 use Rattle.axis.specs.Changes.{place, Only, wherever, OnlyAxis, Changes}
-use Rattle.axis.proofs.Only.{same-edge, position-place, placed-only, fixed-only, named, same-axis, also-put, call-changes}
+use Rattle.axis.proofs.Only.{position-place, placed-only, fixed-only, named, same-axis, also-put, call-changes}
 use Rattle.axis.proofs.Visits.{visits-keep}
 use Rattle.placing.specs.declared.adjust.LinkDir.{LinkDir}
 use Rattle.placing.specs.declared.adjust.LinkDir.the-variants.{Prev, Next}
@@ -33,7 +32,7 @@ use Rattle.remaining.specs.declared.kinds.Round.{Round}
 use Rattle.remaining.specs.declared.kinds.Round.the-variants as Rounds
 use Rattle.remaining.specs.declared.kinds.Way.{Way}
 use Rattle.remaining.specs.declared.kinds.Way.the-variants as Ways
-use Rattle.remaining.specs.Remaining.{State, state, nearOf, byBounds, byAnchor, bySerif, serifsPlan, othersPlan, doneBefore, doneBehind, planOf, placeAt, fixAt, stored, carriedOut, visit, visited, othersVisited, passOf, begun}
+use Rattle.remaining.specs.Remaining.{State, state, nearOf, byBounds, byAnchor, bySerif, serifsPlan, othersPlan, doneBefore, doneBehind, planOf, placeAt, fixAt, stored, carriedOut, visit, visited, passOf, begun}
 use Rattle.remaining.specs.Remaining.{Remaining, remaining, remainingOf, outcome, remainingTests, alignRemainingEdges, remainingMarks}
 
 -- ---- the marks of a plan

@@ -6,11 +6,15 @@ use mathlib.Core.Logic.{⊎-elim}
 use Prim.Native.Nat.{ℕ, zero, suc, _+_, _≤_, _<_}
 use native.Mathlib.Nat.{eq-or-lt-of-le}
 use native.Mathlib.Omega.{arith}
+use borrow.Author.Tests.{not-true}
 use lib.Dec.{eqb}
 use lib.IntN.{ℤ}
 use lib.ListN.{length, length-set}
 use lib.Seq.{getD-set-same}
 use Rattle.signed.proofs.Choices.{cond-cases, cond-true, clash, at-set}
+use Rattle.refusals.specs.Refusal.{refusal, answered}
+use Rattle.refusals.proofs.Answers.{none-refused}
+use Rattle.refusals.proofs.Tests.{all-hold}
 use Rattle.axis.specs.declared.flags.Flags.{Flags}
 use Rattle.axis.specs.declared.kinds.Group.{Group}
 use Rattle.axis.specs.declared.kinds.Group.the-variants.{Default, Cjk}
@@ -36,7 +40,8 @@ use Rattle.remaining.specs.declared.kinds.Round.{Round}
 use Rattle.remaining.specs.declared.kinds.Round.the-variants as Rounds
 use Rattle.remaining.specs.declared.kinds.Way.{Way}
 use Rattle.remaining.specs.declared.kinds.Way.the-variants as Ways
-use Rattle.remaining.specs.Remaining.{State, state, nearOf, byBounds, byAnchor, bySerif, doneBefore, doneBehind, latinPlan, planOf, fixAt, stored, carriedOut, visit, visited, passOf, begun, remainingOf}
+use Rattle.remaining.specs.Remaining.{State, state, nearOf, byBounds, byAnchor, bySerif, doneBefore, doneBehind, planOf, fixAt, stored, carriedOut, visit, visited, passOf, begun, remainingOf}
+use Rattle.remaining.specs.Remaining.{Remaining, remaining, outcome, remainingTests, alignRemainingEdges}
 
 -- edge j is done
 abbrev pub IsDone : Axis → ℕ → Type 0
@@ -166,3 +171,13 @@ module _ (s : State) (all : (j : ℕ) → j < s .axis .len → IsDone (s .axis) 
   pass-stays Cjk =
       ap (λ (t : State). cond (eqb (t .past .count) 0) t (visited Rounds.Others t)) (visited-stays Rounds.Serifs)
       ∙ cond-cases (λ (t : State). t ≡ s) (eqb (s .past .count) 0) s (visited Rounds.Others s) (λ t. refl) (λ t. visited-stays Rounds.Others)
+
+-- ---- the call
+pub call-done : (axis : Axis) (count : ℕ) (anchor : Link) → axis .len ≤ length (axis .edges) → alignRemainingEdges axis Default count anchor .answer ≡ 0
+    → (j : ℕ) → j < axis .len → IsDone (alignRemainingEdges axis Default count anchor .axis) j
+unfolding alignRemainingEdges
+call-done axis count anchor l e j q =
+    let s = remainingOf axis Default count anchor in
+    let none = none-refused (remaining Links.None axis) (outcome s) (λ (r : Remaining). r .answer) (λ k. refl) (refusal (remainingTests axis Default count anchor)) e in
+    let t = all-hold (remainingTests axis Default count anchor) refl none in
+    subst (λ (k : ℕ). IsDone (answered k (remaining Links.None axis) (outcome s) .axis) j) (sym none) (latin-done axis count anchor l (not-true _ (t .1 .1 .1 .1 .0)) j q)

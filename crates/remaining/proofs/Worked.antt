@@ -4,7 +4,7 @@ use mathlib.Core.Bool.{Bool, true, false}
 use mathlib.Core.List.{List, [], _∷_, map}
 use Prim.Native.Nat.{ℕ}
 use lib.ListN.{length}
-use lib.IntN.{ℤ, pos, negsuc, negℤ}
+use lib.IntN.{ℤ, pos, negℤ}
 use Rattle.fixed.specs.Point.{rounded, roundedZ}
 use Rattle.fixed.specs.Pixel.{pixFloor, pixRound}
 use Rattle.fixed_ratio.specs.Ratio.{mulDiv}
@@ -17,7 +17,6 @@ use Rattle.axis.specs.declared.kinds.Group.the-variants.{Default, Cjk}
 use Rattle.axis.specs.declared.kinds.Mark.{Mark}
 use Rattle.axis.specs.declared.kinds.Mark.the-variants as Marks
 use Rattle.axis.specs.declared.edge.Edge.{Edge}
-use Rattle.axis.specs.declared.edge.Axis.{Axis}
 use Rattle.axis.specs.Edge.{freshEdge, placed, finished, joinedTo}
 use Rattle.axis.specs.Visits.{visits}
 use Rattle.placing.specs.Placing.{serifPos, lowerBound, upperBound, hasPassed, neighbour, heldTo, boundBy, adjusted}

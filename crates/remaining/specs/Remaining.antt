@@ -1,6 +1,5 @@
 -- Remaining edges (the Rust's `align_remaining_edges` and `find_bounding_completed_edges`): the edges that blue zones and stems have left where they were.
-use mathlib.Core.Path.{_≡_}
-use mathlib.Core.Bool.{Bool, false, not, cond, _||_}
+use mathlib.Core.Bool.{false, not, cond, _||_}
 use mathlib.Core.List.{List, [], _∷_}
 use Prim.Native.Nat.{ℕ, zero, suc, _+_, _-_}
 use lib.Dec.{eqb}

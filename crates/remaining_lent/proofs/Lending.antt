@@ -1,13 +1,12 @@
 -- The call, by what the test of its edges tells and what the loops come to.
 use mathlib.Core.Path.{_≡_, refl, sym, ap, subst, _∙_}
 use mathlib.Core.Bool.{Bool, true, false, not, cond, _&&_}
-use mathlib.Core.List.{List, [], _∷_, _++_}
+use mathlib.Core.List.{List, [], _∷_}
 use Prim.Native.Nat.{ℕ, zero, suc, _<_, _≤_}
 use native.Mathlib.Omega.{arith}
 use lib.Dec.{leb}
 use lib.IntN.{ℤ}
 use Rattle.signed.specs.Parts.{up}
-use Rattle.signed.proofs.Choices.{cond-true, cond-false}
 use Rattle.refusals.specs.Refusal.{Test, _unless_, steep, refusal, answered}
 use Rattle.refusals.proofs.Tests.{all-hold, own-first}
 use Rattle.axis.specs.declared.kinds.Dimension.the-variants.{Horizontal}
@@ -23,7 +22,6 @@ use Rattle.words.specs.Edge.{axisRun, flatAxis, edgesIn, edgesOver}
 use Rattle.shape.specs.Shape.{isIn, choice, index}
 use Rattle.lent.specs.Lent.{refusedOr, edgesFront, bothIn, namedAnchor, edgesOf}
 use Rattle.lent.proofs.Kept.{passed}
-use Rattle.edges_in.specs.Whole.{axisIn}
 use Rattle.edges_in.proofs.Wholes.{edges-len}
 use Rattle.edges_in.proofs.Became.{axis-over}
 use Rattle.edges_test.specs.Held.{tested}

@@ -1,6 +1,6 @@
 -- The loops: what is left of the visits gives the whole.
 use mathlib.Core.Path.{_≡_, refl, sym, ap, subst, _∙_}
-use mathlib.Core.Bool.{Bool, true, false, cond}
+use mathlib.Core.Bool.{cond}
 use mathlib.Core.List.{List}
 use Prim.Native.Nat.{ℕ, _+_, _≤_, _<_}
 use native.Mathlib.Omega.{arith}
@@ -13,12 +13,11 @@ use Rattle.axis.specs.declared.kinds.Dimension.the-variants.{Horizontal}
 use Rattle.axis.specs.declared.kinds.Group.{Group}
 use Rattle.axis.specs.declared.kinds.Group.the-variants.{Default, Cjk}
 use Rattle.axis.specs.declared.edge.Axis.{Axis}
-use Rattle.words.specs.Edge.{axisRun, flatAxis, edgesIn}
+use Rattle.words.specs.Edge.{edgesIn}
 use Rattle.lent.specs.Lent.{edgesOf}
-use Rattle.edges_in.specs.Whole.{Whole, axisIn}
+use Rattle.edges_in.specs.Whole.{axisIn}
 use Rattle.edges_in.specs.Pass.{Visited}
 use Rattle.edges_in.proofs.Wholes.{edges-len}
-use Rattle.edges_in.proofs.Became.{as-many}
 use Rattle.edges_in.proofs.Passes.{Passing, pass-starts, pass-next, pass-ends}
 use Rattle.remaining.specs.declared.kinds.Progress.{Progress}
 use Rattle.remaining.specs.declared.kinds.Round.{Round}

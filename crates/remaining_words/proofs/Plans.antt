@@ -13,7 +13,6 @@ use Rattle.words.specs.Edge.{axisRun, flatAxis}
 use Rattle.lent.specs.Lent.{edgesOf}
 use Rattle.edges_in.specs.Whole.{axisIn}
 use Rattle.remaining.specs.declared.kinds.Progress.{Progress}
-use Rattle.remaining.specs.declared.kinds.Plan.{Plan}
 use Rattle.remaining.specs.declared.kinds.Round.{Round}
 use Rattle.remaining.specs.declared.kinds.Round.the-variants as Rounds
 use Rattle.remaining.specs.declared.kinds.Way.the-variants as Ways

@@ -1,5 +1,5 @@
 -- What is read of an edge, and which edges it names.
-use mathlib.Core.Path.{_≡_, refl, sym, ap, subst, _∙_}
+use mathlib.Core.Path.{_≡_, sym, ap, subst, _∙_}
 use mathlib.Core.Bool.{Bool, true, false, cond}
 use mathlib.Core.List.{List}
 use Prim.Native.Nat.{ℕ, _<_}
@@ -11,7 +11,7 @@ use Rattle.axis.specs.declared.edge.Edge.{Edge}
 use Rattle.axis.specs.declared.edge.Axis.{Axis}
 use Rattle.axis.specs.Edge.{edgeAt}
 use Rattle.axis.specs.Limits.{mostPos}
-use Rattle.axis.specs.Accepted.{Below, AxisWithin}
+use Rattle.axis.specs.Accepted.{AxisWithin}
 use Rattle.placing.specs.Steps.{InReach}
 use Rattle.words.specs.Edge.{edgesIn}
 use Rattle.lent.specs.Lent.{edgesOf}

@@ -1,5 +1,5 @@
 -- A position stored as a plan says.
-use mathlib.Core.Path.{_≡_, refl, sym, ap, subst, _∙_}
+use mathlib.Core.Path.{_≡_, sym, ap, subst, _∙_}
 use mathlib.Core.List.{List}
 use Prim.Native.Nat.{ℕ, _<_}
 use native.Mathlib.Omega.{arith}
@@ -8,7 +8,6 @@ use Rattle.signed.specs.Range.{Between}
 use Rattle.axis.specs.declared.kinds.Dimension.{Dimension}
 use Rattle.axis.specs.declared.kinds.Dimension.the-variants.{Horizontal}
 use Rattle.axis.specs.declared.kinds.Mark.{Mark}
-use Rattle.axis.specs.declared.edge.Axis.{Axis}
 use Rattle.axis.specs.Limits.{mostPos}
 use Rattle.axis.specs.Accepted.{AxisWithin}
 use Rattle.placing.specs.declared.adjust.LinkDir.{LinkDir}

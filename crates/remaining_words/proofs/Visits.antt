@@ -1,9 +1,8 @@
 -- The visit of an edge, by what the code has read and stored.
-use mathlib.Core.Path.{_≡_, refl, sym, ap, subst, _∙_}
-use mathlib.Core.Bool.{Bool, true, false, cond, _||_}
+use mathlib.Core.Path.{_≡_, refl, sym, ap, _∙_}
+use mathlib.Core.Bool.{Bool, true, false, _||_}
 use mathlib.Core.List.{List}
-use Prim.Native.Nat.{ℕ, _<_}
-use native.Mathlib.Omega.{arith}
+use Prim.Native.Nat.{ℕ}
 use lib.IntN.{ℤ}
 use Rattle.signed.proofs.Choices.{cond-true, cond-false}
 use Rattle.axis.specs.declared.kinds.Dimension.{Dimension}
@@ -12,16 +11,15 @@ use Rattle.axis.specs.Edge.{edgeAt}
 use Rattle.axis.specs.Limits.{mostPos}
 use Rattle.axis.specs.Refusals.{within}
 use Rattle.axis.proofs.Only.{or-true}
-use Rattle.words.specs.Edge.{axisRun, flatAxis, edgesIn}
+use Rattle.words.specs.Edge.{axisRun, flatAxis}
 use Rattle.lent.specs.Lent.{edgesOf}
 use Rattle.edges_in.specs.Whole.{Whole, axisIn, Became}
 use Rattle.edges_in.specs.Pass.{Visited}
-use Rattle.edges_in.proofs.Wholes.{same-edges}
 use Rattle.remaining.specs.declared.kinds.Progress.{Progress}
 use Rattle.remaining.specs.declared.kinds.Plan.{Plan}
 use Rattle.remaining.specs.declared.kinds.Round.{Round}
 use Rattle.remaining.specs.Plan.{asBeyond}
-use Rattle.remaining.specs.Remaining.{State, state, planOf, stored, carriedOut, visit}
+use Rattle.remaining.specs.Remaining.{state, planOf, stored, carriedOut, visit}
 use Rattle.remaining_words.specs.Words.{storing}
 use Rattle.remaining_words.proofs.Plans.{plan-same}
 

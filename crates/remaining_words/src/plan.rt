@@ -20,8 +20,8 @@ ghost use Prim.Native.Nat.{_<_};
 ghost use Rattle.axis.specs.Edge.{edgeAt};
 ghost use Rattle.words.specs.Edge.{edgesIn};
 ghost use Rattle.lent.specs.Lent.{edgesOf};
-ghost use Rattle.remaining.specs.Plan.{serifPlan, anchorPlan, spacedPlan, latinBetween, cjkBetween, staysPlan};
-ghost use Rattle.remaining.specs.Remaining.{byBounds, byAnchor, latinPlan, serifsPlan, othersPlan, doneBefore, doneBehind, planOf};
+ghost use Rattle.remaining.specs.Plan.{serifPlan};
+ghost use Rattle.remaining.specs.Remaining.{byBounds, latinPlan, serifsPlan, othersPlan, doneBefore, doneBehind, planOf};
 ghost use Rattle.remaining_words.specs.Words.{Ready};
 
 // By the edge whose serif it is.

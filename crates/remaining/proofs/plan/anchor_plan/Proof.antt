@@ -3,7 +3,7 @@ use borrow.Author.Needs.{needs}
 use native.Mathlib.Omega.{arith}
 use mathlib.Core.Path.{ap, _∙_}
 use mir.Syntax.{w32, w64}
-use Rattle.signed.proofs.Signed.{signed, is, got, fits-in}
+use Rattle.signed.proofs.Signed.{is, got}
 use Rattle.fixed.specs.Pixel.{pixRound}
 use Rattle.axis.specs.declared.kinds.Mark.the-variants as Marks
 use Rattle.placing.proofs.Reach.{units-read}

@@ -1,7 +1,5 @@
 -- `remaining::plan::font_pos` meets its contract. Assumes nothing.
 use native.Mathlib.Omega.{arith}
-use mathlib.Core.Path.{_≡_}
-use lib.IntN.{ℤ}
 use Rattle.signed.proofs.Reading.{cast-16, back-16, short}
 use Rattle.remaining.proofs.plan.font_pos.Statement.{statement}
 use Rattle.remaining.proofs.plan.font_pos.Tie as tie

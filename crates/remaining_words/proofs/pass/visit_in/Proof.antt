@@ -1,7 +1,6 @@
 -- `remaining_words::pass::visit_in` meets its contract. Assumes nothing.
-use native.Mathlib.Omega.{arith}
 use mathlib.Core.Path.{_≡_, sym, ap, _∙_}
-use mathlib.Core.Bool.{Bool, true, false}
+use mathlib.Core.Bool.{Bool, false}
 use borrow.Author.Tests.{not-true, not-false}
 use mir.Syntax.{w32, w64}
 use mir.Val.{toZ, ofZ}

@@ -2,7 +2,6 @@
 use mathlib.Core.Path.{_∙_}
 use Rattle.remaining.specs.Plan.{serifPlan}
 use Rattle.remaining_words.proofs.Reading.{reach}
-use borrow.Author.Needs.{needs}
 use Rattle.remaining_words.proofs.plan.by_serif.Statement.{statement}
 use Rattle.remaining_words.proofs.plan.by_serif.Tie as tie
 
