@@ -10,9 +10,11 @@ use jobs_points::path::answer_step;
 use jobs_points::references::answer_remember;
 use jobs_points::references::answer_with;
 use jobs_points::weak::answer_weak;
+use jobs_tables::edge_points::answer_edge_points;
 use jobs_tables::gaps::answer_gaps;
 use jobs_tables::mending::answer_mending;
 use jobs_tables::pack::answer_pack;
+use jobs_tables::strong::answer_strong;
 use jobs_tables::table::answer_table;
 use khsaemudol::khs_compute_mid_delta;
 use khsaemudol::khs_compute_mid_pos;
@@ -67,6 +69,9 @@ fn answer_to(by_value: bool, words: &[i32], out: &mut [i32]) -> usize
         121 => answer_mending(words, out),
         123 => answer_pack(words, out),
         127 => answer_gaps(by_value, words, out),
+        128 => answer_edge_points(words, out),
+        130 => answer_table(false, call, words, out),
+        131 => answer_strong(words, out),
         _ => answer_table(by_value, call, words, out),
     }
 }

@@ -13,6 +13,7 @@ use shape::field::INDEX;
 use shape::field::LINK;
 use shape::field::Place;
 use shape::field::Range;
+use shape::field::SHORT;
 use shape::field::WORD;
 use shape::field::skip_field;
 use words::word::count_at;
@@ -67,7 +68,7 @@ const FORMATS: [u64; CALLS] = [
 // The first word of the calls that carry edges, and how many words from it on are theirs.
 const FIRST_OF_EDGES: usize = 105;
 
-const CALLS_OF_EDGES: usize = 23;
+const CALLS_OF_EDGES: usize = 27;
 
 // The formats of these calls, by their words from the first on.
 const FORMATS_OF_EDGES: [u64; CALLS_OF_EDGES] = [
@@ -94,6 +95,10 @@ const FORMATS_OF_EDGES: [u64; CALLS_OF_EDGES] = [
     NONE, // 125 and 126: none
     NONE,
     0x31a, // lost_gaps
+    0x87633a9, // align_edge_points
+    NONE, // 129: none
+    0x5233a, // align_remaining_edges
+    0x7766da, // align_strong_points
 ];
 
 // The format of the jobs of a call, by its word.
@@ -142,6 +147,13 @@ fn skip_item(words: &[i32], at: usize, item: u64) -> Place {
         10 => skip_list(words, at, Element::Edge, MOST_COUNTED, MOST_EDGES),
         11 => skip_list(words, at, Element::LentEdge, MOST_LENT, MOST_LENT),
         12 => skip_field(words, at, CURSOR),
+        13 => skip_list(
+            words,
+            at,
+            Element::Number(SHORT),
+            MOST_NUMBERS,
+            MOST_NUMBERS,
+        ),
         _ => Place::Nowhere,
     }
 }

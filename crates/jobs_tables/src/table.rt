@@ -1,4 +1,4 @@
-// The calls on a table, of segments (4, 105 and 124) or of edges (106 to 113 and 122): from the words of their jobs to those of their answers.
+// The calls on a table, of segments (4, 105 and 124) or of edges (106 to 113, 122 and 130): from the words of their jobs to those of their answers.
 use super::by_value::ask_by_value;
 use axis::accept::least;
 use axis::limits::MOST_EDGES;
@@ -7,6 +7,7 @@ use khsaemudol::khs_adjust_link;
 use khsaemudol::khs_align_blues_and_stems;
 use khsaemudol::khs_align_edges_to_blues;
 use khsaemudol::khs_align_linked_edge;
+use khsaemudol::khs_align_remaining_edges;
 use khsaemudol::khs_align_serif_edge;
 use khsaemudol::khs_align_stem_edges;
 use khsaemudol::khs_compute_edges;
@@ -64,7 +65,7 @@ fn words_before(call: usize) -> usize
     ensures { λ r. ⌜ r ≤ 3 ⌝ }
 {
     match call {
-        106 | 111 => 2,
+        106 | 111 | 130 => 2,
         110 | 112 | 122 => 3,
         _ => 1,
     }
@@ -202,6 +203,10 @@ fn ask_library(
         112 => ask_stems(table, rest, first, second),
         122 => ask_joined(table, rest, first, second),
         124 => ask_turning(table, rest, edges, first),
+        130 => {
+            *first = -1;
+            khs_align_remaining_edges(table, a, b, c, word_at(rest, 3), first)
+        }
         _ => khs_hint_lowercase_m(table, a),
     }
 }

@@ -36,6 +36,8 @@ use Rattle.mend_words.specs.Mending.{MendedLent}
 use Rattle.flat_turning.specs.Turn.{TurnedLent}
 use Rattle.pack_words.specs.Pack.{PackedLent}
 use Rattle.flat_gaps.specs.Find.{Places, GapsLent}
+use Rattle.remaining_lent.specs.Lent.{RemainingLent}
+use Rattle.strong_words.specs.Strong.{StrongLent}
 
 -- `khs_compute_mid_pos`
 pub mid-pos-determined : (min max : ℤ) {r r′ : ℤ} → ComputesMidPos min max r → ComputesMidPos min max r′ → r ≡ r′
@@ -171,3 +173,14 @@ gaps-determined ws least linked old a b = lent-determined a b
 pub mending-determined :
     (ws es room : List ℤ) (count : ℤ) {r r′ : ℕ} {now now′ : List ℤ × (List ℤ × (List ℤ × ℤ))} → MendedLent ws es room count r now → MendedLent ws es room count r′ now′ → (r ≡ r′) × (now ≡ now′)
 mending-determined ws es room count a b = lent-determined a b
+
+-- `khs_align_remaining_edges`
+pub remaining-determined :
+    (ws : List ℤ) (dim group count anchor found : ℤ) {r r′ : ℕ} {now now′ : List ℤ × ℤ}
+    → RemainingLent ws dim group count anchor found r now → RemainingLent ws dim group count anchor found r′ now′ → (r ≡ r′) × (now ≡ now′)
+remaining-determined ws dim group count anchor found a b = lent-determined a b
+
+-- `khs_align_strong_points`
+pub strong-determined :
+    (ws f o c : List ℤ) (t w : List ℕ) {r r′ : ℕ} {now now′ : List ℤ × List ℕ} → StrongLent ws f o c t w r now → StrongLent ws f o c t w r′ now′ → (r ≡ r′) × (now ≡ now′)
+strong-determined ws f o c t w a b = lent-determined a b

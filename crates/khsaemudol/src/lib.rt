@@ -25,6 +25,8 @@ use outline::weak::align_weak_points;
 use pack_words::lend::lend_packing;
 use path::lend::lend_step;
 use path_whole::whole::path;
+use remaining_lent::lend::lend_remaining;
+use strong_words::align::align_strong_points;
 use weak_drag::drag::lend_drag;
 use weak_references::align::align_with_references;
 use weak_references::remember::remember_references;
@@ -52,6 +54,8 @@ ghost use Rattle.pack_words.specs.Pack.{PackedLent};
 ghost use Rattle.flat_turning.specs.Turn.{TurnedLent};
 ghost use Rattle.flat_gaps.specs.Find.{GapsLent};
 ghost use Rattle.mend_words.specs.Mending.{MendedLent};
+ghost use Rattle.remaining_lent.specs.Lent.{RemainingLent};
+ghost use Rattle.strong_words.specs.Strong.{StrongLent};
 
 // The middle of two coordinates.
 #[no_mangle]
@@ -361,6 +365,21 @@ pub extern "C" fn khs_align_blues_and_stems(
     )
 }
 
+// Aligns the edges that blue zones and stems have left, and tells the anchor.
+#[no_mangle]
+pub extern "C" fn khs_align_remaining_edges(
+    edges: &mut [i32],
+    dim: i32,
+    group: i32,
+    count: i32,
+    anchor: i32,
+    found: &mut i32,
+) -> u8
+    ensures { λ r. ⌜ RemainingLent (now (edges .entry)) dim group count anchor (now (found .entry)) r (now (edges .exit), now (found .exit)) ⌝ }
+{
+    lend_remaining(edges, dim, group, count, anchor, found)
+}
+
 // Moves the third stem of a lowercase m.
 #[no_mangle]
 pub extern "C" fn khs_hint_lowercase_m(edges: &mut [i32], group: i32) -> u8
@@ -497,4 +516,21 @@ pub extern "C" fn khs_lost_gaps(
         stems,
         not_done,
     )
+}
+
+// Aligns the points of one axis that are neither touched nor weak by the edges around them, and touches them. The answer is 0, or the number of the refusal, which writes nothing: 255 for
+// words that are no edges, 1, 3 or 4, and 8 where such a point needs a quotient that is too steep, or would leave the range of positions.
+#[no_mangle]
+pub extern "C" fn khs_align_strong_points(
+    edges: &[i32],
+    fonts: &[i16],
+    originals: &[i32],
+    currents: &mut [i32],
+    touched: &mut [u8],
+    weak: &[u8],
+) -> u8
+    ensures { λ r. ⌜ StrongLent (now (edges .entry)) (now (fonts .entry)) (now (originals .entry)) (now (currents .entry)) (now (touched .entry)) (now (weak .entry))
+        r (now (currents .exit), now (touched .exit)) ⌝ }
+{
+    align_strong_points(edges, fonts, originals, currents, touched, weak)
 }

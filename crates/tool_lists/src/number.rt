@@ -1,6 +1,7 @@
 // Lists of numbers as the narrower numbers that a call takes, and back.
 use super::list::put;
 use words::field::index_at;
+use words::field::short_at;
 use words::word::count_at;
 use words::word::count_word;
 ghost use Prim.Native.Nat.{_≤_};
@@ -24,6 +25,18 @@ pub fn read_indices(numbers: &[i32], indices: &mut [u16])
     let mut i = 0;
     while i < numbers.len() {
         indices[i] = index_at(numbers, i);
+        i += 1;
+    }
+}
+
+// Writes the numbers of a list as 16-bit numbers.
+pub fn read_shorts(numbers: &[i32], shorts: &mut [i16])
+    requires { ⌜ length (now numbers) ≤ length (now shorts) ⌝ }
+{
+    let mut i = 0;
+    while i < numbers.len() {
+        let short = short_at(numbers, i);
+        shorts[i] = short;
         i += 1;
     }
 }
