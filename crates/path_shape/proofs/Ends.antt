@@ -9,7 +9,8 @@ use borrow.Author.Tests.{eq-eqb, ne-eqb}
 use Rattle.signed.proofs.Choices.{clash}
 use Rattle.signed.proofs.Signed.{lt-or-le}
 use Rattle.path_trip.specs.Path.{Points, onCurve, from, front, rest}
-use Rattle.path_trip.specs.Legs.{Spot, line, curve, curveTo, legs}
+use Rattle.path_trip.specs.declared.tour.Spot.{Spot}
+use Rattle.path_trip.specs.Legs.{line, curve, curveTo, legs}
 use Rattle.path_shape.specs.Shape.{here, isAt, ending, lines, lastOn}
 
 -- how often the point i stands in a list

@@ -24,8 +24,7 @@ sub-if1 c = search needs
 
 returns : tie.Need-returns
 returns c =
-    let a = c .before .before in
-    (
+    let a = c .before .before in (
       sym (end-last (walk a) (a .args .a) (a .args .e) (a .args .from) (a .args .count) (a .pre .1 .1 .0) (outline a) (around (a .args .a) (a .args .e) (a .args .from + a .args .j)) (a .args .j) (c .if1 .taken)),
       omega arith,
     )
@@ -49,12 +48,11 @@ returns-2 : tie.Need-returns-2
 returns-2 c =
     let w = c .before .before .before in
     let a = w .before .before .before in
-    let p = w .around-at .ensures in
-    (
+    let p = w .around-at .ensures in (
       ap Point (p .0)
-      ∙ sym (end-on (walk a) (a .args .a) (a .args .e) (a .args .from) (a .args .count) (a .pre .1 .1 .0) (outline a) (around (a .args .a) (a .args .e) (a .args .from + a .args .j)) (a .args .j)
-      (a .pre .1 .1 .1) (w .before .if1 .left)
-      (ap (λ (k : ℕ). ltb 0 (getD (a .args .marks .now) k 0)) (sym (p .0)) ∙ sym (c .before .is-on .ensures) ∙ c .if2 .taken)),
+          ∙ sym (end-on (walk a) (a .args .a) (a .args .e) (a .args .from) (a .args .count) (a .pre .1 .1 .0) (outline a) (around (a .args .a) (a .args .e) (a .args .from + a .args .j)) (a .args .j)
+          (a .pre .1 .1 .1) (w .before .if1 .left)
+          (ap (λ (k : ℕ). ltb 0 (getD (a .args .marks .now) k 0)) (sym (p .0)) ∙ sym (c .before .is-on .ensures) ∙ c .if2 .taken)),
       p .1,
     )
 
@@ -69,12 +67,11 @@ returns-3 c =
     let w = c .before .before .before .before in
     let a = w .before .before .before in
     let p = w .around-at .ensures in
-    let q = c .around-at2 .ensures in
-    (
+    let q = c .around-at2 .ensures in (
       (λ z. Between (q .0 z) (p .0 z))
-      ∙ sym (end-off (walk a) (a .args .a) (a .args .e) (a .args .from) (a .args .count) (a .pre .1 .1 .0) (outline a) (around (a .args .a) (a .args .e) (a .args .from + a .args .j)) (a .args .j)
-      (a .pre .1 .1 .1) (w .before .if1 .left)
-      (ap (λ (k : ℕ). ltb 0 (getD (a .args .marks .now) k 0)) (sym (p .0)) ∙ sym (c .before .before .is-on .ensures) ∙ c .before .if2 .left)),
+          ∙ sym (end-off (walk a) (a .args .a) (a .args .e) (a .args .from) (a .args .count) (a .pre .1 .1 .0) (outline a) (around (a .args .a) (a .args .e) (a .args .from + a .args .j)) (a .args .j)
+          (a .pre .1 .1 .1) (w .before .if1 .left)
+          (ap (λ (k : ℕ). ltb 0 (getD (a .args .marks .now) k 0)) (sym (p .0)) ∙ sym (c .before .before .is-on .ensures) ∙ c .before .if2 .left)),
       (q .1, p .1),
     )
 
