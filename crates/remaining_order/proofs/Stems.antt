@@ -1,0 +1,92 @@
+-- Behind the stem pass with none passed over every edge is done, and remaining edges change nothing: so `hint_edges`' own condition for calling them decides nothing.
+use mathlib.Core.Path.{_≡_, refl, sym, ap, subst, _∙_}
+use mathlib.Core.Bool.{Bool, true, false, not, cond, _||_}
+use mathlib.Core.List.{List, [], _∷_}
+use Prim.Native.Nat.{ℕ, zero, suc, _≤_, _<_}
+use native.Mathlib.Omega.{arith}
+use borrow.Author.Tests.{ltb-false}
+use lib.Dec.{ltb}
+use lib.IntN.{ℤ}
+use lib.ListN.{length}
+use Rattle.refusals.specs.Refusal.{_unless_, refusal, answered, badIndex, steep}
+use Rattle.fixed.specs.declared.width.WidthRule.{WidthRule}
+use Rattle.axis.specs.declared.kinds.Group.{Group}
+use Rattle.axis.specs.declared.kinds.Link.{Link}
+use Rattle.axis.specs.declared.kinds.Link.the-variants as Links
+use Rattle.axis.specs.declared.edge.Axis.{Axis}
+use Rattle.axis.specs.Refusals.{linkHolds, edgesShort, edgesIndexed, edgesInRange}
+use Rattle.gaps.specs.Gaps.{isDone}
+use Rattle.stems.specs.declared.pass.Stems.{Stems}
+use Rattle.stems.specs.Stems.{alignStemEdges}
+use Rattle.stems.proofs.Changed as Changed
+use Rattle.stems.proofs.Done.{none-passed-over}
+use Rattle.remaining.specs.Remaining.{state, begun, remainingOf, Remaining, remaining, outcome, tableTests, remainingTests, alignRemainingEdges}
+use Rattle.remaining.proofs.Done.{pass-stays}
+use Rattle.remaining_order.specs.Behind.{isCalledFor, called, calledFor, NoneLeft}
+
+-- ---- every edge done
+module _ (axis : Axis) (group : Group) (count : ℕ) (given : Link) (all : (j : ℕ) → j < axis .len → isDone axis j ≡ true) where
+  stays : remainingOf axis group count given ≡ state axis (begun count given)
+  stays = pass-stays (state axis (begun count given)) all group
+
+  -- no position on the way refuses
+  tests : refusal (remainingTests axis group count given) ≡ refusal (tableTests axis given)
+  unfolding refusal
+  tests =
+      ap (λ (b : Bool). refusal (edgesShort axis ∷ edgesIndexed axis ∷ badIndex unless linkHolds (axis .len) given ∷ edgesInRange axis ∷ steep unless not b ∷ []))
+      (λ i. stays i .past .beyond)
+
+  call : alignRemainingEdges axis group count given ≡ answered (refusal (tableTests axis given)) (remaining Links.None axis) (remaining given axis 0)
+  unfolding alignRemainingEdges
+  call = λ i. answered (tests i) (remaining Links.None axis) (outcome (stays i))
+
+  pub none-left : NoneLeft axis group count given
+  none-left = record {
+    done = all;
+    nothing = record {
+      edges = ap (λ (r : Remaining). r .axis) call ∙ by-axis (refusal (tableTests axis given));
+      answer = ap (λ (r : Remaining). r .answer) call ∙ by-answer (refusal (tableTests axis given));
+      anchor = λ e. ap (λ (r : Remaining). r .anchor) call ∙ by-anchor (refusal (tableTests axis given)) (ap (λ (r : Remaining). r .answer) (sym call) ∙ e);
+    };
+  }
+    where
+      by-axis : (k : ℕ) → answered k (remaining Links.None axis) (remaining given axis 0) .axis ≡ axis
+      by-axis zero = refl
+      by-axis (suc k) = refl
+
+      by-answer : (k : ℕ) → answered k (remaining Links.None axis) (remaining given axis 0) .answer ≡ k
+      by-answer zero = refl
+      by-answer (suc k) = refl
+
+      by-anchor : (k : ℕ) → answered k (remaining Links.None axis) (remaining given axis 0) .answer ≡ 0 → answered k (remaining Links.None axis) (remaining given axis 0) .anchor ≡ given
+      by-anchor zero e = refl
+      by-anchor (suc k) e = absurd (omega (arith, e))
+
+-- ---- behind the stem pass
+module _ (axis : Axis) (group : Group) (adjust ttb : Bool) (anchor : Link) (rule : WidthRule) (xs : List ℤ) (l : axis .len ≤ length (axis .edges))
+    (e : alignStemEdges axis group adjust ttb anchor rule xs .answer ≡ 0) where
+  abbrev passed : Stems
+  passed = alignStemEdges axis group adjust ttb anchor rule xs
+
+  same-len : alignStemEdges axis group adjust ttb anchor rule xs .axis .len ≡ axis .len
+  same-len = Changed.changed axis group adjust ttb anchor rule xs {r = passed} refl .only .len
+
+  -- with none passed over no edge is left, whatever count and anchor are handed on
+  pub behind-stems : alignStemEdges axis group adjust ttb anchor rule xs .count ≡ 0
+      → (count : ℕ) (given : Link) → NoneLeft (alignStemEdges axis group adjust ttb anchor rule xs .axis) group count given
+  behind-stems z count given =
+      none-left (passed .axis) group count given (λ j h. none-passed-over axis group adjust ttb anchor rule xs l e z j (subst (λ (n : ℕ). j < n) same-len h))
+
+  -- so with its own count and anchor the edges come to the same, called for or not
+  pub condition-decides-nothing : calledFor group (alignStemEdges axis group adjust ttb anchor rule xs) ≡ called group (alignStemEdges axis group adjust ttb anchor rule xs)
+  condition-decides-nothing = by (isCalledFor passed) refl
+    where
+      none : (a b : Bool) → (a || b) ≡ false → a ≡ false
+      none true b p = p
+      none false b p = refl
+
+      by : (t : Bool) → isCalledFor passed ≡ t → cond t (called group passed) (passed .axis) ≡ called group passed
+      by true q = refl
+      by false q =
+          let z : passed .count ≡ 0 = omega (arith, ltb-false 0 (passed .count) (none (ltb 0 (passed .count)) _ q)) in
+          sym (behind-stems z (passed .count) (passed .anchor) .nothing .edges)

@@ -1,0 +1,2 @@
+-- `Behind`, remaining edges behind the stem pass.
+pub mod Behind
