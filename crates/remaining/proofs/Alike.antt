@@ -32,15 +32,9 @@ pub record AlikeState (s t : State) : Type 0 where
   pub axis : AlikeAxis (s .axis) (t .axis)
   pub past : s .past ≡ t .past
 
--- ---- plans
-module _ (a b : Axis) (alike : AlikeAxis a b) where
-  at : (i : ℕ) → Alike (edgeAt a i) (edgeAt b i)
-  at i = at-alike a b i alike
-
-  done : (i : ℕ) → edgeAt a i .flags .done ≡ edgeAt b i .flags .done
-  done i = λ j. at i .same j .flags .done
-
-  before-same : (i : ℕ) → doneBefore a i ≡ doneBefore b i
+-- ---- the done edges around an edge, where the same edges are done
+module _ (a b : Axis) (done : (i : ℕ) → edgeAt a i .flags .done ≡ edgeAt b i .flags .done) where
+  pub before-same : (i : ℕ) → doneBefore a i ≡ doneBefore b i
   unfolding doneBefore
   before-same zero = refl
   before-same (suc k) = λ j. cond (done k j) (Links.To k) (before-same k j)
@@ -50,8 +44,22 @@ module _ (a b : Axis) (alike : AlikeAxis a b) where
   from-same zero k = refl
   from-same (suc n) k = λ j. cond (done k j) (Links.To k) (from-same n (k + 1) j)
 
-  behind-same : (i : ℕ) → doneBehind a i ≡ doneBehind b i
-  behind-same i = from-same (a .len - (i + 1)) (i + 1) ∙ ap (λ (n : ℕ). doneFrom b (n - (i + 1)) (i + 1)) (alike-len a b alike)
+  pub behind-same : a .len ≡ b .len → (i : ℕ) → doneBehind a i ≡ doneBehind b i
+  behind-same e i = from-same (a .len - (i + 1)) (i + 1) ∙ ap (λ (n : ℕ). doneFrom b (n - (i + 1)) (i + 1)) e
+
+-- ---- plans
+module _ (a b : Axis) (alike : AlikeAxis a b) where
+  at : (i : ℕ) → Alike (edgeAt a i) (edgeAt b i)
+  at i = at-alike a b i alike
+
+  done : (i : ℕ) → edgeAt a i .flags .done ≡ edgeAt b i .flags .done
+  done i = λ j. at i .same j .flags .done
+
+  before : (i : ℕ) → doneBefore a i ≡ doneBefore b i
+  before = before-same a b done
+
+  behind : (i : ℕ) → doneBehind a i ≡ doneBehind b i
+  behind = behind-same a b done (alike-len a b alike)
 
   module _ (past : Progress) (i : ℕ) where
     near-same : (l : Link) → nearOf a i l ≡ nearOf b i l
@@ -68,7 +76,7 @@ module _ (a b : Axis) (alike : AlikeAxis a b) where
     anchor-same : (l : Link) → byAnchor a past i l ≡ byAnchor b past i l
     unfolding byAnchor
     anchor-same Links.None = λ j. anchorPlan (at i .same j) i past
-    anchor-same (Links.To k) = bounds-same k (doneBefore a i) (doneBehind a i) ∙ λ j. byBounds b past i k (before-same i j) (behind-same i j)
+    anchor-same (Links.To k) = bounds-same k (doneBefore a i) (doneBehind a i) ∙ λ j. byBounds b past i k (before i j) (behind i j)
 
     serif-same : (l : Link) → bySerif a past i l ≡ bySerif b past i l
     unfolding bySerif
@@ -91,7 +99,7 @@ module _ (a b : Axis) (alike : AlikeAxis a b) where
     unfolding planOf
     plan-same Rounds.Latin = serif-same (nearOf a i (edgeAt a i .serif)) ∙ ap (bySerif b past i) (near-same (edgeAt a i .serif) ∙ λ j. nearOf b i (at i .same j .serif))
     plan-same Rounds.Serifs = serifs-same (edgeAt a i .serif) ∙ λ j. serifsPlan b past i (at i .same j .serif)
-    plan-same Rounds.Others = others-same (doneBefore a i) (doneBehind a i) ∙ λ j. othersPlan b past i (before-same i j) (behind-same i j)
+    plan-same Rounds.Others = others-same (doneBefore a i) (doneBehind a i) ∙ λ j. othersPlan b past i (before i j) (behind i j)
 
   -- ---- stores
   fixed : (i : ℕ) (p : ℤ) (m : Mark) → AlikeAxis (fixAt a i p m) (fixAt b i p m)

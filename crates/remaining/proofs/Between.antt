@@ -1,8 +1,10 @@
--- An edge placed between two lies between their positions, the ends included, where it is between them by the positions that decide: original ones for Latin, font positions for CJK.
-use mathlib.Core.Path.{_≡_, sym, subst}
-use mathlib.Core.Bool.{false}
+-- An edge placed between two lies between their positions, the ends included, where it is between them by the positions that decide: original ones for Latin, font positions for CJK; and of two
+-- edges placed so the further one lies no lower, where the two between which they are placed are in order.
+use mathlib.Core.Path.{_≡_, refl, sym, subst}
+use mathlib.Core.Bool.{Bool, true, false, cond}
 use mathlib.Core.Logic.{⊎-elim}
-use Prim.Native.Nat.{_+_, _≤_, _<_}
+use Prim.Native.Nat.{ℕ, _+_, _*_, _≤_, _<_}
+use native.Mathlib.Nat.{mul-le-mul-right}
 use native.Mathlib.Omega.{arith}
 use lib.IntN.{ℤ, pos, _+ℤ_, _-ℤ_}
 use lib.Signed.{_≤ℤ_}
@@ -12,6 +14,8 @@ use Rattle.signed.proofs.Signed.{signed, add-law, sub-law, one-zero, to-≡, to
 use Rattle.signed.proofs.Equality.{eqZ-apart}
 use Rattle.signed.proofs.Choices.{cond-cases}
 use Rattle.axis.specs.declared.edge.Edge.{Edge}
+use Rattle.fixed.specs.Point.{rounded, roundedZ}
+use Rattle.fixed.proofs.Rounding.{rounded-grows}
 use Rattle.fixed_ratio.specs.Ratio.{mulDiv}
 use Rattle.fixed_ratio.proofs.Ratios.{Part, part-of}
 use Rattle.remaining.specs.declared.kinds.Progress.{Progress}
@@ -57,6 +61,36 @@ between-lies at b p f q l m =
     let some : 0 < d = omega (arith, apart b f t, signed, sub-law f b, one-zero (f -ℤ b)) in
     let less : k ≤ d = omega (arith, signed, sub-law f b, sub-law at b, one-zero (f -ℤ b), one-zero (at -ℤ b)) in
     subst (λ (r : ℤ). LiesBetween p q (p +ℤ r)) (λ i. mulDiv (sym (ahead b at l) i) (q -ℤ p) (sym (ahead b f far) i)) (lies p q _ (part-of k d (q -ℤ p) some less)))
+
+-- ---- two between the same two
+part-grows : (k m u d : ℕ) → 0 < d → k ≤ m → mulDiv (pos k) (pos u) (pos d) ≤ℤ mulDiv (pos m) (pos u) (pos d)
+unfolding mulDiv roundedZ
+part-grows k m u d h l = to-≤ℤ (pos (rounded (k * u) d)) (pos (rounded (m * u) d)) (omega (arith, rounded-grows (k * u) (m * u) d h (mul-le-mul-right u l)))
+
+pub between-grows : (at further beforeAt beforePos afterAt afterPos : ℤ) → beforeAt ≤ℤ at → at ≤ℤ further → further ≤ℤ afterAt → beforePos ≤ℤ afterPos
+    → betweenPos at beforeAt beforePos afterAt afterPos ≤ℤ betweenPos further beforeAt beforePos afterAt afterPos
+unfolding betweenPos
+between-grows at far b p f q l m n r = by (eqZ f b) refl
+  where
+    ahead-far : b ≤ℤ far
+    ahead-far = to-≤ℤ b far (omega (arith, signed))
+
+    ahead-after : b ≤ℤ f
+    ahead-after = to-≤ℤ b f (omega (arith, signed))
+
+    by : (t : Bool) → eqZ f b ≡ t → cond t p (p +ℤ mulDiv (at -ℤ b) (q -ℤ p) (f -ℤ b)) ≤ℤ cond t p (p +ℤ mulDiv (far -ℤ b) (q -ℤ p) (f -ℤ b))
+    by true t = same-place p
+    by false t =
+        let some : 0 < up (f -ℤ b) = omega (arith, apart b f t, signed, sub-law f b, one-zero (f -ℤ b), ahead-after) in
+        let less : up (at -ℤ b) ≤ up (far -ℤ b) = omega (arith, signed, sub-law far b, sub-law at b, one-zero (far -ℤ b), one-zero (at -ℤ b)) in
+        let grows = part-grows (up (at -ℤ b)) (up (far -ℤ b)) (up (q -ℤ p)) (up (f -ℤ b)) some less in
+        let one = mulDiv (at -ℤ b) (q -ℤ p) (f -ℤ b) in
+        let two = mulDiv (far -ℤ b) (q -ℤ p) (f -ℤ b) in
+        let more : one ≤ℤ two =
+        subst (λ (x : ℤ). x ≤ℤ two) (λ i. mulDiv (sym (ahead b at l) i) (sym (ahead p q r) i) (sym (ahead b f ahead-after) i))
+        (subst (λ (x : ℤ). mulDiv (pos (up (at -ℤ b))) (pos (up (q -ℤ p))) (pos (up (f -ℤ b))) ≤ℤ x)
+        (λ i. mulDiv (sym (ahead b far ahead-far) i) (sym (ahead p q r) i) (sym (ahead b f ahead-after) i)) grows) in
+        to-≤ℤ (p +ℤ one) (p +ℤ two) (omega (arith, signed, more, add-law p one, add-law p two))
 
 -- ---- the edges
 module _ (before after e : Edge) (past : Progress) where

@@ -58,10 +58,10 @@ held-flags axis i dir j = by (eqb i j) (adjusted-only axis i dir .edges .edge j)
 
 -- an edge that is fixed and held is done, and so are those that were
 module _ (axis : Axis) (i : ℕ) (p : ℤ) (m : Mark) where
-  abbrev fixed : Axis
+  abbrev pub fixed : Axis
   fixed = fixAt axis i p m
 
-  abbrev held : Axis
+  abbrev pub held : Axis
   held = adjusted (adjusted fixed i Prev) i Next
 
   held-done : (j : ℕ) → edgeAt held j .flags .done ≡ edgeAt fixed j .flags .done
@@ -70,10 +70,10 @@ module _ (axis : Axis) (i : ℕ) (p : ℤ) (m : Mark) where
   held-still : (j : ℕ) → IsDone axis j → IsDone held j
   held-still j h = held-done j ∙ at-set (λ (e : Edge). e .flags .done ≡ true) (axis .edges) i j _ emptyEdge refl h
 
-  held-own : i < length (axis .edges) → IsDone held i
+  pub held-own : i < length (axis .edges) → IsDone held i
   held-own h = held-done i ∙ ap (λ (e : Edge). e .flags .done) (getD-set-same (axis .edges) i _ emptyEdge h)
 
-  held-long : length (held .edges) ≡ length (axis .edges)
+  pub held-long : length (held .edges) ≡ length (axis .edges)
   held-long = adjusted-only (adjusted fixed i Prev) i Next .edges .size ∙ adjusted-only fixed i Prev .edges .size ∙ length-set (axis .edges) i _
 
 -- ---- Latin's plans
@@ -107,11 +107,11 @@ record DoneTo (n i : ℕ) (s : State) : Type 0 where
   long : n ≤ length (s .axis .edges)
   done : (j : ℕ) → j < i → s .past .beyond ≡ false → IsDone (s .axis) j
 
-or-second : (a b : Bool) → (a || b) ≡ true → a ≡ false → b ≡ true
+pub or-second : (a b : Bool) → (a || b) ≡ true → a ≡ false → b ≡ true
 or-second true b p q = absurd (clash true q refl)
 or-second false b p q = p
 
-or-first : (a b : Bool) → (a || b) ≡ false → a ≡ false
+pub or-first : (a b : Bool) → (a || b) ≡ false → a ≡ false
 or-first true b p = absurd (clash true p refl)
 or-first false b p = refl
 

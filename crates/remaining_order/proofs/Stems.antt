@@ -1,6 +1,6 @@
 -- Behind the stem pass with none passed over every edge is done, and remaining edges change nothing: so `hint_edges`' own condition for calling them decides nothing.
 use mathlib.Core.Path.{_≡_, refl, sym, ap, subst, _∙_}
-use mathlib.Core.Bool.{Bool, true, false, not, cond, _||_}
+use mathlib.Core.Bool.{Bool, true, false, not, cond}
 use mathlib.Core.List.{List, [], _∷_}
 use Prim.Native.Nat.{ℕ, zero, suc, _≤_, _<_}
 use native.Mathlib.Omega.{arith}
@@ -21,7 +21,7 @@ use Rattle.stems.specs.Stems.{alignStemEdges}
 use Rattle.stems.proofs.Changed as Changed
 use Rattle.stems.proofs.Done.{none-passed-over}
 use Rattle.remaining.specs.Remaining.{state, begun, remainingOf, Remaining, remaining, outcome, tableTests, remainingTests, alignRemainingEdges}
-use Rattle.remaining.proofs.Done.{pass-stays}
+use Rattle.remaining.proofs.Done.{or-first, pass-stays}
 use Rattle.remaining_order.specs.Behind.{isCalledFor, called, calledFor, NoneLeft}
 
 -- ---- every edge done
@@ -81,12 +81,8 @@ module _ (axis : Axis) (group : Group) (adjust ttb : Bool) (anchor : Link) (rule
   pub condition-decides-nothing : calledFor group (alignStemEdges axis group adjust ttb anchor rule xs) ≡ called group (alignStemEdges axis group adjust ttb anchor rule xs)
   condition-decides-nothing = by (isCalledFor passed) refl
     where
-      none : (a b : Bool) → (a || b) ≡ false → a ≡ false
-      none true b p = p
-      none false b p = refl
-
       by : (t : Bool) → isCalledFor passed ≡ t → cond t (called group passed) (passed .axis) ≡ called group passed
       by true q = refl
       by false q =
-          let z : passed .count ≡ 0 = omega (arith, ltb-false 0 (passed .count) (none (ltb 0 (passed .count)) _ q)) in
+          let z : passed .count ≡ 0 = omega (arith, ltb-false 0 (passed .count) (or-first (ltb 0 (passed .count)) _ q)) in
           sym (behind-stems z (passed .count) (passed .anchor) .nothing .edges)
