@@ -26,7 +26,8 @@ use Rattle.gaps.proofs.Lasts.{Last}
 use Rattle.remaining.specs.declared.kinds.Progress.{Progress}
 use Rattle.remaining.specs.declared.kinds.Round.the-variants as Rounds
 use Rattle.remaining.specs.Plan.{betweenPos}
-use Rattle.remaining.specs.Remaining.{State, state, doneBefore, doneBehind, serifsPlan, othersPlan, planOf, placeAt, stored, visit, visited, othersVisited, passOf, begun, remainingOf, alignRemainingEdges}
+use Rattle.remaining.specs.Remaining.{State, state, doneBefore, doneBehind, serifsPlan, othersPlan, planOf, placeAt, stored, visit, visited, othersVisited, passOf, begun}
+use Rattle.remaining.specs.Remaining.{remainingOf, alignRemainingEdges}
 use Rattle.remaining.proofs.Alike.{before-same, behind-same}
 use Rattle.remaining.proofs.Between.{between-grows, cjk-lies}
 use Rattle.remaining_order.specs.Order.{InOrder, CjkReady}
@@ -84,7 +85,10 @@ module _ (axis : Axis) (count : ℕ) (anchor : Link) (k : ℕ) (r : CjkReady axi
       later = λ j l. h .later j (omega arith);
       kept = h .kept;
       done = h .done;
-      moved = λ j l n. ⊎-elim (λ (e : j ≡ i). subst (λ (x : ℕ). isDone axis x ≡ false → edgeAt (s .axis) x .pos ≡ placeOf x) (sym e) q n) (λ (b : j < i). h .moved j b n) (eq-or-lt-of-le (omega arith));
+      moved = λ j l n. ⊎-elim
+          (λ (e : j ≡ i). subst (λ (x : ℕ). isDone axis x ≡ false → edgeAt (s .axis) x .pos ≡ placeOf x) (sym e) q n)
+          (λ (b : j < i). h .moved j b n)
+          (eq-or-lt-of-le (omega arith));
     }
 
     module _ (d : isDone axis i ≡ false) where
@@ -184,7 +188,8 @@ module _ (axis : Axis) (count : ℕ) (anchor : Link) (k : ℕ) (r : CjkReady axi
         by (Links.To b) x =
             let n = x .some b refl in
             let o = n .order in
-            cjk-lies (edgeAt axis b) (edgeAt axis (i + 1)) (edgeAt axis i) past (r .font-rise .at b i o (omega arith)) font .rising (r .in-order .at b (i + 1) (omega arith) l (n .passes) d) .1
+            cjk-lies (edgeAt axis b) (edgeAt axis (i + 1)) (edgeAt axis i) past (r .font-rise .at b i o (omega arith)) font .rising
+            (r .in-order .at b (i + 1) (omega arith) l (n .passes) d) .1
 
     -- neither is: they go by the same edges
     neither : isDone axis i ≡ false → isDone axis (i + 1) ≡ false → placeOf i ≤ℤ placeOf (i + 1)

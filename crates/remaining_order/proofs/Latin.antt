@@ -1,4 +1,5 @@
--- Latin's order: where done edges are in order, the anchor is done and no serif is near, all edges are in order behind remaining edges exactly where the places by the anchor fit at both ends of the done ones.
+-- Latin's order: where done edges are in order, the anchor is done and no serif is near, all edges are in order behind remaining edges exactly where the places by the anchor
+-- fit at both ends of the done ones; and so always where the anchor alone is done.
 use mathlib.Core.Path.{_≡_, refl, sym, ap, subst, _∙_}
 use mathlib.Core.Bool.{Bool, true, false}
 use mathlib.Core.Logic.{inl, inr, ⊎-elim, _≢_}
@@ -28,7 +29,7 @@ use Rattle.remaining_order.proofs.Stores.{fixed-own, fixed-other, held-
 use Rattle.remaining_order.proofs.Found.{before-is, Next, from-is}
 use Rattle.remaining_order.proofs.Visits.{Passed, passed, all-reach}
 use Rattle.remaining_order.proofs.Goes.{same-or-not, Goes, goes-begun, done-same, place-same, goes-on, inside, goes-put, boundsAt, latin-cases}
-use Rattle.remaining_order.proofs.Rising.{le-then, le-by, spaced-rises}
+use Rattle.remaining_order.proofs.Rising.{le-then, le-by, spaced-rises, spaced-above, spaced-below}
 
 module _ (axis : Axis) (a first last : ℕ) (r : LatinReady axis a first last) where
   -- ---- by the anchor
@@ -329,9 +330,11 @@ module _ (axis : Axis) (a first last : ℕ) (r : LatinReady axis a first last) w
         by : (t : Bool) → isDone axis 0 ≡ t → FitsBelow axis a first
         by true q = inl q
         by false q =
-            let f = r .first-done .there in
-            let n : 0 < first = ⊎-elim (λ (z : 0 < first). z) (λ (z : first ≤ 0). let w : first ≡ 0 = omega arith in absurd (clash _ q (subst (λ (y : ℕ). isDone axis y ≡ true) w (r .first-done .done)))) (lt-or-le 0 first) in
-            inr (le-by (sym (ends .front (omega arith) q)) (sym (kept-pos first (r .first-done .done))) (o .at 0 first n (omega (arith, ends .goes .len))))
+            let f = r .first-done in
+            let l = f .there in
+            let n : 0 < first =
+            ⊎-elim (λ (z : 0 ≡ first). absurd (clash _ q (subst (λ (y : ℕ). isDone axis y ≡ true) (sym z) (f .done)))) (λ (z : 0 < first). z) (eq-or-lt-of-le (omega arith)) in
+            inr (le-by (sym (ends .front (omega arith) q)) (sym (kept-pos first (f .done))) (o .at 0 first n (omega (arith, ends .goes .len))))
 
     above-fits : edgeAt axis (last + 1) .link ≡ Links.None → InOrder (end .axis) → FitsAbove axis a last
     above-fits n o =
@@ -349,3 +352,19 @@ module _ (axis : Axis) (a first last : ℕ) (r : LatinReady axis a first last) w
       fits-below = λ o. below-fits (subst InOrder outcome o);
       fits-above = λ n o. above-fits n (subst InOrder outcome o);
     }
+
+-- ---- the anchor alone is done
+module _ (axis : Axis) (a : ℕ) (r : LatinReady axis a a a) where
+  alone-below : FitsBelow axis a a
+  alone-below =
+      ⊎-elim (λ (z : 0 ≡ a). inl (subst (λ (y : ℕ). isDone axis y ≡ true) (sym z) (r .anchor)))
+      (λ (l : 0 < a). inr (spaced-below (edgeAt axis a .pos) (edgeAt axis a .opos) (edgeAt axis 0 .opos) (r .rise .at 0 a l (r .first-done .there)))) (eq-or-lt-of-le (omega arith))
+
+  alone-above : FitsAbove axis a a
+  alone-above =
+      let t = r .last-done .there in
+      ⊎-elim (λ (l : a + 1 < axis .len). inr (spaced-above (edgeAt axis a .pos) (edgeAt axis a .opos) (edgeAt axis (a + 1) .opos) (r .rise .at a (a + 1) (omega arith) l)))
+      (λ (l : axis .len ≤ a + 1). let z : a ≡ axis .len - 1 = omega arith in inl (subst (λ (y : ℕ). isDone axis y ≡ true) z (r .anchor))) (lt-or-le (a + 1) (axis .len))
+
+  pub anchor-alone : (count : ℕ) → alignRemainingEdges axis Default count (Links.To a) .answer ≡ 0 → InOrder (alignRemainingEdges axis Default count (Links.To a) .axis)
+  anchor-alone count e = latin-order axis a a a r count e .in-order alone-below alone-above

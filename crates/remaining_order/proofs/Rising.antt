@@ -34,6 +34,21 @@ spaced-rises p o x y h =
     let halves = half-rises a b more in
     to-≤ℤ (p +ℤ halfFloor a) (p +ℤ halfFloor b) (omega (arith, signed, halves, add-law p (halfFloor a), add-law p (halfFloor b)))
 
+-- it is not above the anchor where it was not above it, and not below where not below
+pub spaced-below : (p o x : ℤ) → x ≤ℤ o → spacedPos p o x ≤ℤ p
+unfolding spacedPos halfFloor
+spaced-below p o x h =
+    let z = x -ℤ o +ℤ pos 16 in
+    let q = shrZ z 32 in
+    to-≤ℤ (p +ℤ q *ℤ pos 32) p (omega (arith, signed, add-law p (q *ℤ pos 32), mul-up q 32, mul-dn q 32, shr-law z 32 tt, add-law (x -ℤ o) (pos 16), sub-law x o))
+
+pub spaced-above : (p o x : ℤ) → o ≤ℤ x → p ≤ℤ spacedPos p o x
+unfolding spacedPos halfFloor
+spaced-above p o x h =
+    let z = x -ℤ o +ℤ pos 16 in
+    let q = shrZ z 32 in
+    to-≤ℤ p (p +ℤ q *ℤ pos 32) (omega (arith, signed, add-law p (q *ℤ pos 32), mul-up q 32, mul-dn q 32, shr-law z 32 tt, add-law (x -ℤ o) (pos 16), sub-law x o))
+
 -- shifted with an edge that was at o and is at p
 pub shifted-rises : (p o x y : ℤ) → x ≤ℤ y → serifPos p o x ≤ℤ serifPos p o y
 unfolding serifPos

@@ -86,8 +86,8 @@ record Worked : Type 0 where
   below-linked : guarded (Links.To 2) (link 2 (left (minus 3)) ∷ done (pos 0) (minus 5) ∷ done (pos 2) (pos 0) ∷ []) ≡ told 0 (pos 0 ∷ minus 5 ∷ pos 0 ∷ []) (losing 2 0 1 (pos 3) (minus 5))
 
 worked : Worked
-unfolding visits passOf visit carriedOut stored planOf bySerif byAnchor byBounds nearOf doneFrom doneBefore betweenPos spacedPos halfFloor serifPos alignRemainingEdges refusal linkHolds blueHolds
-    every edgeIndices edgeNumbers edgesIndices edgesNumbers lowerBound upperBound hasPassed neighbour heldTo boundBy adjusted pixFloor pixRound mulDiv roundedZ rounded
+unfolding visits passOf visit carriedOut stored planOf bySerif byAnchor byBounds nearOf doneFrom doneBefore betweenPos spacedPos halfFloor serifPos alignRemainingEdges refusal
+    linkHolds blueHolds every edgeIndices edgeNumbers edgesIndices edgesNumbers lowerBound upperBound hasPassed neighbour heldTo boundBy adjusted pixFloor pixRound mulDiv roundedZ rounded
     rowFrom rows gone lostGap lostStem lost lastOf pairTo ends counted firstOf foundTo linksTo lostGaps
 worked = record {
   turned = refl;

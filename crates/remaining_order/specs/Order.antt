@@ -61,7 +61,8 @@ FitsBelow axis a first = (isDone axis 0 ≡ true) ⊎ (placeBy axis a 0 ≤ℤ e
 abbrev pub FitsAbove : Axis → ℕ → ℕ → Type 0
 FitsAbove axis a last = (isDone axis (axis .len - 1) ≡ true) ⊎ (edgeAt axis last .pos ≤ℤ placeBy axis a (last + 1))
 
--- shown of a call that answers 0: all edges are in order behind it exactly where both hold; but where the edge behind the last done one has a link, it may be held to that, and the second is not needed
+-- shown of a call that answers 0: all edges are in order behind it exactly where both hold; but where the edge behind the last done one has a link, it may be held to that, and the second
+-- is not needed
 pub record LatinOrder (axis : Axis) (count a first last : ℕ) : Type 0 where
   pub in-order : FitsBelow axis a first → FitsAbove axis a last → InOrder (alignRemainingEdges axis Default count (Links.To a) .axis)
   pub fits-below : InOrder (alignRemainingEdges axis Default count (Links.To a) .axis) → FitsBelow axis a first
@@ -72,7 +73,8 @@ pub record LatinOrder (axis : Axis) (count a first last : ℕ) : Type 0 where
 pub record FontRise (axis : Axis) : Type 0 where
   pub at : (i j : ℕ) → i < j → j < axis .len → edgeAt axis i .fpos ≤ℤ edgeAt axis j .fpos
 
--- what is needed before: a place for each edge, original and font positions that do not fall, done edges in order, some edge k of them, and no serif of an edge that is not done, at any distance
+-- what is needed before: a place for each edge, original and font positions that do not fall, done edges in order, some edge k of them, and no serif of an edge that is not done,
+-- at any distance
 pub record CjkReady (axis : Axis) (k : ℕ) : Type 0 where
   pub places : axis .len ≤ length (axis .edges)
   pub rise : EdgesRise axis
