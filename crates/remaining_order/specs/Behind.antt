@@ -16,13 +16,13 @@ use Rattle.remaining.specs.Remaining.{tableTests, alignRemainingEdges}
 abbrev pub isCalledFor : Stems → Bool
 isCalledFor passed = ltb 0 (passed .count) || not (isLinked (passed .anchor))
 
--- the edges behind remaining edges, with the count and the anchor that stems hand back
-abbrev pub called : Group → Stems → Axis
-called group passed = alignRemainingEdges (passed .axis) group (passed .count) (passed .anchor) .axis
+-- an axis behind remaining edges, with the count and the anchor that stems hand back
+abbrev pub called : Group → Stems → Axis → Axis
+called group passed axis = alignRemainingEdges axis group (passed .count) (passed .anchor) .axis
 
--- the same where `hint_edges` calls for them, else as stems leave them
-abbrev pub calledFor : Group → Stems → Axis
-calledFor group passed = cond (isCalledFor passed) (called group passed) (passed .axis)
+-- the same where `hint_edges` calls for them, else as it is
+abbrev pub calledFor : Group → Stems → Axis → Axis
+calledFor group passed axis = cond (isCalledFor passed) (called group passed axis) axis
 
 -- the call changes nothing: the edges are as they were, it refuses for what it is given alone, by no position on the way, and hands back the anchor that it is given
 pub record ChangesNothing (axis : Axis) (group : Group) (count : ℕ) (given : Link) : Type 0 where
