@@ -1,9 +1,10 @@
-// Fixed multiply and divide under C names, in 64 bits and for every pair, so that tools/freetype can hold them to FreeType's. No part of the product.
+// Fixed multiply, divide and multiply-divide under C names, in 64 bits and for every input, for tools/freetype to hold to FreeType's. No part of the product.
 use fixed::point::wide_div;
 use fixed::point::wide_mul;
+use fixed_ratio::ratio::fixed_mul_div;
 ghost use mathlib.Core.Path.{_≡_};
 ghost use Rattle.fixed.specs.Point.{mulFix};
-ghost use Rattle.fixed_c.specs.Divide.{divOrZero};
+ghost use Rattle.fixed_c.specs.Divide.{divOrZero, mulDivOrZero};
 
 // Fixed multiply.
 #[no_mangle]
@@ -22,4 +23,15 @@ pub extern "C" fn fixed_c_div(a: i32, b: i32) -> i64
         return 0;
     }
     wide_div(a, b)
+}
+
+// Multiply-divide, and 0 where there is no divisor.
+#[no_mangle]
+pub extern "C" fn fixed_c_mul_div(a: i32, b: i32, c: i32) -> i64
+    ensures { λ r. ⌜ r ≡ mulDivOrZero a b c ⌝ }
+{
+    if c == 0 {
+        return 0;
+    }
+    fixed_mul_div(a, b, c)
 }
