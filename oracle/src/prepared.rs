@@ -11,11 +11,11 @@ use crate::{
         topo_segments,
     },
     job::{
-        Building, Dimension, Edge, EdgePoints, Job, Points, ScriptGroup, Segment, Table, Walk,
-        WidthRule,
+        Building, Dimension, Edge, EdgePoints, Job, Points, ScriptGroup, Segment, Strong, Table,
+        Walk, WidthRule,
     },
     path::Step,
-    plain,
+    plain, strong,
 };
 use std::hint::black_box;
 
@@ -27,6 +27,7 @@ pub enum Prepared {
     Build(Axis, Vec<Segment>, ScaledAxisMetrics, Building),
     Edges(Axis, Vec<Edge>, Fitting),
     EdgePoints(Outline, Vec<Point>, Axis, ScriptGroup),
+    Strong(Outline, Vec<Point>, Axis, Vec<Edge>),
     Path(Walk, Vec<Step>),
 }
 
@@ -48,6 +49,7 @@ enum Call {
     CjkStem(usize, usize, i32),
     Stems(bool, Option<usize>),
     Joined(bool),
+    Remaining(usize, Option<usize>),
     Gaps(i32, bool),
     M,
 }
@@ -80,6 +82,7 @@ impl Prepared {
             Job::EdgePoints(segments, edges, given) => {
                 Self::edge_points(segments.items, edges.items, &given)
             }
+            Job::Strong(edges, given) => Self::strong(edges.items, &given),
             Job::Path(walk) | Job::PathStep(walk, _) => {
                 let most = walk.xs.len() + 2 * walk.ends.len();
                 Self::Path(walk, Vec::with_capacity(most))
@@ -112,6 +115,16 @@ impl Prepared {
         };
         let points = edge_points::points(given, axis.dim);
         Self::EdgePoints(Outline::default(), points, axis, group)
+    }
+
+    /// Strong points on the vertical axis, whose edges remember quotients.
+    fn strong(edges: Vec<Edge>, given: &Strong) -> Self {
+        let axis = Axis {
+            dim: Dimension::Vertical,
+            ..Axis::default()
+        };
+        let points = strong::points(given, axis.dim);
+        Self::Strong(Outline::default(), points, axis, edges)
     }
 
     /// A job over edges.
@@ -152,6 +165,10 @@ impl Prepared {
                 let group = given.group;
                 (edges, given.dim, group, given.rule, given.stem_adjust, call)
             }
+            Job::Remaining(edges, given) => {
+                let call = Call::Remaining(given.count.into(), given.anchor.map(usize::from));
+                (edges, given.dim, given.group, keep, false, call)
+            }
             Job::Gaps(edges, least, linked) => {
                 let call = Call::Gaps(least, linked);
                 (edges, Horizontal, Default, keep, false, call)
@@ -189,6 +206,10 @@ impl Prepared {
             }
             Self::Edges(axis, edges, _) => axis.edges.clone_from(edges),
             Self::EdgePoints(outline, points, ..) => outline.points.clone_from(points),
+            Self::Strong(outline, points, axis, edges) => {
+                outline.points.clone_from(points);
+                axis.edges.clone_from(edges);
+            }
             Self::Path(_, steps) => steps.clear(),
         }
     }
@@ -215,6 +236,9 @@ impl Prepared {
                 black_box(hint_outline::align_edge_points(
                     outline, axis, *group, &scale,
                 ));
+            }
+            Self::Strong(outline, _, axis, _) => {
+                black_box(hint_outline::align_strong_points(outline, axis, None));
             }
             Self::Path(walk, steps) => plain::steps(walk, steps),
         }
@@ -276,6 +300,9 @@ impl Fitting {
                     anchor,
                     None,
                 ));
+            }
+            Call::Remaining(count, anchor) => {
+                hint_edges::align_remaining_edges(axis, group, false, count, anchor, None);
             }
             Call::Gaps(least, linked) => {
                 black_box(plain::lost_gaps(&axis.edges, least, linked));

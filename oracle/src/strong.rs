@@ -44,9 +44,7 @@ fn on_axis(edges: &[Edge], given: &Strong, dim: Dimension) -> Vec<Option<i32>> {
         ..Axis::default()
     };
     let mut outline = Outline {
-        points: (0..given.fonts.len())
-            .map(|ix| point(given, ix, dim))
-            .collect(),
+        points: points(given, dim),
         ..Outline::default()
     };
     hint_outline::align_strong_points(&mut outline, &mut axis, None)
@@ -59,6 +57,13 @@ fn on_axis(edges: &[Edge], given: &Strong, dim: Dimension) -> Vec<Option<i32>> {
         (point.flags.has_marker(touched) && given.touches[ix] == 0).then_some(current)
     };
     outline.points.iter().enumerate().map(moved).collect()
+}
+
+/// The points with their coordinates and their marks on one axis.
+pub(crate) fn points(given: &Strong, dim: Dimension) -> Vec<Point> {
+    (0..given.fonts.len())
+        .map(|ix| point(given, ix, dim))
+        .collect()
 }
 
 /// A point that has its coordinates and its marks on one axis.

@@ -1,7 +1,7 @@
 //! What is timed: for each call some kinds of inputs, at several sizes, as jobs.
 
 use crate::{
-    chain, edges,
+    by_edges, chain, edges,
     outlines::{self, Outlines},
     port,
     segments::{self, Kind},
@@ -10,9 +10,27 @@ use khsaemudol::{EDGE_WORDS, SEGMENT_WORDS};
 use oracle::generate::Random;
 
 /// The calls, by short names.
-pub const NAMES: [&str; 17] = [
-    "mid", "weak", "link", "build", "blues", "linked", "serif", "adjust", "bounds", "stem",
-    "stems", "joined", "guard", "m", "lent", "path", "step",
+pub const NAMES: [&str; 20] = [
+    "mid",
+    "weak",
+    "link",
+    "build",
+    "blues",
+    "linked",
+    "serif",
+    "adjust",
+    "bounds",
+    "stem",
+    "stems",
+    "joined",
+    "remaining",
+    "guard",
+    "m",
+    "lent",
+    "points",
+    "strong",
+    "path",
+    "step",
 ];
 
 /// The inputs of one round.
@@ -96,9 +114,14 @@ pub fn cases(name: &str) -> Vec<Case> {
             vec![1, group, 0, 0, -1, 0, 0]
         }),
         "joined" => joined(),
+        "remaining" => by_group("remaining", 130, edges::remaining, |group| {
+            vec![1, group, 128, 0]
+        }),
         "guard" => guard(),
         "m" => m("m", 113),
         "lent" => m("lent", 114),
+        "points" => by_edges::points(),
+        "strong" => by_edges::strong(),
         "path" => path(),
         "step" => step(),
         _ => unreachable!("the names are those of NAMES"),

@@ -3,6 +3,9 @@
 use khsaemudol::EDGE_WORDS;
 use oracle::generate::Random;
 
+/// The flag of a done edge.
+const DONE: i32 = 4;
+
 /// The words of an edge at its original position, with flags, a blue zone or none, and its link; nothing gave it its position yet.
 fn edge(opos: i32, pos: i32, round: bool, zone: Option<i32>, link: usize) -> [i32; EDGE_WORDS] {
     let (present, fitted) = zone.map_or((0, 0), |fitted| (1, fitted));
@@ -23,6 +26,32 @@ pub fn on_zones(count: usize, random: &mut Random) -> Vec<i32> {
     paired(count, random, |at, random| {
         random.once_in(4).then_some((at + 32) & !63)
     })
+}
+
+/// Rising stems, every edge at the nearest pixel, and done.
+pub fn placed(count: usize, random: &mut Random) -> Vec<i32> {
+    let mut words = stems(count, random);
+    words.chunks_exact_mut(EDGE_WORDS).for_each(place);
+    words
+}
+
+/// Puts an edge at the nearest pixel, and makes it done.
+fn place(edge: &mut [i32]) {
+    edge[2] = (edge[1] + 32) & !63;
+    edge[3] |= DONE;
+}
+
+/// Stems that are placed, and behind each of them two edges that are left: one whose serif is the stem's second edge, and one that has nothing.
+pub fn remaining(count: usize, random: &mut Random) -> Vec<i32> {
+    let mut words = stems(count, random);
+    for (ix, edge) in words.chunks_exact_mut(EDGE_WORDS).enumerate() {
+        match ix % 4 {
+            0 | 1 => place(edge),
+            2 => (edge[7], edge[8]) = (-1, ix as i32 - 1),
+            _ => edge[7] = -1,
+        }
+    }
+    words
 }
 
 /// Rising edges in pairs, each on the zone that is chosen for it.

@@ -6,6 +6,7 @@
 
 mod answer;
 mod axes;
+mod by_edges;
 mod cases;
 mod catalogue;
 mod chain;

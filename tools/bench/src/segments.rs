@@ -1,6 +1,6 @@
 //! The segments that are timed, as words of a job.
 
-use khsaemudol::SEGMENT_WORDS;
+use khsaemudol::{Segment, SEGMENT_WORDS};
 use oracle::generate::Random;
 
 /// How the segments of an axis lie.
@@ -63,6 +63,20 @@ fn segments(kind: Kind, count: usize, random: &mut Random) -> Vec<i32> {
         ]);
     }
     words
+}
+
+/// The points of a contour that segments go around.
+pub const CONTOUR: usize = 16;
+
+/// Two segments of four points on each contour, one of them around the contour's end, on so many edges in turn.
+pub fn around(contours: usize, edges: usize) -> Vec<Segment> {
+    let segment = |ix: usize| {
+        let start = ix / 2 * CONTOUR;
+        let [first, last] = [[CONTOUR - 2, 1], [6, 9]][ix % 2].map(|at| (start + at) as u16);
+        let segment = Segment::default().with_first(first).with_last(last);
+        segment.with_edge(Some((ix % edges) as u16))
+    };
+    (0..2 * contours).map(segment).collect()
 }
 
 /// A job that links so many segments.
