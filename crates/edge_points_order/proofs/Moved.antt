@@ -31,8 +31,8 @@ use Rattle.outline.specs.Weak.{endsHold, contourOf}
 use Rattle.outline.proofs.Contours.{contour-holds}
 use Rattle.gaps.specs.Gaps.{orElse}
 use Rattle.edge_points.specs.EdgePoints.{walked, Points, movedBy, movePoint, movePoints, moves, moveSegment, alongEdge, visitSegment, moveAll, isOn, onOne, segmentPoints}
+use Rattle.edge_points_walk.proofs.Runs.{walk-once}
 use Rattle.edge_points_order.specs.Order.{meets, moverOf, moverAt, lastMover}
-use Rattle.edge_points_order.proofs.Walks.{met-once}
 
 -- ---- what becomes of a point
 -- the point p stays, with its mark
@@ -123,7 +123,7 @@ module _ (snap alone : Bool) (axis : Axis) (es : List ℕ) where
         once : times p (walked c (g .first) (g .last)) ≤ 1
         once =
             let f = contour-holds 0 n (g .first) es c (omega arith) hold e in
-            met-once c (g .last) (leb-true (c .start) (g .last) (and-first _ _ h)) (ltb-true (g .last) (c .end) (and-second (leb (c .start) (g .last)) _ h)) (g .first) p (f .high)
+            walk-once c (g .first) (g .last) mostPoints p (f .low) (f .high) (leb-true (c .start) (g .last) (and-first _ _ h)) (ltb-true (g .last) (c .end) (and-second (leb (c .start) (g .last)) _ h))
             (omega (arith, f .points))
 
         by : (m b : Bool) → ltb 0 (times p (walked c (g .first) (g .last))) ≡ b
