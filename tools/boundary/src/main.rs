@@ -12,16 +12,19 @@ mod function;
 mod lists;
 mod memory;
 mod model;
+mod moving;
 mod path;
 mod points;
 mod references;
 mod strong;
 mod tally;
 
+use edge_points::EdgePoints;
 use function::{Function, Given, Memories, Outcome, FUNCTIONS};
 use memory::{nulls, with_and_without, Side};
 use oracle::generate::Random;
 use std::{fmt::Display, process::ExitCode};
+use strong::StrongPoints;
 use tally::{Tally, ANSWERS};
 
 /// Compares, and tells how many cases agreed.
@@ -40,8 +43,8 @@ fn main() -> ExitCode {
     tallies.extend(references::references(count as usize, random));
     tallies.push(drag::drags(count as usize, random));
     tallies.extend(frames::frames(count as usize, random));
-    tallies.push(edge_points::edge_points(count as usize, random));
-    tallies.push(strong::strong_points(count as usize, random));
+    tallies.push(moving::compare::<EdgePoints, 5>(count as usize, random));
+    tallies.push(moving::compare::<StrongPoints, 6>(count as usize, random));
     for function in &FUNCTIONS {
         tallies.push(compare(function, count as usize, random));
     }
