@@ -24,7 +24,7 @@ move-segment-requires c κs =
     let s = l .before .before .before in
     let a = s .args in
     let p = l .loop .inv in (
-      (subst (λ (n : ℕ). Accepted (a .segments .now) (a .edges .now) (a .alone) n (a .ends .now)) (sym (p .currents-size)) (s .pre .0), t .loop-test .taken),
+      (subst (λ (n : ℕ). Accepted (a .segments .now) (a .edges .now) (a .alone) n (a .ends .now)) (sym (p .currents-size)) (s .pre .0), omega (arith, t .loop-test .taken)),
       (p .marks-size ∙ s .pre .1 .0 ∙ sym (p .currents-size), p .reach),
     )
 
@@ -39,7 +39,7 @@ loop-again c =
     let m = c .before .before .before in
     let t = m .before .before .before in
     let l = t .before in
-    passing-next (l .before .before .before .pre .0) (l .loop .inv) (t .loop-test .taken) (m .move-segment .ensures)
+    passing-next (l .before .before .before .pre .0) (l .loop .inv) (omega (arith, t .loop-test .taken)) (m .move-segment .ensures)
 
 same-length : tie.Need-same-length Inv-loop μ-loop
 same-length c = c .before .loop .inv .currents-size
