@@ -3,7 +3,7 @@ use mathlib.Core.Path.{_≡_, refl, sym, ap, _∙_}
 use mathlib.Core.Bool.{Bool, true, false, not, _||_}
 use mathlib.Core.List.{List}
 use mathlib.Core.Option.{Option, some, none}
-use Prim.Native.Nat.{ℕ, _≤_, _<_, min}
+use Prim.Native.Nat.{ℕ, _≤_, _<_}
 use native.Mathlib.Omega.{arith}
 use borrow.Author.Tests.{leb-true, ltb-true}
 use lib.Dec.{leb}
@@ -13,7 +13,6 @@ use Rattle.refusals.proofs.Tests.{and-first, and-second}
 use Rattle.axis.specs.declared.kinds.Link.the-variants as Links
 use Rattle.axis.specs.declared.segment.Segment.{Segment}
 use Rattle.axis.specs.Edge.{edgeAt}
-use Rattle.axis.specs.Limits.{mostSegments}
 use Rattle.axis.specs.Refusals.{segmentEdge}
 use Rattle.axis.specs.Segment.{segmentAt}
 use Rattle.axis.proofs.Acceptance.{within-between, link-below}
@@ -24,23 +23,20 @@ use Rattle.outline.specs.Weak.{endsHold, contourOf}
 use Rattle.outline.proofs.Contours.{contour-holds}
 use Rattle.turning.specs.Indices.{segmentsEdges}
 use Rattle.words.specs.Word.{wordAt}
-use Rattle.words.specs.Field.{indexOf, linkOf}
+use Rattle.words.specs.Field.{indexOf}
 use Rattle.words.specs.Edge.{edgesIn}
-use Rattle.words.specs.Segment.{firstPlace, lastPlace, edgePlace, wordOfSegment, segmentsIn, segmentFrom, flatSegments}
+use Rattle.words.specs.Segment.{firstPlace, lastPlace, wordOfSegment, segmentsIn, segmentFrom, flatSegments}
 use Rattle.lent.specs.Lent.{edgesOf}
 use Rattle.edges_in.proofs.Wholes.{edges-len}
 use Rattle.segments_in.specs.Whole.{Whole}
-use Rattle.segments_in.proofs.Wholes.{segments-len, segment-in}
+use Rattle.segments_in.proofs.Wholes.{segment-in}
+use Rattle.tables_test.proofs.Tables.{tested-segment}
 use Rattle.edge_points.specs.EdgePoints.{moves, isOn, onOne, segmentPoints, segmentsPoints, moverHolds, moversHold}
 use Rattle.edge_points_walk.specs.Steps.{Mover}
 use Rattle.edge_points_words.specs.Steps.{Accepted}
 
 -- ---- words
 module _ (ws : List ℤ) (i : ℕ) (w : Whole ws) (h : i < segmentsIn ws) where
-  pub edge-is : linkOf (wordAt ws (wordOfSegment i edgePlace)) ≡ segmentAt (flatSegments ws) i .edge
-  unfolding segmentFrom
-  edge-is = sym (ap (λ (s : Segment). s .edge) (segment-in ws i w h))
-
   pub first-is : indexOf (wordAt ws (wordOfSegment i firstPlace)) ≡ segmentAt (flatSegments ws) i .first
   unfolding segmentFrom
   first-is = sym (ap (λ (s : Segment). s .first) (segment-in ws i w h))
@@ -49,14 +45,10 @@ module _ (ws : List ℤ) (i : ℕ) (w : Whole ws) (h : i < segmentsIn ws) where
   unfolding segmentFrom
   last-is = sym (ap (λ (s : Segment). s .last) (segment-in ws i w h))
 
-  -- the segment is one of those that are tested
-  pub tested-place : i < min (flatSegments ws .len) mostSegments
-  tested-place = omega (arith, segments-len ws, w .few)
-
   -- its edge is an edge
   pub edge-below : (m k : ℕ) → segmentsEdges m (flatSegments ws) ≡ true → segmentAt (flatSegments ws) i .edge ≡ Links.To k → k < m
   unfolding segmentsEdges segmentEdge
-  edge-below m k t e = link-below m (segmentAt (flatSegments ws) i .edge) (every-at _ i _ t tested-place) .at k e
+  edge-below m k t e = link-below m (segmentAt (flatSegments ws) i .edge) (every-at _ i _ t (tested-segment ws i w h)) .at k e
 
 -- ---- contours
 -- p and q are on the contour of p, which is one of an outline of n points
@@ -102,13 +94,13 @@ module _ (ws es : List ℤ) (alone : Bool) (n : ℕ) (ends : List ℕ) (a : Acce
   unfolding segmentsPoints segmentPoints onOne
   ends-on =
       on-contour ends n _ _ (a .contours)
-      (ap (segmentPoints ends (segmentAt (flatSegments ws) i)) (sym e) ∙ every-at _ i _ (a .on-one) (tested-place ws i (a .segments) h))
+      (ap (segmentPoints ends (segmentAt (flatSegments ws) i)) (sym e) ∙ every-at _ i _ (a .on-one) (tested-segment ws i (a .segments) h))
 
   -- where its edge moves points, both its positions are coordinates
   pub is-mover : moves alone (edgeAt (edgesOf es) k) ≡ true → Mover (edgeAt (edgesOf es) k)
   unfolding moversHold moverHolds
   is-mover m =
-      let t = ap (moverHolds alone (edgesOf es)) (sym e) ∙ every-at _ i _ (a .movers) (tested-place ws i (a .segments) h) in
+      let t = ap (moverHolds alone (edgesOf es)) (sym e) ∙ every-at _ i _ (a .movers) (tested-segment ws i (a .segments) h) in
       record {
         pos = within-between mostCoordinate (edgeAt (edgesOf es) k .pos) (or-second _ _ m t);
         opos = a .in-range .edge k (omega (arith, named, edges-len es)) .opos;

@@ -2,6 +2,7 @@
 use super::front::points_front;
 use super::pass::move_all;
 use super::test::points_refusal;
+use tables_test::hold::tables_hold;
 use words::field::choice_of;
 ghost use Rattle.edge_points_walk.specs.Steps.{points};
 ghost use Rattle.edge_points_words.specs.Align.{EdgePointsLent};
@@ -20,12 +21,13 @@ pub fn lend_edge_points(
     ensures { λ r. ⌜ EdgePointsLent (now (segments .entry)) (now (edges .entry)) snap alone (now (ends .entry)) (points (now (currents .entry)) (now (touched .entry)))
         r (points (now (currents .exit)) (now (touched .exit))) ⌝ }
 {
-    let refusal = points_front(segments, edges, snap, alone, currents, touched);
+    let held = tables_hold(segments, edges);
+    let refusal = points_front(segments, edges, held, snap, alone, currents, touched);
     if 0 < refusal {
         return refusal;
     }
     let alone = choice_of(alone);
-    let refusal = points_refusal(segments, edges, alone, currents, touched, ends);
+    let refusal = points_refusal(segments, edges, held, alone, currents, touched, ends);
     if 0 < refusal {
         return refusal;
     }

@@ -6,16 +6,16 @@ use lent::shown::both;
 use lent::shown::both_in;
 use outline::limits::MOST_POINTS;
 use refusals::order::TOO_LONG;
-use shape::element::is_edges;
-use shape::element::is_segments;
 use shape::field::CHOICE;
+use tables_test::test::tables_shown;
 use words::edge::EDGE_WORDS;
 use words::segment::SEGMENT_WORDS;
 ghost use mathlib.Core.Path.{_≡_};
-ghost use mathlib.Core.Bool.{_&&_};
+ghost use mathlib.Core.Bool.{true, _&&_};
 ghost use lib.Dec.{leb, eqb};
 ghost use Rattle.refusals.specs.Refusal.{refusal};
 ghost use Rattle.contours.specs.Limits.{mostPoints};
+ghost use Rattle.tables_test.specs.Held.{Held};
 ghost use Rattle.edge_points_words.specs.Align.{pointsFront};
 
 // Whether so many points are not too many, and have as many marks.
@@ -28,15 +28,17 @@ fn few_points(count: usize, marks: usize) -> bool
     marks == count
 }
 
-// The refusal in front of the call: the lengths, how many segments, edges, points and marks they are, and only then their words and the choices.
+// The refusal in front of the call: the lengths, how many segments, edges, points and marks they are, and only then their words, which need no test where both tables hold, and the choices.
 pub fn points_front(
     segments: &[i32],
     edges: &[i32],
+    held: bool,
     snap: i32,
     alone: i32,
     currents: &[i32],
     touched: &[u8],
 ) -> u8
+    requires { ⌜ (held ≡ true → Held (now segments) (now edges)) ⌝ }
     ensures { λ r. ⌜ r ≡ refusal (pointsFront (now (segments .entry)) (now (edges .entry)) snap alone (now (currents .entry)) (now (touched .entry))) ⌝ }
 {
     if !both(
@@ -50,8 +52,7 @@ pub fn points_front(
     if !both(few, few_points(currents.len(), touched.len())) {
         return TOO_LONG;
     }
-    let shown = is_segments(segments);
-    let shown = both(shown, is_edges(edges));
+    let shown = tables_shown(segments, edges, held);
     if both(shown, both_in(snap, alone, CHOICE)) {
         return 0;
     }

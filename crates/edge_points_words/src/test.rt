@@ -5,7 +5,6 @@ use axis::kinds::Link;
 use edge_points_walk::contour::contour_of;
 use edge_points_walk::contour::is_on;
 use edges_in::edge::fit_in;
-use edges_test::exact as of_edges;
 use outline::accept::ends_hold;
 use outline::accept::range_refusal;
 use outline::accept::wide;
@@ -13,8 +12,9 @@ use outline::limits::MOST_COORDINATE;
 use refusals::order::BAD_INDEX;
 use refusals::order::OUT_OF_RANGE;
 use refusals::order::or_refused;
-use segments_test::exact as of_segments;
-use turning_in::test::index_refusal_in;
+use tables_test::test::edges_ranged;
+use tables_test::test::segments_ranged;
+use tables_test::test::tables_indexed;
 use words::field::index_at;
 use words::field::link_at;
 use words::segment::EDGE_PLACE;
@@ -35,6 +35,7 @@ ghost use Rattle.words.specs.Segment.{segmentsIn, flatSegments};
 ghost use Rattle.lent.specs.Lent.{edgesOf};
 ghost use Rattle.edges_in.specs.Whole as Edges;
 ghost use Rattle.segments_in.specs.Whole as Segments;
+ghost use Rattle.tables_test.specs.Held.{Held};
 ghost use Rattle.edge_points.specs.EdgePoints.{segmentPoints, segmentsPoints, moverHolds, moversHold, pointsTests};
 ghost use Rattle.edge_points_walk.specs.Steps.{points};
 
@@ -106,27 +107,29 @@ fn currents_hold(currents: &[i32]) -> bool
     range_refusal(currents, currents, MOST_COORDINATE) == 0
 }
 
-// The refusal of both tables and of an outline, or 0.
+// The refusal of both tables, which need no test where they hold, and of an outline, or 0.
 pub fn points_refusal(
     segments: &[i32],
     edges: &[i32],
+    held: bool,
     alone: bool,
     currents: &[i32],
     touched: &[u8],
     ends: &[u16],
 ) -> u8
+    requires { ⌜ (held ≡ true → Held (now segments) (now edges)) ⌝ }
     requires { ⌜ Segments.Whole (now segments) × Edges.Whole (now edges) ⌝ }
     requires { ⌜ (length (now currents) ≤ mostPoints) × (length (now touched) ≡ length (now currents)) ⌝ }
     ensures { λ r. ⌜ r ≡ refusal (pointsTests alone (edgesOf (now (edges .entry))) (flatSegments (now (segments .entry))) (points (now (currents .entry)) (now (touched .entry))) (now (ends .entry))) ⌝ }
 {
-    let answer = index_refusal_in(segments, edges);
+    let answer = tables_indexed(segments, edges, held);
     if 0 < answer {
         return answer;
     }
     let answer = or_refused(0, ends_hold(ends, currents.len()), BAD_INDEX);
     let answer = or_refused(answer, segments_points(segments, ends), BAD_INDEX);
-    let answer = or_refused(answer, of_segments::numbers_in(segments), OUT_OF_RANGE);
-    let answer = or_refused(answer, of_edges::numbers_in(edges), OUT_OF_RANGE);
+    let answer = or_refused(answer, segments_ranged(segments, edges, held), OUT_OF_RANGE);
+    let answer = or_refused(answer, edges_ranged(segments, edges, held), OUT_OF_RANGE);
     let answer = or_refused(answer, currents_hold(currents), OUT_OF_RANGE);
     or_refused(answer, movers_hold(segments, edges, alone), OUT_OF_RANGE)
 }

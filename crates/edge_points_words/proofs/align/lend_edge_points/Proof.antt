@@ -12,9 +12,12 @@ use Rattle.edge_points_words.proofs.Lending.{Shown, shown, refuses, acc
 use Rattle.edge_points_words.proofs.align.lend_edge_points.Statement.{statement}
 use Rattle.edge_points_words.proofs.align.lend_edge_points.Tie as tie
 
--- where the call starts, and the points that it is lent
+-- where both tables were tested, where the call starts, and the points that it is lent
+abbrev tables : tie.After-points-front → tie.After-tables-hold
+tables c = c .before .before .before
+
 abbrev start : tie.After-points-front → tie.Start
-start c = c .before .before .before .before .before
+start c = tables c .before .before .before
 
 abbrev lent : tie.Start → Points
 lent s = points (s .args .currents .now) (s .args .touched .now)
@@ -41,8 +44,11 @@ chosen c = c .before .before .before
 alone-is : (c : tie.After-choice-of) → c .choice-of .result ≡ choiceOf (start (c .before .before) .args .alone)
 alone-is c = c .choice-of .ensures ∙ ap choiceOf (is (start (c .before .before) .fits .alone))
 
+tables-hold-requires : tie.Need-tables-hold-requires
+tables-hold-requires c κs = search needs
+
 points-front-requires : tie.Need-points-front-requires
-points-front-requires c κs = search needs
+points-front-requires c κs = c .before .before .tables-hold .ensures
 
 same-length : tie.Need-same-length
 same-length c = search needs
@@ -58,8 +64,9 @@ choice-of-requires c κs = search needs
 
 points-refusal-requires : tie.Need-points-refusal-requires
 points-refusal-requires c κs =
-    let s = all-shown (c .before .before .before) in
-    ((s .segments, s .edges), (s .few, s .same))
+    let o = c .before .before .before in
+    let s = all-shown o in
+    (tables (o .before) .tables-hold .ensures, ((s .segments, s .edges), (s .few, s .same)))
 
 same-length-3 : tie.Need-same-length-3
 same-length-3 c = search needs
@@ -114,6 +121,7 @@ pub lend-edge-points-spec : {M : Type 1} → statement M
 lend-edge-points-spec =
     tie.close
     (tie.spec
+    tables-hold-requires
     points-front-requires
     same-length
     same-length-2

@@ -47,19 +47,17 @@ are-short c =
     let b = p .before in
     by₂ _&&_ (c .both3 .ensures) (by₂ _&&_ (b .both2 .ensures) (b .before .before .few-segments .ensures) (b .before .few-edges .ensures)) (p .few-points .ensures)
 
-abbrev counts : tie.After-both5 → tie.Else2
-counts c = c .before .before .before .before .before
+abbrev counts : tie.After-both4 → tie.Else2
+counts c = c .before .before .before
 
-are-few : (c : tie.After-both5) → short (start (counts c .before)) ≡ true
+are-few : (c : tie.After-both4) → short (start (counts c .before)) ≡ true
 are-few c = let e = counts c in sym (are-short (e .before)) ∙ not-false _ (e .if2 .left)
 
-are-shown : (c : tie.After-both5) → c .both5 .result ≡ shown (start (counts c .before))
+are-shown : (c : tie.After-both4) → c .both4 .result ≡ shown (start (counts c .before))
 are-shown c =
     let i = c .before in
-    let b = i .before in
     let s = start (counts c .before) in
-    by₂ _&&_ (c .both5 .ensures) (by₂ _&&_ (b .both4 .ensures) (b .before .before .is-segments .ensures) (b .before .is-edges .ensures))
-    (i .both-in .ensures ∙ (λ x. bothIn choice (is (s .fits .snap) x) (is (s .fits .alone) x)))
+    by₂ _&&_ (c .both4 .ensures) (i .before .tables-shown .ensures) (i .both-in .ensures ∙ (λ x. bothIn choice (is (s .fits .snap) x) (is (s .fits .alone) x)))
 
 both-requires : tie.Need-both-requires
 both-requires c κs = search needs
@@ -93,20 +91,14 @@ returns-2 c =
     let s = start b in
     not-short (whole s) (short s) (shown s) (are-whole b) (sym (are-short b) ∙ not-true _ (c .if2 .taken))
 
-is-segments-requires : tie.Need-is-segments-requires
-is-segments-requires c κs = search needs
-
-is-edges-requires : tie.Need-is-edges-requires
-is-edges-requires c κs = search needs
-
-both-requires-4 : tie.Need-both-requires-4
-both-requires-4 c κs = search needs
+tables-shown-requires : tie.Need-tables-shown-requires
+tables-shown-requires c κs = start (c .before) .pre
 
 both-in-requires : tie.Need-both-in-requires
 both-in-requires c κs = search needs
 
-both-requires-5 : tie.Need-both-requires-5
-both-requires-5 c κs = search needs
+both-requires-4 : tie.Need-both-requires-4
+both-requires-4 c κs = search needs
 
 returns-3 : tie.Need-returns-3
 unfolding pointsFront
@@ -136,10 +128,8 @@ points-front-spec =
     few-points-requires
     both-requires-3
     returns-2
-    is-segments-requires
-    is-edges-requires
-    both-requires-4
+    tables-shown-requires
     both-in-requires
-    both-requires-5
+    both-requires-4
     returns-3
     returns-4)

@@ -5,7 +5,8 @@ use native.Mathlib.Omega.{arith}
 use mathlib.Core.Path.{_≡_, sym, _∙_}
 use Rattle.axis.specs.Segment.{segmentAt}
 use Rattle.words.specs.Segment.{flatSegments}
-use Rattle.edge_points_words.proofs.Read.{edge-is, first-is, last-is, named, is-mover}
+use Rattle.tables_test.proofs.Tables.{edge-is}
+use Rattle.edge_points_words.proofs.Read.{first-is, last-is, named, is-mover}
 use Rattle.edge_points_words.proofs.Visit.{visit-none, visit-still, read-moves, read-mover, segment-ready, segment-moved, reach-most}
 use Rattle.edge_points_words.proofs.pass.move_segment.Statement.{statement}
 use Rattle.edge_points_words.proofs.pass.move_segment.Tie as tie

@@ -9,7 +9,8 @@ use Rattle.axis.specs.Refusals.{within}
 use Rattle.axis.specs.Segment.{segmentAt}
 use Rattle.contours.specs.Limits.{mostCoordinate}
 use Rattle.words.specs.Segment.{flatSegments}
-use Rattle.edge_points_words.proofs.Read.{edge-is, edge-below}
+use Rattle.tables_test.proofs.Tables.{edge-is}
+use Rattle.edge_points_words.proofs.Read.{edge-below}
 use Rattle.edge_points_words.proofs.Visit.{read-moves}
 use Rattle.edge_points_words.proofs.Tests.{mover-free, mover-still, mover-asked}
 use Rattle.edge_points_words.proofs.test.mover_holds.Statement.{statement}

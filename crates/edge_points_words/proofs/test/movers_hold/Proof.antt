@@ -11,7 +11,7 @@ use Rattle.words.specs.Segment.{segmentsIn, flatSegments}
 use Rattle.segments_in.proofs.Wholes.{segments-len}
 use Rattle.lent.specs.Lent.{edgesOf}
 use Rattle.edge_points.specs.EdgePoints.{moverHolds, moversHold}
-use Rattle.edge_points_words.proofs.Read.{tested-place}
+use Rattle.tables_test.proofs.Tables.{tested-segment}
 use Rattle.edge_points_words.proofs.test.movers_hold.Statement.{statement}
 use Rattle.edge_points_words.proofs.test.movers_hold.Tie as tie
 
@@ -33,7 +33,7 @@ returns c =
     let t = c .before in
     let l = t .before .before in
     let s = l .before in
-    sym (every-fails _ (l .loop .i) _ (tested-place (s .args .segments .now) (l .loop .i) (s .pre .0) (omega arith)) (sym (t .mover-holds .ensures) ∙ not-true _ (c .if1 .taken)))
+    sym (every-fails _ (l .loop .i) _ (tested-segment (s .args .segments .now) (l .loop .i) (s .pre .0) (omega arith)) (sym (t .mover-holds .ensures) ∙ not-true _ (c .if1 .taken)))
 
 add-i : tie.Need-add-i Inv-loop μ-loop
 add-i c = omega arith

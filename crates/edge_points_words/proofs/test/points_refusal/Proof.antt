@@ -13,18 +13,18 @@ use Rattle.edge_points_words.proofs.test.points_refusal.Statement.{stat
 use Rattle.edge_points_words.proofs.test.points_refusal.Tie as tie
 
 -- where the function starts
-abbrev from : tie.After-index-refusal-in → tie.Start
+abbrev from : tie.After-tables-indexed → tie.Start
 from c = c .before .before .before
 
-index-refusal-in-requires : tie.Need-index-refusal-in-requires
-index-refusal-in-requires c κs = search needs
+tables-indexed-requires : tie.Need-tables-indexed-requires
+tables-indexed-requires c κs = c .before .before .pre .0
 
 returns : tie.Need-returns
 returns c =
     let r = c .before in
     let s = from r in
     let a = s .args in
-    index-refuses (a .alone) (edgesOf (a .edges .now)) (flatSegments (a .segments .now)) (points (a .currents .now) (a .touched .now)) (a .ends .now) (s .pre .1 .0) (s .pre .1 .1) _ (r .index-refusal-in .ensures) (c .if1 .taken)
+    index-refuses (a .alone) (edgesOf (a .edges .now)) (flatSegments (a .segments .now)) (points (a .currents .now) (a .touched .now)) (a .ends .now) (s .pre .1 .1 .0) (s .pre .1 .1 .1) _ (r .tables-indexed .ensures) (c .if1 .taken)
 
 ends-hold-requires : tie.Need-ends-hold-requires
 ends-hold-requires c κs = search needs
@@ -33,19 +33,19 @@ or-refused-requires : tie.Need-or-refused-requires
 or-refused-requires c κs = search needs
 
 segments-points-requires : tie.Need-segments-points-requires
-segments-points-requires c κs = from (c .before .before .before) .pre .0 .0
+segments-points-requires c κs = from (c .before .before .before) .pre .1 .0 .0
 
 or-refused-requires-2 : tie.Need-or-refused-requires-2
 or-refused-requires-2 c κs = search needs
 
-numbers-in-requires : tie.Need-numbers-in-requires
-numbers-in-requires c κs = search needs
+segments-ranged-requires : tie.Need-segments-ranged-requires
+segments-ranged-requires c κs = from (c .before .before .before .before .before) .pre .0
 
 or-refused-requires-3 : tie.Need-or-refused-requires-3
 or-refused-requires-3 c κs = search needs
 
-numbers-in-requires-2 : tie.Need-numbers-in-requires-2
-numbers-in-requires-2 c κs = search needs
+edges-ranged-requires : tie.Need-edges-ranged-requires
+edges-ranged-requires c κs = from (c .before .before .before .before .before .before .before) .pre .0
 
 or-refused-requires-4 : tie.Need-or-refused-requires-4
 or-refused-requires-4 c κs = search needs
@@ -62,7 +62,7 @@ movers-hold-requires c κs =
     let r = o .before in
     let s = from r in
     let es = s .args .edges .now in
-    (s .pre .0 .0, (s .pre .0 .1, to-edges (edgesOf es) (flatSegments (s .args .segments .now)) _ (edgesIn es) (r .index-refusal-in .ensures) (o .if1 .left) (edges-len es)))
+    (s .pre .1 .0 .0, (s .pre .1 .0 .1, to-edges (edgesOf es) (flatSegments (s .args .segments .now)) _ (edgesIn es) (r .tables-indexed .ensures) (o .if1 .left) (edges-len es)))
 
 or-refused-requires-6 : tie.Need-or-refused-requires-6
 or-refused-requires-6 c κs = search needs
@@ -85,25 +85,25 @@ returns-2 c =
     let s = from r in
     let held1 = then-tested badIndex none-tested refl (one .or-refused .ensures) (test1 .ends-hold .ensures) in
     let held2 = then-tested badIndex held1 refl (two .or-refused2 .ensures) (test2 .segments-points .ensures) in
-    let held3 = then-tested outOfRange held2 refl (three .or-refused3 .ensures) (test3 .numbers-in .ensures) in
-    let held4 = then-tested outOfRange held3 refl (four .or-refused4 .ensures) (test4 .numbers-in2 .ensures) in
+    let held3 = then-tested outOfRange held2 refl (three .or-refused3 .ensures) (test3 .segments-ranged .ensures) in
+    let held4 = then-tested outOfRange held3 refl (four .or-refused4 .ensures) (test4 .edges-ranged .ensures) in
     let held5 = then-tested outOfRange held4 refl (five .or-refused5 .ensures) (test5 .currents-hold .ensures) in
     let a = s .args in
-    own-refuses (a .alone) (edgesOf (a .edges .now)) (flatSegments (a .segments .now)) (points (a .currents .now) (a .touched .now)) (a .ends .now) (s .pre .1 .0) (s .pre .1 .1) _ (r .index-refusal-in .ensures) (o .if1 .left) _ (then-tested outOfRange held5 refl (c .or-refused6 .ensures) (test6 .movers-hold .ensures) .refused)
+    own-refuses (a .alone) (edgesOf (a .edges .now)) (flatSegments (a .segments .now)) (points (a .currents .now) (a .touched .now)) (a .ends .now) (s .pre .1 .1 .0) (s .pre .1 .1 .1) _ (r .tables-indexed .ensures) (o .if1 .left) _ (then-tested outOfRange held5 refl (c .or-refused6 .ensures) (test6 .movers-hold .ensures) .refused)
 
 pub points-refusal-spec : {M : Type 1} → statement M
 points-refusal-spec =
     tie.close
     (tie.spec
-    index-refusal-in-requires
+    tables-indexed-requires
     returns
     ends-hold-requires
     or-refused-requires
     segments-points-requires
     or-refused-requires-2
-    numbers-in-requires
+    segments-ranged-requires
     or-refused-requires-3
-    numbers-in-requires-2
+    edges-ranged-requires
     or-refused-requires-4
     currents-hold-requires
     or-refused-requires-5

@@ -4,7 +4,8 @@ use native.Mathlib.Omega.{arith}
 use mathlib.Core.Path.{_≡_, sym, _∙_}
 use Rattle.axis.specs.Segment.{segmentAt}
 use Rattle.words.specs.Segment.{flatSegments}
-use Rattle.edge_points_words.proofs.Read.{edge-is, first-is, last-is}
+use Rattle.tables_test.proofs.Tables.{edge-is}
+use Rattle.edge_points_words.proofs.Read.{first-is, last-is}
 use Rattle.edge_points_words.proofs.Tests.{points-free, points-on}
 use Rattle.edge_points_words.proofs.test.segment_points.Statement.{statement}
 use Rattle.edge_points_words.proofs.test.segment_points.Tie as tie

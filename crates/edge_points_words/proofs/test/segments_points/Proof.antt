@@ -10,7 +10,7 @@ use Rattle.axis.proofs.Tests.{every-none, every-more, every-fails, every-done}
 use Rattle.words.specs.Segment.{segmentsIn, flatSegments}
 use Rattle.segments_in.proofs.Wholes.{segments-len}
 use Rattle.edge_points.specs.EdgePoints.{segmentPoints, segmentsPoints}
-use Rattle.edge_points_words.proofs.Read.{tested-place}
+use Rattle.tables_test.proofs.Tables.{tested-segment}
 use Rattle.edge_points_words.proofs.test.segments_points.Statement.{statement}
 use Rattle.edge_points_words.proofs.test.segments_points.Tie as tie
 
@@ -32,7 +32,7 @@ returns c =
     let t = c .before in
     let l = t .before .before in
     let s = l .before .before in
-    sym (every-fails _ (l .loop .i) _ (tested-place (s .args .segments .now) (l .loop .i) (s .pre) (omega arith)) (sym (t .segment-points .ensures) ∙ not-true _ (c .if1 .taken)))
+    sym (every-fails _ (l .loop .i) _ (tested-segment (s .args .segments .now) (l .loop .i) (s .pre) (omega arith)) (sym (t .segment-points .ensures) ∙ not-true _ (c .if1 .taken)))
 
 add-i : tie.Need-add-i Inv-loop μ-loop
 add-i c = omega arith
