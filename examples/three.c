@@ -12,11 +12,12 @@ enum { POINTS = 25, CONTOURS = 1, MOST_SIDES = 6, MOST_STEPS = POINTS + 2 * CONT
 static const int32_t scale = (int32_t)((int64_t)PIXELS * PIXEL * 65536 / EM);
 
 /* The outline's points, in design units, and which of them are on the curve. They make one contour, which goes clockwise. */
-static const int32_t xs[POINTS] = {50,  160, 340, 440, 440, 380, 450, 450, 340, 160, 40,  130, 190,
+static const int16_t xs[POINTS] = {50,  160, 340, 440, 440, 380, 450, 450, 340, 160, 40,  130, 190,
                                    310, 360, 360, 310, 200, 200, 300, 350, 350, 300, 190, 140};
-static const int32_t ys[POINTS] = {590, 712, 712, 600, 450, 366, 280, 110, -12, -12, 110, 150, 68,
+static const int16_t ys[POINTS] = {590, 712, 712, 600, 450, 366, 280, 110, -12, -12, 110, 150, 68,
                                    68,  140, 260, 325, 325, 405, 405, 470, 570, 632, 632, 550};
 static const uint8_t on_curve[POINTS] = {1, 0, 0, 0, 0, 1, 0, 0, 0, 0, 1, 1, 0, 0, 0, 0, 0, 1, 1, 0, 0, 0, 0, 0, 1};
+static const uint8_t off_curve[POINTS] = {0, 1, 1, 1, 1, 0, 1, 1, 1, 1, 0, 0, 1, 1, 1, 1, 1, 0, 0, 1, 1, 1, 1, 1, 0};
 static const uint16_t ends[CONTOURS] = {POINTS - 1};
 
 /* An axis: its name, dimension and major direction, the points' coordinates on it, and its sides, each with the one on the other side of its stem, and not joined to edges
@@ -24,7 +25,7 @@ static const uint16_t ends[CONTOURS] = {POINTS - 1};
 struct axis {
     const char *name;
     int32_t dim, major_dir;
-    const int32_t *points;
+    const int16_t *points;
     int32_t count;
     struct khs_segment sides[MOST_SIDES];
 };
@@ -159,15 +160,43 @@ static void give_zones(struct khs_edge *edges, int32_t count) {
     }
 }
 
-/* Puts the edges on their zones, and places the stems by the anchor that these give, or by the first stem where there is none. */
-static uint8_t place_edges(const struct axis *axis, struct khs_edge *edges, int32_t count) {
+/* Prints which edge is the anchor. */
+static void print_anchor(int32_t anchor) {
+    if (anchor == KHS_NONE) {
+        printf("no anchor\n");
+    } else {
+        printf("the anchor is edge %d\n", (int)anchor);
+    }
+}
+
+/* Puts the edges on their zones, and places the stems by the anchor that these give, or by the first stem where there is none. Tells how many edges these
+   passed over, and the anchor. */
+static uint8_t place_stems(const struct axis *axis, struct khs_edge *edges, int32_t count, int32_t *passed_over, int32_t *anchor) {
     struct khs_edge before[KHS_MOST_EDGES];
-    int32_t passed_over, anchor;
     memcpy(before, edges, sizeof before);
     uint8_t answer = khs_align_blues_and_stems((int32_t *)edges, (khs_length)count * KHS_EDGE_WORDS, axis->dim, KHS_LATIN, 0, 0, KHS_SNAP, standards, 2,
-                                               &passed_over, &anchor);
+                                               passed_over, anchor);
     if (answer == KHS_DONE) {
-        printf("  fitting   %d passed over, the anchor is edge %d\n", (int)passed_over, (int)anchor);
+        printf("  fitting   %d passed over, ", (int)*passed_over);
+        print_anchor(*anchor);
+        print_placed(before, edges, count);
+    }
+    return answer;
+}
+
+/* Places the edges that are left, where stems have passed over some or there is no anchor. */
+static uint8_t place_remaining(const struct axis *axis, struct khs_edge *edges, int32_t count, int32_t passed_over, int32_t anchor) {
+    struct khs_edge before[KHS_MOST_EDGES];
+    int32_t found;
+    if (passed_over == 0 && anchor != KHS_NONE) {
+        return KHS_DONE;
+    }
+    memcpy(before, edges, sizeof before);
+    uint8_t answer =
+        khs_align_remaining_edges((int32_t *)edges, (khs_length)count * KHS_EDGE_WORDS, axis->dim, KHS_LATIN, passed_over, anchor, &found);
+    if (answer == KHS_DONE) {
+        printf("  remaining ");
+        print_anchor(found);
         print_placed(before, edges, count);
     }
     return answer;
@@ -188,25 +217,37 @@ static uint8_t guard(const struct khs_edge *edges, int32_t count) {
     return answer;
 }
 
-/* Moves the points of segments whose edges are done with them, and the other points behind these. */
+/* Counts the points that are touched. */
+static int count_touched(const uint8_t touched[POINTS]) {
+    int count = 0;
+    for (int32_t i = 0; i < POINTS; i++) {
+        count += touched[i];
+    }
+    return count;
+}
+
+/* Moves the points of segments with their edges, strong points by the edges around them, and the others behind these. Those off the curve are weak. */
 static uint8_t align_points(const struct axis *axis, const struct khs_segment *segments, const struct khs_edge *edges, int32_t count, int32_t currents[POINTS]) {
     int32_t originals[POINTS];
     uint8_t touched[POINTS] = {0};
-    int placed = 0;
     for (int32_t i = 0; i < POINTS; i++) {
         originals[i] = currents[i] = scaled(axis->points[i]);
     }
-    uint8_t answer = khs_align_edge_points((const int32_t *)segments, (khs_length)axis->count * KHS_SEGMENT_WORDS, (const int32_t *)edges, (khs_length)count * KHS_EDGE_WORDS, 1, 1,
+    uint8_t answer = khs_align_edge_points((const int32_t *)segments, (khs_length)axis->count * KHS_SEGMENT_WORDS, (const int32_t *)edges, (khs_length)count * KHS_EDGE_WORDS, 1, 0,
                                            currents, POINTS, touched, POINTS, ends, CONTOURS);
     if (answer != KHS_DONE) {
         return answer;
     }
-    for (int32_t i = 0; i < POINTS; i++) {
-        placed += touched[i];
+    int placed = count_touched(touched);
+    answer = khs_align_strong_points((const int32_t *)edges, (khs_length)count * KHS_EDGE_WORDS, axis->points, POINTS, originals, POINTS, currents, POINTS,
+                                     touched, POINTS, off_curve, POINTS);
+    if (answer != KHS_DONE) {
+        return answer;
     }
     answer = khs_align_weak_points(originals, POINTS, currents, POINTS, touched, POINTS, ends, CONTOURS);
     if (answer == KHS_DONE) {
-        printf("  points    %d of %d placed with their edges, the others aligned\n", placed, POINTS);
+        int strong = count_touched(touched) - placed;
+        printf("  points    %d of %d placed with their edges, %d by the edges around them, the others aligned\n", placed, POINTS, strong);
     }
     return answer;
 }
@@ -215,14 +256,17 @@ static uint8_t align_points(const struct axis *axis, const struct khs_segment *s
 static uint8_t fit(const struct axis *axis, int32_t points[POINTS]) {
     struct khs_segment segments[MOST_SIDES];
     struct khs_edge edges[KHS_MOST_EDGES];
-    int32_t count;
+    int32_t count, passed_over, anchor;
     memcpy(segments, axis->sides, sizeof segments);
     uint8_t answer = build(axis, segments, edges, &count);
     if (answer == KHS_DONE) {
         if (axis->dim == KHS_VERTICAL) {
             give_zones(edges, count);
         }
-        answer = place_edges(axis, edges, count);
+        answer = place_stems(axis, edges, count, &passed_over, &anchor);
+    }
+    if (answer == KHS_DONE) {
+        answer = place_remaining(axis, edges, count, passed_over, anchor);
     }
     if (answer == KHS_DONE) {
         answer = guard(edges, count);

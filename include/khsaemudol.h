@@ -28,9 +28,9 @@
  *      anchor that the stems handed back; the Rust code of which this is a port calls it where that count is not 0 or there is no anchor, and where both are otherwise it changes
  *      nothing. It may turn edges: ask khs_lost_gaps behind it rather than in front, with least 0 and linked 0, where the order is to be kept. A caller may leave such
  *      an edge instead, and its points to step 6, or place it by khs_align_serif_edge and khs_adjust_link or as it likes, and set its flag, by flags |= KHS_FLAG_DONE.
- *   6. khs_align_edge_points moves the points of every segment to its edge's pos, and touches them: those of done edges alone, or of all. khs_align_strong_points moves
- *      those that are not touched now and not weak by the edges around them, and touches them; left out, they go with the weak ones, which breaks slanted strokes where few
- *      pixels are left.
+ *   6. khs_align_edge_points moves the points of every segment to its edge's pos, and touches them: those of all edges behind khs_align_remaining_edges, which places edges of
+ *      KHS_CJK that are not done then; else those of done edges alone. khs_align_strong_points moves those that are not touched now and not weak by the edges around them, and
+ *      touches them; left out, they go with the weak ones, which breaks slanted strokes where few pixels are left.
  *      khs_align_weak_points moves the points that are not touched then, and khs_align_catalogue those of many outlines at once. Where one touched point is moved by hand
  *      afterwards, khs_drag_point moves those that depend on it.
  *   7. When both axes are fitted, khs_path makes the path for a rasteriser of the points, in pixels.
@@ -39,14 +39,15 @@
  * the segments that serve no edge before an axis is sent, take what that hands on.
  *
  * An example: a bar from 0 to 80 of 1,000 design units to the em, at 12 pixels to the em, whose foot has a zone at 0; it goes clockwise, its upper side runs over the
- * contour's start, and its point 1 lies at 40 between the sides. It leaves 64 33 0 0 64 in currents. In the repository examples/three.c fits a figure 3 so.
+ * contour's start, and its point 1 lies at 40 between the sides. It leaves 64 32 0 0 64 in currents. In the repository examples/three.c fits a figure 3 so.
  *     int32_t scale = (int32_t)((int64_t)12 * 64 * 65536 / 1000), standards[1] = {64}, count, passed_over, anchor, gaps, low, high, before, after, stems, not_done;
  *     struct khs_segment segments[2] = {
  *         {0, KHS_DIR_RIGHT, 80, 0, 10, 200, 190, 32000, 0, 1, KHS_NONE, 4, 0, KHS_NONE, KHS_NONE},
  *         {0, KHS_DIR_LEFT, 0, 0, 10, 200, 190, 32000, 0, 0, KHS_NONE, 2, 3, KHS_NONE, KHS_NONE}};
  *     struct khs_edge edges[KHS_MOST_EDGES];
  *     int32_t originals[5] = {61, 31, 0, 0, 61}, currents[5] = {61, 31, 0, 0, 61};
- *     uint8_t touched[5] = {0};
+ *     int16_t fonts[5] = {80, 40, 0, 0, 80};
+ *     uint8_t touched[5] = {0}, weak[5] = {0};
  *     uint16_t ends[1] = {4};
  *     if (khs_compute_edges((int32_t *)segments, 2 * KHS_SEGMENT_WORDS, (int32_t *)edges, KHS_MOST_EDGES * KHS_EDGE_WORDS, KHS_VERTICAL, KHS_DIR_LEFT, KHS_LATIN,
  *                           0, scale, 16, 0, (32 * 65536 + scale / 2) / scale, &count) != KHS_DONE) return 1;
@@ -54,10 +55,13 @@
  *     edges[segments[1].edge].blue_fitted = 0;
  *     if (khs_align_blues_and_stems((int32_t *)edges, count * KHS_EDGE_WORDS, KHS_VERTICAL, KHS_LATIN, 0, 0, KHS_SNAP, standards, 1, &passed_over, &anchor)
  *         != KHS_DONE) return 1;
+ *     if (passed_over > 0 || anchor == KHS_NONE)
+ *         if (khs_align_remaining_edges((int32_t *)edges, count * KHS_EDGE_WORDS, KHS_VERTICAL, KHS_LATIN, passed_over, anchor, &anchor) != KHS_DONE) return 1;
  *     if (khs_lost_gaps((int32_t *)edges, count * KHS_EDGE_WORDS, 32, 1, &gaps, &low, &high, &before, &after, &stems, &not_done) != KHS_DONE || gaps + stems > 0)
  *         return 1;
- *     if (khs_align_edge_points((int32_t *)segments, 2 * KHS_SEGMENT_WORDS, (int32_t *)edges, count * KHS_EDGE_WORDS, 1, 1, currents, 5, touched, 5, ends, 1)
+ *     if (khs_align_edge_points((int32_t *)segments, 2 * KHS_SEGMENT_WORDS, (int32_t *)edges, count * KHS_EDGE_WORDS, 1, 0, currents, 5, touched, 5, ends, 1)
  *         != KHS_DONE) return 1;
+ *     if (khs_align_strong_points((int32_t *)edges, count * KHS_EDGE_WORDS, fonts, 5, originals, 5, currents, 5, touched, 5, weak, 5) != KHS_DONE) return 1;
  *     if (khs_align_weak_points(originals, 5, currents, 5, touched, 5, ends, 1) != KHS_DONE) return 1;
  *
  * Lists. A list is passed as a pointer to its first element and its length in elements. Edges and segments are lists of 32-bit words: an edge has KHS_EDGE_WORDS

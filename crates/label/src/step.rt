@@ -1,10 +1,12 @@
 // A step of the chain, by the call that its job names.
 use label_fit::fit::fitting;
 use label_fit::fit::m;
+use label_fit::fit::remaining;
 use label_fit::glyph::Glyph;
 use label_fit::topo::build;
 use label_fit::topo::link;
 use label_points::path::path;
+use label_points::points::strong;
 use label_points::points::weak;
 use label_print::print::text;
 use lines::limits::MOST_WORDS;
@@ -19,6 +21,8 @@ fn fit(words: &[i32], glyph: Glyph) -> Glyph {
         15 => path(words, glyph),
         113 => m(words, glyph),
         122 => fitting(words, glyph),
+        130 => remaining(words, glyph),
+        131 => strong(words, glyph),
         _ => {
             text(b"  a line that is no step of the chain is left out\n");
             glyph

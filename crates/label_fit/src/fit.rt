@@ -1,4 +1,5 @@
-// Edges fitted: put on their zones, with the stems behind them, then the m rule, whose jobs have no edges of their own; behind each the guard is asked.
+// Edges fitted: put on their zones, with the stems behind them, then the m rule and the edges that are left, whose jobs have no edges of their own; behind these
+// the guard is asked.
 use super::glyph::Glyph;
 use super::glyph::edge_words;
 use super::glyph::edges_of;
@@ -7,6 +8,7 @@ use super::topo::tail;
 use axis::accept::least;
 use axis::limits::MOST_EDGES;
 use khsaemudol::khs_align_blues_and_stems;
+use khsaemudol::khs_align_remaining_edges;
 use khsaemudol::khs_hint_lowercase_m;
 use khsaemudol::khs_lost_gaps;
 use label_print::edges::BLUE;
@@ -121,8 +123,8 @@ pub fn fitting(words: &[i32], glyph: Glyph) -> Glyph {
     }
     show(b"# passed over, ", &[passed]);
     anchored(anchor);
-    let glyph = fitted(glyph, edges, anchor);
-    guard(glyph);
+    let mut glyph = fitted(glyph, edges, anchor);
+    glyph.passed = passed;
     glyph
 }
 
@@ -135,7 +137,44 @@ pub fn m(words: &[i32], glyph: Glyph) -> Glyph {
         return stopped(glyph);
     }
     text(b"equal distances between the stems\n");
-    let glyph = fitted(glyph, edges, glyph.anchor);
-    guard(glyph);
+    fitted(glyph, edges, glyph.anchor)
+}
+
+// Whether the Rust asks for the edges that are left: where the stems have passed over some, or there is no anchor.
+fn left(passed: i32, anchor: i32) -> bool {
+    if 0 < passed {
+        return true;
+    }
+    anchor < 0
+}
+
+// Places the edges that are left, by the count and the anchor that the stems handed back.
+fn placed(words: &[i32], glyph: Glyph) -> Glyph {
+    let mut edges = edges_of(glyph);
+    let n = edge_words(glyph);
+    let mut anchor = -1;
+    let answer = khs_align_remaining_edges(
+        &mut edges[0..n],
+        word_at(words, 2),
+        word_at(words, 3),
+        glyph.passed,
+        glyph.anchor,
+        &mut anchor,
+    );
+    if refused(b"  remaining ", answer) {
+        return stopped(glyph);
+    }
+    anchored(anchor);
+    fitted(glyph, edges, anchor)
+}
+
+// Places the edges that are left, where there may be any, and asks the guard.
+pub fn remaining(words: &[i32], mut glyph: Glyph) -> Glyph {
+    if left(glyph.passed, glyph.anchor) {
+        glyph = placed(words, glyph);
+    }
+    if !glyph.refused {
+        guard(glyph);
+    }
     glyph
 }

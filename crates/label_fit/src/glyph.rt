@@ -9,13 +9,18 @@ ghost use Prim.Native.Nat.{_≤_};
 ghost use Rattle.words.specs.Edge.{tableSize};
 
 // What the steps hand on: the axis that is being fitted, as the building job names it; the words of the job that has its segments, as the last step left them; the
-// words of its edges, and how many there are; its anchor; where the points came to, on both axes; and whether a step refused what it was given.
+// words of its edges, and how many there are; how many of them the stems passed over; its anchor; where its points are drawn, which of them are weak, and how
+// many there are; where the points came to, on both axes; and whether a step refused what it was given.
 pub struct Glyph {
     pub dim: i32,
     pub topo: [i32; MOST_WORDS],
     pub edges: [i32; TABLE_WORDS],
     pub count: usize,
+    pub passed: i32,
     pub anchor: i32,
+    pub fonts: [i16; MOST_NUMBERS],
+    pub weak: [u8; MOST_NUMBERS],
+    pub drawn: usize,
     pub xs: [i32; MOST_NUMBERS],
     pub ys: [i32; MOST_NUMBERS],
     pub refused: bool,
@@ -29,7 +34,11 @@ impl Glyph {
             topo: [0; MOST_WORDS],
             edges: [0; TABLE_WORDS],
             count: 0,
+            passed: 0,
             anchor: -1,
+            fonts: [0; MOST_NUMBERS],
+            weak: [0; MOST_NUMBERS],
+            drawn: 0,
             xs: [0; MOST_NUMBERS],
             ys: [0; MOST_NUMBERS],
             refused: false,
@@ -63,6 +72,18 @@ pub fn words_of(glyph: Glyph) -> [i32; MOST_WORDS] {
 pub fn edges_of(glyph: Glyph) -> [i32; TABLE_WORDS] {
     let edges = glyph.edges;
     edges
+}
+
+// Where the points of a glyph are drawn.
+pub fn fonts_of(glyph: Glyph) -> [i16; MOST_NUMBERS] {
+    let fonts = glyph.fonts;
+    fonts
+}
+
+// Which points of a glyph are weak.
+pub fn weak_of(glyph: Glyph) -> [u8; MOST_NUMBERS] {
+    let weak = glyph.weak;
+    weak
 }
 
 // Where the points came to on the horizontal axis.

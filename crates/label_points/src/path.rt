@@ -1,6 +1,4 @@
 // The path of a glyph, in pixels.
-use super::points::ends_of;
-use super::points::numbers_at;
 use axis::accept::least;
 use khsaemudol::khs_path;
 use label_fit::glyph::Glyph;
@@ -12,8 +10,10 @@ use label_print::print::refused;
 use label_print::print::show;
 use label_print::print::text;
 use lines::limits::MOST_NUMBERS;
+use tool_lists::list::nth_list;
+use tool_lists::number::read_bytes;
+use tool_lists::number::read_indices;
 use words::word::count_word;
-use words::word::word_at;
 ghost use Prim.Native.Nat.{_+_, _≤_};
 ghost use lib.ListN.{length};
 ghost use Rattle.label_points.specs.Room.{mostSteps, mostPlaces};
@@ -36,28 +36,6 @@ const LINE: u8 = 2;
 const CURVE: u8 = 3;
 
 const CLOSE: u8 = 4;
-
-// The on-curve mark that a word is.
-fn mark_of(word: i32) -> u8 {
-    if word == 0 {
-        return 0;
-    }
-    1
-}
-
-// The on-curve marks that stand at a place of a job, behind their count.
-fn marks_of(words: &[i32], at: usize) -> [u8; MOST_NUMBERS]
-    requires { ⌜ at ≤ 65535 ⌝ }
-{
-    let n = numbers_at(words, at);
-    let mut marks = [0u8; MOST_NUMBERS];
-    let mut i = 0;
-    while i < n {
-        marks[i] = mark_of(word_at(words, at + 1 + i));
-        i += 1;
-    }
-    marks
-}
 
 // A number of a list, and 0 past the end.
 fn float_at(places: &[f32], k: usize) -> f32 {
@@ -131,10 +109,13 @@ fn steps(kinds: &[u8], places: &[f32], count: usize)
 
 // Hands out the path of the points that both axes came to; the job has their marks and contour ends, and no coordinates.
 pub fn path(words: &[i32], glyph: Glyph) -> Glyph {
-    let n = numbers_at(words, 3);
-    let marks = marks_of(words, 3);
-    let ends = ends_of(words, 4 + n);
-    let contours = numbers_at(words, 4 + n);
+    let on_curve = nth_list(words, 2);
+    let n = on_curve.len();
+    let mut marks = [0u8; MOST_NUMBERS];
+    read_bytes(on_curve, &mut marks);
+    let contours = nth_list(words, 3);
+    let mut ends = [0u16; MOST_NUMBERS];
+    read_indices(contours, &mut ends);
     let xs = xs_of(glyph);
     let ys = ys_of(glyph);
     let mut kinds = [0u8; MOST_STEPS];
@@ -144,7 +125,7 @@ pub fn path(words: &[i32], glyph: Glyph) -> Glyph {
         &xs[0..n],
         &ys[0..n],
         &marks[0..n],
-        &ends[0..contours],
+        &ends[0..contours.len()],
         &mut kinds,
         &mut places,
         &mut count,

@@ -1,63 +1,33 @@
-// The points of an axis: those of the edges placed with them, the others aligned.
+// The points of an axis: those of the edges placed with them, strong ones by the edges around them, the others aligned.
 use axis::accept::least;
 use khsaemudol::khs_align_edge_points;
+use khsaemudol::khs_align_strong_points;
 use khsaemudol::khs_align_weak_points;
 use label_fit::glyph::Glyph;
 use label_fit::glyph::edge_words;
 use label_fit::glyph::edges_of;
+use label_fit::glyph::fonts_of;
 use label_fit::glyph::settled;
 use label_fit::glyph::stopped;
+use label_fit::glyph::weak_of;
 use label_fit::glyph::words_of;
 use label_fit::topo::segments;
 use label_print::print::refused;
 use label_print::print::show;
 use lines::limits::MOST_NUMBERS;
-use words::field::index_of;
+use tool_lists::list::nth_list;
+use tool_lists::list::put;
+use tool_lists::number::read_bytes;
+use tool_lists::number::read_indices;
+use tool_lists::number::read_shorts;
 use words::segment::SEGMENT_WORDS;
 use words::word::count_word;
-use words::word::size_of;
-use words::word::word_at;
 ghost use Prim.Native.Nat.{_≤_};
-ghost use Rattle.lines.specs.Limits.{mostNumbers};
 
-// Points come to their edge's position, and edges that are not done move none.
+// Points come to their edge's position, and every edge moves its own, as in the Rust: what can be placed is placed by then.
 const SNAP: i32 = 1;
 
-const DONE_ALONE: i32 = 1;
-
-// How many numbers a list has that stands at a place of a job: at most as many as a job can carry.
-pub fn numbers_at(words: &[i32], at: usize) -> usize
-    ensures { λ r. ⌜ r ≤ mostNumbers ⌝ }
-{
-    least(size_of(word_at(words, at)), MOST_NUMBERS)
-}
-
-// The contour ends that stand at a place of a job, behind their count.
-pub fn ends_of(words: &[i32], at: usize) -> [u16; MOST_NUMBERS]
-    requires { ⌜ at ≤ 65535 ⌝ }
-{
-    let n = numbers_at(words, at);
-    let mut ends = [0u16; MOST_NUMBERS];
-    let mut i = 0;
-    while i < n {
-        ends[i] = index_of(word_at(words, at + 1 + i));
-        i += 1;
-    }
-    ends
-}
-
-// The originals of a job with n points, which are where they start.
-fn originals_of(words: &[i32], n: usize) -> [i32; MOST_NUMBERS]
-    requires { ⌜ n ≤ mostNumbers ⌝ }
-{
-    let mut originals = [0i32; MOST_NUMBERS];
-    let mut i = 0;
-    while i < n {
-        originals[i] = word_at(words, 2 + i);
-        i += 1;
-    }
-    originals
-}
+const DONE_ALONE: i32 = 0;
 
 // 1 where a mark says that a point is touched.
 fn one_of(mark: u8) -> usize
@@ -80,16 +50,32 @@ fn touched_of(touched: &[u8]) -> usize {
     count
 }
 
-// Moves the points of done edges with these, and aligns the others; the answer is the first refusal, or 0.
+// How many more there are than before.
+fn more(now: usize, before: usize) -> usize {
+    if now < before {
+        return 0;
+    }
+    now - before
+}
+
+// Moves the points of edges with these, which are counted, then the strong ones, and aligns the others; the answer is the first refusal, or 0.
 fn align(
+    fonts: &[i16],
+    weak: &[u8],
     originals: &[i32],
     segments: &[i32],
     edges: &[i32],
     ends: &[u16],
     currents: &mut [i32],
     touched: &mut [u8],
+    placed: &mut usize,
 ) -> u8 {
     let answer = khs_align_edge_points(segments, edges, SNAP, DONE_ALONE, currents, touched, ends);
+    if 0 < answer {
+        return answer;
+    }
+    *placed = touched_of(touched);
+    let answer = khs_align_strong_points(edges, fonts, originals, currents, touched, weak);
     if 0 < answer {
         return answer;
     }
@@ -98,6 +84,8 @@ fn align(
 
 // The same, told: whether it was done.
 fn aligned(
+    fonts: &[i16],
+    weak: &[u8],
     originals: &[i32],
     segments: &[i32],
     edges: &[i32],
@@ -105,34 +93,69 @@ fn aligned(
     currents: &mut [i32],
     touched: &mut [u8],
 ) -> bool {
-    let answer = align(originals, segments, edges, ends, currents, touched);
+    let mut placed: usize = 0;
+    let answer = align(
+        fonts,
+        weak,
+        originals,
+        segments,
+        edges,
+        ends,
+        currents,
+        touched,
+        &mut placed,
+    );
     if refused(b"  points    ", answer) {
         return false;
     }
-    let numbers = [count_word(touched_of(touched)), count_word(originals.len())];
+    let numbers = [
+        count_word(placed),
+        count_word(originals.len()),
+        count_word(more(touched_of(touched), placed)),
+    ];
     show(
-        b"# of # placed with their edges, the others aligned\n",
+        b"# of # placed with their edges, # by the edges around them, the others aligned\n",
         &numbers,
     );
     true
 }
 
-// Fits the points of a job.
+// The glyph with what a job of strong points tells: where points are drawn, and which are weak. They are placed by the next job.
+pub fn strong(words: &[i32], mut glyph: Glyph) -> Glyph {
+    let positions = nth_list(words, 1);
+    let mut fonts = [0i16; MOST_NUMBERS];
+    read_shorts(positions, &mut fonts);
+    let mut weak = [0u8; MOST_NUMBERS];
+    read_bytes(nth_list(words, 5), &mut weak);
+    glyph.fonts = fonts;
+    glyph.weak = weak;
+    glyph.drawn = positions.len();
+    glyph
+}
+
+// Fits the points of a job, which start at their originals.
 pub fn weak(words: &[i32], glyph: Glyph) -> Glyph {
-    let n = numbers_at(words, 1);
-    let originals = originals_of(words, n);
-    let ends = ends_of(words, 4 + 3 * n);
-    let contours = numbers_at(words, 4 + 3 * n);
+    let originals = nth_list(words, 0);
+    let n = originals.len();
+    let contours = nth_list(words, 3);
+    let mut ends = [0u16; MOST_NUMBERS];
+    read_indices(contours, &mut ends);
     let topo = words_of(glyph);
     let end = 2 + SEGMENT_WORDS * segments(&topo);
     let edges = edges_of(glyph);
-    let mut currents = originals;
+    let fonts = fonts_of(glyph);
+    let weak = weak_of(glyph);
+    let drawn = least(glyph.drawn, MOST_NUMBERS);
+    let mut currents = [0i32; MOST_NUMBERS];
+    put(&mut currents, 0, originals);
     let mut touched = [0u8; MOST_NUMBERS];
     if aligned(
-        &originals[0..n],
+        &fonts[0..drawn],
+        &weak[0..drawn],
+        originals,
         &topo[2..end],
         &edges[0..edge_words(glyph)],
-        &ends[0..contours],
+        &ends[0..contours.len()],
         &mut currents[0..n],
         &mut touched[0..n],
     ) {

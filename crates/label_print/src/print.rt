@@ -171,6 +171,7 @@ fn refusal(answer: u8) {
             b"refused by 4: a coordinate, position, score, len or delta is outside its limits",
         ),
         5 => text(b"refused by 5: no room for one edge more"),
+        8 => text(b"refused by 8: a position is out of reach, or a quotient too steep"),
         _ => text(b"refused by 255: a word is none of its field's values"),
     }
 }

@@ -2,9 +2,10 @@
 //! label, drawn in 1,000 design units to the em; examples/three.c does the same in C.
 
 use khsaemudol::{
-    align_blues_and_stems, align_edge_points, align_weak_points, compute_edges, lost_gaps, path,
-    BluesAndStems, Building, Dimension, Direction, Edge, Flags, Group, LostGaps, LostPair, Moving,
-    Order, Outline, PathStep, Refusal, Segment, Stems, WidthRule, MOST_EDGES,
+    align_blues_and_stems, align_edge_points, align_remaining_edges, align_strong_points,
+    align_weak_points, compute_edges, lost_gaps, path, BluesAndStems, Building, Dimension,
+    Direction, Edge, Flags, Group, LostGaps, LostPair, Moving, Order, Outline, PathStep, Refusal,
+    Segment, Stems, WidthRule, MOST_EDGES,
 };
 
 /// Units of a pixel.
@@ -22,13 +23,13 @@ const DESIGN_PIXEL: i32 = (PIXEL * 65_536 + SCALE / 2) / SCALE;
 const POINTS: usize = 25;
 
 /// Their x coordinates, in design units. They make one contour, which goes clockwise.
-const XS: [i32; POINTS] = [
+const XS: [i16; POINTS] = [
     50, 160, 340, 440, 440, 380, 450, 450, 340, 160, 40, 130, 190, 310, 360, 360, 310, 200, 200,
     300, 350, 350, 300, 190, 140,
 ];
 
 /// Their y coordinates.
-const YS: [i32; POINTS] = [
+const YS: [i16; POINTS] = [
     590, 712, 712, 600, 450, 366, 280, 110, -12, -12, 110, 150, 68, 68, 140, 260, 325, 325, 405,
     405, 470, 570, 632, 632, 550,
 ];
@@ -50,7 +51,7 @@ struct Axis<'a> {
     dimension: Dimension,
     major: Direction,
     length: i32,
-    points: [i32; POINTS],
+    points: [i16; POINTS],
     sides: &'a [Side],
 }
 
@@ -112,7 +113,7 @@ fn segments(axis: &Axis<'_>) -> Vec<Segment> {
 }
 
 /// A coordinate at the scale, in units: to the nearest, halves away from zero.
-fn scaled(coordinate: i32) -> i32 {
+fn scaled(coordinate: i16) -> i32 {
     let product = i64::from(coordinate) * i64::from(SCALE);
     ((product.abs() + 0x8000) / 0x1_0000 * product.signum()) as i32
 }
@@ -181,13 +182,13 @@ fn give_zones(edges: &mut [Edge]) {
     }
 }
 
-/// An edge by its number, or none.
-fn named(edge: Option<u16>) -> String {
-    edge.map_or("no edge".into(), |ix| format!("edge {ix}"))
+/// Which edge is the anchor.
+fn anchored(anchor: Option<u16>) -> String {
+    anchor.map_or("no anchor".into(), |ix| format!("the anchor is edge {ix}"))
 }
 
 /// Puts the edges on their zones, and places the stems by the anchor that these give, or by the first stem where there is none.
-fn place_edges(dimension: Dimension, edges: &mut [Edge]) -> Result<(), Refusal> {
+fn place_stems(dimension: Dimension, edges: &mut [Edge]) -> Result<Stems, Refusal> {
     let before = edges.to_vec();
     let given = BluesAndStems {
         dimension,
@@ -196,14 +197,21 @@ fn place_edges(dimension: Dimension, edges: &mut [Edge]) -> Result<(), Refusal> 
         order: Order::BottomToTop,
         rule: RULE,
     };
-    let Stems {
-        passed_over,
-        anchor,
-    } = align_blues_and_stems(edges, &given)?;
-    println!(
-        "  fitting   {passed_over} passed over, the anchor is {}",
-        named(anchor)
-    );
+    let stems = align_blues_and_stems(edges, &given)?;
+    let (passed_over, anchor) = (stems.passed_over, anchored(stems.anchor));
+    println!("  fitting   {passed_over} passed over, {anchor}");
+    print_placed(&before, edges);
+    Ok(stems)
+}
+
+/// Places the edges that are left, where stems have passed over some or there is no anchor.
+fn place_remaining(dimension: Dimension, edges: &mut [Edge], stems: Stems) -> Result<(), Refusal> {
+    if stems.passed_over == 0 && stems.anchor.is_some() {
+        return Ok(());
+    }
+    let before = edges.to_vec();
+    let anchor = align_remaining_edges(edges, dimension, Group::Latin, stems)?;
+    println!("  remaining {}", anchored(anchor));
     print_placed(&before, edges);
     Ok(())
 }
@@ -230,9 +238,9 @@ fn guard(edges: &[Edge]) -> Result<(), Refusal> {
     Ok(())
 }
 
-/// Moves the points of segments whose edges are done with them, and the other points behind these.
+/// Moves the points of segments with their edges, strong points by the edges around them, and the others behind these. Those off the curve are weak.
 fn align_points(
-    points: [i32; POINTS],
+    points: [i16; POINTS],
     segments: &[Segment],
     edges: &[Edge],
 ) -> Result<[i32; POINTS], Refusal> {
@@ -241,12 +249,23 @@ fn align_points(
     let mut touched = [0; POINTS];
     let moving = Moving {
         snap: true,
-        done_alone: true,
+        done_alone: false,
     };
     align_edge_points(segments, edges, moving, &mut currents, &mut touched, &ENDS)?;
+    let count = |touched: &[u8]| touched.iter().filter(|mark| **mark != 0).count();
+    let placed = count(&touched);
+    let weak = ON_CURVE.map(|on_curve| 1 - on_curve);
+    align_strong_points(
+        edges,
+        &points,
+        &originals,
+        &mut currents,
+        &mut touched,
+        &weak,
+    )?;
     align_weak_points(&originals, &mut currents, &touched, &ENDS)?;
-    let placed = touched.iter().filter(|mark| **mark != 0).count();
-    println!("  points    {placed} of {POINTS} placed with their edges, the others aligned");
+    let strong = count(&touched) - placed;
+    println!("  points    {placed} of {POINTS} placed with their edges, {strong} by the edges around them, the others aligned");
     Ok(currents)
 }
 
@@ -258,7 +277,8 @@ fn fit(axis: &Axis<'_>) -> Result<[i32; POINTS], Refusal> {
     if axis.dimension == Dimension::Vertical {
         give_zones(edges);
     }
-    place_edges(axis.dimension, edges)?;
+    let stems = place_stems(axis.dimension, edges)?;
+    place_remaining(axis.dimension, edges, stems)?;
     guard(edges)?;
     align_points(axis.points, &segments, edges)
 }

@@ -5,9 +5,10 @@ use crate::{
     size::PIXEL,
 };
 use khsaemudol::{
-    align_blues_and_stems, align_edge_points, align_weak_points, compute_edges, hint_lowercase_m,
-    link_segments_cjk, lost_gaps, path, BluesAndStems, Dimension, Edge, Flags, LostGaps, Mark,
-    Moving, Outline, PathStep, Refusal, Segment, MOST_EDGES,
+    align_blues_and_stems, align_edge_points, align_remaining_edges, align_strong_points,
+    align_weak_points, compute_edges, hint_lowercase_m, link_segments_cjk, lost_gaps, path,
+    BluesAndStems, Building, Dimension, Edge, LostGaps, Mark, Moving, Outline, PathStep, Refusal,
+    Segment, Stems, MOST_EDGES,
 };
 use std::ops::RangeInclusive;
 
@@ -67,11 +68,20 @@ pub struct FittedAxis {
 #[derive(Clone, Copy, Debug, PartialEq, Eq)]
 pub enum Placing {
     /// Its edge.
-    Touched,
-    /// The touched points of its contour.
+    Edge,
+    /// The edges around it: it is strong.
+    Strong,
+    /// The touched points of its contour: it is weak.
     Weak,
     /// Nothing: its contour has no touched point, or it has none.
     Nothing,
+}
+
+impl Placing {
+    /// Whether the point is touched, so that weak ones follow it.
+    pub fn is_touched(self) -> bool {
+        matches!(self, Self::Edge | Self::Strong)
+    }
 }
 
 /// The name of an axis.
@@ -83,18 +93,9 @@ pub fn name(dimension: Dimension) -> &'static str {
 }
 
 impl FittedAxis {
-    /// Whether an edge was placed, so that it moves its points.
+    /// Whether something placed an edge, as its mark tells: remaining edges of CJK may be placed, and not done.
     pub fn is_placed(&self, edge: usize) -> bool {
-        self.edges[edge].flags().contains(Flags::DONE)
-    }
-
-    /// What placed an edge: its mark, or nothing where it was not placed.
-    pub fn placed_by(&self, edge: usize) -> Mark {
-        if self.is_placed(edge) {
-            self.edges[edge].mark()
-        } else {
-            Mark::Nothing
-        }
+        self.edges[edge].mark() != Mark::Nothing
     }
 
     /// The edges that nothing placed.
@@ -113,7 +114,7 @@ impl FittedAxis {
 
     /// The touch marks of the points.
     pub fn touched(&self) -> Vec<u8> {
-        let mark = |placing: &Placing| u8::from(*placing == Placing::Touched);
+        let mark = |placing: &Placing| u8::from(placing.is_touched());
         self.placing.iter().map(mark).collect()
     }
 
@@ -160,17 +161,21 @@ fn at(step: &str) -> impl Fn(Refusal) -> Refused + '_ {
     }
 }
 
+/// A refusal with its step on an axis.
+fn on<'a>(axis: &'a Axis, step: &'a str) -> impl Fn(Refusal) -> Refused + 'a {
+    move |refusal| at(&format!("{step}, {}", name(axis.building.dimension)))(refusal)
+}
+
 /// Fits an axis, from its segments to its points.
 fn fit_axis(axis: &Axis) -> Result<FittedAxis, Refused> {
     let building = &axis.building;
-    let step = |step: &str| format!("{step}, {}", name(building.dimension));
     let mut segments = axis.segments.clone();
     if let Some(units_per_em) = axis.linked_by {
         link_segments_cjk(&mut segments, building.major, units_per_em, building.scale)
-            .map_err(at(&step("linking")))?;
+            .map_err(on(axis, "linking"))?;
     }
     let mut room = [Edge::default(); MOST_EDGES];
-    let edges = compute_edges(&mut segments, &mut room, building).map_err(at(&step("building")))?;
+    let edges = compute_edges(&mut segments, &mut room, building).map_err(on(axis, "building"))?;
     give_zones(axis, edges);
     let given = BluesAndStems {
         dimension: building.dimension,
@@ -179,13 +184,13 @@ fn fit_axis(axis: &Axis) -> Result<FittedAxis, Refused> {
         order: building.order,
         rule: axis.rule(),
     };
-    align_blues_and_stems(edges, &given).map_err(at(&step("blues and stems")))?;
+    let stems = align_blues_and_stems(edges, &given).map_err(on(axis, "blues and stems"))?;
     if axis.is_m && M_EDGES.contains(&edges.len()) {
-        hint_lowercase_m(edges, building.group).map_err(at(&step("lowercase m")))?;
+        hint_lowercase_m(edges, building.group).map_err(on(axis, "lowercase m"))?;
     }
-    let guard = lost_gaps(edges, LEAST_GAP, LINKED).map_err(at(&step("guard")))?;
-    let (after, placing) =
-        align_points(axis, &segments, edges).map_err(at(&step("weak points")))?;
+    place_remaining(building, edges, stems).map_err(on(axis, "remaining edges"))?;
+    let guard = lost_gaps(edges, LEAST_GAP, LINKED).map_err(on(axis, "guard"))?;
+    let (after, placing) = align_points(axis, &segments, edges)?;
     Ok(FittedAxis {
         dimension: building.dimension,
         edges: edges.to_vec(),
@@ -207,17 +212,25 @@ fn give_zones(axis: &Axis, edges: &mut [Edge]) {
     }
 }
 
-/// Moves the points of segments whose edges are placed with these, and the others behind them; tells what placed each.
+/// Places the edges that stems have left, where some were passed over or there is no anchor: else the Rust does not ask for them.
+fn place_remaining(building: &Building, edges: &mut [Edge], stems: Stems) -> Result<(), Refusal> {
+    if stems.passed_over > 0 || stems.anchor.is_none() {
+        align_remaining_edges(edges, building.dimension, building.group, stems)?;
+    }
+    Ok(())
+}
+
+/// Moves the points of segments with their edges, strong ones by the edges around them, and the others behind these; tells what placed each.
 fn align_points(
     axis: &Axis,
     segments: &[Segment],
     edges: &[Edge],
-) -> Result<(Vec<i32>, Vec<Placing>), Refusal> {
+) -> Result<(Vec<i32>, Vec<Placing>), Refused> {
     let mut currents = axis.originals.clone();
     let mut touched = vec![0; currents.len()];
     let moving = Moving {
         snap: true,
-        done_alone: true,
+        done_alone: false,
     };
     align_edge_points(
         segments,
@@ -226,21 +239,34 @@ fn align_points(
         &mut currents,
         &mut touched,
         &axis.ends,
-    )?;
-    align_weak_points(&axis.originals, &mut currents, &touched, &axis.ends)?;
-    Ok((currents, placings(&touched, &axis.ends)))
+    )
+    .map_err(on(axis, "edge points"))?;
+    let with_edges = touched.clone();
+    align_strong_points(
+        edges,
+        &axis.designs,
+        &axis.originals,
+        &mut currents,
+        &mut touched,
+        &axis.weak,
+    )
+    .map_err(on(axis, "strong points"))?;
+    align_weak_points(&axis.originals, &mut currents, &touched, &axis.ends)
+        .map_err(on(axis, "weak points"))?;
+    Ok((currents, placings(&with_edges, &touched, &axis.ends)))
 }
 
-/// What placed each point, by the touch marks of its contour.
-fn placings(touched: &[u8], ends: &[u16]) -> Vec<Placing> {
+/// What placed each point, by the touch marks that edges left, and by those of its contour that strong points left.
+fn placings(with_edges: &[u8], touched: &[u8], ends: &[u16]) -> Vec<Placing> {
     let mut placings = vec![Placing::Nothing; touched.len()];
     let mut first = 0;
     for end in ends.iter().map(|end| usize::from(*end)) {
         let any = touched[first..=end].contains(&1);
         for point in first..=end {
-            placings[point] = match (touched[point], any) {
-                (1, _) => Placing::Touched,
-                (_, true) => Placing::Weak,
+            placings[point] = match (with_edges[point], touched[point], any) {
+                (1, ..) => Placing::Edge,
+                (_, 1, _) => Placing::Strong,
+                (.., true) => Placing::Weak,
                 _ => Placing::Nothing,
             };
         }

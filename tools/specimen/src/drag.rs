@@ -1,7 +1,7 @@
 //! A touched point that is dragged: the library's answers for every position in reach, each on the fitted drawing with this one point set.
 
 use crate::{
-    chain::{steps, Fitted, FittedAxis, Placing},
+    chain::{steps, Fitted, FittedAxis},
     size::PIXEL,
     specimen::Row,
 };
@@ -28,7 +28,7 @@ pub struct Moving {
 
 /// All that moves while a point is dragged on an axis, the point itself first. None where it is not touched. A position that is refused is not in reach.
 pub fn drags(row: &Row, fitted: &Fitted, axis: &FittedAxis, point: usize) -> Option<Vec<Moving>> {
-    if axis.placing[point] != Placing::Touched {
+    if !axis.placing[point].is_touched() {
         return None;
     }
     let fitted_halves = halves(&axis.after, &places(&fitted.after, axis.dimension));

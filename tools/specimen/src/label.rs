@@ -29,7 +29,11 @@ pub struct Axis {
     pub standards: Option<Vec<i32>>,
     /// Whether the rule of the lowercase m applies.
     pub is_m: bool,
-    /// The scaled coordinates of the points.
+    /// The positions of the points in design units.
+    pub designs: Vec<i16>,
+    /// Their marks where they are weak.
+    pub weak: Vec<u8>,
+    /// Their scaled coordinates.
     pub originals: Vec<i32>,
     /// The segment that each point is on, where it is on one.
     pub segment_of: Vec<Option<usize>>,
@@ -73,6 +77,8 @@ const PATH: i32 = 15;
 const BUILDING: i32 = 105;
 const M: i32 = 113;
 const FITTING: i32 = 122;
+const REMAINING: i32 = 130;
+const STRONG: i32 = 131;
 
 /// The lines that are still to be read, and how many were.
 struct Lines<'a> {
@@ -142,10 +148,9 @@ impl<'a> Lines<'a> {
         if heights.building.dimension == widths.building.dimension {
             return Err(self.wrong("both axes of the glyph have one dimension"));
         }
-        if [&heights, &widths]
-            .iter()
-            .any(|axis| axis.originals.len() != on_curve.len())
-        {
+        let count = on_curve.len();
+        let counts = |axis: &Axis| [axis.designs.len(), axis.weak.len(), axis.originals.len()];
+        if [&heights, &widths].map(counts) != [[count; 3]; 2] {
             return Err(self.wrong("the axes and the path have not as many points"));
         }
         Ok(Glyph {
@@ -175,6 +180,10 @@ impl<'a> Lines<'a> {
             None => None,
             Some(job) => Some(self.read_by(job, Words::m)?),
         };
+        let job = self.job(REMAINING, "remaining edges")?;
+        self.read_by(job, Words::remaining)?;
+        let job = self.job(STRONG, "strong points")?;
+        let (designs, weak) = self.read_by(job, Words::strong)?;
         let job = self.job(WEAK, "weak points")?;
         let points = |job: &mut Words| job.points(segments.len());
         let (originals, segment_of, ends) = self.read_by(job, points)?;
@@ -186,6 +195,8 @@ impl<'a> Lines<'a> {
             stem_adjust,
             standards,
             is_m: m.is_some(),
+            designs,
+            weak,
             originals,
             segment_of,
             ends,
@@ -331,6 +342,26 @@ impl Words {
         self.edges()?;
         self.group()?;
         Some(())
+    }
+
+    /// Remaining edges: no edges, dimension and group, which are building's too, and no count and anchor, which are the stems'.
+    fn remaining(&mut self) -> Option<()> {
+        self.edges()?;
+        self.dimension()?;
+        self.group()?;
+        self.word()?;
+        self.word()?;
+        Some(())
+    }
+
+    /// Strong points: no edges, where points are drawn, three lists that are left to weak points, and which points are weak.
+    fn strong(&mut self) -> Option<(Vec<i16>, Vec<u8>)> {
+        self.edges()?;
+        let designs = self.numbers()?;
+        for _ in 0..3 {
+            self.numbers::<i32>()?;
+        }
+        Some((designs, self.numbers()?))
     }
 
     /// Weak points: the originals, the segment that each point is on, one of so many, and the contour ends. A mark is a segment's number, counted from 1.

@@ -10,7 +10,7 @@ use khsaemudol::{Edge, Flags, Mark};
 /// The numbers of an edge.
 pub fn edge_numbers(axis: &FittedAxis, number: usize) -> String {
     let edge = &axis.edges[number];
-    let placed = match axis.placed_by(number) {
+    let placed = match edge.mark() {
         Mark::Nothing => "nothing placed it",
         mark => mark.name(),
     };
@@ -47,9 +47,10 @@ pub fn point_numbers(row: &Row, fitted: &Fitted, point: usize) -> String {
     };
     let on = |axis: &FittedAxis, letter: &str| {
         let placed = match axis.placing[point] {
-            Placing::Touched => axis.edge_of(point).map_or("touched".into(), |edge| {
+            Placing::Edge => axis.edge_of(point).map_or("touched".into(), |edge| {
                 format!("touched, with {} edge {edge}", name(axis.dimension))
             }),
+            Placing::Strong => "touched, strong".into(),
             Placing::Weak => "weak".into(),
             Placing::Nothing => "nothing placed it".into(),
         };

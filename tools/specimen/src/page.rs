@@ -13,10 +13,10 @@ use khsaemudol::{Mark, Refusal};
 /// How many times their size the pixels of the overview are drawn.
 const OVERVIEW: i32 = 3;
 
-/// How to use the page, and what it cannot show.
+/// How to use the page.
 const NOTE: &str = "Point at an edge or a point for its numbers, or go through those of a drawing by the arrow keys; keys b and a switch to before and after. \
     Drag a touched point of a fitted drawing, or move the one that is pointed at by Shift and an arrow key, to see what follows; Escape puts it back. The only touched point of a contour that is set on its original moves nothing. \
-    Below a drawing stand the pieces and holes of its pixels, and the edges and points that nothing placed: remaining edges and strong points are no part of the product.";
+    Below a drawing stand the pieces and holes of its pixels, and the edges and points that nothing placed.";
 
 /// The whole page of a label that has this name.
 pub fn html(specimen: &Specimen, name: &str) -> String {
@@ -107,11 +107,17 @@ fn legend() -> String {
             r##"<li><svg width="14" height="14" viewBox="-7 -7 14 14" aria-hidden="true"><use href="#{id}"/></svg>{text}</li>"##
         )
     };
-    use Placing::{Nothing, Touched, Weak};
+    use Placing::{Edge, Nothing, Strong, Weak};
     let points = [
-        point(Touched, Touched, true, "touched on both axes"),
-        point(Touched, Weak, true, "height touched, x weak"),
-        point(Weak, Touched, true, "x touched, height weak"),
+        point(Edge, Edge, true, "touched with edges on both axes"),
+        point(Edge, Weak, true, "height with an edge, x weak"),
+        point(Weak, Edge, true, "x with an edge, height weak"),
+        point(
+            Strong,
+            Strong,
+            true,
+            "strong: touched by the edges around it",
+        ),
         point(Weak, Weak, true, "weak"),
         point(Nothing, Nothing, true, "nothing placed it"),
         point(Weak, Weak, false, "off the curve"),

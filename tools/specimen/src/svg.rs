@@ -264,7 +264,7 @@ impl Drawing {
 
     /// An edge: along its segments, and thin across the drawing where it was placed.
     fn edge(&mut self, fitted: &Fitted, axis: &FittedAxis, edge: usize) {
-        let mark = axis.placed_by(edge) as i32;
+        let mark = axis.edges[edge].mark() as i32;
         self.put(format_args!(
             r#"<g class="e m{mark}" data-n="{}">"#,
             edge_numbers(axis, edge)

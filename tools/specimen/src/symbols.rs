@@ -3,8 +3,9 @@
 use crate::chain::Placing;
 
 /// All that placed a point, with its letter.
-pub const PLACINGS: [(Placing, char); 3] = [
-    (Placing::Touched, 't'),
+pub const PLACINGS: [(Placing, char); 4] = [
+    (Placing::Edge, 't'),
+    (Placing::Strong, 's'),
     (Placing::Weak, 'w'),
     (Placing::Nothing, 'n'),
 ];

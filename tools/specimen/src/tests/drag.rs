@@ -61,7 +61,7 @@ fn dragging_in_the_sample_label_is_aligning_anew() {
             for (axis, _) in fitted.axes() {
                 for (point, placing) in axis.placing.iter().enumerate() {
                     let all = drags(&row, &fitted, axis, point);
-                    assert_eq!(all.is_some(), *placing == Placing::Touched);
+                    assert_eq!(all.is_some(), placing.is_touched());
                     if let Some(all) = all {
                         dragged += 1;
                         positions += compare(&row, &fitted, axis, point, &all);
@@ -82,7 +82,7 @@ fn one_touched(dimension: Dimension) -> FittedAxis {
         guard: LostGaps::default(),
         before: vec![0, 64, 128],
         after: vec![20, 84, 148],
-        placing: vec![Placing::Touched, Placing::Weak, Placing::Weak],
+        placing: vec![Placing::Edge, Placing::Weak, Placing::Weak],
         segment_of: vec![None; 3],
         ends: vec![2],
     }

@@ -4,7 +4,7 @@ use crate::{
     chain::{Fitted, FittedAxis, Placing},
     findings::{judge, What},
 };
-use khsaemudol::{path, Dimension, Edge, Flags, LostGaps, Outline, PathStep, Segment};
+use khsaemudol::{path, Dimension, Edge, LostGaps, Mark, Outline, PathStep, Segment};
 
 /// An axis of points that were and are at these places; an edge for each stem's two sides, given by the points of each.
 fn axis(
@@ -14,13 +14,13 @@ fn axis(
     sides: &[&[usize]],
     placed: bool,
 ) -> FittedAxis {
-    let flags = if placed { Flags::DONE } else { Flags::NONE };
+    let mark = if placed { Mark::Stem } else { Mark::Nothing };
     let edge = |(number, points): (usize, &&[usize])| {
         let (opos, pos) = (before[points[0]], after[points[0]]);
         Edge::default()
             .with_opos(opos)
             .with_pos(pos)
-            .with_flags(flags)
+            .with_mark(mark)
             .with_link(Some(number as u16 ^ 1))
     };
     FittedAxis {
@@ -32,7 +32,7 @@ fn axis(
         guard: LostGaps::default(),
         before: before.to_vec(),
         after: after.to_vec(),
-        placing: vec![Placing::Touched; before.len()],
+        placing: vec![Placing::Edge; before.len()],
         segment_of: (0..before.len())
             .map(|point| sides.iter().position(|side| side.contains(&point)))
             .collect(),
