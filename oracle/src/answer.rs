@@ -9,7 +9,7 @@ use crate::{
     path::Step,
     references,
     refusals::{Answer, Refusal},
-    remaining, strong, text, turn,
+    remaining, shown, strong, text, turn,
     words::{self, Words},
 };
 
@@ -59,6 +59,7 @@ pub fn answer(job: Job) -> Words {
         | Job::TurnOver(..)
         | Job::EdgePoints(..)
         | Job::Strong(..)
+        | Job::Shown(..)
         | Job::Gaps(..)
         | Job::WriteFrame(..)
         | Job::ReadFrame(_) => of_requests(&mut w, job),
@@ -137,6 +138,11 @@ fn of_requests(w: &mut Words, job: Job) {
             done(w, strong::align_strong_points(&edges, &mut given));
             w.numbers("currents", "current", &given.currents);
             w.numbers("touch marks", "touch", &given.touches);
+        }
+        Job::Shown(walk, magnify) => {
+            let shown = number(w, shown::count_shown(&walk, magnify)).unwrap_or_default();
+            w.count("black", shown.black);
+            w.put("Euler number", shown.euler);
         }
         Job::Gaps(edges, least, linked) => {
             let lost = number(w, gaps::lost_gaps(&edges, least, linked)).unwrap_or_default();

@@ -229,6 +229,7 @@ impl Reader<'_> {
             128 => Job::EdgePoints(self.segments()?, self.edges()?, self.edge_points()?),
             130 => Job::Remaining(self.edges()?, self.remaining()?),
             131 => Job::Strong(self.edges()?, self.strong()?),
+            132 => Job::Shown(self.walk()?, self.word()?),
             _ => return None,
         })
     }

@@ -176,6 +176,7 @@ pub enum Job {
     EdgePoints(Table<Segment>, Table<Edge>, EdgePoints),
     Remaining(Table<Edge>, Remaining),
     Strong(Table<Edge>, Strong),
+    Shown(Walk, i32),
     WriteFrame(Points, Vec<u8>),
     ReadFrame(Vec<u8>),
 }
@@ -212,6 +213,7 @@ pub const CALLS: &[(usize, &str)] = &[
     (128, "align_edge_points"),
     (130, "align_remaining_edges"),
     (131, "align_strong_points"),
+    (132, "count_shown"),
 ];
 
 /// The name of the call that a word names, if it names one.

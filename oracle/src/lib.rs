@@ -26,6 +26,7 @@ pub mod ranges;
 pub mod references;
 pub mod refusals;
 pub mod remaining;
+pub mod shown;
 pub mod streams;
 pub mod strong;
 pub mod text;

@@ -32,6 +32,8 @@ pub const STANDARDS: usize = 16;
 pub const STANDARD: RangeInclusive<i32> = 1..=16_383;
 /// The least width of a gap that the guard asks about.
 pub const LEAST: RangeInclusive<i32> = 0..=65_535;
+/// How many times an outline is magnified before its pixels are counted.
+pub const MAGNIFY: RangeInclusive<i32> = 1..=64;
 /// Points of a frame, its contours, and a contour's end in it: one byte each.
 pub const FRAME_BYTE: usize = 255;
 /// A coordinate of a frame: two signed bytes.

@@ -1,9 +1,11 @@
-//! The path and the guard as one would write them for speed, for benchmarks: one pass over the points, each step pushed behind the one before, and one over the edges.
+//! The path, the guard and what is shown as one would write them for speed, for benchmarks: one pass over the points, each step pushed behind the one before, one over the edges, and a
+//! scanline fill.
 
 use crate::{
     gaps::{Lost, Pair},
     job::{Edge, TopoFlags, Walk},
     path::{Place, Step},
+    shown::Shown,
 };
 use std::ops::Range;
 
@@ -99,4 +101,106 @@ pub fn lost_gaps(edges: &[Edge], least: i32, linked: bool) -> Lost {
         }
     }
     lost
+}
+
+/// Places of the fill are whole numbers of this part of a pixel.
+const PIXEL: i64 = 64 * 512;
+
+/// A place of an outline.
+type Spot = (i64, i64);
+
+/// What is shown of an accepted outline: its lines in a list, of each row the crossings sorted and the spans between them filled, and each corner held against the row below.
+pub fn count_shown(walk: &Walk, magnify: i32) -> Shown {
+    let lines = lines(walk, magnify.into());
+    let mut shown = Shown::default();
+    let (Some(low), Some(high)) = (
+        lines.iter().map(|line| line.0 .1).min(),
+        lines.iter().map(|line| line.0 .1).max(),
+    ) else {
+        return shown;
+    };
+    let xs = || lines.iter().map(|line| line.0 .0);
+    let (left, right) = (xs().min().unwrap_or(0), xs().max().unwrap_or(0));
+    let first = left.div_euclid(PIXEL) - 1;
+    let width = (right.div_euclid(PIXEL) + 2 - first) as usize;
+    let (mut below, mut here) = (vec![false; width], vec![false; width]);
+    let mut crossings = Vec::new();
+    for row in low.div_euclid(PIXEL)..=high.div_euclid(PIXEL) + 1 {
+        crossings.clear();
+        let height = row * PIXEL + PIXEL / 2;
+        crossings.extend(lines.iter().filter_map(|line| crossing(line, height)));
+        crossings.sort_unstable();
+        here.fill(false);
+        let mut winding = 0;
+        for pair in crossings.windows(2) {
+            winding += pair[0].1;
+            if winding != 0 {
+                let [from, to] = [pair[0].0, pair[1].0].map(|column| (column - first) as usize);
+                here[from..to].fill(true);
+            }
+        }
+        count_row(&below, &here, &mut shown);
+        std::mem::swap(&mut below, &mut here);
+    }
+    shown
+}
+
+/// Adds the corners between two rows, with the sides right of and above them and the pixels between.
+fn count_row(below: &[bool], here: &[bool], shown: &mut Shown) {
+    for at in 1..here.len() {
+        let [a, b, c, d] = [below[at - 1], below[at], here[at - 1], here[at]];
+        let one = |is: bool| i32::from(is);
+        shown.black += usize::from(d);
+        shown.euler += one(a | b | c | d) - one(b | d) - one(c | d) + one(d);
+    }
+}
+
+/// The first column whose centre is at or right of where a line crosses a height, and 1 where it goes upward, -1 where downward, if it does.
+fn crossing((from, to): &(Spot, Spot), height: i64) -> Option<(i64, i32)> {
+    let (low, high, turn) = if from.1 <= height && height < to.1 {
+        (from, to, 1)
+    } else if to.1 <= height && height < from.1 {
+        (to, from, -1)
+    } else {
+        return None;
+    };
+    let rise = high.1 - low.1;
+    let aside = ((high.0 - low.0) * (height - low.1) + rise - 1).div_euclid(rise);
+    Some(((low.0 + aside + PIXEL / 2 - 1).div_euclid(PIXEL), turn))
+}
+
+/// The lines of an accepted outline, magnified.
+fn lines(walk: &Walk, magnify: i64) -> Vec<(Spot, Spot)> {
+    let mut path = Vec::new();
+    steps(walk, &mut path);
+    let spot = |place: Place| {
+        let parts = |pixels: f32| (pixels * PIXEL as f32) as i64 * magnify;
+        (parts(place.x), parts(place.y))
+    };
+    let (mut start, mut here) = ((0, 0), (0, 0));
+    let mut lines = Vec::new();
+    for step in path {
+        match step {
+            Step::Move(place) => (start, here) = (spot(place), spot(place)),
+            Step::Line(place) => {
+                let to = spot(place);
+                lines.push((here, to));
+                here = to;
+            }
+            Step::Curve(by, to) => {
+                let (from, by, to) = (here, spot(by), spot(to));
+                for cut in 1..=16 {
+                    let left = 16 - cut;
+                    let mix = |a: i64, b: i64, c: i64| {
+                        (left * left * a + 2 * left * cut * b + cut * cut * c) / 256
+                    };
+                    let to = (mix(from.0, by.0, to.0), mix(from.1, by.1, to.1));
+                    lines.push((here, to));
+                    here = to;
+                }
+            }
+            Step::Close => lines.push((here, start)),
+        }
+    }
+    lines
 }

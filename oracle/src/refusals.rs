@@ -212,6 +212,28 @@ pub fn path(walk: &Walk) -> Answer<()> {
     refuse(4, xs.iter().chain(ys).any(|c| !RESULT.contains(c)))
 }
 
+/// What the display shows: the lists, how many times they are magnified, the contour ends, and every coordinate, magnified.
+pub fn shown(walk: &Walk, magnify: i32) -> Answer<()> {
+    let Walk {
+        xs,
+        ys,
+        marks,
+        ends,
+    } = walk;
+    let count = xs.len();
+    refuse(
+        1,
+        count > POINTS || ys.len() != count || marks.len() != count,
+    )?;
+    refuse(2, !MAGNIFY.contains(&magnify))?;
+    refuse(3, !are_contour_ends(ends, count))?;
+    let fits = |c: &i32| {
+        c.checked_mul(magnify)
+            .is_some_and(|c| COORDINATE.contains(&c))
+    };
+    refuse(4, !xs.iter().chain(ys).all(fits))
+}
+
 /// The catalogue as a whole; each outline has its own refusals.
 pub fn catalogue(catalogue: &Catalogue) -> Answer<()> {
     let shared = &catalogue.shared;

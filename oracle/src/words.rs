@@ -223,6 +223,11 @@ fn of_requests(w: &mut Words, job: &Job) {
             w.rest();
             w.put("cursor", *cursor as i32);
         }
+        Job::Shown(walk, magnify) => {
+            walked(w, 132, walk);
+            w.rest();
+            w.put("magnify", *magnify);
+        }
         Job::Catalogue(given) => catalogue(w, given),
         Job::Remember(touches, ends, list) => {
             w.put("call", 18);
@@ -294,7 +299,7 @@ pub fn references(w: &mut Words, list: &References) {
     w.numbers("behind", "number behind", &list.behind);
 }
 
-/// Calls 15 and 16 up to their contour ends.
+/// Calls 15, 16 and 132 up to their contour ends.
 fn walked(w: &mut Words, call: i32, walk: &Walk) {
     w.put("call", call);
     w.numbers("x coordinates", "x", &walk.xs);

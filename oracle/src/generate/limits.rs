@@ -1,8 +1,8 @@
 //! Jobs at document 01's limits, and just beyond.
 
 use super::{
-    catalogue, drag, edge_points, edges, frames, job, path, references, saved, segments, strong,
-    Random,
+    catalogue, drag, edge_points, edges, frames, job, path, references, saved, segments, shown,
+    strong, Random,
 };
 use crate::{
     job::{
@@ -32,6 +32,8 @@ pub fn line(call: usize, random: &mut Random) -> Vec<u8> {
 const WRITE_FRAME: i32 = 25;
 /// The word of call 128, whose points stand behind its axis, and whose edges have to be where points may be.
 const EDGE_POINTS: i32 = 128;
+/// The word of call 132, whose points are within its limit when they are magnified.
+const SHOWN: i32 = 132;
 
 /// Puts one word at a limit of its field.
 fn spike(words: &mut Words, random: &mut Random) {
@@ -68,6 +70,11 @@ fn spike(words: &mut Words, random: &mut Random) {
         "number before" | "number behind" => {
             let count = words.values[1].max(1) as usize;
             references::number(count, random).into()
+        }
+        "magnify" => shown::times(random),
+        "x" | "y" if words.values[0] == SHOWN => {
+            let magnify = words.values.last().copied().unwrap_or(1).clamp(1, 64);
+            side(65_535 / magnify + random.between(-1, 1), true, random)
         }
         _ => limit(name, words.values[ix], random),
     };
@@ -161,6 +168,7 @@ fn resize(job: &mut Job, random: &mut Random) {
             }
         }
         Job::Path(walk) => resize_walk(walk, random),
+        Job::Shown(walk, magnify) => shown::resize(walk, magnify, random),
         Job::PathStep(walk, cursor) => {
             resize_walk(walk, random);
             *cursor = path::cursor(walk, random);
@@ -268,7 +276,7 @@ fn resize_remembered(
 }
 
 /// Makes the lists of an outline long or unlike, or breaks the contour ends' rule.
-fn resize_walk(walk: &mut Walk, random: &mut Random) {
+pub fn resize_walk(walk: &mut Walk, random: &mut Random) {
     match random.below(40) {
         0 => {
             let count = random.pick(&[POINTS - 1, POINTS, POINTS + 1, NUMBERS, NUMBERS + 1]);

@@ -19,6 +19,7 @@ mod references;
 mod remaining;
 mod saved;
 mod segments;
+pub mod shown;
 pub mod small_axes;
 pub mod strong;
 
@@ -108,6 +109,7 @@ fn job(call: usize, small: bool, random: &mut Random) -> Job {
         128 => edge_points::job(small, random),
         130 => remaining::job(small, random),
         131 => strong::job(small, random),
+        132 => shown::job(small, random),
         _ => on_edges(call, small, random),
     }
 }

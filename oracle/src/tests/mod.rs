@@ -23,6 +23,7 @@ mod references_slips;
 mod refusals;
 mod remaining;
 mod rows;
+mod shown;
 mod slips;
 mod strong;
 mod words;
