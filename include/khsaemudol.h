@@ -33,7 +33,8 @@
  *      touches them; left out, they go with the weak ones, which breaks slanted strokes where few pixels are left.
  *      khs_align_weak_points moves the points that are not touched then, and khs_align_catalogue those of many outlines at once. Where one touched point is moved by hand
  *      afterwards, khs_drag_point moves those that depend on it.
- *   7. When both axes are fitted, khs_path makes the path for a rasteriser of the points, in pixels.
+ *   7. When both axes are fitted, khs_count_shown tells what the pixels will look like: pieces less holes. Show the glyph where that number is the one that you keep for the
+ *      character, and else the same with KHS_KEEP, unfitted or a pixel larger, whichever has the number first. khs_path makes the path for a rasteriser, in pixels.
  * Edges stand by rising positions. Tables that were built and saved the other way, from top to bottom, go through khs_turn_over once. Saved axes with indices of
  * records that are gone, or with rings that do not close, go through khs_mend first: khs_turn_over and khs_pack_axis, which drops
  * the segments that serve no edge before an axis is sent, take what that hands on.
@@ -87,7 +88,7 @@
  * of edges, whatever its word; scale, units per em, thresholds, standards and a gap's least width are KHS_BAD_PARAMETER and a delta KHS_OUT_OF_RANGE outside of their
  * limits.
  * The calls over points have no such fields, and test KHS_TOO_LONG, KHS_BAD_INDEX, KHS_OUT_OF_RANGE and, where they align, KHS_TOO_STEEP in this order;
- * khs_align_catalogue so of each outline. khs_align_with_references tests KHS_NOT_MATCHING behind KHS_BAD_INDEX.
+ * khs_align_catalogue so of each outline; khs_count_shown tests KHS_BAD_PARAMETER in front of KHS_BAD_INDEX. khs_align_with_references tests KHS_NOT_MATCHING behind KHS_BAD_INDEX.
  * khs_read_frame tests KHS_NOT_WORDS, a room of another length, and then KHS_NOT_FRAME.
  *
  * A refused call writes nothing: every list and every place holds what it held, marks too. With KHS_DONE a list of edges or segments that is not const holds what
@@ -99,7 +100,7 @@
  * No call allocates, keeps a pointer, prints or fails otherwise. Each may be called from any thread, and on other lists at the same time. Working tables stand on
  * the stack: on x86-64 and aarch64 khs_turn_over was measured to use 7 KiB of it, khs_compute_edges 3 KiB and every other call at most 1 KiB, but for
  * khs_align_remaining_edges, khs_pack_axis and khs_mend, of which 10, 5 and 4 KiB were measured on x86-64; and 4 KiB more where a dynamic linker looks up memcpy or
- * memset in the call. A thread with a stack of 24 KiB is enough for every call. */
+ * memset in the call. A thread with a stack of 24 KiB is enough for every call; that of khs_count_shown was not measured yet. */
 #ifndef KHSAEMUDOL_H
 #define KHSAEMUDOL_H
 
@@ -117,8 +118,8 @@ enum khs_answer {
     KHS_DONE = 0,          /* done */
     KHS_TOO_LONG = 1,      /* a list is longer than its limit (4,096 points, 512 segments, 128 edges), lists of one outline differ in length, a path or a
                             * line has too little room, a frame more than 255 points or contours, or a catalogue's counts do not fit its lists */
-    KHS_BAD_PARAMETER = 2, /* a scale, units per em, threshold, a gap's least width or the m call's count is outside its limits, the standards break their
-                            * rule, or an edge has a zone on an axis that khs_align_blues_and_stems takes none on */
+    KHS_BAD_PARAMETER = 2, /* a scale, units per em, threshold, a gap's least width, the m call's count or how many times an outline is magnified is outside its
+                            * limits, the standards break their rule, or an edge has a zone on an axis that khs_align_blues_and_stems takes none on */
     KHS_BAD_INDEX = 3,     /* a contour end breaks its rule, a link, serif, ring index, anchor or named edge is not below its list's length, or a segment with an edge does
                             * not go from a point to another of the same contour where that is asked */
     KHS_OUT_OF_RANGE = 4,  /* a coordinate, position, score, len or passed delta is outside its limits; in building also a scaled position */
@@ -501,6 +502,24 @@ uint8_t khs_path_step(const int32_t *xs, khs_length xs_len, const int32_t *ys, k
  * entries, which is the only cause where the room is as above), KHS_BAD_INDEX, KHS_OUT_OF_RANGE. */
 uint8_t khs_path(const int32_t *xs, khs_length xs_len, const int32_t *ys, khs_length ys_len, const uint8_t *marks, khs_length marks_len, const uint16_t *ends,
                  khs_length ends_len, uint8_t *kinds, khs_length kinds_len, float *places, khs_length places_len, uint32_t *count);
+
+/* What a display without grey shows of an outline: how many pixels are black, and their Euler number, which is pieces less holes. Black pixels hang together by sides and corners, white
+ * ones by sides: a 3 has 1, an 8 -1, a 0 0, a 4 that is broken one more than it should, a 3 that has closed to an 8 two fewer.
+ * The number that a glyph should have is the caller's. It is kept for each character as a typesetter set it, and a fitted glyph is shown where its own is the same: guard an axis by
+ * khs_lost_gaps while it is fitted, and ask this before showing. A number that differs means another shape. One that is equal is needed and not enough: a piece more and a hole more
+ * cancel.
+ * xs, ys, marks, ends: an outline as khs_path takes it. magnify: how many times it is made larger first, 1 to 64, else KHS_BAD_PARAMETER; with 1 the pixels are those of the display,
+ * with more it is a closer look at the outline itself, whose time grows with it. Take no number from there unseen: at any magnification a slanted notch falls apart towards its end. Every
+ * coordinate, also of points behind the last contour, is from -65,535 to 65,535 when it is magnified, else KHS_OUT_OF_RANGE.
+ * The pixel of column i and row j has its centre at 64 i + 32 and 64 j + 32 units. It is black where the path winds around that: where the sum of +1 for each line that crosses the
+ * centre's row upward and -1 for each that crosses it downward, at or left of the centre, is not 0. A line crosses the rows whose centre is at or above its lower end and below its
+ * upper end. So the left and lower side of a shape is taken in, its right and upper side left out. A curve is sixteen lines, through its exact places at each sixteenth; a contour's way
+ * back to its start is a line. A rasteriser that fills nonzero by pixel centres shows these pixels, but where a centre is on the outline, or between a curve and its lines.
+ * An outline that is moved by whole pixels keeps both numbers.
+ * Writes black, at most 4,194,304; euler, the Euler number: corners less sides plus pixels of the black squares taken together.
+ * Answers: KHS_DONE, KHS_TOO_LONG, KHS_BAD_PARAMETER, KHS_BAD_INDEX, KHS_OUT_OF_RANGE. */
+uint8_t khs_count_shown(const int32_t *xs, khs_length xs_len, const int32_t *ys, khs_length ys_len, const uint8_t *marks, khs_length marks_len,
+                        const uint16_t *ends, khs_length ends_len, int32_t magnify, uint32_t *black, int32_t *euler);
 
 /* Writes what khs_align_weak_points is given as one line of a log, so that it can be run again later: `refit` reads such lines. The line is the frame's bytes, each
  * as two upper-case hexadecimal digits: 01, the count of points, the count of contours, for each point its mark, original and current, then the contour ends. A

@@ -48,7 +48,8 @@ static const char *const formats[] = {
     [127] = "Ewc",        /* lost_gaps: edges, least width, linked */
     [128] = "SEccNBI",    /* align_edge_points: segments, edges, snap, done alone, currents, touch marks, contour ends */
     [130] = "Eccil",      /* align_remaining_edges: edges, dimension, group, count, anchor */
-    [131] = "EHNNBB"      /* align_strong_points: edges, font positions, originals, currents, touch marks, weak marks */
+    [131] = "EHNNBB",     /* align_strong_points: edges, font positions, originals, currents, touch marks, weak marks */
+    [132] = "NNBIw"       /* count_shown: x coordinates, y coordinates, on-curve marks, contour ends, magnify */
 };
 enum { CALLS = sizeof formats / sizeof formats[0], MOST_ITEMS = 10 };
 
@@ -329,6 +330,17 @@ static void answer_write(const struct job *job)
     say_bytes(frame, list[4].size);
 }
 
+/* What is shown. */
+static void answer_shown(const struct job *job)
+{
+    const struct list *list = job->list;
+    uint32_t black = 0;
+    int32_t euler = 0;
+    say(khs_count_shown(WORDS(list[0]), WORDS(list[1]), READ(marks, list[2]), READ(ends, list[3]), job->number[0], &black, &euler));
+    say((int32_t)black);
+    say(euler);
+}
+
 /* The calls over outlines. */
 static void answer_outline(const struct job *job)
 {
@@ -341,6 +353,7 @@ static void answer_outline(const struct job *job)
     case 19: answer_with(job); break;
     case 20: answer_drag(job); break;
     case 25: answer_write(job); break;
+    case 132: answer_shown(job); break;
     default: answer_catalogue(job);
     }
 }
@@ -526,7 +539,8 @@ static void answer_line(size_t len)
     case 17:
     case 19:
     case 20:
-    case 25: answer_outline(&job); break;
+    case 25:
+    case 132: answer_outline(&job); break;
     case 18: answer_remember(&job); break;
     case 26: answer_read(&job); break;
     case 4:

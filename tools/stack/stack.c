@@ -68,6 +68,7 @@ static uint8_t step(void) { return khs_path_step(originals, POINTS, currents, PO
 static uint8_t path(void) {
     return khs_path(originals, POINTS, currents, POINTS, touched, POINTS, ends, POINTS / 4, kinds, sizeof kinds, places, sizeof places / sizeof *places, &number);
 }
+static uint8_t shown(void) { return khs_count_shown(originals, POINTS, currents, POINTS, touched, POINTS, ends, POINTS / 4, 64, &number, &first); }
 /* Gives every edge four segments, one in each quarter of the list, with their rings closed or not, and leaves so many quarters out. */
 static void rings(int closed, int left_out) {
     for (int32_t i = 0; i < KHS_MOST_SEGMENTS; i++) {
@@ -117,7 +118,7 @@ static const struct {
              {"khs_align_with_references", with_references}, {"khs_drag_point", drag}, {"khs_link_segments_cjk", linking}, {"khs_compute_edges", building}, {"khs_align_edges_to_blues", blues},
              {"khs_align_linked_edge", linked}, {"khs_align_serif_edge", serif}, {"khs_adjust_link", adjust}, {"khs_latin_remaining_bounds", bounds},
              {"khs_hint_normal_stem_cjk", stem}, {"khs_align_stem_edges", stems}, {"khs_align_blues_and_stems", joined}, {"khs_align_remaining_edges", remaining}, {"khs_hint_lowercase_m", lowercase_m}, {"khs_lost_gaps", guard}, {"khs_align_edge_points", edge_points}, {"khs_align_strong_points", strong},
-             {"khs_path_step", step}, {"khs_path", path}, {"khs_mend", mend}, {"khs_pack_axis", pack}, {"khs_turn_over", turn}, {"khs_write_frame", write_frame}, {"khs_read_frame", read_frame}};
+             {"khs_path_step", step}, {"khs_path", path}, {"khs_count_shown", shown}, {"khs_mend", mend}, {"khs_pack_axis", pack}, {"khs_turn_over", turn}, {"khs_write_frame", write_frame}, {"khs_read_frame", read_frame}};
 
 /* Segments in pairs, the pairs on 128 heights; edges in stems, each with a zone or done here and there; points touched and weak here and there; the longest frame, all zeros. */
 static void fill(void) {

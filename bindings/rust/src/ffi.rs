@@ -276,6 +276,20 @@ extern "C" {
         count: *mut u32,
     ) -> u8;
 
+    fn khs_count_shown(
+        xs: *const i32,
+        xs_len: Length,
+        ys: *const i32,
+        ys_len: Length,
+        marks: *const u8,
+        marks_len: Length,
+        ends: *const u16,
+        ends_len: Length,
+        magnify: i32,
+        black: *mut u32,
+        euler: *mut i32,
+    ) -> u8;
+
     fn khs_write_frame(
         originals: *const i32,
         originals_len: Length,
@@ -807,6 +821,25 @@ pub fn path(outline: &Outline<'_>, kinds: &mut [u8], places: &mut [f32], count: 
             places.as_mut_ptr(),
             length(places),
             count,
+        )
+    }
+}
+
+pub fn count_shown(outline: &Outline<'_>, magnify: i32, black: &mut u32, euler: &mut i32) -> u8 {
+    // SAFETY: four slices, and two places that are lent to this call alone.
+    unsafe {
+        khs_count_shown(
+            outline.xs.as_ptr(),
+            length(outline.xs),
+            outline.ys.as_ptr(),
+            length(outline.ys),
+            outline.marks.as_ptr(),
+            length(outline.marks),
+            outline.ends.as_ptr(),
+            length(outline.ends),
+            magnify,
+            black,
+            euler,
         )
     }
 }

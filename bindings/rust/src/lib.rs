@@ -33,6 +33,7 @@ mod records;
 mod references;
 mod refusal;
 mod remaining;
+mod shown;
 mod strong;
 
 pub use choices::{Dimension, Group, Neighbour, Order, WidthRule};
@@ -47,6 +48,7 @@ pub use records::{Edge, Segment, EDGE_WORDS, SEGMENT_WORDS};
 pub use references::{drag_point, References};
 pub use refusal::Refusal;
 pub use remaining::align_remaining_edges;
+pub use shown::{count_shown, Shown};
 pub use strong::align_strong_points;
 
 /// The most edges of an axis.

@@ -1337,3 +1337,80 @@ fn strong_points_refused() {
     assert_eq!(short, [Err(Refusal::TooLong); 5]);
     assert_eq!((currents, touched), ([7, 8], [0, 0]));
 }
+
+/// What is shown of an outline, as two numbers.
+fn shown(outline: &Outline<'_>, magnify: i32) -> Result<(u32, i32), Refusal> {
+    count_shown(outline, magnify).map(|shown| (shown.black, shown.euler))
+}
+
+#[test]
+fn what_is_shown() {
+    // A box of three by five pixels, with holes of one pixel that go the other way round.
+    let eight = Outline {
+        xs: &[0, 192, 192, 0, 64, 64, 128, 128, 64, 64, 128, 128],
+        ys: &[0, 0, 320, 320, 64, 128, 128, 64, 192, 256, 256, 192],
+        marks: &[1; 12],
+        ends: &[3, 7, 11],
+    };
+    assert_eq!(shown(&eight, 1), Ok((13, -1)));
+    assert_eq!(shown(&eight, 64), Ok((13 * 4_096, -1)));
+    // Without its upper hole, and with it but as points of no contour.
+    let six = Outline {
+        ends: &[3, 7],
+        ..eight
+    };
+    assert_eq!(shown(&six, 1), Ok((14, 0)));
+    // A corner that is rounded by a curve.
+    let round = Outline {
+        xs: &[0, 128, 128, 0],
+        ys: &[0, 0, 128, 128],
+        marks: &[1, 255, 0, 2],
+        ends: &[3],
+    };
+    assert_eq!(shown(&round, 1), Ok((3, 1)));
+    assert_eq!(shown(&round, 16), Ok((850, 1)));
+    let none = Outline {
+        xs: &[],
+        ys: &[],
+        marks: &[],
+        ends: &[],
+    };
+    assert_eq!(shown(&none, 1), Ok((0, 0)));
+    assert_eq!(shown(&OUTLINE, 1), Ok((0, 0)));
+}
+
+#[test]
+fn what_is_shown_of_the_whole_field() {
+    let far = 65_535;
+    let field = Outline {
+        xs: &[-far, far, far, -far],
+        ys: &[-far, -far, far, far],
+        marks: &[1; 4],
+        ends: &[3],
+    };
+    assert_eq!(shown(&field, 1), Ok((4_194_304, 1)));
+    assert_eq!(shown(&field, 2), Err(Refusal::OutOfRange));
+}
+
+#[test]
+fn what_is_shown_refuses() {
+    let far = Outline {
+        ys: &[0, 0, 64, -32, 1_024],
+        ..OUTLINE
+    };
+    assert_eq!(shown(&far, 63), Ok((1_291, 1)));
+    assert_eq!(shown(&far, 64), Err(Refusal::OutOfRange));
+    let late = Outline {
+        ends: &[2, 5],
+        ..far
+    };
+    assert_eq!(shown(&late, 64), Err(Refusal::BadIndex));
+    for magnify in [0, -1, 65, i32::MIN, i32::MAX] {
+        assert_eq!(shown(&late, magnify), Err(Refusal::BadParameter));
+        let short = Outline {
+            marks: &[1; 4],
+            ..late
+        };
+        assert_eq!(shown(&short, magnify), Err(Refusal::TooLong));
+    }
+}

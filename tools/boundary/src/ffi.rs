@@ -211,6 +211,19 @@ extern "C" {
         weak: *const u8,
         weak_len: usize,
     ) -> u8;
+    pub fn khs_count_shown(
+        xs: *const i32,
+        xs_len: usize,
+        ys: *const i32,
+        ys_len: usize,
+        marks: *const u8,
+        marks_len: usize,
+        ends: *const u16,
+        ends_len: usize,
+        magnify: i32,
+        black: *mut u32,
+        euler: *mut i32,
+    ) -> u8;
     pub fn khs_path_step(
         xs: *const i32,
         xs_len: usize,

@@ -16,6 +16,7 @@ mod moving;
 mod path;
 mod points;
 mod references;
+mod shown;
 mod strong;
 mod tally;
 
@@ -39,6 +40,7 @@ fn main() -> ExitCode {
     let mut tallies = points::middles(count as usize, random);
     tallies.push(points::weak(count as usize, random));
     tallies.extend(path::paths(count as usize, random));
+    tallies.push(shown::shown(count as usize, random));
     tallies.push(catalogues::catalogues(count as usize, random));
     tallies.extend(references::references(count as usize, random));
     tallies.push(drag::drags(count as usize, random));

@@ -199,7 +199,7 @@ pub fn paths(count: usize, random: &mut Random) -> Vec<Tally> {
             });
         });
     };
-    small(|walk| {
+    small([0, -3, 64, 196_605], |walk| {
         let room = walk.xs.len() + 2 * walk.ends.len();
         for cursor in 0..=room as u32 + 1 {
             compare(walk, Some(cursor), &Lent::new(1, FLOATS), Side::Back);
@@ -259,7 +259,7 @@ fn outline(random: &mut Random) -> (Walk, u32) {
 }
 
 /// Damages one list: its length, or an entry.
-fn damage(walk: &mut Walk, random: &mut Random) {
+pub fn damage(walk: &mut Walk, random: &mut Random) {
     let at = random.below(walk.xs.len().max(1));
     let beyond = random.pick(&[i32::MIN, -196_606, 196_606, i32::MAX]);
     match random.below(8) {
@@ -291,14 +291,13 @@ fn damage(walk: &mut Walk, random: &mut Random) {
 }
 
 /// Outlines of up to four points with every mark and every set of contour ends, and lists of every length up to three.
-fn small(mut compare: impl FnMut(&Walk)) {
-    const PLACES: [i32; 4] = [0, -3, 64, 196_605];
+pub fn small(places: [i32; 4], mut compare: impl FnMut(&Walk)) {
     for points in 0..=4usize {
         for number in 0..1usize << (2 * points) {
             let bit = |ix: usize| number >> ix & 1 == 1;
             compare(&Walk {
-                xs: PLACES[..points].to_vec(),
-                ys: PLACES[..points].iter().rev().copied().collect(),
+                xs: places[..points].to_vec(),
+                ys: places[..points].iter().rev().copied().collect(),
                 marks: (0..points).map(|ix| u8::from(bit(ix))).collect(),
                 ends: (0..points as u16)
                     .filter(|ix| bit(points + usize::from(*ix)))
