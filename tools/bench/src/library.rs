@@ -93,6 +93,10 @@ pub fn answer(words: &[i32]) -> Vec<i32> {
             answer.extend(places.map(bits));
             answer.push(done.map_or(*cursor as i32, |[next, ..]| next));
         }
+        Prepared::Shown(..) => {
+            let [black, euler, ..] = done.unwrap_or_default();
+            answer.extend([black, euler]);
+        }
         Prepared::EdgePoints(_, _, _, currents, touches)
         | Prepared::Strong(_, _, currents, touches) => {
             answer.push(currents.len() as i32);

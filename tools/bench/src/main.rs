@@ -1,8 +1,8 @@
 //! The port, compiled for this machine, as tools use it. `bench all` or `bench CALL..` times it and the given Rust side by side on the same inputs and counts
 //! instructions; `bench answer` answers job lines by `jobs`, which asks the library's functions, `bench values` with the calls on tables by value, and `bench library` by
 //! the library as its Rust wrapper calls it; `bench catalogue` times catalogues of outlines in one call, `bench references` alignment with remembered references,
-//! `bench drag` one point dragged, `bench mend` and `bench pack` axes that are mended and made smaller, `bench chain` the chain of a glyph step by step, and
-//! `bench freetype`, built with the feature of that name, FreeType's own routines beside both.
+//! `bench drag` one point dragged, `bench mend` and `bench pack` axes that are mended and made smaller, `bench shown` what is shown of the sample label's glyphs, `bench chain` the chain
+//! of a glyph step by step, and `bench freetype`, built with the feature of that name, FreeType's own routines beside both.
 
 mod answer;
 mod axes;
@@ -13,9 +13,17 @@ mod chain;
 mod count;
 mod drag;
 mod edges;
+/// A glyph through the library's chain, as the specimen page has it.
+#[allow(dead_code)]
+#[path = "../../specimen/src/chain.rs"]
+mod fitting;
 #[cfg(feature = "freetype")]
 mod freetype;
 mod glyph;
+/// A label file, as the specimen page reads it.
+#[allow(dead_code)]
+#[path = "../../specimen/src/label.rs"]
+mod label;
 mod library;
 mod outlines;
 mod plot;
@@ -23,10 +31,16 @@ mod port;
 mod records;
 mod references;
 mod segments;
+mod shown;
+/// A glyph at another size, as the specimen page has it.
+#[allow(dead_code)]
+#[path = "../../specimen/src/size.rs"]
+mod size;
 mod table;
 mod time;
 
 use axes::Work;
+use oracle::text;
 use std::{io, process::ExitCode};
 
 /// Does what is named.
@@ -52,6 +66,8 @@ fn main() -> ExitCode {
             println!();
             axes::run(Work::Pack);
             println!();
+            shown::run();
+            println!();
             chain::run();
         }
         ["catalogue"] => catalogue::run(),
@@ -59,6 +75,7 @@ fn main() -> ExitCode {
         ["drag"] => drag::run(),
         ["mend"] => axes::run(Work::Mend),
         ["pack"] => axes::run(Work::Pack),
+        ["shown"] => shown::run(),
         ["chain"] => {
             table::explain();
             chain::run();
@@ -70,7 +87,7 @@ fn main() -> ExitCode {
         }
         _ => {
             eprintln!(
-                "usage: bench answer | values | library | all | catalogue | references | drag | mend | pack | chain | freetype | {}",
+                "usage: bench answer | values | library | all | catalogue | references | drag | mend | pack | shown | chain | freetype | {}",
                 cases::NAMES.join(" | ")
             );
             return ExitCode::from(2);

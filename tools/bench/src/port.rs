@@ -74,6 +74,7 @@ pub enum Prepared {
     Strong(Vec<Edge>, job::Strong, Vec<i32>, Vec<u8>),
     Path(Walk, Vec<u8>, Vec<f32>),
     PathStep(Walk, u32, Option<PathStep>),
+    Shown(Walk, i32),
     Job(Vec<i32>, Vec<i32>),
 }
 
@@ -276,6 +277,7 @@ impl Prepared {
                 return Self::Path(walk, vec![0; most], vec![0.0; 4 * most]);
             }
             Job::PathStep(walk, cursor) => return Self::PathStep(walk, cursor, None),
+            Job::Shown(walk, magnify) => return Self::Shown(walk, magnify),
             Job::EdgePoints(segments, _, given) => {
                 // the edges stand behind the segments
                 let edges = &words[1 + SEGMENT_WORDS * segments.items.len()..];
@@ -319,7 +321,11 @@ impl Prepared {
     /// Sets anew what the call changes.
     pub fn restore(&mut self) {
         match self {
-            Self::Middle(..) | Self::Path(..) | Self::PathStep(..) | Self::Job(..) => {}
+            Self::Middle(..)
+            | Self::Path(..)
+            | Self::PathStep(..)
+            | Self::Shown(..)
+            | Self::Job(..) => {}
             Self::Weak(points, currents) => currents.clone_from(&points.currents),
             Self::Catalogue(given, currents, _) => currents.clone_from(&given.shared.currents),
             Self::Link(given, segments, ..) | Self::Build(given, segments, ..) => {
@@ -393,6 +399,10 @@ impl Prepared {
                 let found = khsaemudol::path_step(&outline(walk), *cursor)?;
                 *step = found.map(|(step, _)| step);
                 Ok(one(found.map_or(*cursor, |(_, next)| next) as i32))
+            }
+            Self::Shown(walk, magnify) => {
+                let shown = khsaemudol::count_shown(&outline(walk), *magnify)?;
+                Ok(two(shown.black as i32, shown.euler))
             }
             Self::Job(words, out) => {
                 black_box(answer_into(jobs_answer, words, out));
