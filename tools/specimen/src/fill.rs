@@ -3,8 +3,11 @@
 use crate::pieces::Area;
 use khsaemudol::{PathStep, PixelPoint};
 
-/// Lines that a curve is made of: it strays from them by less than a hundredth of a pixel where its control point is within 20 pixels of the middle of its ends.
-const LINES_OF_A_CURVE: u16 = 32;
+/// Lines that a curve is made of, through its places at each part of it.
+const LINES_OF_A_CURVE: i64 = 16;
+
+/// A place is a whole number of this part of a pixel: what the library's paths are made of, times the weights of a curve's places.
+const PARTS: i64 = 64 * 512 * LINES_OF_A_CURVE * LINES_OF_A_CURVE;
 
 /// Pixels, row by row from the bottom, and where the first one's corner is. A pixel is one `per_pixel`th of a pixel of the path.
 #[derive(Clone, Debug, PartialEq, Eq)]
@@ -55,28 +58,25 @@ impl Bitmap {
     }
 }
 
-/// A line of an outline, in pixels of the bitmap.
+/// A place in parts of a pixel of the bitmap.
+type Spot = (i64, i64);
+
+/// A line of an outline.
 struct Line {
-    from: (f64, f64),
-    to: (f64, f64),
+    from: Spot,
+    to: Spot,
 }
 
 /// Fills a path at so many times its size, with a border of white pixels around it.
 pub fn fill(path: &[PathStep], per_pixel: i32) -> Bitmap {
     let lines = lines_of(path, per_pixel.into());
     let ends = || lines.iter().flat_map(|line| [line.from, line.to]);
-    let bound = |of: fn(&(f64, f64)) -> f64, pick: fn(f64, f64) -> f64| {
-        ends().map(|end| of(&end)).reduce(pick).unwrap_or(0.0)
-    };
-    let left = bound(|end| end.0, f64::min).floor() as i32 - 1;
-    let right = bound(|end| end.0, f64::max).ceil() as i32 + 1;
-    let bottom = bound(|end| end.1, f64::min).floor() as i32 - 1;
-    let top = bound(|end| end.1, f64::max).ceil() as i32 + 1;
-    let (width, height) = ((right - left) as usize, (top - bottom) as usize);
+    let (left, width) = bounds(ends().map(|end| end.0));
+    let (bottom, height) = bounds(ends().map(|end| end.1));
     let mut black = Vec::with_capacity(width * height);
-    for y in bottom..top {
-        let crossings = crossings(&lines, f64::from(y) + 0.5);
-        black.extend((left..right).map(|x| winding(&crossings, f64::from(x) + 0.5) != 0));
+    for y in (bottom..).take(height) {
+        let crossings = crossings(&lines, centre(y));
+        black.extend((left..).take(width).map(|x| winding(&crossings, x) != 0));
     }
     Bitmap {
         left,
@@ -87,29 +87,58 @@ pub fn fill(path: &[PathStep], per_pixel: i32) -> Bitmap {
     }
 }
 
-/// Where lines cross a height, and 1 where they go upward, -1 where they go downward. A line's lower end belongs to it, its upper one not.
-fn crossings(lines: &[Line], y: f64) -> Vec<(f64, i32)> {
+/// The first column or row, and how many there are: those that places are in, and one on either side.
+fn bounds(places: impl Iterator<Item = i64> + Clone) -> (i32, usize) {
+    let (least, most) = (places.clone().min(), places.max());
+    let first = least.unwrap_or(0).div_euclid(PARTS) - 1;
+    let behind = 1 - (-most.unwrap_or(0)).div_euclid(PARTS);
+    (first as i32, (behind - first) as usize)
+}
+
+/// The centre of a column or row.
+fn centre(pixel: i32) -> i64 {
+    i64::from(pixel) * PARTS + PARTS / 2
+}
+
+/// The first columns whose centres are at or right of where lines cross a height, and 1 where these go upward, -1 where they go downward. A line's lower end belongs to it, its upper one not.
+fn crossings(lines: &[Line], y: i64) -> Vec<(i64, i32)> {
     let crossing = |line: &Line| {
         let ((x0, y0), (x1, y1)) = (line.from, line.to);
         let turn = i32::from(y0 <= y && y < y1) - i32::from(y1 <= y && y < y0);
-        (turn != 0).then(|| (x0 + (x1 - x0) * (y - y0) / (y1 - y0), turn))
+        (turn != 0).then(|| {
+            let (low, high) = if turn > 0 { (y0, y1) } else { (y1, y0) };
+            let (low_x, high_x) = if turn > 0 { (x0, x1) } else { (x1, x0) };
+            let weighted = |x: i64, height: i64| i128::from(x) * i128::from(height);
+            let at = weighted(low_x, high - y) + weighted(high_x, y - low);
+            (first_column(at, (high - low).into()), turn)
+        })
     };
     lines.iter().filter_map(crossing).collect()
 }
 
-/// How often an outline winds around a place of the height whose crossings these are. A place on the outline belongs to what is right of it.
-fn winding(crossings: &[(f64, i32)], x: f64) -> i32 {
+/// The first column whose centre is at or right of a quotient.
+fn first_column(over: i128, under: i128) -> i64 {
+    let (side, centre) = (i128::from(PARTS) * under, i128::from(PARTS / 2) * under);
+    -((centre - over).div_euclid(side)) as i64
+}
+
+/// How often an outline winds around the centre of a column of the row whose crossings these are.
+fn winding(crossings: &[(i64, i32)], x: i32) -> i32 {
     crossings
         .iter()
-        .filter(|(at, _)| *at <= x)
+        .filter(|(first, _)| *first <= i64::from(x))
         .map(|(_, turn)| turn)
         .sum()
 }
 
 /// The lines of a path at so many times its size.
-fn lines_of(path: &[PathStep], times: f64) -> Vec<Line> {
-    let place = |point: PixelPoint| (f64::from(point.x) * times, f64::from(point.y) * times);
-    let (mut start, mut at) = ((0.0, 0.0), (0.0, 0.0));
+fn lines_of(path: &[PathStep], times: i64) -> Vec<Line> {
+    let whole = |pixels: f32| {
+        let weights = LINES_OF_A_CURVE * LINES_OF_A_CURVE;
+        (f64::from(pixels) * (PARTS / weights) as f64).round() as i64 * weights * times
+    };
+    let place = |point: PixelPoint| (whole(point.x), whole(point.y));
+    let (mut start, mut at) = ((0, 0), (0, 0));
     let mut lines = Vec::new();
     for step in path {
         match *step {
@@ -137,19 +166,13 @@ fn lines_of(path: &[PathStep], times: f64) -> Vec<Line> {
     lines
 }
 
-/// The lines of a quadratic curve.
-fn curve(from: (f64, f64), by: (f64, f64), to: (f64, f64)) -> impl Iterator<Item = Line> {
-    let mix = |a: f64, b: f64, c: f64, t: f64| {
-        (1.0 - t) * (1.0 - t) * a + 2.0 * t * (1.0 - t) * b + t * t * c
+/// The lines of a quadratic curve. Its places are whole, since its points are whole times the weights.
+fn curve(from: Spot, by: Spot, to: Spot) -> impl Iterator<Item = Line> {
+    let mix = |a: i64, b: i64, c: i64, n: i64| {
+        let left = LINES_OF_A_CURVE - n;
+        (left * left * a + 2 * left * n * b + n * n * c) / (LINES_OF_A_CURVE * LINES_OF_A_CURVE)
     };
-    let place = move |n: u16| match n {
-        0 => from,
-        LINES_OF_A_CURVE => to,
-        _ => {
-            let t = f64::from(n) / f64::from(LINES_OF_A_CURVE);
-            (mix(from.0, by.0, to.0, t), mix(from.1, by.1, to.1, t))
-        }
-    };
+    let place = move |n: i64| (mix(from.0, by.0, to.0, n), mix(from.1, by.1, to.1, n));
     (0..LINES_OF_A_CURVE).map(move |n| Line {
         from: place(n),
         to: place(n + 1),

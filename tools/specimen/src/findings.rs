@@ -152,6 +152,11 @@ impl Shape {
             bitmap,
         }
     }
+
+    /// Its pieces and holes.
+    pub fn count(&self) -> Count {
+        self.parts.count()
+    }
 }
 
 /// Which parts of the fitted outline and of its pixels have a pixel's centre in common.

@@ -1,10 +1,11 @@
-//! The specimen page of a label, and the check of its glyphs. `specimen SAMPLE PAGE ..` is ./specimen with the sample label and the usual page in front of its words.
+//! The specimen page of a label, the check of its glyphs, and the list of their numbers. `specimen SAMPLE PAGE ..` is ./specimen with the sample label and the usual page in front of its words.
 
 mod chain;
 mod drag;
 mod fill;
 mod findings;
 mod label;
+mod list;
 mod numbers;
 mod page;
 mod pieces;
@@ -33,7 +34,8 @@ use std::{
     process::ExitCode,
 };
 
-const USAGE: &str = "usage: ./specimen [--check] [--sizes N,N,..] [--em N] [-o PAGE] [FILE]";
+const USAGE: &str =
+    "usage: ./specimen [--check | --numbers] [--sizes N,N,..] [--em N] [-o PAGE] [FILE]";
 
 /// The sizes, in pixels to the em.
 const SIZES: [i32; 4] = [11, 12, 16, 24];
@@ -54,6 +56,7 @@ struct Asked {
     name: String,
     page: PathBuf,
     check: bool,
+    numbers: bool,
     sizes: Vec<i32>,
     units_per_em: i32,
 }
@@ -62,11 +65,12 @@ impl Asked {
     /// What the words behind the sample label and the usual page ask for.
     fn of(mut words: impl Iterator<Item = OsString>) -> Option<Self> {
         let (sample, mut page) = (PathBuf::from(words.next()?), PathBuf::from(words.next()?));
-        let (mut label, mut check) = (None, false);
+        let (mut label, mut check, mut numbers) = (None, false, false);
         let (mut sizes, mut units_per_em) = (SIZES.to_vec(), UNITS_PER_EM);
         while let Some(word) = words.next() {
             match word.to_str() {
                 Some("--check") => check = true,
+                Some("--numbers") => numbers = true,
                 Some("--sizes") => sizes = sizes_of(words.next()?.to_str()?)?,
                 Some("--em") => units_per_em = number(words.next()?.to_str()?, ASKED_UNITS)?,
                 Some("-o") => page = words.next()?.into(),
@@ -74,6 +78,9 @@ impl Asked {
                 _ if label.is_some() => return None,
                 _ => label = Some(PathBuf::from(word)),
             }
+        }
+        if check && numbers {
+            return None;
         }
         let name = label.as_deref().and_then(Path::file_name);
         Some(Self {
@@ -83,6 +90,7 @@ impl Asked {
             label: label.unwrap_or(sample),
             page,
             check,
+            numbers,
             sizes,
             units_per_em,
         })
@@ -103,7 +111,7 @@ fn number(text: &str, limits: RangeInclusive<i32>) -> Option<i32> {
     text.parse().ok().filter(|number| limits.contains(number))
 }
 
-/// Writes the page, or checks; status 1 where the check finds something, 2 where it could not be done.
+/// Writes the page, checks, or lists numbers; status 1 where the check finds something, 2 where it could not be done.
 fn main() -> ExitCode {
     let Some(asked) = Asked::of(env::args_os().skip(1)) else {
         eprintln!("{USAGE}");
@@ -127,6 +135,8 @@ fn run(asked: &Asked) -> Result<bool, String> {
         .map_err(|wrong| about(&asked.label, wrong))?;
     let told = if asked.check {
         report::text(&specimen)
+    } else if asked.numbers {
+        list::text(&specimen)
     } else {
         fs::write(&asked.page, page::html(&specimen, &asked.name))
             .map_err(|wrong| about(&asked.page, wrong.to_string()))?;

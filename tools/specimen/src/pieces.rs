@@ -36,6 +36,13 @@ pub struct Count {
     pub holes: usize,
 }
 
+impl Count {
+    /// Their Euler number: pieces less holes.
+    pub fn euler(self) -> i32 {
+        self.pieces as i32 - self.holes as i32
+    }
+}
+
 impl fmt::Display for Count {
     fn fmt(&self, f: &mut fmt::Formatter<'_>) -> fmt::Result {
         let s = |count| if count == 1 { "" } else { "s" };

@@ -1,7 +1,8 @@
-//! Worked shapes, stems, the sample label, and its points dragged.
+//! Worked shapes, pixels, stems, the sample label, and its points dragged.
 
 mod drag;
 mod label;
+mod pixels;
 mod shapes;
 mod stems;
 

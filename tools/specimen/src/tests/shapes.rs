@@ -267,6 +267,18 @@ fn curves_are_filled() {
 }
 
 #[test]
+fn sixteen_lines_make_a_curve() {
+    // of thirty-two lines the pixel of column 2 and row 2 would be black
+    let place = |x, y| PixelPoint { x, y };
+    let bent = [
+        PathStep::Move(place(0.0, 0.0)),
+        PathStep::Curve(place(6.0, 1.25), place(0.0, 4.0)),
+        PathStep::Close,
+    ];
+    assert_eq!(drawn(&bent), ["#..", "##.", "###", "##."]);
+}
+
+#[test]
 fn nothing_has_no_pieces() {
     assert_eq!(count(&[], 1), (0, 0));
     assert_eq!(found(&[]), []);
