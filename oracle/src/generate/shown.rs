@@ -27,6 +27,14 @@ pub fn job(small: bool, random: &mut Random) -> Job {
         _ => (random.pick(&[500, 1_000, 2_000, 4_000]) / magnify).max(random.pick(&[1, 64])),
     };
     let half = (CENTRE / magnify).max(1);
+    if magnify == 1 && random.once_in(6) {
+        let walk = if random.coin() {
+            grazing(span, random)
+        } else {
+            leaning(random)
+        };
+        return Job::Shown(walk, magnify);
+    }
     let mut walk = match random.below(4) {
         0 => boxes(span, half, small, random),
         1 => rings(span, small, random),
@@ -110,6 +118,63 @@ fn rings(span: i32, small: bool, random: &mut Random) -> Walk {
         });
     }
     walk
+}
+
+/// A contour off the curve that is moved so that a place at which one of its curves is cut is on a row or column of centres, or one 512th of a unit beside it, where such a one is found.
+fn grazing(span: i32, random: &mut Random) -> Walk {
+    let mut walk = empty();
+    let points = random.below(4) + 2;
+    let any = |random: &mut Random| random.between(-span, span);
+    for _ in 0..20 {
+        walk = empty();
+        let places: Vec<(i32, i32)> = (0..points).map(|_| (any(random), any(random))).collect();
+        append(&mut walk, &places, || 0);
+        let upright = random.coin();
+        let coordinates = if upright { &mut walk.ys } else { &mut walk.xs };
+        if let Some(by) = to_a_centre(coordinates, random) {
+            for coordinate in coordinates {
+                *coordinate += by;
+            }
+            break;
+        }
+    }
+    walk
+}
+
+/// A box whose sides lean by one unit over some pixels, so that they cross rows of centres less than a 512th of a unit beside centres.
+fn leaning(random: &mut Random) -> Walk {
+    let mut walk = empty();
+    let centre = |random: &mut Random| random.between(-4, 4) * PIXEL + CENTRE;
+    let [left, low] = [0; 2].map(|_| centre(random) + random.pick(&[-1, 0, 0, 1]));
+    let (wide, tall) = (random.between(10, 200), random.between(300, 1_200));
+    let lean = random.pick(&[-1, 1]);
+    let (right, high) = (left + wide, low + tall);
+    let mut corners = [
+        (left, low),
+        (right, low),
+        (right + lean, high),
+        (left + lean, high),
+    ];
+    if random.coin() {
+        corners.reverse();
+    }
+    append(&mut walk, &corners, || 1);
+    walk
+}
+
+/// How far coordinates of points off the curve have to be moved so that a cut is at a centre or one 512th beside it, where some distance does that.
+fn to_a_centre(coordinates: &[i32], random: &mut Random) -> Option<i32> {
+    let count = coordinates.len();
+    let at = |ix: usize| coordinates[ix % count];
+    let (curve, beside) = (random.below(count), random.pick(&[-1, 0, 1]));
+    let start = at(curve) + at(curve + 1);
+    let (control, end) = (2 * at(curve + 1), at(curve + 1) + at(curve + 2));
+    (1..16).find_map(|cut| {
+        let left = 16 - cut;
+        let place = left * left * start + 2 * left * cut * control + cut * cut * end - beside;
+        let units = (place % 512 == 0).then_some(place / 512)?;
+        Some((CENTRE - units).rem_euclid(PIXEL))
+    })
 }
 
 /// Moves an outline by pixels, or by any distance, as far as its bounds allow.

@@ -103,7 +103,7 @@ fn curves_and_lone_points() {
         counted(&walk(&[0, 64, 0], &[0, 0, 64], &[1; 3], &[])),
         (0, 0)
     );
-    // Of sixteen lines, and not of thirty-two, where pixel (2, 2) is white.
+    // Of sixteen lines, and not of thirty-two, of which pixel (2, 2) is black.
     let bent = walk(&[0, 384, 0], &[0, 80, 256], &[1, 0, 1], &[2]);
     let pixels = Picture::of(&bent, 1);
     let at = |column: i64, row: i64| {
