@@ -1,11 +1,12 @@
 -- What the display shows of an outline: which pixels are black, how many, and their Euler number.
 -- Places are whole numbers, 512 to a unit and 32,768 to a pixel, from the left lower corner of a field of pixels on, which stands `half` units left of and below 0.
-use mathlib.Core.Bool.{Bool, true, false, not, cond, _&&_}
+use mathlib.Core.Bool.{Bool, not, _&&_}
 use mathlib.Core.List.{List, [], _∷_, _++_}
-use Prim.Native.Nat.{ℕ, zero, suc, _+_, _-_, _*_}
+use Prim.Native.Nat.{ℕ, suc, _+_, _-_, _*_}
 use lib.Dec.{ltb, leb, eqb}
 use lib.IntN.{ℤ, pos, natAbs, _+ℤ_, _-ℤ_, _*ℤ_}
 use Rattle.shown_rows.specs.Turns.{total, bit, corner, sides, pixel}
+pub use Rattle.shown_rows.specs.Turns.{before}
 use Rattle.shown_rows.specs.Crossing.{centre}
 use Rattle.shown_rows.specs.Chains.{placeAt}
 use Rattle.path_trip.specs.Path.{Points, from}
@@ -81,12 +82,7 @@ abbrev pub black : List Side → ℕ → ℕ → Bool
 black ss i j = not (eqb (ups ss (centre i) (centre j)) (downs ss (centre i) (centre j)))
 
 -- ---- the counts
--- the pixel left below the corner (i, j) is that of i - 1 and j - 1; left of the field and below it is white
-abbrev pub before : (ℕ → Bool) → ℕ → Bool
-before f zero = false
-before f (suc i) = f i
-
--- f of the four pixels around each corner, in n columns and rows of corners
+-- f of the four pixels around each corner, in n columns and rows of corners: the pixel left below the corner (i, j) is that of i - 1 and j - 1; left of the field and below it is white
 unfoldable pub around : (Bool → Bool → Bool → Bool → ℕ) → (ℕ → ℕ → Bool) → ℕ → ℕ
 around f b n = total (λ j. total (λ i. f (before (λ k. before (b k) j) i) (before (b i) j) (before (λ k. b k j) i) (b i j)) n) n
 

@@ -1,15 +1,14 @@
--- Corners and pixels less sides are outer less inner turns: at one corner by its sixteen cases, and so in every row and picture. Assumes nothing.
+-- Corners and pixels less sides are outer less inner turns: at one corner by its sixteen cases, and so in every sum over corners. Assumes nothing.
 use mathlib.Core.Path.{_≡_, refl, sym, ap, _∙_}
 use mathlib.Core.Bool.{Bool, true, false}
-use mathlib.Core.List.{List, []}
 use Prim.Native.Nat.{ℕ, zero, suc, _+_, _≤_}
 use mir.Syntax.{w32}
 use mir.Val.{Fits}
 use native.Mathlib.Omega.{arith}
-use Rattle.shown_rows.specs.Turns.{mostColumns, bit, corner, sides, pixel, outer, inner, total, blackAt, blackBefore, window, windows, rowBelow, counted}
+use Rattle.shown_rows.specs.Turns.{mostColumns, bit, corner, sides, pixel, outer, inner, total, before}
 
 -- at one corner
-at-corner : (a b c d : Bool) → corner a b c d + pixel a b c d + inner b c d ≡ sides a b c d + outer a b c d
+pub at-corner : (a b c d : Bool) → corner a b c d + pixel a b c d + inner b c d ≡ sides a b c d + outer a b c d
 at-corner true true true true = refl
 at-corner true true true false = refl
 at-corner true true false true = refl
@@ -28,26 +27,20 @@ at-corner false false false true = refl
 at-corner false false false false = refl
 
 -- such an equation holds of sums
-of-totals : (f g h s t : ℕ → ℕ) → ((i : ℕ) → f i + g i + h i ≡ s i + t i) → (n : ℕ) → total f n + total g n + total h n ≡ total s n + total t n
+pub of-totals : (f g h s t : ℕ → ℕ) → ((i : ℕ) → f i + g i + h i ≡ s i + t i) → (n : ℕ) → total f n + total g n + total h n ≡ total s n + total t n
 unfolding total
 of-totals f g h s t e zero = refl
 of-totals f g h s t e (suc n) = let k = of-totals f g h s t e n in let l = e n in omega arith
-
--- in a row
-pub of-row : (below here : List ℕ) (n : ℕ) → windows corner below here n + windows pixel below here n + windows (λ _. inner) below here n
-    ≡ windows sides below here n + windows outer below here n
-of-row below here n = of-totals _ _ _ _ _ (λ i. at-corner (blackBefore below i) (blackAt below i) (blackBefore here i) (blackAt here i)) n
-
--- in a picture
-pub of-picture : (rows : ℕ → List ℕ) (n m : ℕ) → counted corner rows n m + counted pixel rows n m + counted (λ _. inner) rows n m
-    ≡ counted sides rows n m + counted outer rows n m
-of-picture rows n m = of-totals _ _ _ _ _ (λ j. of-row (rowBelow rows j) (rows j) n) m
 
 -- a total of numbers of at most 1
 pub total-few : (f : ℕ → ℕ) → ((i : ℕ) → f i ≤ 1) → (n : ℕ) → total f n ≤ n
 unfolding total
 total-few f h zero = omega arith
 total-few f h (suc n) = let k = total-few f h n in let l = h n in omega arith
+
+pub pixel-one : (d : Bool) → bit d ≤ 1
+pixel-one true = omega arith
+pixel-one false = omega arith
 
 pub outer-one : (a b c d : Bool) → outer a b c d ≤ 1
 outer-one a b c true = omega arith
@@ -68,8 +61,8 @@ unfolding total
 total-more f n k x p q = let e : n + 1 ≡ suc n = omega arith in (λ i. p i + q i) ∙ ap (total f) (sym e)
 
 -- the pixel in front of the next column
-pub before-more : (row : List ℕ) (i : ℕ) → blackAt row i ≡ blackBefore row (i + 1)
-before-more row i = let e : suc i ≡ i + 1 = omega arith in ap (blackBefore row) e
+pub before-more : (f : ℕ → Bool) (i : ℕ) → f i ≡ before f (i + 1)
+before-more f i = let e : suc i ≡ i + 1 = omega arith in ap (before f) e
 
 -- a count of at most a row's columns can grow by one
 pub few-more : (k x : ℕ) → k ≤ mostColumns → x ≤ 1 → Fits w32 (k + x)

@@ -3,3 +3,4 @@ pub mod Turns
 pub mod Crossing
 pub mod Chains
 pub mod Changes
+pub mod Rows

@@ -1,10 +1,7 @@
 -- The Euler number of black pixels: corners less sides plus pixels of the union of their squares, counted where they are first met, row by row and in a row from the left.
 -- Around the corner at the left lower end of a pixel stand four: a left below, b right below, c left, d the pixel itself.
 use mathlib.Core.Bool.{Bool, true, false, cond}
-use mathlib.Core.List.{List, []}
 use Prim.Native.Nat.{ℕ, zero, suc, _+_}
-use lib.Dec.{ltb}
-use lib.ListN.{getD}
 
 -- columns of pixels that a row can have, and one behind them
 abbrev pub mostColumns : ℕ
@@ -40,34 +37,21 @@ outer a b c d = cond d 0 (cond c 0 (cond b 0 (bit a)))
 abbrev pub inner : Bool → Bool → Bool → ℕ
 inner b c d = cond d 0 (cond c (bit b) 0)
 
--- ---- rows and pictures
+-- ---- rows
 -- f from 0 up to n
 unfoldable pub total : (ℕ → ℕ) → ℕ → ℕ
 total f zero = 0
 total f (suc n) = total f n + f n
 
--- the pixel of column i; behind the row's end it is white
-abbrev pub blackAt : List ℕ → ℕ → Bool
-blackAt row i = ltb 0 (getD row i 0)
-
--- that in front of it; in front of the row it is white
-abbrev pub blackBefore : List ℕ → ℕ → Bool
-blackBefore row zero = false
-blackBefore row (suc i) = blackAt row i
+-- what stands in front of column i, or below row i; in front of the first it is white
+abbrev pub before : (ℕ → Bool) → ℕ → Bool
+before f zero = false
+before f (suc i) = f i
 
 -- f of the four around the corner i between two rows
-abbrev pub window : (Bool → Bool → Bool → Bool → ℕ) → List ℕ → List ℕ → ℕ → ℕ
-window f below here i = f (blackBefore below i) (blackAt below i) (blackBefore here i) (blackAt here i)
+abbrev pub window : (Bool → Bool → Bool → Bool → ℕ) → (ℕ → Bool) → (ℕ → Bool) → ℕ → ℕ
+window f below here i = f (before below i) (below i) (before here i) (here i)
 
 -- and of all corners up to n
-abbrev pub windows : (Bool → Bool → Bool → Bool → ℕ) → List ℕ → List ℕ → ℕ → ℕ
+abbrev pub windows : (Bool → Bool → Bool → Bool → ℕ) → (ℕ → Bool) → (ℕ → Bool) → ℕ → ℕ
 windows f below here n = total (window f below here) n
-
--- the row below row j of a picture; below the first it is white
-abbrev pub rowBelow : (ℕ → List ℕ) → ℕ → List ℕ
-rowBelow rows zero = []
-rowBelow rows (suc j) = rows j
-
--- f of all corners of a picture, in n columns and m rows of corners
-abbrev pub counted : (Bool → Bool → Bool → Bool → ℕ) → (ℕ → List ℕ) → ℕ → ℕ → ℕ
-counted f rows n m = total (λ j. windows f (rowBelow rows j) (rows j) n) m

@@ -7,7 +7,7 @@ ghost use Rattle.shown_rows.specs.Crossing.{mostPlace};
 ghost use Rattle.shown_rows.specs.Changes.{Added, Gained};
 
 // The sum modulo 65,536.
-fn gained(x: u16, by: u16) -> u16
+pub fn gained(x: u16, by: u16) -> u16
     ensures { λ r. ⌜ Gained x by r ⌝ }
 {
     ((x as u32 + by as u32) % 65536) as u16
