@@ -31,7 +31,7 @@ module _ (o : Points) where
   round-by a e before [] h = omega (arith, length-from a (suc e - a))
   round-by a e before (f ∷ behind) h = omega (arith, length-append behind before)
 
-  round-short : (a e : ℕ) → length (roundOf o a e .walk) ≤ suc e - a
+  pub round-short : (a e : ℕ) → length (roundOf o a e .walk) ≤ suc e - a
   unfolding roundOf
   round-short a e = round-by a e _ _ (parts (from a (suc e - a)) ∙ length-from a (suc e - a))
 

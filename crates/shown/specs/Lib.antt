@@ -1,2 +1,3 @@
 -- What the contracts of `shown` cite.
 pub mod Shown
+pub mod Field

@@ -39,7 +39,7 @@ few y a [] = omega arith
 few y a (b ∷ bs) = omega (arith, one-line (ltb y a) (ltb y b), few y b bs)
 
 -- ---- the places of a curve
-weights : (u k : ℕ) → u + k ≡ 16 → u * u + 2 * u * k + k * k ≡ 256
+pub weights : (u k : ℕ) → u + k ≡ 16 → u * u + 2 * u * k + k * k ≡ 256
 weights u k e = omega (arith, ap (λ (z : ℕ). z * u) e, ap (λ (z : ℕ). z * k) e)
 
 module _ (p c q k y : ℕ) (h : k ≤ 16) where
