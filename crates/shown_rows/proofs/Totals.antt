@@ -2,7 +2,7 @@
 use mathlib.Core.Path.{_≡_, refl, sym, ap, _∙_}
 use mathlib.Core.Logic.{⊎-elim}
 use mathlib.Core.List.{List}
-use Prim.Native.Nat.{ℕ, zero, suc, _+_, _%_, _≤_, _<_}
+use Prim.Native.Nat.{ℕ, zero, suc, _+_, _-_, _%_, _≤_, _<_}
 use native.Mathlib.Omega.{arith}
 use lib.ListN.{length, length-set, getD, set}
 use lib.Seq.{getD-set-same, getD-set-other}
@@ -31,18 +31,19 @@ module _ (l : List ℕ) (c x : ℕ) where
       omega arith)
       (lt-or-le c n)
 
--- the line's first column is in the row
-pub added : (lx ly hx hy y by c x : ℕ) (l : List ℕ) → Starts lx ly hx hy y c → c < length l → x ≡ (getD l c 0 + by) % 65536 → Added lx ly hx hy y by l (set l c x)
-added lx ly hx hy y by c x l s b e = record {
-  as-long = length-set l c x;
-  more = λ i h k. let p = total-behind l c x (suc i) (omega (arith, s .outside i k)) b in omega arith;
-  same = λ i h k. ⊎-elim (λ m. total-front l c x (suc i) m) (λ m. absurd (k (s .inside i m))) (lt-or-le i c);
+-- the line's first column is in the row, or left of it
+pub added : (left lx ly hx hy y by c k x : ℕ) (l : List ℕ) → Starts lx ly hx hy y c → k ≡ c - left → k < length l → x ≡ (getD l k 0 + by) % 65536
+    → Added left lx ly hx hy y by l (set l k x)
+added left lx ly hx hy y by c k x l s p b e = record {
+  as-long = length-set l k x;
+  more = λ i h z. let q = total-behind l k x (suc i) (omega (arith, s .outside (left + i) z)) b in omega arith;
+  same = λ i h z. ⊎-elim (λ m. total-front l k x (suc i) m) (λ m. absurd (z (s .inside (left + i) (omega arith)))) (lt-or-le i k);
 }
 
 -- and where it is behind the row
-pub added-none : (lx ly hx hy y by c : ℕ) (l : List ℕ) → Starts lx ly hx hy y c → length l ≤ c → Added lx ly hx hy y by l l
-added-none lx ly hx hy y by c l s b = record {
+pub added-none : (left lx ly hx hy y by c k : ℕ) (l : List ℕ) → Starts lx ly hx hy y c → k ≡ c - left → length l ≤ k → Added left lx ly hx hy y by l l
+added-none left lx ly hx hy y by c k l s p b = record {
   as-long = refl;
-  more = λ i h k. let z : ⊥ = omega (arith, s .outside i k) in absurd z;
-  same = λ i h k. refl;
+  more = λ i h z. let q : ⊥ = omega (arith, s .outside (left + i) z) in absurd q;
+  same = λ i h z. refl;
 }

@@ -8,8 +8,8 @@ use Rattle.shown_rows.proofs.changes.cross_line.Tie as tie
 first-column-requires : tie.Need-first-column-requires
 first-column-requires c κs = search needs
 
-cast-c : tie.Need-cast-c
-cast-c c = search needs
+place-in-requires : tie.Need-place-in-requires
+place-in-requires c κs = search needs
 
 mul-gained : tie.Need-mul-gained
 mul-gained c = search needs
@@ -31,23 +31,26 @@ same-length c = search needs
 
 returns : tie.Need-returns
 returns c =
-    let s = c .before .before .before .before .before in
-    let f = c .before .before .before .first-column in
-    added (s .args .lx) (s .args .ly) (s .args .hx) (s .args .hy) (s .args .y) (s .args .by) (f .result) (c .gained .result) (s .args .changes .now) (f .ensures) (omega arith)
-    (c .gained .ensures .sum)
+    let p = c .before .before .before in
+    let f = p .before in
+    let s = f .before .before in
+    added (s .args .left) (s .args .lx) (s .args .ly) (s .args .hx) (s .args .hy) (s .args .y) (s .args .by) (f .first-column .result) (p .place-in .result) (c .gained .result)
+    (s .args .changes .now) (f .first-column .ensures) (p .place-in .ensures) (omega arith) (c .gained .ensures .sum)
 
 returns-2 : tie.Need-returns-2
 returns-2 c =
-    let s = c .before .before .before in
-    let f = c .before .first-column in
-    added-none (s .args .lx) (s .args .ly) (s .args .hx) (s .args .hy) (s .args .y) (s .args .by) (f .result) (s .args .changes .now) (f .ensures) (omega arith)
+    let p = c .before in
+    let f = p .before in
+    let s = f .before .before in
+    added-none (s .args .left) (s .args .lx) (s .args .ly) (s .args .hx) (s .args .hy) (s .args .y) (s .args .by) (f .first-column .result) (p .place-in .result) (s .args .changes .now)
+    (f .first-column .ensures) (p .place-in .ensures) (omega arith)
 
 pub cross-line-spec : {M : Type 1} → statement M
 cross-line-spec =
     tie.close
     (tie.spec
     first-column-requires
-    cast-c
+    place-in-requires
     mul-gained
     slice-read-gained
     gained-requires
