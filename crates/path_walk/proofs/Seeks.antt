@@ -66,7 +66,7 @@ in-past (t ∷ p) (suc k) l e = omega (arith, in-past p k l e)
 -- ---- a walk
 module _ (w : List ℕ) (a e s n : ℕ) (t : Walk w a e s n) where
   -- from its place j on
-  one-more : (j : ℕ) → j < n → drop j w ≡ around a e (s + j) ∷ drop (j + 1) w
+  pub one-more : (j : ℕ) → j < n → drop j w ≡ around a e (s + j) ∷ drop (j + 1) w
   one-more j h = drop-one w j 0 (omega (arith, t .len)) ∙ ap (λ i. i ∷ drop (j + 1) w) (t .each j h)
 
   module _ (o : Points) where

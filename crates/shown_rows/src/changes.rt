@@ -2,7 +2,6 @@
 use super::crossing::first_column;
 ghost use Prim.Native.Nat.{_-_, _≤_, _<_};
 ghost use mathlib.Core.Path.{_≡_};
-ghost use lib.ListN.{length};
 ghost use Rattle.shown_rows.specs.Crossing.{mostPlace};
 ghost use Rattle.shown_rows.specs.Changes.{Added, Gained};
 

@@ -1,0 +1,2 @@
+-- What the contracts of `shown_lines` cite.
+pub mod Lines

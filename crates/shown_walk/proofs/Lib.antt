@@ -1,0 +1,2 @@
+-- `Walks`, the lines of a contour, point by point.
+pub mod Walks
