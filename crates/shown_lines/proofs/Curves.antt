@@ -22,7 +22,8 @@ module _ (p c q : Halves) (y : ℕ) (o : OneSide (p .y) (c .y) (q .y) y) where
   pub still-curve : (k n : ℕ) → k + n ≤ 16 → Still (curveSides p c q k n) y
   unfolding curveSides
   still-curve k zero h = still-none y
-  still-curve k (suc n) h = still-more (placeOn p c q k) (placeOn p c q (suc k)) y (curveSides p c q (suc k) n) (one-stays k (omega arith) o) (still-curve (suc k) n (omega arith))
+  still-curve k (suc n) h =
+      still-more (placeOn p c q k) (placeOn p c q (suc k)) y (curveSides p c q (suc k) n) (one-stays k (omega arith) o) (still-curve (suc k) n (omega arith))
 
 -- ---- one line more
 pub curve-one : (p c q : Halves) (k n m : ℕ) → n ≡ suc m → curveSides p c q k n ≡ side (placeOn p c q k) (placeOn p c q (k + 1)) ∷ curveSides p c q (k + 1) m
@@ -55,7 +56,8 @@ module _ (m : ℕ) (o : Points) (s : Spot) (c : ℕ) (e : Spot) where
   abbrev cut : ℕ → ℕ → List Side
   cut k n = curveSides (halvesAt o m s) (halvesAt o m (Point c)) (halvesAt o m e) k n
 
-  lines-from : (start : Place) (ps : List Place) (k n : ℕ) → linesBy start (on k) (curveBy fieldHalf m o s c e (from (suc k) n) ++ ps) ≡ cut k n ++ linesBy start (on (k + n)) ps
+  lines-from : (start : Place) (ps : List Place) (k n : ℕ)
+      → linesBy start (on k) (curveBy fieldHalf m o s c e (from (suc k) n) ++ ps) ≡ cut k n ++ linesBy start (on (k + n)) ps
   unfolding linesBy curveBy from curveSides
   lines-from start ps k zero = let z : k ≡ k + 0 = omega arith in ap (λ (j : ℕ). linesBy start (on j) ps) z
   lines-from start ps k (suc n) =

@@ -181,7 +181,8 @@ module _ {left y : ℕ} {l₀ : List ℕ} {whole : List Side} {l : List ℕ} whe
         let k : i < length l = omega (arith, o .as-long) in
         modulo (upTo l′ i + ups q x y + 65535 * downs q x y) (upTo l′ i + (ups q x y + 65535 * downs q x y)) (omega arith)
         ∙ modulo-more (ups q x y + 65535 * downs q x y) _ _ (w .sums i k)
-        ∙ modulo (upTo l i + ups p x y + 65535 * downs p x y + (ups q x y + 65535 * downs q x y)) (upTo l i + ups (p ++ q) x y + 65535 * downs (p ++ q) x y) (omega (arith, ups-more p q x y, downs-more p q x y))
+        ∙ modulo (upTo l i + ups p x y + 65535 * downs p x y + (ups q x y + 65535 * downs q x y)) (upTo l i + ups (p ++ q) x y + 65535 * downs (p ++ q) x y)
+        (omega (arith, ups-more p q x y, downs-more p q x y))
         ∙ o .sums i h;
   }
 

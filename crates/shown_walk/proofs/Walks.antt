@@ -73,7 +73,8 @@ module _ (o : Points) (m : ℕ) (start : Spot) where
   alike-behind : (s : Spot) (i : ℕ) (ls : List Leg) (t : List Side) → s ≡ Point i → Alike (linesFrom (Point i) ls) t
       → Alike (linesFrom s ls) ((straight (halvesAt o m s) (halvesAt o m (Point i)) ∷ []) ++ t)
   alike-behind s i ls t e a =
-      subst (λ (x : Spot). Alike (linesFrom x ls) ((straight (halvesAt o m x) (halvesAt o m (Point i)) ∷ []) ++ t)) (sym e) (alike-flat (spotAt fieldHalf m o (Point i)) (linesFrom (Point i) ls) t a)
+      subst (λ (x : Spot). Alike (linesFrom x ls) ((straight (halvesAt o m x) (halvesAt o m (Point i)) ∷ []) ++ t)) (sym e)
+      (alike-flat (spotAt fieldHalf m o (Point i)) (linesFrom (Point i) ls) t a)
 
   pub walk-alike : (on : Bool) (s : Spot) (w : List ℕ) → (on ≡ false → Behind s w) → Alike (linesFrom s (legs o start on w)) (walkSides o m start (halvesAt o m s) w)
   unfolding legs walkSides
@@ -134,7 +135,8 @@ module _ (o : Points) (m : ℕ) (start : Spot) (p : Halves) where
     pub turn-line : (j i : ℕ) (c : Halves) → j < n → i ≡ around a e (s + j) → onCurve o i ≡ true → c ≡ halvesAt o m (Point i)
         → walkSides o m start p (drop j w) ≡ (straight p c ∷ []) ++ walkSides o m start c (drop (j + 1) w)
     turn-line j i c h f q g =
-        ap (walkSides o m start p) (next j i h f) ∙ line-first i (drop (j + 1) w) q ∙ λ k. (straight p (sym g k) ∷ []) ++ walkSides o m start (sym g k) (drop (j + 1) w)
+        ap (walkSides o m start p) (next j i h f) ∙ line-first i (drop (j + 1) w) q
+        ∙ λ k. (straight p (sym g k) ∷ []) ++ walkSides o m start (sym g k) (drop (j + 1) w)
 
     -- a point off it
     pub turn-curve : (j i : ℕ) (c q st : Halves) (end : End) → j < n → i ≡ around a e (s + j) → onCurve o i ≡ false → c ≡ halvesAt o m (Point i)
@@ -143,7 +145,8 @@ module _ (o : Points) (m : ℕ) (start : Spot) (p : Halves) where
     turn-curve j i c q st end h f off g b d z =
         let y : halvesAt o m (curveTo o start i (drop (j + 1) w)) ≡ q =
         sym (z ∙ (λ k. endAt o m (b k) ((d ∙ ap (λ (x : ℕ). endOf o x (drop (j + 1) w)) (sym f)) k)) ∙ end-at o m start i (drop (j + 1) w)) in
-        ap (walkSides o m start p) (next j i h f) ∙ curve-first i (drop (j + 1) w) off ∙ λ k. curveSides p (sym g k) (y k) 0 16 ++ walkSides o m start (y k) (drop (j + 1) w)
+        ap (walkSides o m start p) (next j i h f) ∙ curve-first i (drop (j + 1) w) off
+        ∙ λ k. curveSides p (sym g k) (y k) 0 16 ++ walkSides o m start (y k) (drop (j + 1) w)
 
     -- no point is left
     pub turn-back : (j : ℕ) (st : Halves) → n ≤ j → st ≡ halvesAt o m start → walkSides o m start p (drop j w) ≡ (straight p st ∷ []) ++ []

@@ -59,7 +59,8 @@ loop-holds c =
       omega arith,
       c .spot-halves .ensures .1,
       owing-as _ _ (ap (λ (p : Halves). walkSides (outline s) (s .args .magnify) (round s .start) p (drop 0 (round s .walk))) (sym (started c)))
-          (owing-alike _ _ (contour-alike (outline s) (s .args .magnify) (round s)) (owing (s .args .left) (s .args .y) (s .args .changes .now) (contourLines fieldHalf (s .args .magnify) (outline s) (round s)))),
+          (owing-alike _ _ (contour-alike (outline s) (s .args .magnify) (round s))
+          (owing (s .args .left) (s .args .y) (s .args .changes .now) (contourLines fieldHalf (s .args .magnify) (outline s) (round s)))),
     )
 
 add-around-at : tie.Need-add-around-at Inv-loop μ-loop
@@ -106,17 +107,21 @@ loop-again c =
       owing-more _ (straight (l .loop .p) (n .point-place .result) ∷ [])
           (walkSides (outline s) (s .args .magnify) (round s .start) (n .point-place .result) (drop (l .loop .j + 1) (round s .walk))) (x .cross-straight .ensures)
           (owing-as _ _
-          (turn-line (outline s) (s .args .magnify) (round s .start) (l .loop .p) (round s .walk) (s .args .a) (s .args .e) (t .tour-of .result .from) (t .tour-of .result .count)
-          (t .tour-of .ensures .2) (l .loop .j) (w .around-at .result) (n .point-place .result) h (w .around-at .ensures .0) (sym (d .before .is-on .ensures) ∙ d .if2 .taken) (n .point-place .ensures .0))
+          (turn-line (outline s) (s .args .magnify) (round s .start) (l .loop .p) (round s .walk) (s .args .a) (s .args .e)
+          (t .tour-of .result .from) (t .tour-of .result .count)
+          (t .tour-of .ensures .2) (l .loop .j) (w .around-at .result) (n .point-place .result) h (w .around-at .ensures .0)
+          (sym (d .before .is-on .ensures) ∙ d .if2 .taken) (n .point-place .ensures .0))
           (l .loop .inv .2)),
     )
 
 -- the walk, as the end of a curve is found in it
 walk-by : (t : tie.After-tour-of Inv-loop μ-loop) → let s = entry t in
-    Walk (roundOf (outline s) (s .args .a) (s .args .e - 1) .walk) (s .args .a) (s .args .e) (t .tour-of .result .from) (t .tour-of .result .count)
+    Walk (roundOf (outline s) (s .args .a) (s .args .e - 1) .walk) (s .args .a) (s .args .e)
+    (t .tour-of .result .from) (t .tour-of .result .count)
 walk-by t =
     let s = entry t in
-    subst (λ (w : List ℕ). Walk w (s .args .a) (s .args .e) (t .tour-of .result .from) (t .tour-of .result .count)) (sym (walk-same (outline s) (s .args .a) (s .args .e - 1))) (t .tour-of .ensures .2)
+    subst (λ (w : List ℕ). Walk w (s .args .a) (s .args .e) (t .tour-of .result .from) (t .tour-of .result .count))
+    (sym (walk-same (outline s) (s .args .a) (s .args .e - 1))) (t .tour-of .ensures .2)
 
 end-of-requires : tie.Need-end-of-requires Inv-loop μ-loop
 end-of-requires c κs =
@@ -135,7 +140,10 @@ cross-curve-requires : tie.Need-cross-curve-requires Inv-loop μ-loop
 cross-curve-requires c κs =
     let g = c .before in
     let n = g .before .before .before .before .before in
-    (at-loop (n .before) .loop .inv .1, n .point-place .ensures .1, g .end-halves .ensures .1)
+    let a = at-loop (n .before) .loop .inv .1 in
+    let b = n .point-place .ensures .1 in
+    let d = g .end-halves .ensures .1 in
+    search needs
 
 add-j-2 : tie.Need-add-j-2 Inv-loop μ-loop
 add-j-2 c =
@@ -165,15 +173,21 @@ loop-again-2 c =
       owing-more _ (curveSides (l .loop .p) (n .point-place .result) (g .end-halves .result) 0 16)
           (walkSides (outline s) (s .args .magnify) (round s .start) (g .end-halves .result) (drop (l .loop .j + 1) (round s .walk))) (x .cross-curve .ensures)
           (owing-as _ _
-          (turn-curve (outline s) (s .args .magnify) (round s .start) (l .loop .p) (round s .walk) (s .args .a) (s .args .e) (t .tour-of .result .from) (t .tour-of .result .count)
+          (turn-curve (outline s) (s .args .magnify) (round s .start) (l .loop .p) (round s .walk) (s .args .a) (s .args .e)
+          (t .tour-of .result .from) (t .tour-of .result .count)
           (t .tour-of .ensures .2) (l .loop .j) (w .around-at .result) (n .point-place .result) (g .end-halves .result) (l .before .spot-halves .result) (f .end-of .result) h
           (w .around-at .ensures .0) (sym (d .before .is-on .ensures) ∙ d .if2 .left) (n .point-place .ensures .0) (started (l .before))
-          (f .end-of .ensures .0 ∙ ap (λ (v : List ℕ). endOf (outline s) i (drop (l .loop .j + 1) v)) (walk-same (outline s) (s .args .a) (s .args .e - 1))) (g .end-halves .ensures .0))
+          (f .end-of .ensures .0 ∙ ap (λ (v : List ℕ). endOf (outline s) i (drop (l .loop .j + 1) v)) (walk-same (outline s) (s .args .a) (s .args .e - 1)))
+          (g .end-halves .ensures .0))
           (l .loop .inv .2)),
     )
 
 cross-straight-requires-2 : tie.Need-cross-straight-requires-2 Inv-loop μ-loop
-cross-straight-requires-2 c κs = let l = c .before .before .before in (l .loop .inv .1, l .before .spot-halves .ensures .1)
+cross-straight-requires-2 c κs =
+    let l = c .before .before .before in
+    let a = l .loop .inv .1 in
+    let b = l .before .spot-halves .ensures .1 in
+    search needs
 
 -- the way back to the start
 closed : (c : tie.After-slice-known4 Inv-loop μ-loop) → let x = c .before .before in let l = x .before .before .before .before in let s = entry (toured l) in
@@ -187,7 +201,8 @@ closed c =
     owing-done
     (owing-more _ (straight (l .loop .p) (l .before .spot-halves .result) ∷ []) [] (x .cross-straight2 .ensures)
     (owing-as _ _
-    (turn-back (outline s) (s .args .magnify) (round s .start) (l .loop .p) (round s .walk) (s .args .a) (s .args .e) (t .tour-of .result .from) (t .tour-of .result .count)
+    (turn-back (outline s) (s .args .magnify) (round s .start) (l .loop .p) (round s .walk) (s .args .a) (s .args .e)
+    (t .tour-of .result .from) (t .tour-of .result .count)
     (t .tour-of .ensures .2) (l .loop .j) (l .before .spot-halves .result) (u .if1 .left) (started (l .before)))
     (l .loop .inv .2)))
 

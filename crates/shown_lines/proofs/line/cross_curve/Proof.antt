@@ -30,7 +30,8 @@ returns : tie.Need-returns Inv-loop μ-loop
 returns c =
     let t = c .before in
     let s = t .before .before in
-    wound-still _ (s .args .left) (s .args .y) (s .args .changes .now) (still-curve (s .args .p) (s .args .c) (s .args .q) (s .args .y) (t .one-side .ensures (c .if1 .taken)) 0 16 (omega arith))
+    wound-still _ (s .args .left) (s .args .y) (s .args .changes .now)
+    (still-curve (s .args .p) (s .args .c) (s .args .q) (s .args .y) (t .one-side .ensures (c .if1 .taken)) 0 16 (omega arith))
 
 place-at-requires : tie.Need-place-at-requires Inv-loop μ-loop
 place-at-requires c κs = search needs
@@ -38,7 +39,8 @@ place-at-requires c κs = search needs
 loop-holds : tie.Need-loop-holds Inv-loop μ-loop
 loop-holds c =
     let s = c .before .before .before .before in
-    (omega arith, c .place-at .ensures .0, c .place-at .ensures .1, owing (s .args .left) (s .args .y) (s .args .changes .now) (curveSides (s .args .p) (s .args .c) (s .args .q) 0 16))
+    let w = curveSides (s .args .p) (s .args .c) (s .args .q) 0 16 in
+    (omega arith, c .place-at .ensures .0, c .place-at .ensures .1, owing (s .args .left) (s .args .y) (s .args .changes .now) w)
 
 add-place-at : tie.Need-add-place-at Inv-loop μ-loop
 add-place-at c = search needs
@@ -80,7 +82,9 @@ returns-2 c =
     let l = c .before in
     let s = entry l in
     let n : 16 - l .loop .k ≡ 0 = omega (arith, c .loop-test .left) in
-    owing-done (owing-as _ _ ((λ i. curveSides (s .args .p) (s .args .c) (s .args .q) (l .loop .k) (n i)) ∙ curve-none (s .args .p) (s .args .c) (s .args .q) (l .loop .k)) (l .loop .inv .3))
+    owing-done
+    (owing-as _ _ ((λ i. curveSides (s .args .p) (s .args .c) (s .args .q) (l .loop .k) (n i)) ∙ curve-none (s .args .p) (s .args .c) (s .args .q) (l .loop .k))
+    (l .loop .inv .3))
 
 pub cross-curve-spec : {M : Type 1} → statement M
 cross-curve-spec =

@@ -14,7 +14,8 @@ abbrev with-ends : tie.Start → ℕ → ℕ → List Side
 with-ends s x x′ = side (placed x (s .args .low)) (placed x′ (s .args .high)) ∷ []
 
 -- it is the curve's
-is-line : (s : tie.Start) (x x′ : ℕ) → x ≡ placeOn (s .args .p) (s .args .c) (s .args .q) (s .args .k) .x → x′ ≡ placeOn (s .args .p) (s .args .c) (s .args .q) (s .args .k + 1) .x
+is-line : (s : tie.Start) (x x′ : ℕ)
+    → x ≡ placeOn (s .args .p) (s .args .c) (s .args .q) (s .args .k) .x → x′ ≡ placeOn (s .args .p) (s .args .c) (s .args .q) (s .args .k + 1) .x
     → with-ends s x x′ ≡ side (placeOn (s .args .p) (s .args .c) (s .args .q) (s .args .k)) (placeOn (s .args .p) (s .args .c) (s .args .q) (s .args .k + 1)) ∷ []
 is-line s x x′ e f = λ i. side (placed (e i) (s .pre .1 .1 i)) (placed (f i) (s .pre .1 .2 i)) ∷ []
 
@@ -51,7 +52,8 @@ returns-2 c =
     let b = x .before .before in
     let a = b .before in
     let s = a .before .before .before .before in
-    subst (λ (z : List Side). Wound z (s .args .left) (s .args .y) (s .args .changes .now) (x .cross-side .last .0)) (is-line s _ _ (a .place-at .ensures .0) (b .place-at2 .ensures .0)) (x .cross-side .ensures)
+    subst (λ (z : List Side). Wound z (s .args .left) (s .args .y) (s .args .changes .now) (x .cross-side .last .0))
+    (is-line s _ _ (a .place-at .ensures .0) (b .place-at2 .ensures .0)) (x .cross-side .ensures)
 
 pub cross-part-spec : {M : Type 1} → statement M
 cross-part-spec = tie.close (tie.spec stays-requires returns place-at-requires add-place-at place-at-requires-2 cross-side-requires same-length returns-2)

@@ -33,7 +33,8 @@ plain-product s = λ i. is (cast-m s) i *ℤ (is (add-result s) ∙ plain-sum s)
 mul-result : tie.Need-mul-result
 mul-result c = subst (SFits w32) (sym (plain-product c)) (product-fits (c .args .magnify) (c .args .x) (c .args .u) (c .pre .0) (c .pre .2) (c .pre .3))
 
-plain-whole : (s : tie.Start) → toZ w32 (ofZ w32 (toZ w32 (ofZ w32 (pos (s .args .magnify))) *ℤ toZ w32 (ofZ w32 (toZ w32 (ofZ w32 (s .args .x)) +ℤ toZ w32 (ofZ w32 (s .args .u)))))) +ℤ pos 131072
+plain-whole : (s : tie.Start)
+    → toZ w32 (ofZ w32 (toZ w32 (ofZ w32 (pos (s .args .magnify))) *ℤ toZ w32 (ofZ w32 (toZ w32 (ofZ w32 (s .args .x)) +ℤ toZ w32 (ofZ w32 (s .args .u)))))) +ℤ pos 131072
     ≡ total s
 plain-whole s = ap (λ (z : ℤ). z +ℤ pos 131072) (is (mul-result s) ∙ plain-product s)
 

@@ -3,10 +3,16 @@ use mathlib.Core.Path.{sym, ap, subst, _∙_}
 use borrow.Author.Needs.{needs}
 use lib.ListN.{length}
 use Rattle.path_trip.specs.Path.{points}
+use Rattle.path_trip.specs.declared.tour.Spot.{Spot}
 use Rattle.path_trip.specs.Trips.{Inside}
+use Rattle.shown_lines.specs.declared.place.Halves.{Halves}
 use Rattle.shown_lines.specs.Lines.{halvesAt}
 use Rattle.shown_lines.proofs.place.spot_halves.Statement.{statement}
 use Rattle.shown_lines.proofs.place.spot_halves.Tie as tie
+
+-- the place of a spot
+abbrev place-of : tie.Start → Spot → Halves
+place-of a s = halvesAt (points (a .args .xs .now) (a .args .ys .now) (a .args .marks .now)) (a .args .magnify) s
 
 enum-known-spot : tie.Need-enum-known-spot
 enum-known-spot c = search needs
@@ -28,12 +34,12 @@ place-between-requires c κs =
 returns : tie.Need-returns
 returns c =
     let a = c .before .before .before .before .before in
-    (c .point-place .ensures .0 ∙ ap (halvesAt (points (a .args .xs .now) (a .args .ys .now) (a .args .marks .now)) (a .args .magnify)) (sym (c .before .before .spot .given .1)), c .point-place .ensures .1)
+    (c .point-place .ensures .0 ∙ ap (place-of a) (sym (c .before .before .spot .given .1)), c .point-place .ensures .1)
 
 returns-2 : tie.Need-returns-2
 returns-2 c =
     let a = c .before .before .before .before .before in
-    (c .place-between .ensures .0 ∙ ap (halvesAt (points (a .args .xs .now) (a .args .ys .now) (a .args .marks .now)) (a .args .magnify)) (sym (c .before .before .spot2 .given .1)), c .place-between .ensures .1)
+    (c .place-between .ensures .0 ∙ ap (place-of a) (sym (c .before .before .spot2 .given .1)), c .place-between .ensures .1)
 
 pub spot-halves-spec : {M : Type 1} → statement M
 spot-halves-spec = tie.close (tie.spec enum-known-spot point-place-requires enum-known-spot-2 place-between-requires returns returns-2)

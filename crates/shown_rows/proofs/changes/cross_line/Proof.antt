@@ -34,7 +34,8 @@ returns c =
     let p = c .before .before .before in
     let f = p .before in
     let s = f .before .before in
-    added (s .args .left) (s .args .lx) (s .args .ly) (s .args .hx) (s .args .hy) (s .args .y) (s .args .by) (f .first-column .result) (p .place-in .result) (c .gained .result)
+    added (s .args .left) (s .args .lx) (s .args .ly) (s .args .hx) (s .args .hy) (s .args .y) (s .args .by)
+    (f .first-column .result) (p .place-in .result) (c .gained .result)
     (s .args .changes .now) (f .first-column .ensures) (p .place-in .ensures) (omega arith) (c .gained .ensures .sum)
 
 returns-2 : tie.Need-returns-2
@@ -42,7 +43,8 @@ returns-2 c =
     let p = c .before in
     let f = p .before in
     let s = f .before .before in
-    added-none (s .args .left) (s .args .lx) (s .args .ly) (s .args .hx) (s .args .hy) (s .args .y) (s .args .by) (f .first-column .result) (p .place-in .result) (s .args .changes .now)
+    added-none (s .args .left) (s .args .lx) (s .args .ly) (s .args .hx) (s .args .hy) (s .args .y) (s .args .by)
+    (f .first-column .result) (p .place-in .result) (s .args .changes .now)
     (f .first-column .ensures) (p .place-in .ensures) (omega arith)
 
 pub cross-line-spec : {M : Type 1} → statement M
