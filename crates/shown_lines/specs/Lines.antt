@@ -3,9 +3,6 @@ use mathlib.Core.Path.{_≡_}
 use mathlib.Core.List.{List, [], _∷_}
 use Prim.Native.Nat.{ℕ, zero, suc, _+_, _*_, _%_, _≤_, _<_}
 use lib.ListN.{length}
-use lib.IntN.{ℤ, natAbs}
-use Rattle.contours.specs.Contour.{at}
-use Rattle.contours.specs.Limits.{mostCoordinate}
 use Rattle.path_trip.specs.Path.{Points}
 use Rattle.path_trip.specs.declared.tour.Spot.{Spot}
 use Rattle.path_trip.specs.declared.tour.Spot.the-variants.{Point, Between}
@@ -14,32 +11,14 @@ use Rattle.path_walk.specs.declared.walk.End.the-variants as Ends
 use Rattle.shown_rows.specs.Chains.{placeAt}
 use Rattle.shown_rows.specs.Changes.{upTo}
 use Rattle.shown_rows.specs.Crossing.{centre}
+pub use Rattle.shown.specs.Field.{fieldHalf, mostMagnify, Reach, InField}
 use Rattle.shown.specs.Shown.{Place, Side, side, halves, ups, downs}
 use Rattle.shown_lines.specs.declared.place.Halves.{Halves}
 
 -- ---- the field
--- units from its left side, or from its lower one, to 0
-abbrev pub fieldHalf : ℕ
-fieldHalf = 65536
-
--- coordinates are multiplied by at most this
-abbrev pub mostMagnify : ℕ
-mostMagnify = 64
-
 -- twice a coordinate in the field is below this, from the field's corner on
 abbrev pub mostHalves : ℕ
 mostHalves = 262144
-
--- the coordinates of a list, magnified, are within the field
-abbrev pub Reach : ℕ → List ℤ → Type 0
-Reach m l = (i : ℕ) → m * natAbs (at l i) ≤ mostCoordinate
-
--- and those of all points
-pub record InField (o : Points) (m : ℕ) : Type 0 where
-  pub some : 0 < m
-  pub most : m ≤ mostMagnify
-  pub wide : Reach m (o .xs)
-  pub high : Reach m (o .ys)
 
 -- ---- places
 -- a place is within the field
