@@ -1,0 +1,2 @@
+-- What the contracts of `shown_count` cite.
+pub mod Count
