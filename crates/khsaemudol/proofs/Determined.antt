@@ -38,6 +38,8 @@ use Rattle.pack_words.specs.Pack.{PackedLent}
 use Rattle.flat_gaps.specs.Find.{Places, GapsLent}
 use Rattle.remaining_lent.specs.Lent.{RemainingLent}
 use Rattle.strong_words.specs.Strong.{StrongLent}
+use Rattle.shown_count.specs.Count.{ShownLent}
+use Rattle.shown_count.proofs.Outcomes as Shown
 
 -- `khs_compute_mid_pos`
 pub mid-pos-determined : (min max : ℤ) {r r′ : ℤ} → ComputesMidPos min max r → ComputesMidPos min max r′ → r ≡ r′
@@ -184,3 +186,9 @@ remaining-determined ws dim group count anchor found a b = lent-determined a b
 pub strong-determined :
     (ws f o c : List ℤ) (t w : List ℕ) {r r′ : ℕ} {now now′ : List ℤ × List ℕ} → StrongLent ws f o c t w r now → StrongLent ws f o c t w r′ now′ → (r ≡ r′) × (now ≡ now′)
 strong-determined ws f o c t w a b = lent-determined a b
+
+-- `khs_count_shown`
+pub shown-determined :
+    (xs ys : List ℤ) (marks es : List ℕ) (m : ℤ) (blacks : ℕ) (number : ℤ) {r r′ b b′ : ℕ} {n n′ : ℤ}
+    → ShownLent xs ys marks es m blacks number r b n → ShownLent xs ys marks es m blacks number r′ b′ n′ → (r ≡ r′) × (b ≡ b′) × (n ≡ n′)
+shown-determined xs ys marks es m blacks number a b = Shown.lent-determined xs ys marks es m blacks number a b

@@ -26,6 +26,7 @@ use pack_words::lend::lend_packing;
 use path::lend::lend_step;
 use path_whole::whole::path;
 use remaining_lent::lend::lend_remaining;
+use shown_count::lend::lend_shown;
 use strong_words::align::align_strong_points;
 use weak_drag::drag::lend_drag;
 use weak_references::align::align_with_references;
@@ -56,6 +57,7 @@ ghost use Rattle.flat_gaps.specs.Find.{GapsLent};
 ghost use Rattle.mend_words.specs.Mending.{MendedLent};
 ghost use Rattle.remaining_lent.specs.Lent.{RemainingLent};
 ghost use Rattle.strong_words.specs.Strong.{StrongLent};
+ghost use Rattle.shown_count.specs.Count.{ShownLent};
 
 // The middle of two coordinates.
 #[no_mangle]
@@ -421,6 +423,23 @@ pub extern "C" fn khs_path(
         r (lent (now (kinds .exit)) (now (places .exit)) (now (count .exit))) ⌝ }
 {
     path(xs, ys, marks, ends, kinds, places, count)
+}
+
+// Counts the pixels that a display shows black of an outline, magnified, and tells their Euler number.
+#[no_mangle]
+pub extern "C" fn khs_count_shown(
+    xs: &[i32],
+    ys: &[i32],
+    marks: &[u8],
+    ends: &[u16],
+    magnify: i32,
+    black: &mut u32,
+    euler: &mut i32,
+) -> u8
+    ensures { λ r. ⌜ ShownLent (now (xs .entry)) (now (ys .entry)) (now (marks .entry)) (now (ends .entry)) magnify (now (black .entry)) (now (euler .entry))
+        r (now (black .exit)) (now (euler .exit)) ⌝ }
+{
+    lend_shown(xs, ys, marks, ends, magnify, black, euler)
 }
 
 // Writes a weak-point job as one line of a log.
