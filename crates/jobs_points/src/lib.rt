@@ -4,4 +4,5 @@ pub mod drag;
 mod float;
 pub mod path;
 pub mod references;
+pub mod shown;
 pub mod weak;
