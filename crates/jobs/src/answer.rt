@@ -9,6 +9,7 @@ use jobs_points::path::answer_path;
 use jobs_points::path::answer_step;
 use jobs_points::references::answer_remember;
 use jobs_points::references::answer_with;
+use jobs_points::shown::answer_shown;
 use jobs_points::weak::answer_weak;
 use jobs_tables::edge_points::answer_edge_points;
 use jobs_tables::gaps::answer_gaps;
@@ -72,6 +73,7 @@ fn answer_to(by_value: bool, words: &[i32], out: &mut [i32]) -> usize
         128 => answer_edge_points(words, out),
         130 => answer_table(false, call, words, out),
         131 => answer_strong(words, out),
+        132 => answer_shown(words, out),
         _ => answer_table(by_value, call, words, out),
     }
 }

@@ -65,10 +65,10 @@ const FORMATS: [u64; CALLS] = [
     0x7, // read_frame
 ];
 
-// The first word of the calls that carry edges, and how many words from it on are theirs.
+// The first word of the calls that carry edges, and how many words from it on are theirs and, behind them, that of what the display shows.
 const FIRST_OF_EDGES: usize = 105;
 
-const CALLS_OF_EDGES: usize = 27;
+const CALLS_OF_EDGES: usize = 28;
 
 // The formats of these calls, by their words from the first on.
 const FORMATS_OF_EDGES: [u64; CALLS_OF_EDGES] = [
@@ -99,6 +99,7 @@ const FORMATS_OF_EDGES: [u64; CALLS_OF_EDGES] = [
     NONE, // 129: none
     0x5233a, // align_remaining_edges
     0x7766da, // align_strong_points
+    0x18766, // count_shown
 ];
 
 // The format of the jobs of a call, by its word.
