@@ -10,7 +10,7 @@ ghost use Rattle.words.specs.Edge.{tableSize};
 
 // What the steps hand on: the axis that is being fitted, as the building job names it; the words of the job that has its segments, as the last step left them; the
 // words of its edges, and how many there are; how many of them the stems passed over; its anchor; where its points are drawn, which of them are weak, and how
-// many there are; where the points came to, on both axes; and whether a step refused what it was given.
+// many there are; where the points were and where they came to, on both axes; and whether a step refused what it was given.
 pub struct Glyph {
     pub dim: i32,
     pub topo: [i32; MOST_WORDS],
@@ -21,6 +21,8 @@ pub struct Glyph {
     pub fonts: [i16; MOST_NUMBERS],
     pub weak: [u8; MOST_NUMBERS],
     pub drawn: usize,
+    pub old_xs: [i32; MOST_NUMBERS],
+    pub old_ys: [i32; MOST_NUMBERS],
     pub xs: [i32; MOST_NUMBERS],
     pub ys: [i32; MOST_NUMBERS],
     pub refused: bool,
@@ -39,6 +41,8 @@ impl Glyph {
             fonts: [0; MOST_NUMBERS],
             weak: [0; MOST_NUMBERS],
             drawn: 0,
+            old_xs: [0; MOST_NUMBERS],
+            old_ys: [0; MOST_NUMBERS],
             xs: [0; MOST_NUMBERS],
             ys: [0; MOST_NUMBERS],
             refused: false,
@@ -52,12 +56,14 @@ pub fn stopped(mut glyph: Glyph) -> Glyph {
     glyph
 }
 
-// The glyph with the points of the axis that is being fitted where they came to.
-pub fn settled(mut glyph: Glyph, points: [i32; MOST_NUMBERS]) -> Glyph {
+// The glyph with the points of the axis that is being fitted where they were and where they came to.
+pub fn settled(mut glyph: Glyph, old: [i32; MOST_NUMBERS], points: [i32; MOST_NUMBERS]) -> Glyph {
     if glyph.dim == 0 {
+        glyph.old_xs = old;
         glyph.xs = points;
         return glyph;
     }
+    glyph.old_ys = old;
     glyph.ys = points;
     glyph
 }
@@ -84,6 +90,18 @@ pub fn fonts_of(glyph: Glyph) -> [i16; MOST_NUMBERS] {
 pub fn weak_of(glyph: Glyph) -> [u8; MOST_NUMBERS] {
     let weak = glyph.weak;
     weak
+}
+
+// Where the points were on the horizontal axis.
+pub fn old_xs_of(glyph: Glyph) -> [i32; MOST_NUMBERS] {
+    let xs = glyph.old_xs;
+    xs
+}
+
+// Where the points were on the vertical axis.
+pub fn old_ys_of(glyph: Glyph) -> [i32; MOST_NUMBERS] {
+    let ys = glyph.old_ys;
+    ys
 }
 
 // Where the points came to on the horizontal axis.

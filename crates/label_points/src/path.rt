@@ -1,7 +1,10 @@
-// The path of a glyph, in pixels.
+// The path of a glyph, in pixels, and what a display shows of it.
 use axis::accept::least;
+use khsaemudol::khs_count_shown;
 use khsaemudol::khs_path;
 use label_fit::glyph::Glyph;
+use label_fit::glyph::old_xs_of;
+use label_fit::glyph::old_ys_of;
 use label_fit::glyph::stopped;
 use label_fit::glyph::xs_of;
 use label_fit::glyph::ys_of;
@@ -107,15 +110,52 @@ fn steps(kinds: &[u8], places: &[f32], count: usize)
     }
 }
 
-// Hands out the path of the points that both axes came to; the job has their marks and contour ends, and no coordinates.
-pub fn path(words: &[i32], glyph: Glyph) -> Glyph {
-    let on_curve = nth_list(words, 2);
-    let n = on_curve.len();
+// The on-curve marks of a job.
+fn marks_of(words: &[i32]) -> [u8; MOST_NUMBERS] {
     let mut marks = [0u8; MOST_NUMBERS];
-    read_bytes(on_curve, &mut marks);
-    let contours = nth_list(words, 3);
+    read_bytes(nth_list(words, 2), &mut marks);
+    marks
+}
+
+// The contour ends of a job.
+fn ends_of(words: &[i32]) -> [u16; MOST_NUMBERS] {
     let mut ends = [0u16; MOST_NUMBERS];
-    read_indices(contours, &mut ends);
+    read_indices(nth_list(words, 3), &mut ends);
+    ends
+}
+
+// Writes how many pixels a display shows black of points, and their pieces less holes, behind the name of the step; the job has their marks and contour ends.
+fn shown(step: &[u8], words: &[i32], xs: [i32; MOST_NUMBERS], ys: [i32; MOST_NUMBERS]) {
+    let n = nth_list(words, 2).len();
+    let marks = marks_of(words);
+    let end = nth_list(words, 3).len();
+    let ends = ends_of(words);
+    let mut black = 0u32;
+    let mut euler = 0i32;
+    let answer = khs_count_shown(
+        &xs[0..n],
+        &ys[0..n],
+        &marks[0..n],
+        &ends[0..end],
+        1,
+        &mut black,
+        &mut euler,
+    );
+    if refused(step, answer) {
+        return;
+    }
+    show(
+        b"# black pixels, pieces less holes ^\n",
+        &[count_word(black as usize), euler],
+    );
+}
+
+// Hands out the path of the points that both axes came to, and tells what is shown of them and of the points as they were; the job has their marks and contour ends, and no coordinates.
+pub fn path(words: &[i32], glyph: Glyph) -> Glyph {
+    let n = nth_list(words, 2).len();
+    let marks = marks_of(words);
+    let end = nth_list(words, 3).len();
+    let ends = ends_of(words);
     let xs = xs_of(glyph);
     let ys = ys_of(glyph);
     let mut kinds = [0u8; MOST_STEPS];
@@ -125,7 +165,7 @@ pub fn path(words: &[i32], glyph: Glyph) -> Glyph {
         &xs[0..n],
         &ys[0..n],
         &marks[0..n],
-        &ends[0..contours.len()],
+        &ends[0..end],
         &mut kinds,
         &mut places,
         &mut count,
@@ -135,5 +175,7 @@ pub fn path(words: &[i32], glyph: Glyph) -> Glyph {
     }
     show(b"# steps\n", &[count_word(count as usize)]);
     steps(&kinds, &places, count as usize);
+    shown(b"  shown     ", words, xs, ys);
+    shown(b"  unfitted  ", words, old_xs_of(glyph), old_ys_of(glyph));
     glyph
 }

@@ -146,8 +146,9 @@ pub fn weak(words: &[i32], glyph: Glyph) -> Glyph {
     let fonts = fonts_of(glyph);
     let weak = weak_of(glyph);
     let drawn = least(glyph.drawn, MOST_NUMBERS);
-    let mut currents = [0i32; MOST_NUMBERS];
-    put(&mut currents, 0, originals);
+    let mut old = [0i32; MOST_NUMBERS];
+    put(&mut old, 0, originals);
+    let mut currents = old;
     let mut touched = [0u8; MOST_NUMBERS];
     if aligned(
         &fonts[0..drawn],
@@ -159,7 +160,7 @@ pub fn weak(words: &[i32], glyph: Glyph) -> Glyph {
         &mut currents[0..n],
         &mut touched[0..n],
     ) {
-        return settled(glyph, currents);
+        return settled(glyph, old, currents);
     }
     stopped(glyph)
 }
