@@ -1,5 +1,5 @@
-/* Fits a figure 3 at 12 pixels to the em on both axes, from its segments to its points, tells what each step changed, and hands out its path. The 3 is that of the sample
-   label, drawn in 1,000 design units to the em. */
+/* Fits a figure 3 at 12 pixels to the em on both axes, from its segments to its points, tells what each step changed, hands out its path, and asks whether the display
+   shows a 3. The 3 is that of the sample label, drawn in 1,000 design units to the em. */
 #include <stdint.h>
 #include <stdio.h>
 #include <string.h>
@@ -7,6 +7,9 @@
 #include "khsaemudol.h"
 
 enum { POINTS = 25, CONTOURS = 1, MOST_SIDES = 6, MOST_STEPS = POINTS + 2 * CONTOURS, EM = 1000, PIXELS = 12, PIXEL = 64, LEAST_GAP = PIXEL / 2 };
+
+/* Pieces less holes of a 3: a gateway keeps this number for each character, as a typesetter set it. */
+enum { THREE = 1 };
 
 /* From design units to units, in 16.16. */
 static const int32_t scale = (int32_t)((int64_t)PIXELS * PIXEL * 65536 / EM);
@@ -311,6 +314,33 @@ static uint8_t print_path(const int32_t fitted_xs[POINTS], const int32_t fitted_
     return answer;
 }
 
+/* Asks what a display without grey shows of the points, and tells pieces less holes by *euler. */
+static uint8_t ask(const char *name, const int32_t shown_xs[POINTS], const int32_t shown_ys[POINTS], int32_t *euler) {
+    uint32_t black;
+    uint8_t answer = khs_count_shown(shown_xs, POINTS, shown_ys, POINTS, on_curve, POINTS, ends, CONTOURS, 1, &black, euler);
+    if (answer == KHS_DONE) {
+        printf("  %-9s %u black pixels, pieces less holes %4d\n", name, (unsigned)black, (int)*euler);
+    }
+    return answer;
+}
+
+/* Tells how the 3 is to be shown: fitted where it has the number of a 3 so, else unfitted where it has it so, else at another size. */
+static uint8_t choose(const int32_t fitted_xs[POINTS], const int32_t fitted_ys[POINTS]) {
+    int32_t unfitted_xs[POINTS], unfitted_ys[POINTS], fitted, unfitted;
+    for (int32_t i = 0; i < POINTS; i++) {
+        unfitted_xs[i] = scaled(xs[i]);
+        unfitted_ys[i] = scaled(ys[i]);
+    }
+    uint8_t answer = ask("shown", fitted_xs, fitted_ys, &fitted);
+    if (answer == KHS_DONE) {
+        answer = ask("unfitted", unfitted_xs, unfitted_ys, &unfitted);
+    }
+    if (answer == KHS_DONE) {
+        printf("  choice    %s\n", fitted == THREE ? "fitted" : unfitted == THREE ? "unfitted" : "another size");
+    }
+    return answer;
+}
+
 int main(void) {
     int32_t fitted_xs[POINTS], fitted_ys[POINTS];
     printf("# digit 3, at %d pixels to the em\n", PIXELS);
@@ -320,6 +350,9 @@ int main(void) {
     }
     if (answer == KHS_DONE) {
         answer = print_path(fitted_xs, fitted_ys);
+    }
+    if (answer == KHS_DONE) {
+        answer = choose(fitted_xs, fitted_ys);
     }
     if (answer != KHS_DONE) {
         printf("refused by %d\n", answer);

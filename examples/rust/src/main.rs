@@ -1,11 +1,11 @@
-//! Fits a figure 3 at 12 pixels to the em on both axes, from its segments to its points, tells what each step changed, and hands out its path. The 3 is that of the sample
-//! label, drawn in 1,000 design units to the em; examples/three.c does the same in C.
+//! Fits a figure 3 at 12 pixels to the em on both axes, from its segments to its points, tells what each step changed, hands out its path, and asks whether the display
+//! shows a 3. The 3 is that of the sample label, drawn in 1,000 design units to the em; examples/three.c does the same in C.
 
 use khsaemudol::{
     align_blues_and_stems, align_edge_points, align_remaining_edges, align_strong_points,
-    align_weak_points, compute_edges, lost_gaps, path, BluesAndStems, Building, Dimension,
-    Direction, Edge, Flags, Group, LostGaps, LostPair, Moving, Order, Outline, PathStep, Refusal,
-    Segment, Stems, WidthRule, MOST_EDGES,
+    align_weak_points, compute_edges, count_shown, lost_gaps, path, BluesAndStems, Building,
+    Dimension, Direction, Edge, Flags, Group, LostGaps, LostPair, Moving, Order, Outline, PathStep,
+    Refusal, Segment, Shown, Stems, WidthRule, MOST_EDGES,
 };
 
 /// Units of a pixel.
@@ -14,6 +14,8 @@ const PIXEL: i32 = 64;
 const LEAST_GAP: i32 = PIXEL / 2;
 /// Pixels to the em.
 const PIXELS: i32 = 12;
+/// Pieces less holes of a 3: a gateway keeps this number for each character, as a typesetter set it.
+const THREE: i32 = 1;
 /// From design units to units, in 16.16.
 const SCALE: i32 = (PIXELS as i64 * PIXEL as i64 * 65_536 / 1_000) as i32;
 /// A pixel in design units, to the nearest.
@@ -293,17 +295,21 @@ fn step_text(step: PathStep) -> String {
     }
 }
 
-/// Hands out the path of the fitted points, four steps to a line, and each contour on lines of its own.
-fn print_path(xs: &[i32; POINTS], ys: &[i32; POINTS]) -> Result<(), Refusal> {
-    let outline = Outline {
+/// The outline whose points are at these places.
+fn outline<'a>(xs: &'a [i32; POINTS], ys: &'a [i32; POINTS]) -> Outline<'a> {
+    Outline {
         xs,
         ys,
         marks: &ON_CURVE,
         ends: &ENDS,
-    };
+    }
+}
+
+/// Hands out the path of the fitted points, four steps to a line, and each contour on lines of its own.
+fn print_path(outline: &Outline<'_>) -> Result<(), Refusal> {
     let mut kinds = vec![0; outline.most_steps()];
     let mut places = vec![0.0; 4 * outline.most_steps()];
-    let steps: Vec<PathStep> = path(&outline, &mut kinds, &mut places)?.collect();
+    let steps: Vec<PathStep> = path(outline, &mut kinds, &mut places)?.collect();
     println!("  path      {} steps", steps.len());
     for contour in steps.split_inclusive(|step| *step == PathStep::Close) {
         let texts: Vec<String> = contour.iter().map(|step| step_text(*step)).collect();
@@ -314,10 +320,31 @@ fn print_path(xs: &[i32; POINTS], ys: &[i32; POINTS]) -> Result<(), Refusal> {
     Ok(())
 }
 
+/// Asks what a display without grey shows of an outline, and hands back pieces less holes.
+fn ask(name: &str, outline: &Outline<'_>) -> Result<i32, Refusal> {
+    let Shown { black, euler } = count_shown(outline, 1)?;
+    println!("  {name:9} {black} black pixels, pieces less holes {euler:4}");
+    Ok(euler)
+}
+
+/// Tells how the 3 is to be shown: fitted where it has the number of a 3 so, else unfitted where it has it so, else at another size.
+fn choose(fitted: &Outline<'_>, unfitted: &Outline<'_>) -> Result<(), Refusal> {
+    let numbers = (ask("shown", fitted)?, ask("unfitted", unfitted)?);
+    let choice = match numbers {
+        (THREE, _) => "fitted",
+        (_, THREE) => "unfitted",
+        _ => "another size",
+    };
+    println!("  choice    {choice}");
+    Ok(())
+}
+
 /// Fits the 3.
 fn main() -> Result<(), Refusal> {
     println!("# digit 3, at {PIXELS} pixels to the em");
     let ys = fit(&HEIGHTS)?;
     let xs = fit(&WIDTHS)?;
-    print_path(&xs, &ys)
+    let fitted = outline(&xs, &ys);
+    print_path(&fitted)?;
+    choose(&fitted, &outline(&XS.map(scaled), &YS.map(scaled)))
 }
