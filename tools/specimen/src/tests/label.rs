@@ -10,16 +10,18 @@ use khsaemudol::{PathStep, Refusal};
 pub const LABEL: &[u8] = include_bytes!("../../../../crates/label/stdin");
 const WRITTEN: &str = include_str!("../../../../crates/label/stdout");
 
-/// The paths that the program wrote, by title: the words of their steps.
+/// The paths that the program wrote, by title: the words of their steps, which stand on the lines behind their count that go in by four.
 fn written() -> Vec<(&'static str, Vec<&'static str>)> {
     let glyphs = WRITTEN.split("\n# ").skip(1);
     let path = |glyph: &'static str| {
-        let steps = glyph.split_once("\n  path ").map_or("", |(_, steps)| {
-            steps.split_once('\n').map_or("", |(_, steps)| steps)
-        });
+        let (_, behind) = glyph.split_once("\n  path ").unwrap_or_default();
+        let steps = behind
+            .lines()
+            .skip(1)
+            .take_while(|line| line.starts_with("    "));
         (
             glyph.lines().next().unwrap_or(""),
-            steps.split_whitespace().collect(),
+            steps.flat_map(str::split_whitespace).collect(),
         )
     };
     glyphs.map(path).collect()
