@@ -1,11 +1,11 @@
 -- The definition on small outlines, by computing.
 use mathlib.Core.Path.{_≡_, refl}
-use mathlib.Core.List.{List, [], _∷_, _++_}
-use mathlib.Core.Bool.{Bool, true, false}
+use mathlib.Core.List.{[], _∷_}
+use mathlib.Core.Bool.{Bool}
 use Prim.Native.Nat.{ℕ}
-use lib.IntN.{ℤ, pos, negsuc}
+use lib.IntN.{pos, negsuc}
 use Rattle.shown_rows.specs.Turns.{total}
-use Rattle.path_trip.specs.Path.{Points, points, from, front, rest}
+use Rattle.path_trip.specs.Path.{points, from, front, rest}
 use Rattle.path_trip.specs.Legs.{curveTo, legs, tourBy, tourOf}
 use Rattle.shown.specs.Shown.{curveBy, places, linesBy, linesOf, ups, downs, black, around, blackCount, euler}
 

@@ -15,7 +15,7 @@ use Rattle.shown_count.proofs.Accepting.{passed}
 
 module _ (xs ys : List ℤ) (marks es : List ℕ) (m : ℤ) where
   black-by : (k : ℕ) → refusal (shownTests xs ys marks es m) ≡ k → answered k refusedBy (countedOf (picture xs ys marks es m)) .black ≤ 4194304
-  black-by zero e = let p = passed xs ys marks es m e in let f = p .field in blacks-most (natAbs m) (points xs ys marks) (length xs) es (p .ends) (record { some = f .some; most = f .most; wide = f .wide; high = f .high })
+  black-by zero e = let p = passed xs ys marks es m e in blacks-most (natAbs m) (points xs ys marks) (length xs) es (p .ends) (p .field)
   black-by (suc k) e = omega arith
 
   euler-by : (k : ℕ) → natAbs (answered k refusedBy (countedOf (picture xs ys marks es m)) .euler) ≤ 4198401

@@ -2,6 +2,7 @@
 use axis::accept::is_inside;
 use outline::accept::list_refusal;
 use outline::accept::range_refusal;
+use outline::limits::MOST_COORDINATE;
 use refusals::order::BAD_PARAMETER;
 use refusals::order::TOO_LONG;
 ghost use mathlib.Core.Path.{_≡_};
@@ -28,7 +29,7 @@ fn most_before(times: u32) -> i32
     requires { ⌜ 0 < times ⌝ }
     ensures { λ r. ⌜ r ≡ pos (mostCoordinate / times) ⌝ }
 {
-    (65535 / times) as i32
+    (MOST_COORDINATE as u32 / times) as i32
 }
 
 // The refusal of an outline and its magnification, or 0: the magnification is tested behind the lists and in front of the contour ends.

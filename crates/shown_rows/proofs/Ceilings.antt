@@ -1,11 +1,11 @@
 -- Quotients rounded up, the product from halves, and the first column at or right of a crossing. Assumes nothing.
 use mathlib.Core.Path.{_≡_, ap}
 use mathlib.Core.Logic.{⊎-elim}
-use Prim.Native.Nat.{ℕ, suc, _+_, _-_, _*_, _/_, _%_, _≤_, _<_}
+use Prim.Native.Nat.{ℕ, _+_, _-_, _*_, _/_, _%_, _≤_, _<_}
 use native.Mathlib.Nat.{div-mul-le-self, lt-div-mul-add, mul-le-mul, mul-le-mul-left, mul-le-mul-right}
 use native.Mathlib.Omega.{arith}
 use Rattle.signed.proofs.Signed.{lt-or-le}
-use Rattle.shown_rows.specs.Crossing.{mostPlace, centre, LeftOf, Starts, ceiling}
+use Rattle.shown_rows.specs.Crossing.{mostPlace, centre, Starts, ceiling}
 
 -- ---- quotients rounded up
 pub record Up (n d q : ℕ) : Type 0 where

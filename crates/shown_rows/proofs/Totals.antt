@@ -8,8 +8,8 @@ use lib.ListN.{length, length-set, getD, set}
 use lib.Seq.{getD-set-same, getD-set-other}
 use Rattle.signed.proofs.Signed.{lt-or-le}
 use Rattle.shown_rows.specs.Turns.{total}
-use Rattle.shown_rows.specs.Crossing.{centre, LeftOf, Starts}
-use Rattle.shown_rows.specs.Changes.{upTo, Added}
+use Rattle.shown_rows.specs.Crossing.{Starts}
+use Rattle.shown_rows.specs.Changes.{Added}
 
 module _ (l : List ℕ) (c x : ℕ) where
   -- in front of the place

@@ -4,7 +4,6 @@ use mathlib.Core.Bool.{Bool, true, _&&_}
 use mathlib.Core.List.{List}
 use Prim.Native.Nat.{ℕ, _<_, min}
 use native.Mathlib.Omega.{arith}
-use borrow.Author.Tests.{leb-true}
 use lib.Dec.{ltb, leb}
 use lib.IntN.{ℤ}
 use Rattle.refusals.specs.Refusal.{refusal}
@@ -25,9 +24,9 @@ use Rattle.shape.specs.Shape.{edgesShown, segmentsShown}
 use Rattle.lent.specs.Lent.{edgesOf}
 use Rattle.lent.proofs.Holding.{and-both}
 use Rattle.edges_in.specs.Whole as Edges
-use Rattle.edges_in.proofs.Wholes.{shown-whole, edges-len, edge-in}
+use Rattle.edges_in.proofs.Wholes.{edges-len, edge-in}
 use Rattle.segments_in.specs.Whole as Segments
-use Rattle.segments_in.proofs.Wholes.{shown-whole as segments-whole, segments-len, segment-in}
+use Rattle.segments_in.proofs.Wholes.{segments-len, segment-in}
 use Rattle.tables_test.specs.Held.{Held}
 
 -- ---- words of a segment
@@ -64,17 +63,13 @@ module _ (es : List ℤ) (i : ℕ) (w : Edges.Whole es) (h : i < E.edgesIn es) w
 
 -- ---- words that hold
 module _ (ws es : List ℤ) (h : Held ws es) where
-  pub segments-are : Segments.Whole ws
-  segments-are = segments-whole ws (h .segments .words) (leb-true (S.segmentsIn ws) mostSegments (h .segments .few))
-
-  pub edges-are : Edges.Whole es
-  edges-are = shown-whole es (h .edges .words) (leb-true (E.edgesIn es) mostEdges (h .edges .few))
-
   pub all-shown : true ≡ (segmentsShown ws && edgesShown es)
   all-shown = sym (and-both _ _ (h .segments .words) (h .edges .words))
 
   pub all-indexed : 0 ≡ refusal (indexTests (edgesOf es) (S.flatSegments ws))
   all-indexed =
-      sym
-      (no-refusal (indexTests (edgesOf es) (S.flatSegments ws))
-      (ap (λ (n : ℕ). leb n mostSegments) (segments-len ws) ∙ h .segments .few, (ap (λ (n : ℕ). leb n mostEdges) (edges-len es) ∙ h .edges .few, (and-first _ _ (h .segments .indices), (and-second (segmentsIndices (S.flatSegments ws)) _ (h .segments .indices), (h .to-edges, (h .edges .indices, (h .to-segments, refl))))))))
+      let few-segments = ap (λ (n : ℕ). leb n mostSegments) (segments-len ws) ∙ h .segments .few in
+      let few-edges = ap (λ (n : ℕ). leb n mostEdges) (edges-len es) ∙ h .edges .few in
+      let linked = and-first _ _ (h .segments .indices) in
+      let ringed = and-second (segmentsIndices (S.flatSegments ws)) _ (h .segments .indices) in
+      sym (no-refusal (indexTests (edgesOf es) (S.flatSegments ws)) (few-segments, (few-edges, (linked, (ringed, (h .to-edges, (h .edges .indices, (h .to-segments, refl))))))))

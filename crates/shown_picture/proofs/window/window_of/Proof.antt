@@ -36,12 +36,6 @@ ends c = start c .args .ends .now
 abbrev at-across : tie.After-point-place2 → tie.After-wide
 at-across c = c .before .before .before
 
-abbrev at-cells : tie.After-cell-of → tie.After-point-place4
-at-cells c = c .before
-
-abbrev at-upward : tie.After-point-place4 → tie.After-point-place2
-at-upward c = c .before .before .before
-
 -- the contours' points are points
 inside : (c : tie.After-wide) → c .wide .result < length (xs c)
 inside c = omega (arith, c .wide .ensures, last-inside (length (xs c)) (ends c) (start c .pre .1 .0) (omega arith))

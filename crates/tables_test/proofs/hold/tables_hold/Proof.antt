@@ -1,7 +1,7 @@
 -- `tables_test::hold::tables_hold` meets its contract. Assumes nothing.
 use borrow.Author.Needs.{needs}
 use borrow.Author.Tests.{not-false, leb-true}
-use mathlib.Core.Path.{_≡_, sym, ap, _∙_}
+use mathlib.Core.Path.{sym, ap, _∙_}
 use mathlib.Core.Bool.{true}
 use Prim.Native.Nat.{ℕ}
 use Rattle.axis.specs.Limits.{mostEdges, mostSegments}
