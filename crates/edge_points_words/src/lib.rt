@@ -1,5 +1,5 @@
 // From edges to points, where the words of segments and edges stand: `align` has the call, `front` and `test` its tests, `pass` its work.
 pub mod align;
 mod front;
-mod pass;
-mod test;
+pub mod pass;
+pub mod test;

@@ -55,7 +55,7 @@ fn segment_points(segments: &[i32], i: usize, ends: &[u16]) -> bool
 }
 
 // Whether those of every segment are.
-fn segments_points(segments: &[i32], ends: &[u16]) -> bool
+pub fn segments_points(segments: &[i32], ends: &[u16]) -> bool
     requires { ⌜ Segments.Whole (now segments) ⌝ }
     ensures { λ r. ⌜ r ≡ segmentsPoints (now (ends .entry)) (flatSegments (now (segments .entry))) ⌝ }
 {
@@ -86,7 +86,7 @@ fn mover_holds(segments: &[i32], i: usize, edges: &[i32], alone: bool) -> bool
 }
 
 // Whether that of every segment is.
-fn movers_hold(segments: &[i32], edges: &[i32], alone: bool) -> bool
+pub fn movers_hold(segments: &[i32], edges: &[i32], alone: bool) -> bool
     requires { ⌜ Segments.Whole (now segments) ⌝ }
     requires { ⌜ Edges.Whole (now edges) × (segmentsEdges (edgesIn (now edges)) (flatSegments (now segments)) ≡ true) ⌝ }
     ensures { λ r. ⌜ r ≡ moversHold alone (edgesOf (now (edges .entry))) (flatSegments (now (segments .entry))) ⌝ }

@@ -26,7 +26,7 @@ ghost use Rattle.edges_in.specs.Whole.{Whole};
 ghost use Rattle.flat_gaps.specs.Find.{GapsLent};
 
 // The lost pairs of lent edges: each edge that counts ends one that starts at the last edge in front of it that counts.
-fn find_in(words: &[i32], least: i32, linked: bool) -> Gaps
+pub fn find_in(words: &[i32], least: i32, linked: bool) -> Gaps
     requires { ⌜ Whole (now words) × AxisWithin mostPos (edgesOf (now words)) ⌝ }
     ensures { λ r. ⌜ r ≡ foundIn least linked (edgesOf (now (words .entry))) ⌝ }
 {

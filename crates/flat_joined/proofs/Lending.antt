@@ -18,16 +18,13 @@ use Rattle.axis.specs.declared.edge.Axis.{Axis}
 use Rattle.axis.specs.Limits.{mostEdges, mostPos}
 use Rattle.axis.specs.Accepted.{Below, AxisWithin}
 use Rattle.axis.specs.Refusals.{edgesIndices, edgesNumbers, bottomToTop}
-use Rattle.axis.proofs.Accepting.{edges-within}
-use Rattle.zone.specs.Settled.{Settled}
 use Rattle.blues_pass.specs.declared.pass.Anchored.{Anchored}
 use Rattle.blues.specs.Zones.{bluesWhere}
 use Rattle.stems.specs.declared.pass.Stems.{Stems}
 use Rattle.stems.specs.Stems.{stems, stemsOf, modeOf}
 use Rattle.stems.specs.Steps.{SettledWithout}
 use Rattle.joined.specs.Joined.{zonesHold, joinedTests, alignBluesAndStems}
-use Rattle.joined.proofs.Rows.{zoned-edges, zoned-anchor, passes}
-use Rattle.joined.proofs.Unreached.{zoned-settled}
+use Rattle.joined.proofs.Rows.{passes}
 use Rattle.words.specs.Field.{choiceOf, dimensionOf, groupOf, ruleOf, linkWord}
 use Rattle.words.specs.Edge.{axisRun, flatAxis, edgesIn}
 use Rattle.shape.specs.Shape.{choice}
@@ -42,6 +39,7 @@ use Rattle.stems_in.specs.Stems.{StemsPassed}
 use Rattle.flat_stems.specs.Stems.{stemsWords}
 use Rattle.flat_stems.proofs.LendingStems.{passed-words}
 use Rattle.flat_joined.specs.Joined.{joinedAligned, JoinedLent}
+use Rattle.flat_joined.proofs.Passing.{stems-allowed}
 
 -- the tests of the order, of the rule and of the zones
 abbrev ownTests : Axis → Group → Bool → WidthRule → List ℤ → List Test
@@ -85,20 +83,7 @@ module _ (ws : List ℤ) (dim group adjust ttb rule : ℤ) (xs : List ℤ) {d : 
 
   module _ {start : Link} {w1 : List ℤ} (z : ZonedWhere d g width xs start ws w1) where
     pub stems-ready : r ≤ 0 → (ruleHolds width xs ≡ true) × (Whole w1 × AxisWithin mostPos (edgesOf w1) × Below (edgesIn w1) start × SettledWithout false (edgesIn w1) (edgesOf w1))
-    unfolding flatAxis axisRun
-    stems-ready h =
-        let hold = tests-hold h in
-        let found = sym (z .pass) in
-        let a = subst (λ (x : Anchored). AxisWithin mostPos (x .axis)) found (edges-within _ (zoned-edges A g (choiceOf adjust) (choiceOf ttb) width xs hold)) in
-        let s = subst (λ (x : Anchored). Settled (x .axis .len) (x .axis)) found (zoned-settled A g (choiceOf adjust) (choiceOf ttb) width xs hold) in (
-          hold .1 .1 .0,
-          (
-            z .whole,
-            record { few = a .few; edge = a .edge },
-            subst (λ (x : Anchored). Below (x .axis .len) (x .anchor)) found (zoned-anchor A g (choiceOf adjust) (choiceOf ttb) width xs hold),
-            record { settled = λ e. record { bare = s .bare } },
-          ),
-        )
+    stems-ready h = stems-allowed ws d g (choiceOf adjust) (choiceOf ttb) width xs (tests-hold h) z
 
   -- ---- the call
   abbrev result : Stems

@@ -1,6 +1,9 @@
 // The answer to a job, from the call that it names.
 use super::call::job_of;
 use super::lent::answer_lent;
+use jobs_fit::edge_points::answer_edge_points;
+use jobs_fit::fit::answer_fit;
+use jobs_fit::strong::answer_strong;
 use jobs_log::answer_read;
 use jobs_log::answer_write;
 use jobs_points::catalogue::answer_catalogue;
@@ -11,11 +14,9 @@ use jobs_points::references::answer_remember;
 use jobs_points::references::answer_with;
 use jobs_points::shown::answer_shown;
 use jobs_points::weak::answer_weak;
-use jobs_tables::edge_points::answer_edge_points;
 use jobs_tables::gaps::answer_gaps;
 use jobs_tables::mending::answer_mending;
 use jobs_tables::pack::answer_pack;
-use jobs_tables::strong::answer_strong;
 use jobs_tables::table::answer_table;
 use khsaemudol::khs_compute_mid_delta;
 use khsaemudol::khs_compute_mid_pos;
@@ -71,6 +72,7 @@ fn answer_to(by_value: bool, words: &[i32], out: &mut [i32]) -> usize
         123 => answer_pack(words, out),
         127 => answer_gaps(by_value, words, out),
         128 => answer_edge_points(words, out),
+        129 => answer_fit(words, out),
         130 => answer_table(false, call, words, out),
         131 => answer_strong(words, out),
         132 => answer_shown(words, out),

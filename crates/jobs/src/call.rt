@@ -96,7 +96,7 @@ const FORMATS_OF_EDGES: [u64; CALLS_OF_EDGES] = [
     NONE,
     0x31a, // lost_gaps
     0x87633a9, // align_edge_points
-    NONE, // 129: none
+    0x87766d66a9, // fit_axis
     0x5233a, // align_remaining_edges
     0x7766da, // align_strong_points
     0x18766, // count_shown

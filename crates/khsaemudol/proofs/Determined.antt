@@ -38,6 +38,7 @@ use Rattle.pack_words.specs.Pack.{PackedLent}
 use Rattle.flat_gaps.specs.Find.{Places, GapsLent}
 use Rattle.remaining_lent.specs.Lent.{RemainingLent}
 use Rattle.strong_words.specs.Strong.{StrongLent}
+use Rattle.fit.specs.Fit.{Given, Fitted, FitLent}
 use Rattle.shown_count.specs.Count.{ShownLent}
 use Rattle.shown_count.proofs.Outcomes as Shown
 
@@ -192,3 +193,7 @@ pub shown-determined :
     (xs ys : List ℤ) (marks es : List ℕ) (m : ℤ) (blacks : ℕ) (number : ℤ) {r r′ b b′ : ℕ} {n n′ : ℤ}
     → ShownLent xs ys marks es m blacks number r b n → ShownLent xs ys marks es m blacks number r′ b′ n′ → (r ≡ r′) × (b ≡ b′) × (n ≡ n′)
 shown-determined xs ys marks es m blacks number a b = Shown.lent-determined xs ys marks es m blacks number a b
+
+-- `khs_fit_axis`
+pub fit-determined : (ns : List ℤ) (g : Given) (l : Fitted) {r r′ : ℕ} {now now′ : Fitted} → FitLent ns g l r now → FitLent ns g l r′ now′ → (r ≡ r′) × (now ≡ now′)
+fit-determined ns g l a b = lent-determined a b

@@ -3,6 +3,7 @@
 use building::numbers::Thresholds;
 use catalogue::align::align_catalogue;
 use edge_points_words::align::lend_edge_points;
+use fit_words::lend::lend_fit;
 use flat::fit::lend_adjust;
 use flat::fit::lend_bounds;
 use flat::fit::lend_linked_edge;
@@ -57,6 +58,7 @@ ghost use Rattle.flat_gaps.specs.Find.{GapsLent};
 ghost use Rattle.mend_words.specs.Mending.{MendedLent};
 ghost use Rattle.remaining_lent.specs.Lent.{RemainingLent};
 ghost use Rattle.strong_words.specs.Strong.{StrongLent};
+ghost use Rattle.fit.specs.Fit.{given, fitted, FitLent};
 ghost use Rattle.shown_count.specs.Count.{ShownLent};
 
 // The middle of two coordinates.
@@ -552,4 +554,39 @@ pub extern "C" fn khs_align_strong_points(
         r (now (currents .exit), now (touched .exit)) ⌝ }
 {
     align_strong_points(edges, fonts, originals, currents, touched, weak)
+}
+
+// Fits the edges of one axis and moves its points by them, and tells what became of the edges: blue zones and stems, the rule of the m, remaining edges, the guard, edge points, strong points
+// and weak points in a row. The answer is 0, or the number of the refusal, which writes nothing: 255 for words and lengths, 1, 2, 3 or 4, and 4 or 8 where a step on the way refuses.
+#[no_mangle]
+pub extern "C" fn khs_fit_axis(
+    segments: &[i32],
+    edges: &mut [i32],
+    numbers: &[i32],
+    standards: &[i32],
+    fonts: &[i16],
+    originals: &[i32],
+    currents: &mut [i32],
+    touched: &mut [u8],
+    weak: &[u8],
+    ends: &[u16],
+    told: &mut [i32],
+) -> u8
+    ensures { λ r. ⌜ FitLent (now (numbers .entry)) (given (now (segments .entry)) (now (standards .entry)) (now (fonts .entry)) (now (originals .entry)) (now (weak .entry)) (now (ends .entry)))
+        (fitted (now (edges .entry)) (points (now (currents .entry)) (now (touched .entry))) (now (told .entry)))
+        r (fitted (now (edges .exit)) (points (now (currents .exit)) (now (touched .exit))) (now (told .exit))) ⌝ }
+{
+    lend_fit(
+        segments,
+        edges,
+        numbers,
+        standards,
+        fonts,
+        originals,
+        currents,
+        touched,
+        weak,
+        ends,
+        told,
+    )
 }

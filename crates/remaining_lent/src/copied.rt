@@ -19,7 +19,7 @@ fn put(to: &mut [i32], i: usize, word: i32)
 }
 
 // Copies words over as many others.
-fn copy(from: &[i32], to: &mut [i32])
+pub fn copy(from: &[i32], to: &mut [i32])
     requires { ⌜ length (now to) ≡ length (now from) ⌝ }
     ensures { λ _. ⌜ now (to .exit) ≡ now (from .entry) ⌝ }
 {

@@ -1,3 +1,3 @@
 // Remaining edges over lent edges: no table is made.
-mod copied;
+pub mod copied;
 pub mod lend;

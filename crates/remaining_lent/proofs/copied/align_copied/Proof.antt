@@ -1,6 +1,8 @@
 -- `remaining_lent::copied::align_copied` meets its contract. Assumes nothing.
 use native.Mathlib.Omega.{arith}
 use lib.ListN.{length}
+use lib.IntN.{pos}
+use Rattle.words.specs.Edge.{tableSize}
 use Rattle.remaining_lent.proofs.Copying.{room-long}
 use borrow.Author.Needs.{needs}
 use Rattle.remaining_lent.proofs.copied.align_copied.Statement.{statement}
@@ -16,7 +18,7 @@ part-room-end : tie.Need-part-room-end
 part-room-end c = let w = c .before .pre .whole in omega (arith, w .few, w .long)
 
 try-in-requires : tie.Need-try-in-requires
-try-in-requires c κs = let s = c .before .before in let w = s .pre .whole in (s .pre, room-long (length (s .args .words .now)) (omega (arith, w .few, w .long)))
+try-in-requires c κs = let s = c .before .before in let w = s .pre .whole in (s .pre, room-long tableSize (length (s .args .words .now)) (pos 0) (omega (arith, w .few, w .long)))
 
 same-length : tie.Need-same-length
 same-length c = c .before .before .try-in .ensures .long

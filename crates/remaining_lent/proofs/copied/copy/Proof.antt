@@ -2,6 +2,7 @@
 use native.Mathlib.Omega.{arith}
 use mathlib.Core.Path.{_∙_}
 use Prim.Native.Nat.{_-_}
+use lib.IntN.{pos}
 use mir.Syntax.{w32}
 use Rattle.signed.proofs.Signed.{is, got}
 use Rattle.remaining_lent.proofs.Copying.{Copied, copied-none, copied-more, copied-all}
@@ -40,7 +41,7 @@ loop-again c =
     let p = c .before in
     let w = p .before in
     let t = w .before .before in
-    copied-more _ _ (t .before .loop .inv) (t .loop-test .taken) (is (got w32 (w .word-in .result) (w .word-in .ok)) ∙ w .word-in .ensures) (p .put .ensures)
+    copied-more _ _ (t .before .loop .inv) (pos 0) (t .loop-test .taken) (is (got w32 (w .word-in .result) (w .word-in .ok)) ∙ w .word-in .ensures) (p .put .ensures)
 
 same-length : tie.Need-same-length Inv-loop μ-loop
 same-length c = c .before .loop .inv .long

@@ -1,4 +1,5 @@
 // Strong points, call 131: from the words of its job to those of its answer.
+use super::rooms::EDGES_ROOM;
 use axis::accept::least;
 use axis::limits::MOST_EDGES;
 use khsaemudol::khs_align_strong_points;
@@ -16,9 +17,6 @@ use words::edge::EDGE_WORDS;
 use words::word::count_at;
 ghost use Prim.Native.Nat.{_≤_};
 ghost use lib.ListN.{length};
-
-// The words of one edge more than their limit.
-const EDGES_ROOM: usize = EDGE_WORDS * (MOST_EDGES + 1);
 
 // Aligns points by the font positions, the originals and the weak marks that are the first, the second and the last of five lists.
 fn ask(edges: &[i32], lists: &[i32], currents: &mut [i32], touched: &mut [u8]) -> u8 {

@@ -1,4 +1,6 @@
 // From edges to points, call 128: from the words of its job to those of its answer.
+use super::rooms::EDGES_ROOM;
+use super::rooms::SEGMENTS_ROOM;
 use axis::accept::least;
 use axis::limits::MOST_EDGES;
 use axis::limits::MOST_SEGMENTS;
@@ -19,11 +21,6 @@ use words::word::count_at;
 use words::word::word_at;
 ghost use Prim.Native.Nat.{_≤_};
 ghost use lib.ListN.{length};
-
-// The words of one segment and of one edge more than their limits.
-const SEGMENTS_ROOM: usize = SEGMENT_WORDS * (MOST_SEGMENTS + 1);
-
-const EDGES_ROOM: usize = EDGE_WORDS * (MOST_EDGES + 1);
 
 // Moves points by the choices that are the first two of these words, and the contour ends that are their third list.
 fn ask(

@@ -1,0 +1,2 @@
+-- What the contracts of `fit_back_words` cite.
+pub mod Back

@@ -1,0 +1,2 @@
+-- The laws of `fit_test`.
+pub mod Rows

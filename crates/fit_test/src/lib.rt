@@ -1,0 +1,3 @@
+// The tests of fitting an axis in one call, over all that is given.
+pub mod front;
+pub mod refuse;

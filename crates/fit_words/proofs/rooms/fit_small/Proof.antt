@@ -1,0 +1,93 @@
+-- `fit_words::rooms::fit_small` meets its contract. Assumes nothing.
+use mathlib.Core.Path.{sym, _∙_}
+use lib.ListN.{length}
+use lib.IntN.{pos}
+use Rattle.edge_points_walk.specs.Steps.{points}
+use Rattle.fit.specs.Fit.{Given, given, Fitted, fitted}
+use Rattle.remaining_lent.proofs.Copying.{room-long}
+use Rattle.fit_back_words.proofs.Tests.{same-marks}
+use Rattle.fit_words.specs.Rooms.{fewWords, fewPoints}
+use borrow.Author.Needs.{needs}
+use Rattle.fit_words.proofs.rooms.fit_small.Statement.{statement}
+use Rattle.fit_words.proofs.rooms.fit_small.Tie as tie
+
+-- what is given and lent
+abbrev gave : tie.Start → Given
+gave s = let a = s .args in given (a .segments .now) (a .standards .now) (a .fonts .now) (a .originals .now) (a .weak .now) (a .ends .now)
+
+abbrev lent : tie.Start → Fitted
+lent s = let a = s .args in fitted (a .edges .now) (points (a .currents .now) (a .touched .now)) (a .told .now)
+
+sub-fit-in-rooms : tie.Need-sub-fit-in-rooms
+sub-fit-in-rooms c = search needs
+
+part-room-start : tie.Need-part-room-start
+part-room-start c = search needs
+
+part-room-end : tie.Need-part-room-end
+part-room-end c = search needs
+
+sub-fit-in-rooms-2 : tie.Need-sub-fit-in-rooms-2
+sub-fit-in-rooms-2 c = search needs
+
+part-spare-start : tie.Need-part-spare-start
+part-spare-start c = search needs
+
+part-spare-end : tie.Need-part-spare-end
+part-spare-end c = search needs
+
+sub-fit-in-rooms-3 : tie.Need-sub-fit-in-rooms-3
+sub-fit-in-rooms-3 c = search needs
+
+part-marks-start : tie.Need-part-marks-start
+part-marks-start c = search needs
+
+part-marks-end : tie.Need-part-marks-end
+part-marks-end c = search needs
+
+fit-in-rooms-requires : tie.Need-fit-in-rooms-requires
+fit-in-rooms-requires c κs =
+    let s = c .before .before .before .before .before .before .before .before .before .before in
+    let a = s .args in (
+      s .pre .0,
+      record {
+        edges-long = room-long fewWords (length (a .edges .now)) (pos 0) (s .pre .1 .edges);
+        currents-long = room-long fewPoints (length (a .currents .now)) (pos 0) (s .pre .1 .points);
+        marks-long = room-long fewPoints (length (a .currents .now)) 0 (s .pre .1 .points) ∙ sym (same-marks (a .by) (gave s) (lent s) (s .pre .0));
+      },
+    )
+
+same-length : tie.Need-same-length
+same-length c = search needs
+
+same-length-2 : tie.Need-same-length-2
+same-length-2 c = search needs
+
+same-length-3 : tie.Need-same-length-3
+same-length-3 c = search needs
+
+same-length-4 : tie.Need-same-length-4
+same-length-4 c = search needs
+
+returns : tie.Need-returns
+returns c = search needs
+
+pub fit-small-spec : {M : Type 1} → statement M
+fit-small-spec =
+    tie.close
+    (tie.spec
+    sub-fit-in-rooms
+    part-room-start
+    part-room-end
+    sub-fit-in-rooms-2
+    part-spare-start
+    part-spare-end
+    sub-fit-in-rooms-3
+    part-marks-start
+    part-marks-end
+    fit-in-rooms-requires
+    same-length
+    same-length-2
+    same-length-3
+    same-length-4
+    returns)
