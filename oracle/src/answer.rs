@@ -3,7 +3,8 @@
 use crate::{
     calls,
     decode::decode,
-    drag, edge_points, frames, gaps,
+    drag, edge_points, fit, frames,
+    gaps::{self, Lost},
     job::{Job, Points},
     joined, mend, pack,
     path::Step,
@@ -58,6 +59,7 @@ pub fn answer(job: Job) -> Words {
         | Job::Pack(..)
         | Job::TurnOver(..)
         | Job::EdgePoints(..)
+        | Job::Fit(..)
         | Job::Strong(..)
         | Job::Shown(..)
         | Job::Gaps(..)
@@ -134,6 +136,19 @@ fn of_requests(w: &mut Words, job: Job) {
             w.numbers("currents", "current", &given.currents);
             w.numbers("touch marks", "touch", &given.touches);
         }
+        Job::Fit(segments, mut edges, mut given) => {
+            let result = fit::fit_axis(&segments, &mut edges, &mut given);
+            let fitted = number(w, result).unwrap_or_default();
+            w.count("gaps lost", fitted.lost.gaps);
+            w.count("stems lost", fitted.lost.stems);
+            w.count("not done", fitted.lost.not_done);
+            first_lost(w, &fitted.lost);
+            w.count("passed over", fitted.passed_over);
+            index(w, "anchor", fitted.anchor);
+            w.edges(edges.count, &edges.items);
+            w.numbers("currents", "current", &given.currents);
+            w.numbers("touch marks", "touch", &given.touches);
+        }
         Job::Strong(edges, mut given) => {
             done(w, strong::align_strong_points(&edges, &mut given));
             w.numbers("currents", "current", &given.currents);
@@ -147,10 +162,7 @@ fn of_requests(w: &mut Words, job: Job) {
         Job::Gaps(edges, least, linked) => {
             let lost = number(w, gaps::lost_gaps(&edges, least, linked)).unwrap_or_default();
             w.count("gaps lost", lost.gaps);
-            index(w, "first edge", lost.first.map(|pair| pair.first));
-            index(w, "second edge", lost.first.map(|pair| pair.second));
-            w.put("width before", lost.first.map_or(0, |pair| pair.before));
-            w.put("width after", lost.first.map_or(0, |pair| pair.after));
+            first_lost(w, &lost);
             w.count("stems lost", lost.stems);
             w.count("not done", lost.not_done);
         }
@@ -165,6 +177,14 @@ fn of_requests(w: &mut Words, job: Job) {
         }
         _ => unreachable!("the other calls are document 01's"),
     }
+}
+
+/// Appends the first pair that the guard finds lost: its edges and its widths.
+fn first_lost(w: &mut Words, lost: &Lost) {
+    index(w, "first edge", lost.first.map(|pair| pair.first));
+    index(w, "second edge", lost.first.map(|pair| pair.second));
+    w.put("width before", lost.first.map_or(0, |pair| pair.before));
+    w.put("width after", lost.first.map_or(0, |pair| pair.after));
 }
 
 /// Appends a step: its kind and its places.

@@ -2,11 +2,11 @@
 
 use crate::{
     job::{
-        Building, Catalogue, CjkStem, Dimension, Direction, Edge, EdgePoints, Job, Joined, Mark,
-        Points, References, Remaining, ScaledWidth, ScriptGroup, Segment, Stems, Strong, Table,
-        TopoFlags, Walk, WidthRule,
+        Building, Catalogue, CjkStem, Dimension, Direction, Edge, EdgePoints, Fit, Job, Joined,
+        Mark, Points, References, Remaining, ScaledWidth, ScriptGroup, Segment, Stems, Strong,
+        Table, TopoFlags, Walk, WidthRule,
     },
-    limits::{EDGES, LENT, NUMBERS, SEGMENTS},
+    limits::{EDGES, FIT_NUMBERS, LENT, NUMBERS, SEGMENTS},
 };
 
 /// The job that these words are, if they are one.
@@ -94,6 +94,11 @@ impl Reader<'_> {
     /// A width rule.
     fn rule(&mut self) -> Option<WidthRule> {
         let snap = self.choice()?;
+        self.standards(snap)
+    }
+
+    /// The standards of a width rule that snaps or keeps.
+    fn standards(&mut self, snap: bool) -> Option<WidthRule> {
         let standards = self.numbers()?;
         Some(if snap {
             WidthRule::Snap(standards)
@@ -227,6 +232,7 @@ impl Reader<'_> {
             124 => Job::TurnOver(self.segments()?, self.edges()?),
             127 => Job::Gaps(self.edges()?, self.word()?, self.choice()?),
             128 => Job::EdgePoints(self.segments()?, self.edges()?, self.edge_points()?),
+            129 => Job::Fit(self.segments()?, self.edges()?, self.fit()?),
             130 => Job::Remaining(self.edges()?, self.remaining()?),
             131 => Job::Strong(self.edges()?, self.strong()?),
             132 => Job::Shown(self.walk()?, self.word()?),
@@ -349,6 +355,33 @@ impl Reader<'_> {
             done_alone: self.choice()?,
             currents: self.numbers()?,
             touches: self.numbers()?,
+            ends: self.numbers()?,
+        })
+    }
+
+    /// What fitting an axis is told: its numbers in a list that has just these, and the other lists.
+    fn fit(&mut self) -> Option<Fit> {
+        self.count(FIT_NUMBERS)
+            .filter(|count| *count == FIT_NUMBERS)?;
+        let (dim, group) = (self.dimension()?, self.group()?);
+        let (stem_adjust, snap, done_alone) = (self.choice()?, self.choice()?, self.choice()?);
+        let (snaps_widths, lowercase_m) = (self.choice()?, self.choice()?);
+        let (least, linked) = (self.word()?, self.choice()?);
+        Some(Fit {
+            dim,
+            group,
+            stem_adjust,
+            snap,
+            done_alone,
+            rule: self.standards(snaps_widths)?,
+            lowercase_m,
+            least,
+            linked,
+            fonts: self.numbers()?,
+            originals: self.numbers()?,
+            currents: self.numbers()?,
+            touches: self.numbers()?,
+            weak: self.numbers()?,
             ends: self.numbers()?,
         })
     }

@@ -145,6 +145,26 @@ pub struct Strong {
     pub weak: Vec<u8>,
 }
 
+/// What fitting an axis is told beside it: the choices of its steps, and the points that they move.
+#[derive(Clone, PartialEq, Debug)]
+pub struct Fit {
+    pub dim: Dimension,
+    pub group: ScriptGroup,
+    pub stem_adjust: bool,
+    pub snap: bool,
+    pub done_alone: bool,
+    pub rule: WidthRule,
+    pub lowercase_m: bool,
+    pub least: i32,
+    pub linked: bool,
+    pub fonts: Vec<i16>,
+    pub originals: Vec<i32>,
+    pub currents: Vec<i32>,
+    pub touches: Vec<u8>,
+    pub weak: Vec<u8>,
+    pub ends: Vec<u16>,
+}
+
 /// A public call and what it is given; the fields stand in the order of the words.
 #[derive(Clone, PartialEq, Debug)]
 pub enum Job {
@@ -174,6 +194,7 @@ pub enum Job {
     TurnOver(Table<Segment>, Table<Edge>),
     Gaps(Table<Edge>, i32, bool),
     EdgePoints(Table<Segment>, Table<Edge>, EdgePoints),
+    Fit(Table<Segment>, Table<Edge>, Fit),
     Remaining(Table<Edge>, Remaining),
     Strong(Table<Edge>, Strong),
     Shown(Walk, i32),
@@ -211,6 +232,7 @@ pub const CALLS: &[(usize, &str)] = &[
     (124, "turn_over"),
     (127, "lost_gaps"),
     (128, "align_edge_points"),
+    (129, "fit_axis"),
     (130, "align_remaining_edges"),
     (131, "align_strong_points"),
     (132, "count_shown"),

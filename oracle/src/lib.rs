@@ -8,6 +8,7 @@ pub mod decode;
 pub mod drag;
 pub mod edge_points;
 pub mod explain;
+pub mod fit;
 pub mod frames;
 pub mod gaps;
 pub mod generate;

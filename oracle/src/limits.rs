@@ -38,6 +38,8 @@ pub const MAGNIFY: RangeInclusive<i32> = 1..=64;
 pub const FRAME_BYTE: usize = 255;
 /// A coordinate of a frame: two signed bytes.
 pub const FRAME_NUMBER: RangeInclusive<i32> = -32_768..=32_767;
+/// The numbers that fitting an axis is told, in a list of their own.
+pub const FIT_NUMBERS: usize = 9;
 /// The longest list of numbers that is a job.
 pub const NUMBERS: usize = 8_191;
 /// The longest lent list of edges that is a job.

@@ -29,6 +29,7 @@ const USAGE: &str = "usage:
   oracle patterns --call 15|16  paths of every mark pattern up to 12 points
   oracle patterns --call 18|19|20   references and drags of every outline up to 4 points
   oracle patterns --call 128    edge points of every segment over up to 4 points, and of every two over up to 3
+  oracle patterns --call 129    small axes fitted: every choice with every two edges, every outline of up to 3 points with up to 2 segments, and the m
   oracle patterns --call 131    strong points of every table of up to 4 edges, and of 7 to 11
   oracle patterns --call 132    what is shown of every outline of up to 4 points over 3 places a way, and of every picture of 4 by 4 pixels
   oracle axes --call 121|123 --part P   every axis of up to three segments and two edges, in sixteen parts from 0 on
@@ -165,6 +166,7 @@ fn patterns(options: &[&str]) -> Done {
         ["--call", "19"] => generate::few::align(&mut print),
         ["--call", "20"] => generate::few::drag(&mut print),
         ["--call", "128"] => generate::edge_points::small(&mut print),
+        ["--call", "129"] => generate::fit::small(&mut print),
         ["--call", "131"] => generate::strong::small(&mut print),
         ["--call", "132"] => generate::shown::small(&mut print),
         _ => return None,

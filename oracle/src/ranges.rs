@@ -66,7 +66,7 @@ pub fn is_old(points: &Points) -> bool {
     coordinates.all(|coordinate| OLD_COORDINATE.contains(coordinate))
 }
 
-/// Of a job that the given Rust answers on an axis, whether each `opos`, `fitted` and product is in the old range.
+/// Of a job that the given Rust answers on an axis, whether each `opos`, `fitted` and product is in the old range; of a fit also the coordinates of its points.
 fn on_an_axis(job: &Job) -> Option<bool> {
     match job {
         Job::Build(segments, _, given) => {
@@ -85,6 +85,11 @@ fn on_an_axis(job: &Job) -> Option<bool> {
         | Job::M(edges, _)
         | Job::Joined(edges, _)
         | Job::Remaining(edges, _) => Some(are_old(edges)),
+        Job::Fit(_, edges, given) => {
+            let mut coordinates = given.originals.iter().chain(&given.currents);
+            let near = coordinates.all(|coordinate| OLD_COORDINATE.contains(coordinate));
+            Some(near && are_old(edges))
+        }
         _ => None,
     }
 }

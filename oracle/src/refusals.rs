@@ -5,7 +5,7 @@
 use crate::{
     given::metrics::fixed_mul,
     job::{
-        Building, Catalogue, CjkStem, Dimension, Edge, EdgePoints, Joined, Points, References,
+        Building, Catalogue, CjkStem, Dimension, Edge, EdgePoints, Fit, Joined, Points, References,
         Remaining, ScriptGroup, Segment, Stems, Strong, Table, TopoFlags, Walk, WidthRule,
     },
     limits::*,
@@ -164,14 +164,15 @@ pub fn stems(edges: &Table<Edge>, given: &Stems) -> Answer<()> {
 pub fn joined(table: &Table<Edge>, given: &Joined) -> Answer<()> {
     refuse(1, table.count > EDGES)?;
     bottom_to_top(given.top_to_bottom)?;
-    refuse(2, !is_rule(&given.rule) || has_skipped_blue(table, given))?;
+    let skipped = has_skipped_blue(table, given.dim, given.group);
+    refuse(2, !is_rule(&given.rule) || skipped)?;
     edges(table, &[])
 }
 
 /// Whether some edge has a blue on the axis whose blues are skipped: the default group's horizontal one.
-fn has_skipped_blue(table: &Table<Edge>, given: &Joined) -> bool {
-    given.group == ScriptGroup::Default
-        && given.dim == Dimension::Horizontal
+fn has_skipped_blue(table: &Table<Edge>, dim: Dimension, group: ScriptGroup) -> bool {
+    group == ScriptGroup::Default
+        && dim == Dimension::Horizontal
         && table.items.iter().any(|edge| edge.blue_edge.is_some())
 }
 
@@ -286,12 +287,39 @@ pub fn edge_points(
     refuse(1, count > POINTS || given.touches.len() != count)?;
     refuse(3, !are_contour_ends(&given.ends, count))?;
     indices_of_both(segments, edges)?;
-    let strays = |s: &Segment| s.edge_ix.is_some() && !is_on_one_contour(s, &given.ends);
-    refuse(3, segments.items.iter().any(strays))?;
+    refuse(3, has_stray(segments, &given.ends))?;
     refuse(4, given.currents.iter().any(|c| !COORDINATE.contains(c)))?;
     numbers_of_both(segments, edges)?;
     let too_far = |edge: &Edge| !COORDINATE.contains(&edge.pos);
     refuse(4, moving_edges(segments, edges, given).any(too_far))
+}
+
+/// Fitting an axis: all that is given, as the steps test it, in front of the first.
+pub fn fit(segments: &Table<Segment>, edges: &Table<Edge>, given: &Fit) -> Answer<()> {
+    let count = given.fonts.len();
+    let lengths = [
+        given.originals.len(),
+        given.currents.len(),
+        given.touches.len(),
+        given.weak.len(),
+    ];
+    both_fit(segments, edges)?;
+    refuse(1, count > POINTS || lengths.iter().any(|len| *len != count))?;
+    let skipped = has_skipped_blue(edges, given.dim, given.group);
+    refuse(2, !is_rule(&given.rule) || skipped)?;
+    refuse(2, !LEAST.contains(&given.least))?;
+    refuse(3, !are_contour_ends(&given.ends, count))?;
+    indices_of_both(segments, edges)?;
+    refuse(3, has_stray(segments, &given.ends))?;
+    numbers_of_both(segments, edges)?;
+    let mut coordinates = given.originals.iter().chain(&given.currents);
+    refuse(4, coordinates.any(|c| !COORDINATE.contains(c)))
+}
+
+/// Whether some segment that has an edge does not go from a point to one of the same contour.
+fn has_stray(segments: &Table<Segment>, ends: &[u16]) -> bool {
+    let strays = |s: &Segment| s.edge_ix.is_some() && !is_on_one_contour(s, ends);
+    segments.items.iter().any(strays)
 }
 
 /// Whether first and last of a segment are points of the same contour.

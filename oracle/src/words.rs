@@ -2,9 +2,10 @@
 
 use crate::{
     job::{
-        Building, Catalogue, CjkStem, Dimension, Direction, Edge, Job, Joined, Points, References,
-        ScriptGroup, Segment, Stems, Table, Walk, WidthRule,
+        Building, Catalogue, CjkStem, Dimension, Direction, Edge, Fit, Job, Joined, Points,
+        References, ScriptGroup, Segment, Stems, Table, Walk, WidthRule,
     },
+    limits::FIT_NUMBERS,
     mend::Alteration,
     path::Place,
 };
@@ -80,11 +81,18 @@ impl Words {
 
     /// Appends a width rule.
     pub fn rule(&mut self, rule: &WidthRule) {
-        let (kind, standards) = match rule {
-            WidthRule::Keep(standards) => (0, standards),
-            WidthRule::Snap(standards) => (1, standards),
-        };
-        self.put("width rule", kind);
+        self.rule_kind(rule);
+        self.standards(rule);
+    }
+
+    /// Appends whether a width rule keeps or snaps.
+    fn rule_kind(&mut self, rule: &WidthRule) {
+        self.choice("width rule", matches!(rule, WidthRule::Snap(_)));
+    }
+
+    /// Appends the standards of a width rule.
+    fn standards(&mut self, rule: &WidthRule) {
+        let (WidthRule::Keep(standards) | WidthRule::Snap(standards)) = rule;
         self.numbers("standards", "standard", standards);
     }
 
@@ -258,6 +266,7 @@ fn of_requests(w: &mut Words, job: &Job) {
             w.numbers("touch marks", "touch", &given.touches);
             w.numbers("contour ends", "end", &given.ends);
         }
+        Job::Fit(segments, edges, given) => fit(w, segments, edges, given),
         Job::WriteFrame(points, line) => {
             w.put("call", 25);
             outline(w, points);
@@ -271,11 +280,34 @@ fn of_requests(w: &mut Words, job: &Job) {
     }
 }
 
-/// Calls 121, 123 and 124, and the front of call 128.
+/// Calls 121, 123 and 124, and the front of calls 128 and 129.
 fn axis(w: &mut Words, call: i32, segments: &Table<Segment>, edges: &Table<Edge>) {
     w.put("call", call);
     w.segments(segments);
     w.edges(edges.count, &edges.items);
+}
+
+/// Call 129.
+fn fit(w: &mut Words, segments: &Table<Segment>, edges: &Table<Edge>, given: &Fit) {
+    axis(w, 129, segments, edges);
+    w.rest();
+    w.count("numbers", FIT_NUMBERS);
+    w.dimension(given.dim);
+    w.group(given.group);
+    w.choice("stem adjust", given.stem_adjust);
+    w.choice("snap", given.snap);
+    w.choice("done alone", given.done_alone);
+    w.rule_kind(&given.rule);
+    w.choice("lowercase m", given.lowercase_m);
+    w.put("least", given.least);
+    w.choice("linked", given.linked);
+    w.standards(&given.rule);
+    w.numbers("font positions", "font", &given.fonts);
+    w.numbers("originals", "original", &given.originals);
+    w.numbers("currents", "current", &given.currents);
+    w.numbers("touch marks", "touch", &given.touches);
+    w.numbers("weak marks", "weak", &given.weak);
+    w.numbers("contour ends", "end", &given.ends);
 }
 
 /// Calls 1 and 2.

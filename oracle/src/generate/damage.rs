@@ -57,9 +57,10 @@ fn marks(words: &Words) -> Vec<usize> {
     marks.map(|(ix, _)| ix).collect()
 }
 
-/// Where the choices of the guard and of edge points stand.
+/// Where the choices of the guard, of edge points and of the m stand, and how many numbers a fit is told.
 fn choices(words: &Words) -> Vec<usize> {
-    let is_choice = |name: &str| ["linked", "snap", "done alone"].contains(&name);
+    const CHOICES: [&str; 5] = ["linked", "snap", "done alone", "lowercase m", "numbers"];
+    let is_choice = |name: &str| CHOICES.contains(&name);
     let names = words.names.iter().enumerate();
     let choices = names.filter(|(_, name)| is_choice(name));
     choices.map(|(ix, _)| ix).collect()

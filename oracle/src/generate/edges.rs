@@ -202,7 +202,7 @@ pub fn zoned(small: bool, random: &mut Random) -> Vec<Edge> {
 }
 
 /// A zone near a position: at a pixel, or a unit beside it.
-fn zone(opos: i32, random: &mut Random) -> ScaledWidth {
+pub fn zone(opos: i32, random: &mut Random) -> ScaledWidth {
     let near = opos / 64 * 64 + random.between(-1, 1);
     let fitted = near.clamp(*COORDINATE.start(), *COORDINATE.end());
     ScaledWidth { fitted }

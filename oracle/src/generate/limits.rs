@@ -1,8 +1,8 @@
 //! Jobs at document 01's limits, and just beyond.
 
 use super::{
-    catalogue, drag, edge_points, edges, frames, job, path, references, saved, segments, shown,
-    strong, Random,
+    catalogue, drag, edge_points, edges, fit, frames, job, path, references, saved, segments,
+    shown, strong, Random,
 };
 use crate::{
     job::{
@@ -30,8 +30,8 @@ pub fn line(call: usize, random: &mut Random) -> Vec<u8> {
 
 /// The word of call 25, whose numbers have limits of their own.
 const WRITE_FRAME: i32 = 25;
-/// The word of call 128, whose points stand behind its axis, and whose edges have to be where points may be.
-const EDGE_POINTS: i32 = 128;
+/// The words of calls 128 and 129, whose points stand behind their axis, and whose edges have to be where points may be.
+const OVER_AXES: [i32; 2] = [128, 129];
 /// The word of call 132, whose points are within its limit when they are magnified.
 const SHOWN: i32 = 132;
 
@@ -62,10 +62,12 @@ fn spike(words: &mut Words, random: &mut Random) {
         }
         "end" if words.values[0] == WRITE_FRAME => random.pick(&[0, 254, 255, 256, 65_535]),
         "byte" => i32::from(frames::character(random)),
-        "end" | "segment.first" | "segment.last" if words.values[0] == EDGE_POINTS => {
+        "end" | "segment.first" | "segment.last" if OVER_AXES.contains(&words.values[0]) => {
             index(words, "currents", false, random)
         }
-        "edge.pos" if words.values[0] == EDGE_POINTS && random.coin() => edge_points::far(random),
+        "edge.pos" if OVER_AXES.contains(&words.values[0]) && random.coin() => {
+            edge_points::far(random)
+        }
         "end" | "point" => index(words, words.names[1], false, random),
         "number before" | "number behind" => {
             let count = words.values[1].max(1) as usize;
@@ -151,6 +153,7 @@ fn resize(job: &mut Job, random: &mut Random) {
         Job::EdgePoints(segments, edges, given) => {
             edge_points::resize(segments, edges, given, random);
         }
+        Job::Fit(segments, edges, given) => fit::resize(segments, edges, given, random),
         Job::Mend(segments, edges) => resize_saved(segments, edges, saved::ruin, random),
         Job::Pack(segments, edges) => resize_saved(segments, edges, saved::chain, random),
         Job::Link(segments, _, _, scale) => {
@@ -370,7 +373,7 @@ fn resize_building(
 }
 
 /// Makes a table of an axis as long as its limit or one longer, or empty, or its edges one or two.
-fn resize_axis(segments: &mut Table<Segment>, edges: &mut Table<Edge>, random: &mut Random) {
+pub fn resize_axis(segments: &mut Table<Segment>, edges: &mut Table<Edge>, random: &mut Random) {
     match random.below(6) {
         0 => {
             let count = random.pick(&[SEGMENTS - 1, SEGMENTS, SEGMENTS + 1, 65_535]);
@@ -451,7 +454,7 @@ fn resize_either(edges: &mut Table<Edge>, rule: &mut WidthRule, random: &mut Ran
 }
 
 /// Makes standards many, or breaks their order.
-fn break_rule(standards: &mut Vec<i32>, random: &mut Random) {
+pub fn break_rule(standards: &mut Vec<i32>, random: &mut Random) {
     let many = |count: i32| (1..=count).map(|s| s * 7).collect();
     match random.below(20) {
         0 => *standards = many(8_191),

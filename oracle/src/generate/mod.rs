@@ -8,6 +8,7 @@ pub mod edge_points;
 mod edges;
 pub mod few;
 mod files;
+pub mod fit;
 mod frames;
 mod limits;
 mod logs;
@@ -107,6 +108,7 @@ fn job(call: usize, small: bool, random: &mut Random) -> Job {
         124 => axes::turn_over(small, random),
         127 => gaps(small, random),
         128 => edge_points::job(small, random),
+        129 => fit::job(small, random),
         130 => remaining::job(small, random),
         131 => strong::job(small, random),
         132 => shown::job(small, random),
@@ -177,13 +179,18 @@ fn blues_and_stems(small: bool, random: &mut Random) -> Job {
         top_to_bottom: old_order(random),
         rule: edges::rule(random),
     };
-    let skipped = given.group == ScriptGroup::Default && given.dim == Dimension::Horizontal;
+    drop_skipped_zones(&mut edges, given.dim, given.group, random);
+    Job::Joined(Table::of(edges), given)
+}
+
+/// Takes the zones from edges on the axis where they are refused, the default group's horizontal one, but for once in four times.
+fn drop_skipped_zones(edges: &mut [Edge], dim: Dimension, group: ScriptGroup, random: &mut Random) {
+    let skipped = group == ScriptGroup::Default && dim == Dimension::Horizontal;
     if skipped && random.below(4) > 0 {
-        for edge in &mut edges {
+        for edge in edges {
             edge.blue_edge = None;
         }
     }
-    Job::Joined(Table::of(edges), given)
 }
 
 /// A job of the guard: mostly on edges whose gaps and stems are lost here and there, or on what blues and stems leave, with a least width about that of a pair.
@@ -195,14 +202,19 @@ fn gaps(small: bool, random: &mut Random) -> Job {
         }
         _ => edges::gapped(small, random),
     };
+    let least = least(&edges, random);
+    Job::Gaps(Table::of(edges), least, random.coin())
+}
+
+/// A least width of gaps: about that of a pair of these edges, a common one, or 0.
+fn least(edges: &[Edge], random: &mut Random) -> i32 {
     let ix = random.below(edges.len());
     let width = edges[ix].opos - edges[ix.saturating_sub(random.below(3) + 1)].opos;
-    let least = match random.below(3) {
+    match random.below(3) {
         0 => random.pick(&[0, 1, 31, 32, 33, 64, *LEAST.end()]),
         1 => 0,
         _ => (width + random.between(-1, 1)).clamp(*LEAST.start(), *LEAST.end()),
-    };
-    Job::Gaps(Table::of(edges), least, random.coin())
+    }
 }
 
 /// A job of the CJK stem: mostly a narrow one.

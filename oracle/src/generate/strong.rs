@@ -43,7 +43,7 @@ pub fn job(small: bool, random: &mut Random) -> Job {
 }
 
 /// A mark, mostly none.
-fn mark(random: &mut Random) -> u8 {
+pub fn mark(random: &mut Random) -> u8 {
     if random.once_in(5) {
         return random.pick(&[1, 2, 128, 255]);
     }
@@ -105,7 +105,7 @@ fn steep(random: &mut Random) -> Vec<Edge> {
 }
 
 /// A font position: on an edge, beside one, or about all.
-fn font(edges: &[Edge], random: &mut Random) -> i16 {
+pub fn font(edges: &[Edge], random: &mut Random) -> i16 {
     let Some(last) = edges.len().checked_sub(1) else {
         return random.between(-100, 100) as i16;
     };
