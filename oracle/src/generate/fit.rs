@@ -361,8 +361,9 @@ fn far_shifts(random: &mut Random) -> Axis {
     axis
 }
 
-/// An axis of these edges, each with a segment of one point where it was, and a point behind it.
+/// An axis of these edges, each with a segment of one point where it was, and a point behind it; all or some of the segments have no edge.
 fn pointed(mut edges: Vec<Edge>, random: &mut Random) -> Axis {
+    let loose = random.pick(&[1, 8]);
     let mut given = choices(random);
     let mut segments = Vec::new();
     for (ix, edge) in edges.iter_mut().enumerate() {
@@ -370,7 +371,7 @@ fn pointed(mut edges: Vec<Edge>, random: &mut Random) -> Axis {
         segments.push(Segment {
             first_ix: given.fonts.len() as u16,
             last_ix: given.fonts.len() as u16,
-            edge_ix: (random.below(8) > 0).then_some(ix as u16),
+            edge_ix: (!random.once_in(loose)).then_some(ix as u16),
             edge_next_ix: Some(ix as u16),
             ..Segment::default()
         });
@@ -408,7 +409,11 @@ fn far_strong_points(random: &mut Random) -> Axis {
 
 /// An outline of weak points, most of its points weak, with few edges that are done.
 fn steep_weak_points(random: &mut Random) -> Axis {
-    let outline = points::points(random.coin(), random);
+    let outline = if random.once_in(4) {
+        points::points(random.coin(), random)
+    } else {
+        points::panel(random)
+    };
     let mut edges = in_a_row(random.below(3), 30);
     for edge in &mut edges {
         let pos = edge.opos;

@@ -40,7 +40,7 @@ pub fn within(most: i32, small: bool, random: &mut Random) -> Points {
 }
 
 /// An outline of a few contours, each with two touched points that are close and moved far apart, about where a quotient passes 32 bits, or as far apart as panels are.
-fn panel(random: &mut Random) -> Points {
+pub fn panel(random: &mut Random) -> Points {
     let mut points = Points::none();
     for _ in 0..random.below(3) + 1 {
         stretch(&mut points, random);

@@ -5,6 +5,7 @@ mod catalogue_slips;
 mod drag;
 mod drag_slips;
 mod edge_points;
+mod fit;
 mod frames;
 mod gaps;
 mod joined;
