@@ -47,6 +47,7 @@ static const char *const formats[] = {
     [124] = "SE",         /* turn_over: segments, edges */
     [127] = "Ewc",        /* lost_gaps: edges, least width, linked */
     [128] = "SEccNBI",    /* align_edge_points: segments, edges, snap, done alone, currents, touch marks, contour ends */
+    [129] = "SENNHNNBBI", /* fit_axis: segments, edges, numbers, standards, font positions, originals, currents, touch marks, weak marks, contour ends */
     [130] = "Eccil",      /* align_remaining_edges: edges, dimension, group, count, anchor */
     [131] = "EHNNBB",     /* align_strong_points: edges, font positions, originals, currents, touch marks, weak marks */
     [132] = "NNBIw"       /* count_shown: x coordinates, y coordinates, on-curve marks, contour ends, magnify */
@@ -56,6 +57,9 @@ enum { CALLS = sizeof formats / sizeof formats[0], MOST_ITEMS = 10 };
 /* The words of an edge and of a segment: s is a 16-bit number, f flags, m a mark, the others as in a format. */
 static const char edge_words[KHS_EDGE_WORDS + 1] = "swwfdcwlliim", segment_words[KHS_SEGMENT_WORDS + 1] = "fdssssswwlliill";
 enum { EDGE_BLUE = 5, EDGE_FITTED = 6 };
+/* The numbers of a fit, in the same way: a job has just these in their list. */
+static const char fit_words[KHS_FIT_WORDS + 1] = "cccccccwc";
+enum { FIT = 129, FIT_NUMBERS = 2 };
 
 /* A list of a job: its count as the job has it, and the words that the job carries of it. */
 struct list {
@@ -141,6 +145,12 @@ static size_t read_list(char kind, int32_t *words, size_t len, struct list *list
     return 1 + list->size;
 }
 
+/* Whether a list is that of a fit's numbers. */
+static int are_fit_numbers(const struct list *list)
+{
+    return list->count == KHS_FIT_WORDS && is_record(fit_words, list->words);
+}
+
 /* Reads a job from its words; 0 where they are none. */
 static int read_job(int32_t *words, size_t len, struct job *job)
 {
@@ -160,7 +170,7 @@ static int read_job(int32_t *words, size_t len, struct job *job)
             job->number[numbers++] = words[at++];
         }
     }
-    return at == len;
+    return at == len && (job->call != FIT || are_fit_numbers(&job->list[FIT_NUMBERS]));
 }
 
 static void say(int32_t word)
@@ -437,15 +447,42 @@ static void answer_axis(const struct job *job)
         say_list(segments->count - kept, table + front, freed);
 }
 
+/* The font positions and the weak marks of points. */
+static int16_t fonts[MOST_NUMBERS];
+static uint8_t weak[MOST_NUMBERS];
+
+static void read_fonts(const struct list *list)
+{
+    for (size_t i = 0; i < list->size; i++)
+        fonts[i] = (int16_t)list->words[i];
+}
+
+/* Fitting an axis, whose numbers and lists of points stand behind it. */
+static void answer_fit(const struct job *job)
+{
+    const struct list *list = job->list;
+    int32_t fitted[KHS_FITTED_WORDS] = {0, 0, 0, KHS_NONE, KHS_NONE, 0, 0, 0, KHS_NONE};
+    khs_length len, edges_len;
+    lend_axis(job, &len, &edges_len);
+    read_fonts(&list[4]);
+    read_bytes(&list[7], marks);
+    read_bytes(&list[8], weak);
+    read_indices(&list[9], ends);
+    say(khs_fit_axis(LIST(table, len), LIST(axis_edges, edges_len), WORDS(list[FIT_NUMBERS]), WORDS(list[3]), READ(fonts, list[4]), WORDS(list[5]), WORDS(list[6]), READ(marks, list[7]),
+                     READ(weak, list[8]), READ(ends, list[9]), fitted, KHS_FITTED_WORDS));
+    for (size_t i = 0; i < KHS_FITTED_WORDS; i++)
+        say(fitted[i]);
+    say_list(list[1].count, axis_edges, list[1].size);
+    say_list(list[6].count, list[6].words, list[6].size);
+    say_bytes(marks, list[7].size);
+}
+
 /* Strong points, whose answer has no edges. */
 static void answer_strong(const struct job *job)
 {
-    static int16_t fonts[MOST_NUMBERS];
-    static uint8_t weak[MOST_NUMBERS];
     const struct list *list = job->list;
     khs_length len = lend(&list[0], KHS_EDGE_WORDS, KHS_MOST_EDGES);
-    for (size_t i = 0; i < list[1].size; i++)
-        fonts[i] = (int16_t)list[1].words[i];
+    read_fonts(&list[1]);
     read_bytes(&list[4], marks);
     read_bytes(&list[5], weak);
     say(khs_align_strong_points(LIST(table, len), READ(fonts, list[1]), WORDS(list[2]), WORDS(list[3]), READ(marks, list[4]), READ(weak, list[5])));
@@ -550,6 +587,7 @@ static void answer_line(size_t len)
     case 124: answer_axis(&job); break;
     case 127: answer_gaps(&job); break;
     case 128: answer_edge_points(&job); break;
+    case FIT: answer_fit(&job); break;
     case 131: answer_strong(&job); break;
     default: answer_edges(&job);
     }

@@ -273,7 +273,7 @@ pub fn lengthen(record: &Record, table: &mut Vec<i32>, random: &mut Random) {
 }
 
 /// Changes the standards' count, order or values.
-fn damage_standards(standards: &mut Vec<i32>, random: &mut Random) {
+pub fn damage_standards(standards: &mut Vec<i32>, random: &mut Random) {
     match random.below(4) {
         0 => standards.resize(random.pick(&[0, 1, 15, 16, 17, 18, 9_000]), 40),
         1 => *standards = (1..=random.pick(&[15, 16, 17])).map(|s| 9 * s).collect(),

@@ -7,6 +7,7 @@ mod catalogues;
 mod drag;
 mod edge_points;
 mod ffi;
+mod fit;
 mod frames;
 mod function;
 mod lists;
@@ -21,6 +22,7 @@ mod strong;
 mod tally;
 
 use edge_points::EdgePoints;
+use fit::FitAxis;
 use function::{Function, Given, Memories, Outcome, FUNCTIONS};
 use memory::{nulls, with_and_without, Side};
 use oracle::generate::Random;
@@ -47,6 +49,7 @@ fn main() -> ExitCode {
     tallies.extend(frames::frames(count as usize, random));
     tallies.push(moving::compare::<EdgePoints, 5>(count as usize, random));
     tallies.push(moving::compare::<StrongPoints, 6>(count as usize, random));
+    tallies.push(moving::compare::<FitAxis, 11>(count as usize, random));
     for function in &FUNCTIONS {
         tallies.push(compare(function, count as usize, random));
     }

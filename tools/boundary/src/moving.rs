@@ -1,4 +1,4 @@
-//! Points that edges move: what the comparisons of edge points and of strong points share.
+//! Points that edges move: what the comparisons of edge points, of strong points and of fitting share.
 
 use crate::{
     cases::WORDS,
@@ -111,6 +111,15 @@ pub fn move_by_oracle(
     currents: &mut Vec<i32>,
     touches: &mut Vec<u8>,
 ) -> Answer<()> {
+    let words = told_by_oracle(job, is_job)?;
+    let (moved, marks) = words.split_at(1 + currents.len());
+    *currents = moved[1..].to_vec();
+    *touches = marks[1..].iter().map(|mark| *mark as u8).collect();
+    Ok(())
+}
+
+/// What the oracle answers behind its number to the words of a job, which they are exactly where all are words of their fields.
+pub fn told_by_oracle(job: &[i32], is_job: bool) -> Answer<Vec<i32>> {
     let job = decode(job);
     assert_eq!(is_job, job.is_some(), "the oracle reads words otherwise");
     let Some(job) = job else {
@@ -118,8 +127,5 @@ pub fn move_by_oracle(
     };
     let words = answer::answer(job).values;
     refuse(words[0], words[0] != 0)?;
-    let (moved, marks) = words[1..].split_at(1 + currents.len());
-    *currents = moved[1..].to_vec();
-    *touches = marks[1..].iter().map(|mark| *mark as u8).collect();
-    Ok(())
+    Ok(words[1..].to_vec())
 }
