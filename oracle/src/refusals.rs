@@ -305,9 +305,9 @@ pub fn fit(segments: &Table<Segment>, edges: &Table<Edge>, given: &Fit) -> Answe
     ];
     both_fit(segments, edges)?;
     refuse(1, count > POINTS || lengths.iter().any(|len| *len != count))?;
+    let numbers = is_rule(&given.rule) && LEAST.contains(&given.least);
     let skipped = has_skipped_blue(edges, given.dim, given.group);
-    refuse(2, !is_rule(&given.rule) || skipped)?;
-    refuse(2, !LEAST.contains(&given.least))?;
+    refuse(2, !numbers || skipped)?;
     refuse(3, !are_contour_ends(&given.ends, count))?;
     indices_of_both(segments, edges)?;
     refuse(3, has_stray(segments, &given.ends))?;

@@ -244,9 +244,9 @@ fn made_up(small: bool, random: &mut Random) -> Axis {
     }
 }
 
-/// A table of which some step behind the first may refuse.
+/// A table of which some step behind the first may refuse; now and then with a number beyond its limit, which is told in front.
 fn late(random: &mut Random) -> Axis {
-    match random.below(8) {
+    let mut axis = match random.below(8) {
         0..=1 => beyond_by_stems(random),
         2 => beyond_by_the_m(random),
         3 => beyond_by_serifs(random),
@@ -254,6 +254,24 @@ fn late(random: &mut Random) -> Axis {
         5 => far_shifts(random),
         6 => far_strong_points(random),
         _ => steep_weak_points(random),
+    };
+    if random.once_in(16) {
+        go_beyond(&mut axis, random);
+    }
+    axis
+}
+
+/// Puts a score, an edge, the originals or the currents beyond their limits.
+fn go_beyond(axis: &mut Axis, random: &mut Random) {
+    let beyond = COORDINATE.end() + 1;
+    match random.below(4) {
+        0 => axis.segments[0].score = -1,
+        1 => axis.edges.push(Edge {
+            opos: beyond,
+            ..Edge::default()
+        }),
+        2 => axis.given.originals.fill(beyond),
+        _ => axis.given.currents.fill(-beyond),
     }
 }
 
@@ -263,7 +281,7 @@ fn an_end(random: &mut Random) -> i32 {
     random.pick(&[*POSITION.start() + inward, *POSITION.end() - inward])
 }
 
-/// So many edges one behind the other, as they were, with a number between them.
+/// So many edges one behind the other, this far apart, where they were.
 fn in_a_row(count: usize, gap: i32) -> Vec<Edge> {
     let edge = |ix: usize| Edge {
         fpos: (gap * ix as i32) as i16,
@@ -473,7 +491,11 @@ pub fn resize(
         20..=22 => given.ends.extend(given.ends.last().copied()),
         23..=25 => given.ends.reverse(),
         26..=28 => drop(given.ends.pop()),
-        29..=31 => given.least = random.pick(&[-1, *LEAST.end(), LEAST.end() + 1, i32::MIN]),
+        29..=31 => {
+            given.least = random.pick(&[-1, *LEAST.end(), LEAST.end() + 1, i32::MIN]);
+            // told in front of an end that is beyond
+            given.ends.extend(random.coin().then_some(u16::MAX));
+        }
         _ => {
             if let WidthRule::Snap(standards) = &mut given.rule {
                 limits::break_rule(standards, random);

@@ -300,6 +300,7 @@ impl Prepared {
             | Job::Mend(..)
             | Job::Pack(..)
             | Job::TurnOver(..)
+            | Job::Fit(..)
             | Job::WriteFrame(..)
             | Job::ReadFrame(..) => return Self::by_job(words),
         };
