@@ -8,7 +8,7 @@
 #include <string.h>
 
 enum {
-    MOST_WORDS = 65536,  /* of a line; no job is as long */
+    MOST_WORDS = 66576,  /* of a line; no job is as long */
     MOST_NUMBERS = 8191, /* in a list of a job */
     MOST_LENT = 160,     /* edges in a lent list of a job */
     MOST_FRAMED = 255,   /* points of a frame, and contours */

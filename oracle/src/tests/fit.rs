@@ -54,25 +54,23 @@ fn points(fonts: &[i16]) -> Fit {
     }
 }
 
-/// What the call leaves of an axis that is accepted: what it hands back, its edges' positions, the currents and the touch marks.
-fn fitted(
-    segments: &[Segment],
-    edges: &[Edge],
-    given: &Fit,
-) -> Answer<(Fitted, Vec<i32>, Vec<i32>, Vec<u8>)> {
+/// What the call hands back, and the edges' positions, the currents and the touch marks that it leaves.
+type Left = (Fitted, Vec<i32>, Vec<i32>, Vec<u8>);
+
+/// What the call leaves of an axis.
+fn fitted(segments: &[Segment], edges: &[Edge], given: &Fit) -> Answer<Left> {
     let (mut edges, mut given) = (Table::of(edges.to_vec()), given.clone());
     let fitted = fit_axis(&Table::of(segments.to_vec()), &mut edges, &mut given)?;
     let positions = super::positions(&edges);
     Ok((fitted, positions, given.currents, given.touches))
 }
 
-/// The sides of a bar of five points, and its edges.
-const SIDES: [(u16, u16, u16); 2] = [(0, 1, 1), (3, 4, 0)];
+/// The font positions of a bar's points, two on either side and one between.
 const BAR: [i16; 5] = [61, 61, 30, 0, 0];
 
-/// The segments of a bar.
+/// The sides of a bar.
 fn sides() -> [Segment; 2] {
-    SIDES.map(|(first, last, edge)| walk(first, last, edge))
+    [walk(0, 1, 1), walk(3, 4, 0)]
 }
 
 /// The edges of a bar, linked to each other.
@@ -136,9 +134,9 @@ fn what_is_lost_is_told_and_fitted_on() {
             ..done(super::edge(at))
         }),
     ];
-    let (told, ..) = fitted(&sides(), &edges, &points(&BAR)).expect("the axis is accepted");
+    let left = fitted(&sides(), &edges, &points(&BAR));
+    let (told, _, currents, _) = left.expect("the axis is accepted");
     assert_eq!((told.lost.gaps, told.lost.stems, told.anchor), (1, 0, None));
-    let (_, _, currents, _) = fitted(&sides(), &edges, &points(&BAR)).expect("it is");
     assert_eq!(currents, [20, 20, 15, 0, 0]);
 }
 
@@ -154,21 +152,22 @@ fn letter_m(uneven: i16) -> Vec<Edge> {
 
 #[test]
 fn the_m_is_horizontal_and_is_said_to_be_one() {
-    let third = |uneven: i16, dim: Dimension, lowercase_m: bool| {
+    let moves = |uneven: i16, dim: Dimension, lowercase_m: bool| {
         let mut given = points(&[0, 20]);
         (given.dim, given.lowercase_m) = (dim, lowercase_m);
         let mut edges = Table::of(letter_m(uneven));
         let segments = Table::of(vec![walk(0, 0, 0)]);
         fit_axis(&segments, &mut edges, &mut given).expect("the m is accepted");
         let [first, second, third] = [0, 2, 4].map(|ix| edges.items[ix].pos);
-        let even = second - first == third - second;
-        (even, edges.items[4].mark == Mark::LowercaseM)
+        let moved = edges.items[4].mark == Mark::LowercaseM;
+        assert!(!moved || second - first == third - second);
+        moved
     };
     use Dimension::{Horizontal, Vertical};
-    assert_eq!(third(7, Horizontal, true), (true, true));
-    assert_eq!(third(8, Horizontal, true).1, false);
-    assert_eq!(third(7, Vertical, true).1, false);
-    assert_eq!(third(7, Horizontal, false).1, false);
+    assert!(moves(7, Horizontal, true));
+    assert!(!moves(8, Horizontal, true));
+    assert!(!moves(7, Vertical, true));
+    assert!(!moves(7, Horizontal, false));
 }
 
 /// The farthest position.
