@@ -12,7 +12,8 @@
  * runs: linking takes a segment of that direction for the first side of a stem, and one of the opposite direction above or right of it for the second. With y
  * upward and outer contours that go clockwise it is KHS_DIR_LEFT on the vertical axis and KHS_DIR_UP on the horizontal one; counter-clockwise the opposite.
  *
- * The chain. An axis of a glyph goes through the calls so.
+ * The chain. An axis of a glyph goes through the calls so. Steps 4 to 6 are one call, khs_fit_axis: the calls that it is made of are for who wants to look in between, or to
+ * choose otherwise than it does.
  *   1. The caller finds the segments. khs_link_segments_cjk links those of KHS_CJK. Those of KHS_LATIN the caller links: the two sides of a stem name each other
  *      by link, with serif KHS_NONE; a serif has link KHS_NONE and names by serif the segment that it is a serif of.
  *   2. khs_compute_edges makes edges of them, without blue zones; a segment's edge tells which is its own.
@@ -40,12 +41,15 @@
  * the segments that serve no edge before an axis is sent, take what that hands on.
  *
  * An example: a bar from 0 to 80 of 1,000 design units to the em, at 12 pixels to the em, whose foot has a zone at 0; it goes clockwise, its upper side runs over the
- * contour's start, and its point 1 lies at 40 between the sides. It leaves 64 32 0 0 64 in currents. In the repository examples/three.c fits a figure 3 so.
- *     int32_t scale = (int32_t)((int64_t)12 * 64 * 65536 / 1000), standards[1] = {64}, count, passed_over, anchor, gaps, low, high, before, after, stems, not_done;
+ * contour's start, and its point 1 lies at 40 between the sides. It leaves 64 32 0 0 64 in currents. In the repository examples/fit.c fits a figure 3 so, and examples/three.c
+ * by the calls one by one.
+ *     int32_t scale = (int32_t)((int64_t)12 * 64 * 65536 / 1000), standards[1] = {64}, count;
  *     struct khs_segment segments[2] = {
  *         {0, KHS_DIR_RIGHT, 80, 0, 10, 200, 190, 32000, 0, 1, KHS_NONE, 4, 0, KHS_NONE, KHS_NONE},
  *         {0, KHS_DIR_LEFT, 0, 0, 10, 200, 190, 32000, 0, 0, KHS_NONE, 2, 3, KHS_NONE, KHS_NONE}};
  *     struct khs_edge edges[KHS_MOST_EDGES];
+ *     struct khs_fit numbers = {KHS_VERTICAL, KHS_LATIN, 0, 1, 0, KHS_SNAP, 0, 32, 1};
+ *     struct khs_fitted fitted;
  *     int32_t originals[5] = {61, 31, 0, 0, 61}, currents[5] = {61, 31, 0, 0, 61};
  *     int16_t fonts[5] = {80, 40, 0, 0, 80};
  *     uint8_t touched[5] = {0}, weak[5] = {0};
@@ -54,21 +58,15 @@
  *                           0, scale, 16, 0, (32 * 65536 + scale / 2) / scale, &count) != KHS_DONE) return 1;
  *     edges[segments[1].edge].blue = 1;
  *     edges[segments[1].edge].blue_fitted = 0;
- *     if (khs_align_blues_and_stems((int32_t *)edges, count * KHS_EDGE_WORDS, KHS_VERTICAL, KHS_LATIN, 0, 0, KHS_SNAP, standards, 1, &passed_over, &anchor)
- *         != KHS_DONE) return 1;
- *     if (passed_over > 0 || anchor == KHS_NONE)
- *         if (khs_align_remaining_edges((int32_t *)edges, count * KHS_EDGE_WORDS, KHS_VERTICAL, KHS_LATIN, passed_over, anchor, &anchor) != KHS_DONE) return 1;
- *     if (khs_lost_gaps((int32_t *)edges, count * KHS_EDGE_WORDS, 32, 1, &gaps, &low, &high, &before, &after, &stems, &not_done) != KHS_DONE || gaps + stems > 0)
- *         return 1;
- *     if (khs_align_edge_points((int32_t *)segments, 2 * KHS_SEGMENT_WORDS, (int32_t *)edges, count * KHS_EDGE_WORDS, 1, 0, currents, 5, touched, 5, ends, 1)
- *         != KHS_DONE) return 1;
- *     if (khs_align_strong_points((int32_t *)edges, count * KHS_EDGE_WORDS, fonts, 5, originals, 5, currents, 5, touched, 5, weak, 5) != KHS_DONE) return 1;
- *     if (khs_align_weak_points(originals, 5, currents, 5, touched, 5, ends, 1) != KHS_DONE) return 1;
+ *     if (khs_fit_axis((int32_t *)segments, 2 * KHS_SEGMENT_WORDS, (int32_t *)edges, (khs_length)count * KHS_EDGE_WORDS, (int32_t *)&numbers, KHS_FIT_WORDS, standards, 1,
+ *                      fonts, 5, originals, 5, currents, 5, touched, 5, weak, 5, ends, 1, (int32_t *)&fitted, KHS_FITTED_WORDS) != KHS_DONE) return 1;
+ *     if (fitted.gaps + fitted.stems > 0) return 1;
  *
  * Lists. A list is passed as a pointer to its first element and its length in elements. Edges and segments are lists of 32-bit words: an edge has KHS_EDGE_WORDS
  * words and a segment KHS_SEGMENT_WORDS, in the order of struct khs_edge and struct khs_segment, and nothing stands in front of the first. An array of n
  * such structs is passed as `(int32_t *)array, n * KHS_EDGE_WORDS`: the length is in words. A length in records is refused, but where it happens to be that of whole
- * records too: KHS_EDGE_WORDS means one edge, and KHS_SEGMENT_WORDS one segment. Of every list and of every place for a result:
+ * records too: KHS_EDGE_WORDS means one edge, and KHS_SEGMENT_WORDS one segment. What khs_fit_axis is told, and what it hands back, is a struct each, passed by its
+ * words in the same way. Of every list and of every place for a result:
  *   - A list of length 0 may be NULL, as an empty std::vector's data() may be: nothing is read or written through its pointer, whatever that is. Every other list has a
  *     pointer, standards with KHS_KEEP too, and so has every place for a result.
  *   - Its pointer is aligned as C asks of its type: to 4 bytes for int32_t, uint32_t and float, 2 for uint16_t and int16_t.
@@ -77,13 +75,15 @@
  *
  * Answers. Every call but khs_compute_mid_pos and khs_compute_mid_delta returns a number of enum khs_answer: KHS_DONE, or why it refused. A call over edges or
  * segments tests in this order:
- *   1. KHS_NOT_WORDS: the length of edges or segments is not that of whole records, or a room, for built edges or for alterations, has not exactly its length.
- *   2. KHS_TOO_LONG: there are more edges or segments than their limit, or, in khs_align_edge_points, more points, or not as many marks. None of their words has been read then.
- *   3. KHS_NOT_WORDS: a word is none of its field's values. The fields are those of the two structs, and also these numbers of a call: a direction, dimension,
+ *   1. KHS_NOT_WORDS: the length of edges or segments is not that of whole records, or a room, for built edges or for alterations, has not exactly its length, and so of the
+ *      two structs of khs_fit_axis.
+ *   2. KHS_TOO_LONG: there are more edges or segments than their limit, or, in khs_align_edge_points and khs_fit_axis, more points, or their lists differ in length. None of
+ *      their words has been read then.
+ *   3. KHS_NOT_WORDS: a word is none of its field's values. The fields are those of an edge and of a segment, and also these numbers of a call: a direction, dimension,
  *      group, rule or neighbour, a number that is 0 or 1, and the count of khs_align_remaining_edges. So dim 2 and stem_adjust -1 are KHS_NOT_WORDS.
  *   4. KHS_RETIRED, then KHS_BAD_PARAMETER, KHS_BAD_INDEX, KHS_OUT_OF_RANGE and KHS_NO_ROOM; but khs_mend tests KHS_OUT_OF_RANGE, then KHS_BAD_INDEX and
  *      KHS_BROKEN_RING; khs_align_strong_points tests here first whether its lists of points are KHS_TOO_LONG; and khs_align_remaining_edges and khs_align_strong_points
- *      test KHS_TOO_STEEP behind KHS_OUT_OF_RANGE.
+ *      test KHS_TOO_STEEP behind KHS_OUT_OF_RANGE. khs_fit_axis tests all that it is given so, and behind it what its steps leave each other.
  * Every other number of a call takes every word: an edge named in a call, and an anchor other than KHS_NONE, is KHS_BAD_INDEX where it is not below the count
  * of edges, whatever its word; scale, units per em, thresholds, standards and a gap's least width are KHS_BAD_PARAMETER and a delta KHS_OUT_OF_RANGE outside of their
  * limits.
@@ -94,8 +94,9 @@
  * A refused call writes nothing: every list and every place holds what it held, marks too. With KHS_DONE a list of edges or segments that is not const holds what
  * the call made of it, every word within its field's values, and every place for a result holds the result; of the room for built edges that is so of the edges
  * that were built, and what stands behind them stays. Results may leave the limits of what is accepted, and are then refused if they are passed again. But the edges
- * that khs_compute_edges and khs_align_edges_to_blues leave are accepted by every call over edges, but for khs_turn_over, khs_pack_axis and khs_align_edge_points, which hold
- * first and last against the segments too, khs_hint_lowercase_m, which wants 6 or 12 of them, and khs_align_blues_and_stems, which takes no zone on KHS_LATIN's horizontal axis.
+ * that khs_compute_edges and khs_align_edges_to_blues leave are accepted by every call over edges, but for khs_turn_over, khs_pack_axis, khs_align_edge_points and khs_fit_axis,
+ * which hold first and last against the segments too, khs_hint_lowercase_m, which wants 6 or 12 of them, and khs_align_blues_and_stems and khs_fit_axis, which take no zone on
+ * KHS_LATIN's horizontal axis.
  *
  * No call allocates, keeps a pointer, prints or fails otherwise. Each may be called from any thread, and on other lists at the same time. Working tables stand on
  * the stack: on x86-64 and aarch64 khs_turn_over was measured to use 7 KiB of it, khs_compute_edges 3 KiB and every other call at most 1 KiB, but for
@@ -119,7 +120,7 @@ enum khs_answer {
     KHS_TOO_LONG = 1,      /* a list is longer than its limit (4,096 points, 512 segments, 128 edges), lists of one outline differ in length, a path or a
                             * line has too little room, a frame more than 255 points or contours, or a catalogue's counts do not fit its lists */
     KHS_BAD_PARAMETER = 2, /* a scale, units per em, threshold, a gap's least width, the m call's count or how many times an outline is magnified is outside its
-                            * limits, the standards break their rule, or an edge has a zone on an axis that khs_align_blues_and_stems takes none on */
+                            * limits, the standards break their rule, or an edge has a zone on an axis that khs_align_blues_and_stems and khs_fit_axis take none on */
     KHS_BAD_INDEX = 3,     /* a contour end breaks its rule, a link, serif, ring index, anchor or named edge is not below its list's length, or a segment with an edge does
                             * not go from a point to another of the same contour where that is asked */
     KHS_OUT_OF_RANGE = 4,  /* a coordinate, position, score, len or passed delta is outside its limits; in building also a scaled position */
@@ -179,13 +180,13 @@ struct khs_edge {
     int32_t blue_fitted; /* the zone's fitted position in units, accepted from -65,535 to 65,535; 0 where blue is 0, else KHS_NOT_WORDS */
     int32_t link;        /* link: the edge on the other side of the stem */
     int32_t serif;       /* link: the edge that this one is a serif of */
-    int32_t first;       /* index of its first segment, as building wrote it; held against no list but by khs_turn_over, khs_pack_axis and khs_align_edge_points */
+    int32_t first;       /* index of its first segment, as building wrote it; held against no list but by khs_turn_over, khs_pack_axis, khs_align_edge_points and khs_fit_axis */
     int32_t last;        /* index of its last segment; the same */
     int32_t mark;        /* 0 to 12, of enum khs_mark: a negative word or one above 12 is KHS_NOT_WORDS */
 };
 
-/* The words of a segment, in the same way. Link and serif, in linking also next, and in khs_turn_over, khs_pack_axis and khs_align_edge_points next and edge, are tested to be below
- * their list's count. */
+/* The words of a segment, in the same way. Link and serif, in linking also next, and in khs_turn_over, khs_pack_axis, khs_align_edge_points and khs_fit_axis next and edge, are
+ * tested to be below their list's count. */
 struct khs_segment {
     int32_t flags;     /* 0 to 15; KHS_FLAG_ROUND, where the outline is curved there, is read by building, and no other */
     int32_t dir;       /* the direction in which it runs; KHS_DIR_NONE for a single point */
@@ -198,7 +199,7 @@ struct khs_segment {
     int32_t len;       /* how far it and its link overlap: 0 before linking, and where the caller links; the same */
     int32_t link;      /* link: the segment on the other side of the stem */
     int32_t serif;     /* link: the segment that this one is a serif of */
-    int32_t first;     /* index of its first point; held against no list but by khs_align_edge_points, where it has an edge */
+    int32_t first;     /* index of its first point; held against no list but by khs_align_edge_points and khs_fit_axis, where it has an edge */
     int32_t last;      /* index of its last point; the same */
     int32_t edge;      /* link: the edge that it belongs to, or KHS_NONE where building left it out */
     int32_t next;      /* link: the next segment of its edge, which form a ring */
@@ -215,6 +216,34 @@ struct khs_alteration {
 enum { KHS_SEGMENTS = 0, KHS_EDGES = 1 };
 enum khs_field { KHS_LINK = 0, KHS_SERIF = 1, KHS_RING_NEXT = 2, KHS_RING_FIRST = 3, KHS_RING_LAST = 4 };
 enum { KHS_ALTERATION_WORDS = 5, KHS_MOST_ALTERED = 2048 }; /* the most are 3 of each of 512 segments and 4 of each of 128 edges */
+
+/* What khs_fit_axis is told, passed as `(const int32_t *)&numbers, KHS_FIT_WORDS`. A choice that is not one of its two values is KHS_NOT_WORDS. */
+struct khs_fit {
+    int32_t dim;         /* KHS_HORIZONTAL or KHS_VERTICAL */
+    int32_t group;       /* KHS_LATIN or KHS_CJK */
+    int32_t stem_adjust; /* 0 or 1, read for KHS_CJK: as in khs_align_blues_and_stems */
+    int32_t snap;        /* 0 or 1: as in khs_align_edge_points */
+    int32_t done_alone;  /* 0 or 1: the same */
+    int32_t rule;        /* KHS_KEEP or KHS_SNAP: the width rule, whose standards are a list of their own */
+    int32_t lowercase_m; /* 1 where the glyph is an m, else 0 */
+    int32_t least;       /* 0 to 65,535, else KHS_BAD_PARAMETER: as in khs_lost_gaps */
+    int32_t linked;      /* 0 or 1: the same */
+};
+enum { KHS_FIT_WORDS = 9 };
+
+/* What khs_fit_axis hands back, passed as `(int32_t *)&fitted, KHS_FITTED_WORDS`. */
+struct khs_fitted {
+    int32_t gaps;        /* how many gaps are lost, as khs_lost_gaps counts them */
+    int32_t stems;       /* how many stems are */
+    int32_t not_done;    /* how many edges are not done */
+    int32_t first;       /* the lower edge of the first lost pair, of a gap or a stem, or KHS_NONE */
+    int32_t second;      /* the upper one, or KHS_NONE */
+    int32_t before;      /* the pair's width before, in units, or 0 */
+    int32_t after;       /* its width after, or 0 */
+    int32_t passed_over; /* how many edges the stems passed over */
+    int32_t anchor;      /* the edge that is the anchor in the end, or KHS_NONE */
+};
+enum { KHS_FITTED_WORDS = 9 };
 
 /* The width rule of the calls below is `rule`, KHS_KEEP or KHS_SNAP, with `standards`, the standard widths in units. Keep takes widths as they are and does
  * not read the standards: their list may be of any length, and is NULL at length 0 alone. Snap wants 0 to 16 of them, strictly rising, each 1 to 16,383, else
@@ -478,6 +507,39 @@ uint8_t khs_align_edge_points(const int32_t *segments, khs_length segments_len, 
 uint8_t khs_align_strong_points(const int32_t *edges, khs_length edges_len, const int16_t *fonts, khs_length fonts_len, const int32_t *originals,
                                 khs_length originals_len, int32_t *currents, khs_length currents_len, uint8_t *touched, khs_length touched_len, const uint8_t *weak,
                                 khs_length weak_len);
+
+/* Fits one axis behind building, from its edges to its points: steps 4 to 6 of the chain in one call. It does these, each on what the one before left:
+ *   - khs_align_blues_and_stems, by dim, group, stem_adjust, rule and standards;
+ *   - where lowercase_m is 1, dim is KHS_HORIZONTAL and there are 6 or 12 edges, khs_hint_lowercase_m;
+ *   - where the stems passed over edges or there is no anchor, khs_align_remaining_edges, by that count and that anchor;
+ *   - khs_lost_gaps, by least and linked, and it goes on whatever that tells;
+ *   - khs_align_edge_points, by snap and done_alone;
+ *   - khs_align_strong_points;
+ *   - khs_align_weak_points.
+ * What it leaves in edges, currents and touched, and what it hands back, is what these calls in a row do.
+ * segments: at most 512, as building leaves them; not written. edges: at most 128, with their zones, and no room behind them.
+ * numbers: a struct khs_fit, and exactly its words. standards: those of the width rule.
+ * fonts, originals, currents, touched, weak: one entry for each point, at most 4,096, as in khs_align_strong_points. On an axis that is not fitted yet currents are the originals,
+ * and no point is touched. ends: as in khs_align_weak_points.
+ * fitted: a place for a struct khs_fitted, and exactly its words; what it holds is not read.
+ * snap is taken as it is given, for KHS_LATIN too. The Rust code of which this is a port snaps points of that group always: pass 1 there.
+ * Whether the glyph is shown is the caller's choice, by what is handed back of each axis and by khs_count_shown of the whole glyph: a lost gap or stem is no refusal.
+ * In front it tests all that is given, and answers the first of these that applies:
+ *   - KHS_NOT_WORDS: a length that is not of whole records, or not exactly that of its struct;
+ *   - KHS_TOO_LONG: more segments, edges or points than there may be, or two of the five lists of points that differ in length;
+ *   - KHS_NOT_WORDS: a word of a segment or of an edge that is none of its field's values, or a choice that is none;
+ *   - KHS_BAD_PARAMETER: standards that break their rule, least outside its limits, or an edge with a zone on KHS_LATIN's horizontal axis;
+ *   - KHS_BAD_INDEX: an index of segments or edges, a contour end, or first and last of a segment with an edge, as in khs_align_edge_points;
+ *   - KHS_OUT_OF_RANGE: score or len of a segment, opos, pos or blue_fitted of an edge, an original or a current outside of what is accepted.
+ * On the way a step may refuse what those before it left, in the order of the steps: by KHS_OUT_OF_RANGE the lowercase m, remaining edges and the guard a pos beyond 16,777,216, edge
+ * points a pos by which points are moved beyond 65,535, and strong and weak points such a current; by KHS_TOO_STEEP remaining edges, strong points and weak points, as they say.
+ * Beside a refusal, in front or on the way, nothing has changed: edges, currents, touched and fitted hold what they held.
+ * Writes pos, mark, flags, blue and blue_fitted of edges; currents; touched; fitted.
+ * Answers: KHS_DONE, KHS_TOO_LONG, KHS_BAD_PARAMETER, KHS_BAD_INDEX, KHS_OUT_OF_RANGE, KHS_TOO_STEEP, KHS_NOT_WORDS. */
+uint8_t khs_fit_axis(const int32_t *segments, khs_length segments_len, int32_t *edges, khs_length edges_len, const int32_t *numbers, khs_length numbers_len,
+                     const int32_t *standards, khs_length standards_len, const int16_t *fonts, khs_length fonts_len, const int32_t *originals,
+                     khs_length originals_len, int32_t *currents, khs_length currents_len, uint8_t *touched, khs_length touched_len, const uint8_t *weak,
+                     khs_length weak_len, const uint16_t *ends, khs_length ends_len, int32_t *fitted, khs_length fitted_len);
 
 /* The path of an outline is a list of steps. Each contour gives a KHS_MOVE to its start, lines and quadratic curves around it, and a KHS_CLOSE; a straight way
  * back to the start is left to the close. The start is the contour's first point that is on the curve, or where none is, halfway between its last and its first

@@ -4,6 +4,7 @@
 //! to the call alone.
 
 use crate::{
+    fit::AxisPoints,
     path::Outline,
     records::{Edge, Segment, EDGE_WORDS, SEGMENT_WORDS},
     Catalogue,
@@ -243,6 +244,31 @@ extern "C" {
         touched_len: Length,
         weak: *const u8,
         weak_len: Length,
+    ) -> u8;
+
+    fn khs_fit_axis(
+        segments: *const i32,
+        segments_len: Length,
+        edges: *mut i32,
+        edges_len: Length,
+        numbers: *const i32,
+        numbers_len: Length,
+        standards: *const i32,
+        standards_len: Length,
+        fonts: *const i16,
+        fonts_len: Length,
+        originals: *const i32,
+        originals_len: Length,
+        currents: *mut i32,
+        currents_len: Length,
+        touched: *mut u8,
+        touched_len: Length,
+        weak: *const u8,
+        weak_len: Length,
+        ends: *const u16,
+        ends_len: Length,
+        fitted: *mut i32,
+        fitted_len: Length,
     ) -> u8;
 
     fn khs_path_step(
@@ -774,6 +800,49 @@ pub fn align_strong_points(
             touched_len,
             weak.as_ptr(),
             length(weak),
+        )
+    }
+}
+
+/// `numbers` and `fitted` are the words of the C structs `khs_fit` and `khs_fitted`.
+pub fn fit_axis(
+    segments: &[Segment],
+    edges: &mut [Edge],
+    (numbers, standards): (&[i32; 9], &[i32]),
+    points: &AxisPoints<'_>,
+    currents: &mut [i32],
+    touched: &mut [u8],
+    fitted: &mut [i32; 9],
+) -> u8 {
+    let (words, len) = read_segments(segments);
+    let (edges, edges_len) = edge_words(edges);
+    let (currents_len, touched_len) = (length(currents), length(touched));
+    let fitted_len = length(fitted);
+    // SAFETY: eleven slices, of which `edges`, `currents`, `touched` and `fitted` are lent to this call alone.
+    unsafe {
+        khs_fit_axis(
+            words,
+            len,
+            edges,
+            edges_len,
+            numbers.as_ptr(),
+            length(numbers),
+            standards.as_ptr(),
+            length(standards),
+            points.fonts.as_ptr(),
+            length(points.fonts),
+            points.originals.as_ptr(),
+            length(points.originals),
+            currents.as_mut_ptr(),
+            currents_len,
+            touched.as_mut_ptr(),
+            touched_len,
+            points.weak.as_ptr(),
+            length(points.weak),
+            points.ends.as_ptr(),
+            length(points.ends),
+            fitted.as_mut_ptr(),
+            fitted_len,
         )
     }
 }

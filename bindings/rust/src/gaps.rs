@@ -53,16 +53,25 @@ pub fn lost_gaps(edges: &[Edge], least: i32, linked: bool) -> Result<LostGaps, R
     let mut places = [0, -1, -1, 0, 0, 0, 0];
     Refusal::of(ffi::lost_gaps(edges, least, linked.into(), &mut places))?;
     let [gaps, first, second, before, after, stems, not_done] = places;
-    let named = field::index(first).zip(field::index(second));
-    Ok(LostGaps {
-        gaps: gaps as usize,
-        stems: stems as usize,
-        first: named.map(|(first, second)| LostPair {
-            first,
-            second,
-            before,
-            after,
-        }),
-        not_done: not_done as usize,
-    })
+    let pair = [first, second, before, after];
+    Ok(LostGaps::of([gaps, stems, not_done], pair))
+}
+
+impl LostGaps {
+    /// What the guard wrote: how many gaps and stems are lost and how many edges are not done, and of the first pair its edges and its widths.
+    pub(crate) fn of(counts: [i32; 3], [first, second, before, after]: [i32; 4]) -> Self {
+        let [gaps, stems, not_done] = counts.map(|count| count as usize);
+        let named = field::index(first).zip(field::index(second));
+        Self {
+            gaps,
+            stems,
+            first: named.map(|(first, second)| LostPair {
+                first,
+                second,
+                before,
+                after,
+            }),
+            not_done,
+        }
+    }
 }

@@ -1,7 +1,7 @@
 //! Safe calls of the verified grid fitter, for gateways written in Rust.
 //!
 //! Lengths and positions "in units" are 26.6: 64 units make a pixel. Font positions are whole design units, and a scale is 16.16. `include/khsaemudol.h` says how the calls
-//! make a chain, and has the limits of what each is given. What a call is lent is changed in place, and not at all where it is refused:
+//! make a chain, and has the limits of what each is given; [`fit_axis`] is most of it in one call. What a call is lent is changed in place, and not at all where it is refused:
 //!
 //! ```
 //! use khsaemudol::{align_weak_points, Refusal};
@@ -24,6 +24,7 @@ mod edge_points;
 #[allow(unsafe_code)]
 mod ffi;
 mod field;
+mod fit;
 mod gaps;
 mod joined;
 mod log;
@@ -39,6 +40,7 @@ mod strong;
 pub use choices::{Dimension, Group, Neighbour, Order, WidthRule};
 pub use edge_points::{align_edge_points, Moving};
 pub use field::{Direction, Flags, Mark};
+pub use fit::{fit_axis, AxisPoints, Fitted, Fitting};
 pub use gaps::{lost_gaps, LostGaps, LostPair};
 pub use joined::{align_blues_and_stems, BluesAndStems};
 pub use log::{Job, MOST_DIGITS};

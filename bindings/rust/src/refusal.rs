@@ -22,10 +22,10 @@ pub enum Refusal {
     /// outline differ in length, a path has too little room, or a catalogue's counts do not fit its lists.
     TooLong,
     /// 2: a scale, units per em, a threshold, a gap's least width, the edge count of the m rule or how many times an outline is magnified is outside its limits, the standards of
-    /// a width rule break its rule, or an edge has a zone on an axis that blues and stems in one call take none on.
+    /// a width rule break its rule, or an edge has a zone on an axis that blues and stems in one call, and a whole axis in one, take none on.
     BadParameter,
     /// 3: a contour end breaks its rule, or a link, a serif, an anchor or an edge named in the call is not below its list's length, or a dragged point is not there or not touched; in turning over, in
-    /// packing and for edge points also any other index, for these also a segment that does not run along one contour.
+    /// packing, for edge points and for a whole axis also any other index, for the last two also a segment that does not run along one contour.
     BadIndex,
     /// 4: a coordinate, position, score, len or delta is outside its limits; in building also a scaled position.
     OutOfRange,
