@@ -1,5 +1,7 @@
 //! The given Rust's calls on what is built once, for benchmarks: what is timed is `run` alone.
 
+mod fit;
+
 use crate::{
     calls, edge_points,
     given::{
@@ -28,6 +30,7 @@ pub enum Prepared {
     Edges(Axis, Vec<Edge>, Fitting),
     EdgePoints(Outline, Vec<Point>, Axis, ScriptGroup),
     Strong(Outline, Vec<Point>, Axis, Vec<Edge>),
+    Fit(Box<fit::Fitted>),
     Path(Walk, Vec<Step>),
 }
 
@@ -83,6 +86,10 @@ impl Prepared {
                 Self::edge_points(segments.items, edges.items, &given)
             }
             Job::Strong(edges, given) => Self::strong(edges.items, &given),
+            Job::Fit(segments, edges, given) => {
+                let fitted = fit::Fitted::new(segments.items, edges.items, given);
+                Self::Fit(Box::new(fitted))
+            }
             Job::Path(walk) | Job::PathStep(walk, _) => {
                 let most = walk.xs.len() + 2 * walk.ends.len();
                 Self::Path(walk, Vec::with_capacity(most))
@@ -210,6 +217,7 @@ impl Prepared {
                 outline.points.clone_from(points);
                 axis.edges.clone_from(edges);
             }
+            Self::Fit(fitted) => fitted.restore(),
             Self::Path(_, steps) => steps.clear(),
         }
     }
@@ -240,6 +248,7 @@ impl Prepared {
             Self::Strong(outline, _, axis, _) => {
                 black_box(hint_outline::align_strong_points(outline, axis, None));
             }
+            Self::Fit(fitted) => fitted.run(),
             Self::Path(walk, steps) => plain::steps(walk, steps),
         }
     }

@@ -1,7 +1,9 @@
 //! What is timed: for each call some kinds of inputs, at several sizes, as jobs.
 
 use crate::{
-    by_edges, chain, edges,
+    by_edges,
+    chain::Chain,
+    edges,
     outlines::{self, Outlines},
     port,
     segments::{self, Kind},
@@ -77,7 +79,7 @@ impl Case {
 pub enum Role {
     /// The call itself.
     Own,
-    /// Beside blues and stems in one call: the two apart.
+    /// Beside blues and stems in one call, or a whole axis: its steps by a call each.
     Apart,
     /// Beside the guard: the call whose edges it is asked about.
     Fitting,
@@ -89,15 +91,15 @@ pub const GROUPS: [(i32, &str); 2] = [(0, "default group"), (1, "CJK")];
 /// Jobs over edges in a round, and glyphs.
 pub const ROUND: usize = 16;
 
-/// Whether a name is that of a call, or of a group, whose cases are the steps of its chain.
+/// Whether a name is that of a call, or of a chain, whose cases are its steps.
 pub fn is_name(name: &str) -> bool {
-    NAMES.contains(&name) || GROUPS.iter().any(|(_, title)| *title == name)
+    NAMES.contains(&name) || Chain::named(name).is_some()
 }
 
 /// The cases of a name.
 pub fn cases(name: &str) -> Vec<Case> {
-    if let Some((group, title)) = GROUPS.into_iter().find(|(_, title)| *title == name) {
-        return chain::cases(group, title);
+    if let Some(chain) = Chain::named(name) {
+        return chain.cases();
     }
     match name {
         "mid" => middles(),
@@ -318,7 +320,7 @@ fn joined() -> Vec<Case> {
 }
 
 /// A case that stands beside the call's own.
-fn beside(case: Case, what: &str, role: Role) -> Case {
+pub fn beside(case: Case, what: &str, role: Role) -> Case {
     Case {
         kind: format!("{}, {what}", case.kind),
         role,

@@ -1,12 +1,13 @@
-//! The chain of a glyph, step by step: for each axis linking, building, blue zones and stems in one call, edge points and weak points, and behind both the path.
+//! The chain of a glyph, step by step: for each axis linking, building, blue zones and stems in one call, edge points and weak points, and behind both the path. Or the same
+//! with all that is behind building in one call, which has the guard and strong points too.
 
 use crate::{
-    cases::{self, Case, Damage, GROUPS, ROUND},
+    cases::{self, Case, Damage, Role, ROUND},
     glyph::{Glyph, EDGES, POINTS, SEGMENTS},
-    outlines, port, records,
+    library, one_call, outlines, records,
     table::{self, Row},
 };
-use khsaemudol::{Dimension, Direction, Edge, Flags, Group, Segment, SEGMENT_WORDS};
+use khsaemudol::{Dimension, Direction, Edge, Flags, Group, Segment, EDGE_WORDS, SEGMENT_WORDS};
 use oracle::{generate::Random, given::metrics, job::Points, limits};
 
 /// Units of a pixel.
@@ -51,31 +52,105 @@ struct Step {
     damage: Damage,
 }
 
+/// A chain: the title of its table, the word of its group, and whether each axis is fitted in one call.
+#[derive(Copy, Clone)]
+pub struct Chain {
+    title: &'static str,
+    group: i32,
+    in_one_call: bool,
+}
+
+/// The chains of both groups, by a call for each step.
+const BY_STEPS: [Chain; 2] = [
+    Chain {
+        title: "default group",
+        group: 0,
+        in_one_call: false,
+    },
+    Chain {
+        title: "CJK",
+        group: 1,
+        in_one_call: false,
+    },
+];
+
+/// The same with each axis in one call.
+const IN_ONE_CALL: [Chain; 2] = [
+    Chain {
+        title: "default group, each axis in one call",
+        in_one_call: true,
+        ..BY_STEPS[0]
+    },
+    Chain {
+        title: "CJK, each axis in one call",
+        in_one_call: true,
+        ..BY_STEPS[1]
+    },
+];
+
 /// Prints the steps of each group's chain, and their sum.
 pub fn run() {
     println!("The chain of a glyph of {POINTS} points with {SEGMENTS} segments and {EDGES} edges on each axis: every step on what the step before left. Not timed is what the caller does on");
-    println!("both sides: linking the default group's segments, and giving zones, to two of the heights. The Rust's path is the oracle's plain loop.");
-    for (_, title) in GROUPS {
-        let rows = table::table(title);
-        Row::sum(&rows, title, "the chain".to_string(), POINTS).print();
+    println!("both sides: linking the default group's segments, and giving zones, to two of the heights. The Rust's path is the oracle's plain loop. Strong points go with the weak ones,");
+    println!(
+        "and the guard is not asked; no edge is left for remaining edges. `bench fit` has them."
+    );
+    BY_STEPS.iter().for_each(Chain::print);
+}
+
+/// The same with each axis in one call.
+pub fn run_fit() {
+    println!("The chain of the same glyph with each axis in one call behind building: zones, stems, remaining edges where some are left, the guard, edge points, strong points and weak points;");
+    println!("points off the curve are weak. The Rust does the same in place, call by call, by the condition of its hint_edges; its guard and its path are the oracle's plain loops. Beside each");
+    println!(
+        "axis stand the library's calls in a row, on the same inputs. They are not in the sum."
+    );
+    IN_ONE_CALL.iter().for_each(Chain::print);
+}
+
+impl Chain {
+    /// The chain of a title.
+    pub fn named(title: &str) -> Option<Self> {
+        let mut chains = BY_STEPS.into_iter().chain(IN_ONE_CALL);
+        chains.find(|chain| chain.title == title)
+    }
+
+    /// Prints its steps, and their sum.
+    fn print(&self) {
+        let rows = table::table(self.title);
+        Row::sum(&rows, self.title, "the chain".to_string(), POINTS).print();
+    }
+
+    /// Its cases: its steps, each on a round of glyphs, and beside an axis in one call the calls in a row.
+    pub fn cases(&self) -> Vec<Case> {
+        let glyph = |seed| self.steps(&Glyph::new(&mut Random::new(seed)));
+        let glyphs: Vec<Vec<Step>> = (0..ROUND as u64).map(glyph).collect();
+        let mut cases = Vec::new();
+        for (ix, step) in glyphs[0].iter().enumerate() {
+            let jobs: Vec<Vec<i32>> = glyphs.iter().map(|steps| steps[ix].job.clone()).collect();
+            let in_one_call = jobs[0][0] == one_call::CALL;
+            let case = |jobs| {
+                let kind = step.kind.clone();
+                Case::own(self.title, kind, step.size, jobs, step.damage)
+            };
+            let apart = in_one_call.then(|| case(jobs.clone()));
+            cases.push(case(jobs));
+            cases.extend(apart.map(|case| cases::beside(case, "the calls in a row", Role::Apart)));
+        }
+        cases
+    }
+
+    /// The steps of a glyph.
+    fn steps(&self, glyph: &Glyph) -> Vec<Step> {
+        let mut steps = Vec::new();
+        let [ys, xs] = AXES.map(|axis| fit(glyph, &axis, self, &mut steps));
+        steps.push(path(glyph, xs, ys));
+        steps
     }
 }
 
-/// The cases of a group's chain: its steps, each on a round of glyphs.
-pub fn cases(group: i32, title: &'static str) -> Vec<Case> {
-    let glyph = |seed| steps(&Glyph::new(&mut Random::new(seed)), group);
-    let glyphs: Vec<Vec<Step>> = (0..ROUND as u64).map(glyph).collect();
-    let case = |(ix, step): (usize, &Step)| {
-        let jobs = glyphs.iter().map(|steps| steps[ix].job.clone()).collect();
-        Case::own(title, step.kind.clone(), step.size, jobs, step.damage)
-    };
-    glyphs[0].iter().enumerate().map(case).collect()
-}
-
-/// The steps of a glyph.
-fn steps(glyph: &Glyph, group: i32) -> Vec<Step> {
-    let mut steps = Vec::new();
-    let [ys, xs] = AXES.map(|axis| fit(glyph, &axis, group, &mut steps));
+/// The path of a glyph whose points are fitted.
+fn path(glyph: &Glyph, xs: Vec<i32>, ys: Vec<i32>) -> Step {
     let mut job = outlines::job(&Points {
         originals: xs,
         currents: ys,
@@ -83,19 +158,19 @@ fn steps(glyph: &Glyph, group: i32) -> Vec<Step> {
         ends: glyph.ends.clone(),
     });
     job[0] = 15;
-    steps.push(Step {
+    Step {
         kind: "path".to_string(),
         size: POINTS,
         job,
         damage: cases::far_place,
-    });
-    steps
+    }
 }
 
 /// Adds the steps of an axis, and hands back where its points come to.
-fn fit(glyph: &Glyph, axis: &Axis, group: i32, steps: &mut Vec<Step>) -> Vec<i32> {
+fn fit(glyph: &Glyph, axis: &Axis, chain: &Chain, steps: &mut Vec<Step>) -> Vec<i32> {
+    let group = chain.group;
     let mut answered = |what: &str, size: usize, job: Vec<i32>, damage: Damage| {
-        let answer = port::answer(&job);
+        let answer = library::answer(&job);
         let kind = format!("{}, {what}", axis.name);
         steps.push(Step {
             kind,
@@ -118,6 +193,13 @@ fn fit(glyph: &Glyph, axis: &Axis, group: i32, steps: &mut Vec<Step>) -> Vec<i32
     segments = records::given(&answer, SEGMENTS);
     let mut edges = records::given(&answer[1 + SEGMENT_WORDS * SEGMENTS..], limits::EDGES);
     give_zones(&mut edges, axis);
+    if chain.in_one_call {
+        let job = whole(glyph, &segments, &edges, axis, group);
+        let answer = answered("fitting", POINTS, job, one_call::far_current);
+        // answer, the numbers, and a count in front of the edges and of the currents
+        let currents = 1 + one_call::REFUSED.len() + 1 + EDGE_WORDS * EDGES + 1;
+        return answer[currents..currents + POINTS].to_vec();
+    }
     let job = fitting(&edges, axis, group);
     let answer = answered("blue zones and stems", EDGES, job, cases::far_edge);
     // answer, count and anchor stand in front of the edges
@@ -176,6 +258,32 @@ fn fitting(edges: &[Edge], axis: &Axis, group: i32) -> Vec<i32> {
     let mut words = vec![122];
     words.extend(records::words(EDGES, edges));
     words.extend([axis.dimension as i32, group, 0, 0, 1, 2, PIXEL, 2 * PIXEL]);
+    words
+}
+
+/// A job of an axis in one call, with the same widths, a least gap of half a pixel, and all points off the curve weak.
+fn whole(glyph: &Glyph, segments: &[Segment], edges: &[Edge], axis: &Axis, group: i32) -> Vec<i32> {
+    let fonts = glyph
+        .places
+        .iter()
+        .map(|place| place[axis.dimension as usize]);
+    let weak = glyph.on_curve.iter().map(|on| i32::from(*on == 0));
+    let points = untouched(glyph, axis);
+    let mut words = vec![one_call::CALL];
+    words.extend(records::words(SEGMENTS, segments));
+    words.extend(records::words(EDGES, edges));
+    words.extend([9, axis.dimension as i32, group, 0, 1, 0, 1, 0, PIXEL / 2, 1]);
+    words.extend([2, PIXEL, 2 * PIXEL]);
+    let mut list = |numbers: Vec<i32>| {
+        words.push(numbers.len() as i32);
+        words.extend(numbers);
+    };
+    list(fonts.collect());
+    list(points.originals);
+    list(points.currents);
+    list(points.touches.into_iter().map(i32::from).collect());
+    list(weak.collect());
+    list(points.ends.into_iter().map(i32::from).collect());
     words
 }
 

@@ -1,6 +1,7 @@
 //! Job lines answered by the library's functions, each by its own call; `jobs` answers those alone whose call the wrapper does not have.
 
 use crate::{
+    one_call,
     port::{self, Beside, Call, Prepared, NO_PAIR},
     records,
 };
@@ -104,6 +105,10 @@ pub fn answer(words: &[i32]) -> Vec<i32> {
             answer.push(touches.len() as i32);
             answer.extend(touches.iter().copied().map(i32::from));
         }
+        Prepared::Fit(fit) => {
+            answer.extend(done.unwrap_or(one_call::REFUSED));
+            answer.extend(fit.lists());
+        }
         Prepared::Job(_, out) => answer.extend(out),
         Prepared::Edges(given, edges, call) => {
             answer.extend(beside(call, done));
@@ -158,7 +163,7 @@ fn beside(call: &Call, done: Option<Beside>) -> Vec<i32> {
         Call::CjkStem(..) => &[0],
         Call::Bounds(_) => &[-1, -1],
         Call::Stems(..) | Call::Joined(..) | Call::Apart(..) => &[0, -1],
-        Call::Gaps(..) => &NO_PAIR,
+        Call::Gaps(..) => &NO_PAIR[..7],
         Call::Linked(..) | Call::Serif(..) | Call::Adjust(..) | Call::M(_) => &[],
     };
     let words = done.as_ref().map_or(none, |words| &words[..none.len()]);

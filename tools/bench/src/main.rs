@@ -2,7 +2,7 @@
 //! instructions; `bench answer` answers job lines by `jobs`, which asks the library's functions, `bench values` with the calls on tables by value, and `bench library` by
 //! the library as its Rust wrapper calls it; `bench catalogue` times catalogues of outlines in one call, `bench references` alignment with remembered references,
 //! `bench drag` one point dragged, `bench mend` and `bench pack` axes that are mended and made smaller, `bench shown` what is shown of the sample label's glyphs, `bench chain` the chain
-//! of a glyph step by step, and `bench freetype`, built with the feature of that name, FreeType's own routines beside both.
+//! of a glyph step by step, `bench fit` the same chain with each axis fitted in one call, and `bench freetype`, built with the feature of that name, FreeType's own routines beside both.
 
 mod answer;
 mod axes;
@@ -25,6 +25,7 @@ mod glyph;
 #[path = "../../specimen/src/label.rs"]
 mod label;
 mod library;
+mod one_call;
 mod outlines;
 mod plot;
 mod port;
@@ -69,6 +70,8 @@ fn main() -> ExitCode {
             shown::run();
             println!();
             chain::run();
+            println!();
+            chain::run_fit();
         }
         ["catalogue"] => catalogue::run(),
         ["references"] => references::run(),
@@ -80,6 +83,10 @@ fn main() -> ExitCode {
             table::explain();
             chain::run();
         }
+        ["fit"] => {
+            table::explain();
+            chain::run_fit();
+        }
         #[cfg(feature = "freetype")]
         ["freetype"] => freetype::run(),
         ref names if !names.is_empty() && names.iter().all(|name| cases::NAMES.contains(name)) => {
@@ -87,7 +94,7 @@ fn main() -> ExitCode {
         }
         _ => {
             eprintln!(
-                "usage: bench answer | values | library | all | catalogue | references | drag | mend | pack | shown | chain | freetype | {}",
+                "usage: bench answer | values | library | all | catalogue | references | drag | mend | pack | shown | chain | fit | freetype | {}",
                 cases::NAMES.join(" | ")
             );
             return ExitCode::from(2);

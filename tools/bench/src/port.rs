@@ -1,6 +1,6 @@
 //! The port as tools use it: jobs by `jobs`, and calls of the library as gateways make them.
 
-use crate::records;
+use crate::{one_call::OneCall, records};
 use khsaemudol::{
     BluesAndStems, Bounds, Building, Catalogue, CjkStem, Dimension, Direction, Edge, Group,
     LostGaps, Moving, Neighbour, Order, Outline, PathStep, Refusal, Segment, StemPass, Stems,
@@ -72,6 +72,7 @@ pub enum Prepared {
     EdgePoints(Vec<Segment>, Vec<Edge>, job::EdgePoints, Vec<i32>, Vec<u8>),
     /// The edges, the points, and their currents and touch marks.
     Strong(Vec<Edge>, job::Strong, Vec<i32>, Vec<u8>),
+    Fit(Box<OneCall>),
     Path(Walk, Vec<u8>, Vec<f32>),
     PathStep(Walk, u32, Option<PathStep>),
     Shown(Walk, i32),
@@ -110,7 +111,7 @@ pub struct Rule(Option<Vec<i32>>);
 
 impl Rule {
     /// The rule of a job.
-    fn of(rule: job::WidthRule) -> Self {
+    pub fn of(rule: job::WidthRule) -> Self {
         Self(match rule {
             job::WidthRule::Keep(_) => None,
             job::WidthRule::Snap(standards) => Some(standards),
@@ -118,13 +119,13 @@ impl Rule {
     }
 
     /// The library's rule.
-    fn rule(&self) -> WidthRule<'_> {
+    pub fn rule(&self) -> WidthRule<'_> {
         self.0.as_deref().map_or(WidthRule::Keep, WidthRule::Snap)
     }
 }
 
 /// The library's dimension.
-fn dimension(dim: job::Dimension) -> Dimension {
+pub fn dimension(dim: job::Dimension) -> Dimension {
     match dim {
         job::Dimension::Horizontal => Dimension::Horizontal,
         job::Dimension::Vertical => Dimension::Vertical,
@@ -143,7 +144,7 @@ fn direction(direction: job::Direction) -> Direction {
 }
 
 /// The library's group.
-fn group(group: ScriptGroup) -> Group {
+pub fn group(group: ScriptGroup) -> Group {
     match group {
         ScriptGroup::Cjk => Group::Cjk,
         _ => Group::Latin,
@@ -180,13 +181,13 @@ pub fn catalogue(given: &job::Catalogue) -> Catalogue<'_> {
 }
 
 /// What a call hands back beside its lists: its words in front, and 0 behind.
-pub type Beside = [i32; 7];
+pub type Beside = [i32; 9];
 
 /// Nothing beside the lists.
-const NOTHING: Beside = [0; 7];
+const NOTHING: Beside = [0; 9];
 
 /// What the guard hands back beside a refusal: nothing lost, and no pair.
-pub const NO_PAIR: Beside = [0, -1, -1, 0, 0, 0, 0];
+pub const NO_PAIR: Beside = [0, -1, -1, 0, 0, 0, 0, 0, 0];
 
 /// One word.
 fn one(word: i32) -> Beside {
@@ -195,7 +196,9 @@ fn one(word: i32) -> Beside {
 
 /// Two words.
 fn two(first: i32, second: i32) -> Beside {
-    [first, second, 0, 0, 0, 0, 0]
+    let mut words = NOTHING;
+    (words[0], words[1]) = (first, second);
+    words
 }
 
 /// What the guard tells.
@@ -203,7 +206,7 @@ fn told(lost: LostGaps) -> Beside {
     let count = |count: usize| count as i32;
     let mut words = lost.first.map_or(NO_PAIR, |pair| {
         let (first, second) = (pair.first.into(), pair.second.into());
-        [0, first, second, pair.before, pair.after, 0, 0]
+        [0, first, second, pair.before, pair.after, 0, 0, 0, 0]
     });
     words[0] = count(lost.gaps);
     words[5] = count(lost.stems);
@@ -212,7 +215,7 @@ fn told(lost: LostGaps) -> Beside {
 }
 
 /// An index or its absence as a word.
-fn word(index: Option<u16>) -> i32 {
+pub fn word(index: Option<u16>) -> i32 {
     index.map_or(-1, i32::from)
 }
 
@@ -293,6 +296,10 @@ impl Prepared {
                 let edges = records::given(words, EDGES);
                 return Self::Strong(edges, given, Vec::new(), Vec::new());
             }
+            Job::Fit(segments, _, given) => {
+                let fit = OneCall::new(words, segments.items.len(), given);
+                return Self::Fit(Box::new(fit));
+            }
             Job::Catalogue(given) => return Self::Catalogue(given, Vec::new(), Vec::new()),
             Job::Remember(..)
             | Job::WithReferences(..)
@@ -312,6 +319,12 @@ impl Prepared {
         let rule = Rule::of(given.rule.clone());
         let call = Call::Apart(given, rule);
         Self::Edges(records::given(words, EDGES), Vec::new(), call)
+    }
+
+    /// A job of an axis, which the library is to fit by a call for each step.
+    pub fn in_a_row(segments: usize, given: job::Fit, words: &[i32]) -> Self {
+        let fit = OneCall::new(words, segments, given);
+        Self::Fit(Box::new(fit.by_steps()))
     }
 
     /// A job that `jobs` answers, from words to words, for a call that the library does not have by itself.
@@ -341,6 +354,7 @@ impl Prepared {
                 currents.clone_from(&given.currents);
                 touches.clone_from(&given.touches);
             }
+            Self::Fit(fit) => fit.restore(),
         }
     }
 
@@ -392,6 +406,7 @@ impl Prepared {
                 khsaemudol::align_strong_points(edges, fonts, originals, currents, touches, weak)
                     .map(|()| NOTHING)
             }
+            Self::Fit(fit) => fit.run(),
             Self::Path(walk, kinds, places) => {
                 let path = khsaemudol::path(&outline(walk), kinds, places)?;
                 Ok(one(path.len() as i32))

@@ -142,6 +142,9 @@ pub fn ports(jobs: &[Vec<i32>], role: Role) -> Vec<port::Prepared> {
     let prepared = |words: &Vec<i32>| match job(words) {
         Job::MLent(..) => port::Prepared::by_job(words),
         Job::Joined(_, given) if role == Role::Apart => port::Prepared::apart(given, words),
+        Job::Fit(segments, _, given) if role == Role::Apart => {
+            port::Prepared::in_a_row(segments.items.len(), given, words)
+        }
         job => port::Prepared::new(job, words),
     };
     jobs.iter().map(prepared).collect()
