@@ -19,6 +19,7 @@ static int32_t first, second, third, fourth, fifth, sixth, seventh;
 static uint8_t kinds[POINTS + 2 * (POINTS / 4)];
 static float places[4 * sizeof kinds];
 static uint32_t number, contours;
+static struct khs_fitted fitted;
 static uint8_t line[2 * (3 + 6 * FRAMED)];
 
 /* The choices that a function is called with in turn: dimension, group, whether stems are adjusted, and whether widths are snapped. */
@@ -57,11 +58,14 @@ static uint8_t stem(void) { return khs_hint_normal_stem_cjk(edge_words(), EDGE_L
 static uint8_t stems(void) {
     return khs_align_stem_edges(edge_words(), EDGE_LIST, dim, group, adjusted, 0, KHS_NONE, rule, standards, STANDARDS, &first, &second);
 }
-/* KHS_LATIN's horizontal axis has no zones: there the edges lose theirs. */
-static uint8_t joined(void) {
+/* Takes the zones away from KHS_LATIN's horizontal axis, which has none. */
+static void keep_zones(void) {
     for (int32_t i = 0; i < KHS_MOST_EDGES && dim == KHS_HORIZONTAL && group == KHS_LATIN; i++) {
         edges[i].blue = edges[i].blue_fitted = 0;
     }
+}
+static uint8_t joined(void) {
+    keep_zones();
     return khs_align_blues_and_stems(edge_words(), EDGE_LIST, dim, group, adjusted, 0, rule, standards, STANDARDS, &first, &second);
 }
 static uint8_t step(void) { return khs_path_step(originals, POINTS, currents, POINTS, touched, POINTS, ends, POINTS / 4, 4000, kinds, places, &number); }
@@ -90,16 +94,30 @@ static uint8_t pack(void) {
     return khs_pack_axis(segment_words(), SEGMENT_LIST, edge_words(), EDGE_LIST, &first);
 }
 static uint8_t turn(void) { return khs_turn_over(segment_words(), SEGMENT_LIST, edge_words(), EDGE_LIST); }
-/* Every segment goes around its contour of four points, over its start. */
-static uint8_t edge_points(void) {
+/* Sends every segment around its contour of four points, over its start. */
+static void walks(void) {
     rings(1, 0);
     for (int32_t i = 0; i < KHS_MOST_SEGMENTS; i++) {
         segments[i].first = 8 * i + 2;
         segments[i].last = 8 * i + 1;
     }
+}
+static uint8_t edge_points(void) {
+    walks();
     return khs_align_edge_points(segment_words(), SEGMENT_LIST, edge_words(), EDGE_LIST, dim, group, currents, POINTS, touched, POINTS, ends, POINTS / 4);
 }
 static uint8_t strong(void) { return khs_align_strong_points(edge_words(), EDGE_LIST, fonts, POINTS, originals, POINTS, currents, POINTS, touched, POINTS, weak_marks, POINTS); }
+/* Every fifth edge has no link, and is left for remaining edges. */
+static uint8_t fit(void) {
+    const struct khs_fit numbers = {dim, group, adjusted, 1, 0, rule, 1, 0, adjusted};
+    keep_zones();
+    walks();
+    for (int32_t i = 0; i < KHS_MOST_EDGES; i += 5) {
+        edges[i].link = KHS_NONE;
+    }
+    return khs_fit_axis(segment_words(), SEGMENT_LIST, edge_words(), EDGE_LIST, (const int32_t *)&numbers, KHS_FIT_WORDS, standards, STANDARDS, fonts, POINTS, originals,
+                        POINTS, currents, POINTS, touched, POINTS, weak_marks, POINTS, ends, POINTS / 4, (int32_t *)&fitted, KHS_FITTED_WORDS);
+}
 static uint8_t write_frame(void) { return khs_write_frame(originals, FRAMED, currents, FRAMED, touched, FRAMED, ends, FRAMED / 4, line, sizeof line, &number); }
 static uint8_t read_frame(void) {
     return khs_read_frame(line, sizeof line, originals, FRAMED, currents, FRAMED, touched, FRAMED, ends, FRAMED, &number, &contours);
@@ -117,7 +135,7 @@ static const struct {
 } calls[] = {{"khs_align_weak_points", weak}, {"khs_align_catalogue", catalogue}, {"khs_remember_references", remember},
              {"khs_align_with_references", with_references}, {"khs_drag_point", drag}, {"khs_link_segments_cjk", linking}, {"khs_compute_edges", building}, {"khs_align_edges_to_blues", blues},
              {"khs_align_linked_edge", linked}, {"khs_align_serif_edge", serif}, {"khs_adjust_link", adjust}, {"khs_latin_remaining_bounds", bounds},
-             {"khs_hint_normal_stem_cjk", stem}, {"khs_align_stem_edges", stems}, {"khs_align_blues_and_stems", joined}, {"khs_align_remaining_edges", remaining}, {"khs_hint_lowercase_m", lowercase_m}, {"khs_lost_gaps", guard}, {"khs_align_edge_points", edge_points}, {"khs_align_strong_points", strong},
+             {"khs_hint_normal_stem_cjk", stem}, {"khs_align_stem_edges", stems}, {"khs_align_blues_and_stems", joined}, {"khs_align_remaining_edges", remaining}, {"khs_hint_lowercase_m", lowercase_m}, {"khs_lost_gaps", guard}, {"khs_align_edge_points", edge_points}, {"khs_align_strong_points", strong}, {"khs_fit_axis", fit},
              {"khs_path_step", step}, {"khs_path", path}, {"khs_count_shown", shown}, {"khs_mend", mend}, {"khs_pack_axis", pack}, {"khs_turn_over", turn}, {"khs_write_frame", write_frame}, {"khs_read_frame", read_frame}};
 
 /* Segments in pairs, the pairs on 128 heights; edges in stems, each with a zone or done here and there; points touched and weak here and there; the longest frame, all zeros. */
