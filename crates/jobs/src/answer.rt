@@ -2,8 +2,8 @@
 use super::call::job_of;
 use super::lent::answer_lent;
 use jobs_fit::edge_points::answer_edge_points;
-use jobs_fit::fit::answer_fit;
 use jobs_fit::strong::answer_strong;
+use jobs_fit::whole::answer_fit;
 use jobs_log::answer_read;
 use jobs_log::answer_write;
 use jobs_points::catalogue::answer_catalogue;
