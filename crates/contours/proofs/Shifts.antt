@@ -1,35 +1,34 @@
 -- A contour with one touched point: what the shift makes of the others.
 use mathlib.Core.Path.{_≡_, refl, _∙_}
+use mathlib.Core.Bool.{Bool, true, false, cond}
 use mathlib.Core.List.{List}
-use Prim.Native.Nat.{ℕ, _+_, _<_}
-use native.Mathlib.Decide.{decLt}
+use Prim.Native.Nat.{ℕ}
 use native.Mathlib.Omega.{arith}
-use lib.ListN.{length}
-use lib.IntN.{ℤ, _-ℤ_}
-use Rattle.signed.proofs.Signed.{eqZ-yes, eqZ-no}
+use lib.IntN.{ℤ, _+ℤ_, _-ℤ_}
+use Rattle.signed.specs.Equality.{eqZ}
+use Rattle.signed.proofs.Signed.{eqZ-yes, eqZ-no, same}
+use Rattle.signed.proofs.Rules.{eq-add-of-sub}
 use Rattle.contours.specs.Contour.{at, shiftedAt}
-use Rattle.contours.specs.Steps.{Wrote, movedBy, Shifted}
+use Rattle.contours.specs.Steps.{Wrote, movedBy}
 
--- delta 0 leaves the others
-pub shifted-still : (o c : List ℤ) (p : ℕ) → at c p ≡ at o p → Shifted o c p c
+-- the touched point comes to where it is
+pub shifted-own : (o c : List ℤ) (p : ℕ) → shiftedAt o c p p ≡ at c p
 unfolding shiftedAt
-shifted-still o c p e = record { len = refl; here = refl; others = λ i n h. rw (eqZ-yes (at c p) (at o p) e) }
+shifted-own o c p = by (eqZ (at c p) (at o p))
+  where
+    by : (b : Bool) → cond b (at c p) (at o p +ℤ (at c p -ℤ at o p)) ≡ at c p
+    by true = refl
+    by false = same (omega (arith, eq-add-of-sub (at o p +ℤ (at c p -ℤ at o p)) (at o p) (at c p) (at o p) refl))
 
--- otherwise the points in front of it and those behind it are moved
-module _ (o c d e : List ℤ) (p n : ℕ) (all : n ≡ length c) (moved : at c p ≡ at o p → ⊥)
-    (front : Wrote (movedBy o (at c p -ℤ at o p)) 0 p c d) (behind : Wrote (movedBy o (at c p -ℤ at o p)) (p + 1) n d e) where
-  moved-is : (i : ℕ) → movedBy o (at c p -ℤ at o p) i ≡ shiftedAt o c p i
-  unfolding shiftedAt movedBy
-  moved-is i = rw (eqZ-no (at c p) (at o p) moved)
+-- delta 0 leaves all points
+pub shifted-still : (o c : List ℤ) (p a b : ℕ) → at c p ≡ at o p → Wrote (shiftedAt o c p) a b c c
+unfolding shiftedAt
+shifted-still o c p a b e = record { len = refl; inside = λ i l h. rw (eqZ-yes (at c p) (at o p) e); below = λ i h. refl; above = λ i l. refl }
 
-  other : (i : ℕ) → (i ≡ p → ⊥) → i < length c → Dec (i < p) → at e i ≡ shiftedAt o c p i
-  other i ne h (yes lt) = behind .below i (omega arith) ∙ front .inside i (omega arith) lt ∙ moved-is i
-  other i ne h (no ge) = behind .inside i (omega arith) (omega arith) ∙ moved-is i
-
-  pub shifted-moved : Shifted o c p e
-  shifted-moved =
-      record {
-        len = behind .len ∙ front .len;
-        here = behind .below p (omega arith) ∙ front .above p (omega arith);
-        others = λ i ne h. other i ne h (decLt i p);
-      }
+-- otherwise they are moved
+pub shifted-moved : (o c d : List ℤ) (p a b : ℕ) → (at c p ≡ at o p → ⊥) → Wrote (movedBy o (at c p -ℤ at o p)) a b c d → Wrote (shiftedAt o c p) a b c d
+unfolding shiftedAt movedBy
+shifted-moved o c d p a b n w = record { len = w .len; inside = λ i l h. w .inside i l h ∙ moved i; below = w .below; above = w .above }
+  where
+    moved : (i : ℕ) → movedBy o (at c p -ℤ at o p) i ≡ shiftedAt o c p i
+    moved i = rw (eqZ-no (at c p) (at o p) n)

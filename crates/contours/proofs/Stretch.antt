@@ -11,8 +11,9 @@ use lib.ListN.{length, getD}
 use lib.IntN.{ℤ}
 use lib.Signed.{ltZ}
 use Rattle.contours.specs.Contour.{at, refs, firstOf, secondOf, betweenAt, shiftedAt, weakAt, steepBy}
-use Rattle.contours.specs.Steps.{whole, Next, Wrote, Shifted, Upto, Done, Gentle, GentleRefs}
+use Rattle.contours.specs.Steps.{whole, Next, Wrote, Upto, Done, Gentle, GentleRefs}
 use Rattle.contours.proofs.References.{refs-gap, refs-behind, refs-front, refs-none}
+use Rattle.contours.proofs.Shifts.{shifted-own}
 use Rattle.contours.proofs.Points.{weak-touched, weak-two, weak-one, weak-none, steep-two}
 
 -- ---- the gaps between touched points
@@ -101,25 +102,25 @@ module _ (o c : List ℤ) (t : List ℕ) where
       }
 
   -- one touched
-  module _ (p : ℕ) (d e : List ℤ) (lt : length t ≡ length c) (x0 : Next t 0 p) (u : Upto o c t p p d) (x1 : Next t (p + 1) (length t)) (a : Shifted o d p e) where
+  module _ (p : ℕ) (d e : List ℤ) (lt : length t ≡ length c) (x0 : Next t 0 p) (u : Upto o c t p p d) (x1 : Next t (p + 1) (length t)) (a : Wrote (shiftedAt o d p) 0 (length t) d e) where
     shifted-by : (i : ℕ) → at d i ≡ at c i → shiftedAt o d p i ≡ shiftedAt o c p i
     unfolding shiftedAt
     shifted-by i q = rw (at-p o c d t p p (length t) u x1, q)
 
     one-rest : (i : ℕ) → i < length c → (i ≡ p → ⊥) → Dec (i < p) → at e i ≡ weakAt o c t (whole t) i
     one-rest i h n (yes l) =
-        a .others i n (omega (arith, u .len)) ∙ shifted-by i (u .below i l)
+        a .inside i (omega arith) (omega arith) ∙ shifted-by i (u .below i l)
         ∙ sym
         (weak-one o c t (whole t) i p (x0 .clear i l (omega arith))
         (refs-front t (whole t) i (omega arith) (omega arith) p p (omega arith) (le-refl p) (u .high) (u .mark) (u .mark) (x0 .clear) (λ j y z. x1 .clear j y (omega arith)) l))
     one-rest i h n (no g) =
-        a .others i n (omega (arith, u .len)) ∙ shifted-by i (u .above i (omega arith))
+        a .inside i (omega arith) (omega arith) ∙ shifted-by i (u .above i (omega arith))
         ∙ sym
         (weak-one o c t (whole t) i p (x1 .clear i (omega arith) (omega arith))
         (refs-behind t (whole t) i (omega arith) (omega arith) p p (omega arith) (le-refl p) (u .high) (u .mark) (u .mark) (x0 .clear) (λ j y z. x1 .clear j y (omega arith)) (omega arith)))
 
     one-at : (i : ℕ) → i < length c → Dec (i ≡ p) → at e i ≡ weakAt o c t (whole t) i
-    one-at i h (yes q) = rw q (a .here ∙ u .inside p (le-refl p) (le-refl p))
+    one-at i h (yes q) = rw q (a .inside p (omega arith) (u .high) ∙ shifted-own o d p ∙ u .inside p (le-refl p) (le-refl p))
     one-at i h (no n) = one-rest i h n (decLt i p)
 
     pub done-one : Done o c t e

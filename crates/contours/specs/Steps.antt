@@ -11,7 +11,7 @@ use Rattle.fixed.specs.Point.{divFix}
 use Rattle.fixed.specs.Divide.{tooSteep}
 use Rattle.contours.specs.Limits.{mostCoordinate}
 use Rattle.signed.specs.Equality.{eqZ}
-use Rattle.contours.specs.Contour.{at, Contour, References, interpolated, shiftedAt, weakAt, steepBetween, steepBy, steepAt}
+use Rattle.contours.specs.Contour.{at, Contour, References, interpolated, weakAt, steepBetween, steepBy, steepAt}
 use Rattle.contours.specs.declared.iup.Span.{Span}
 
 -- z is an accepted coordinate
@@ -84,12 +84,6 @@ Gentle o c t = (i : ℕ) → i < length t → steepAt o c t (whole t) i ≡ fals
 -- the original of the point i, moved by delta
 unfoldable pub movedBy : List ℤ → ℤ → ℕ → ℤ
 movedBy o delta i = at o i +ℤ delta
-
--- d is c with every point but p moved as p, the only touched one, was
-pub record Shifted (o c : List ℤ) (p : ℕ) (d : List ℤ) : Type 0 where
-  pub len : length d ≡ length c
-  pub here : at d p ≡ at c p
-  pub others : (i : ℕ) → (i ≡ p → ⊥) → i < length c → at d i ≡ shiftedAt o c p i
 
 -- d is c with the points from f up to and with p, which is touched, aligned
 pub record Upto (o c : List ℤ) (t : List ℕ) (f p : ℕ) (d : List ℤ) : Type 0 where

@@ -53,7 +53,7 @@ pub fn align_contour(originals: &[i32], currents: &mut [i32], touched: &[u8])
     }
     let last = align_gaps(originals, currents, touched, first);
     if last == first {
-        iup_shift(originals, currents, first);
+        iup_shift(originals, currents, 0, n, first);
         return;
     }
     iup_interpolate(originals, currents, last + 1, n, last, first);

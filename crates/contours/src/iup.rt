@@ -1,4 +1,4 @@
-// The shift and the interpolation of untouched points (the Rust's `iup_shift` and `iup_interpolate`), on one contour's stretch of the lists.
+// The shift and the interpolation of untouched points (the Rust's `iup_shift` and `iup_interpolate`), on a stretch of the lists.
 use fixed::point::Quotient;
 use fixed::point::fixed_div;
 use fixed::point::fixed_mul;
@@ -9,8 +9,8 @@ ghost use mathlib.Core.Bool.{false};
 ghost use lib.Signed.{ltZ};
 ghost use Rattle.signed.specs.Range.{Between};
 ghost use Rattle.contours.specs.Limits.{mostDelta};
-ghost use Rattle.contours.specs.Contour.{at, refs, interpolated, betweenAt, steepBetween};
-ghost use Rattle.contours.specs.Steps.{Coordinate, Coordinates, Wrote, slope, Ordered, spanOf, SpanHolds, spannedAt, movedBy, Shifted, GentleSpan, GentleRefs};
+ghost use Rattle.contours.specs.Contour.{at, refs, interpolated, betweenAt, shiftedAt, steepBetween};
+ghost use Rattle.contours.specs.Steps.{Coordinate, Coordinates, Wrote, slope, Ordered, spanOf, SpanHolds, spannedAt, movedBy, GentleSpan, GentleRefs};
 
 // The originals v1, v2 and the currents u1, u2 of two references, and the scale from the originals to the currents.
 pub struct Span {
@@ -135,19 +135,16 @@ fn move_by(originals: &[i32], currents: &mut [i32], from: usize, to: usize, delt
     }
 }
 
-// Shifts every other point of a contour as its only touched point p was.
-pub fn iup_shift(originals: &[i32], currents: &mut [i32], p: usize)
-    requires { ⌜ (length (now currents) ≡ length (now originals)) × (p < length (now originals)) ⌝ }
+// Shifts the points from `from` up to `to` as the touched point p was. It may be one of them: it comes to where it is.
+pub fn iup_shift(originals: &[i32], currents: &mut [i32], from: usize, to: usize, p: usize)
+    requires { ⌜ (length (now currents) ≡ length (now originals)) × (from ≤ to) × (to ≤ length (now originals)) × (p < length (now originals)) ⌝ }
     requires { ⌜ Coordinates (now originals) × Coordinate (at (now currents) p) ⌝ }
-    ensures { λ _. ⌜ Shifted (now (originals .entry)) (now (currents .entry)) p (now (currents .exit)) ⌝ }
+    ensures { λ _. ⌜ Wrote (shiftedAt (now (originals .entry)) (now (currents .entry)) p) from to (now (currents .entry)) (now (currents .exit)) ⌝ }
 {
-    let n = originals.len();
     let u = currents[p];
     let v = originals[p];
     if u == v {
         return;
     }
-    let delta = u - v;
-    move_by(originals, currents, 0, p, delta);
-    move_by(originals, currents, p + 1, n, delta);
+    move_by(originals, currents, from, to, u - v);
 }

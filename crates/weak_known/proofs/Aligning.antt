@@ -1,4 +1,4 @@
--- The points of a stretch share their references: aligning by the lists.
+-- The points of a stretch share their references, and those of a contour with one touched point that one: aligning by the lists.
 use mathlib.Core.Path.{_≡_, refl, sym, _∙_, ap, subst}
 use mathlib.Core.Bool.{Bool, true, false, cond}
 use mathlib.Core.List.{List}
@@ -13,15 +13,16 @@ use borrow.Author.Tests.{lt-ltb, le-ltb}
 use lib.Dec.{ltb}
 use lib.ListN.{getD}
 use lib.IntN.{ℤ}
-use Rattle.contours.specs.Contour.{at, isTouched, firstTouched, lastTouched, touchedBefore, touchedBehind, refs, references, betweenAt, weakAt}
+use Rattle.contours.specs.Contour.{at, isTouched, firstTouched, lastTouched, touchedBefore, touchedBehind, refs, references, betweenAt, shiftedAt, weakAt}
 use Rattle.contours.specs.Steps.{Clear, Wrote, GentleRefs}
 use Rattle.contours.proofs.Searches.{not-touched, marked, unmarked, First, first-is, first-clear, last-is}
 use Rattle.contours.proofs.References.{refs-on, refs-same}
-use Rattle.contours.proofs.Points.{weak-touched, weak-two, steep-two}
+use Rattle.contours.proofs.Shifts.{shifted-own}
+use Rattle.contours.proofs.Points.{weak-touched, weak-two, weak-one, weak-none, steep-two}
 use Rattle.weak_known.specs.Known.{touchedNumber}
-use Rattle.weak_known.specs.Walks.{contour, foundOr, priorAt, laterAt, Says, TwoOn, GentleOn}
+use Rattle.weak_known.specs.Walks.{contour, foundOr, priorAt, laterAt, Says, TwoOn, LoneOn, GentleOn}
 use Rattle.weak_known.proofs.Agreeing.{between-reads, steep-reads}
-use Rattle.weak_known.proofs.Entries.{more-before, more-behind}
+use Rattle.weak_known.proofs.Entries.{lone-none, lone-one, more-before, more-behind}
 
 -- ---- a clear stretch changes no search
 pub last-along : (t : List ℕ) (s i n : ℕ) → s ≤ i → Clear t i (i + n) → lastTouched t s (i + n - s) ≡ lastTouched t s (i - s)
@@ -92,6 +93,30 @@ module _ (t : List ℕ) (s e i : ℕ) (low : s ≤ i) (high : i < e) (w : TwoOn 
           rw (lt-ltb i b (f .low)) (with-i b (f .clear), f .low, omega (arith, f .high))
 
 -- ---- one turn
+-- what is written from s up to i, or up to e where i is behind it
+module _ (f : ℕ → ℤ) (s e i : ℕ) (c d : List ℤ) where
+  abbrev pub WroteTo : Type 0
+  WroteTo = Wrote f s (i - (i - e)) c d
+
+  pub to-here : i ≤ e → Wrote f s i c d → WroteTo
+  to-here h = let a : i ≡ i - (i - e) = omega arith in subst (λ (x : ℕ). Wrote f s x c d) a
+
+  pub from-here : i ≤ e → WroteTo → Wrote f s i c d
+  from-here h = let a : i - (i - e) ≡ i = omega arith in subst (λ (x : ℕ). Wrote f s x c d) a
+
+  pub to-end : e ≤ i → WroteTo → Wrote f s e c d
+  to-end h = let a : i - (i - e) ≡ e = omega arith in subst (λ (x : ℕ). Wrote f s x c d) a
+
+-- a touched point is passed
+pub passed : (o c d : List ℤ) (t : List ℕ) (s e i : ℕ) → 0 < getD t i 0 → Wrote (weakAt o c t (contour s e)) s i c d → Wrote (weakAt o c t (contour s e)) s (i + 1) c d
+passed o c d t s e i m so =
+    record {
+      len = so .len;
+      inside = λ j x y. ⊎-elim (λ z. rw z (so .above i (omega arith) ∙ sym (weak-touched o c t (contour s e) i m))) (λ z. so .inside j x z) (eq-or-lt-of-le (le-of-suc-le-suc (rw add-one at y)));
+      below = so .below;
+      above = λ j x. so .above j (omega arith);
+    }
+
 module _ (o c d : List ℤ) (t b h : List ℕ) (s e i p q : ℕ) (low : s ≤ i) (high : i < e) (w : TwoOn t s e) (says : Says t b h s e)
     (ep : p ≡ getD b i 0) (eq : q ≡ getD h i 0) (so : Wrote (weakAt o c t (contour s e)) s i c d) where
   -- the numbers
@@ -100,16 +125,6 @@ module _ (o c d : List ℤ) (t b h : List ℕ) (s e i p q : ℕ) (low : s ≤ i)
 
   number-behind : q ≡ laterAt t e (w .first) i
   number-behind = eq ∙ says .behind i low high ∙ sym (more-behind t s e i low high (w .first) (w .last) (w .first-is) (w .last-is) (w .different))
-
-  -- a touched point is passed
-  pub turn-touched : 0 < getD t i 0 → Wrote (weakAt o c t (contour s e)) s (i + 1) c d
-  turn-touched m =
-      record {
-        len = so .len;
-        inside = λ j x y. ⊎-elim (λ z. rw z (so .above i (omega arith) ∙ sym (weak-touched o c t (contour s e) i m))) (λ z. so .inside j x z) (eq-or-lt-of-le (le-of-suc-le-suc (rw add-one at y)));
-        below = so .below;
-        above = λ j x. so .above j (omega arith);
-      }
 
   -- which points are touched, by the number
   pub by-number : e ≤ 4096 → p ≡ 65535 → 0 < getD t i 0
@@ -194,7 +209,7 @@ module _ (o c d : List ℤ) (t b h : List ℕ) (s e i p q : ℕ) (low : s ≤ i)
       stretch-gentle g j x y =
           steep-reads o c d j (refs p q) kept-p kept-q ∙ steep-two o c t (contour s e) j p q (clear j y x) (along j x y) (g j (omega arith) (omega (arith, to-high)))
 
-      pub turn-stretch : (g : List ℤ) → Wrote (betweenAt o d (refs p q)) i to d g → Wrote (weakAt o c t (contour s e)) s to c g
+      turn-stretch : (g : List ℤ) → Wrote (betweenAt o d (refs p q)) i to d g → Wrote (weakAt o c t (contour s e)) s to c g
       turn-stretch g v =
           record {
             len = v .len ∙ so .len;
@@ -206,3 +221,79 @@ module _ (o c d : List ℤ) (t b h : List ℕ) (s e i p q : ℕ) (low : s ≤ i)
           inner : (j : ℕ) → s ≤ j → j < to → Dec (j < i) → at g j ≡ weakAt o c t (contour s e) j
           inner j x y (yes z) = v .below j z ∙ so .inside j x z
           inner j x y (no n) = v .inside j (omega arith) y ∙ reads j ∙ sym (comes j (omega arith) y)
+
+      -- and where a touched point ends it, that one is passed too
+      ends-touched : to < e → 0 < getD t to 0
+      ends-touched l = by (ltb i q) et
+        where
+          by : (x : Bool) → to ≡ cond x q e → 0 < getD t to 0
+          by true z = subst (λ (y : ℕ). 0 < getD t y 0) (sym z) (both-on .1 .2)
+          by false z = absurd (omega arith)
+
+      pub turn-past : (g : List ℤ) → Wrote (betweenAt o d (refs p q)) i to d g → WroteTo (weakAt o c t (contour s e)) s e (to + 1) c g
+      turn-past g v = by (decLt to e)
+        where
+          by : Dec (to < e) → WroteTo (weakAt o c t (contour s e)) s e (to + 1) c g
+          by (yes l) = to-here (weakAt o c t (contour s e)) s e (to + 1) c g (omega arith) (passed o c g t s e to (ends-touched l) (turn-stretch g v))
+          by (no n) = let a : to ≡ to + 1 - (to + 1 - e) = omega (arith, to-high) in subst (λ (x : ℕ). Wrote (weakAt o c t (contour s e)) s x c g) a (turn-stretch g v)
+
+-- ---- a contour of which one point is touched or none; p is what the search finds
+module _ (o c : List ℤ) (t : List ℕ) (s e p : ℕ) (lo : s ≤ e) (found : p ≡ foundOr e (firstTouched t s (e - s))) where
+  none-is : e ≤ p → firstTouched t s (e - s) ≡ none
+  unfolding foundOr
+  none-is h = by (firstTouched t s (e - s)) refl found
+    where
+      by : (x : Option ℕ) → firstTouched t s (e - s) ≡ x → p ≡ foundOr e x → x ≡ none
+      by none q r = refl
+      by (some f) q r = absurd (omega (arith, first-is t s (e - s) f q .high))
+
+  pub lone-still : e ≤ p → Wrote (weakAt o c t (contour s e)) s e c c
+  lone-still h =
+      record {
+        len = refl;
+        inside = λ i x y. sym (weak-none o c t (contour s e) i (clear i x y) (lone-none t s e i x y (clear i x y) (none-is h)));
+        below = λ i x. refl;
+        above = λ i x. refl;
+      }
+    where
+      clear : (i : ℕ) → s ≤ i → i < e → getD t i 0 ≡ 0
+      clear i x y = first-clear t s (e - s) (none-is h) i (omega arith) x
+
+  module _ (in-front : p < e) where
+    first-one : firstTouched t s (e - s) ≡ some p
+    unfolding foundOr
+    first-one = by (firstTouched t s (e - s)) refl found
+      where
+        by : (x : Option ℕ) → firstTouched t s (e - s) ≡ x → p ≡ foundOr e x → x ≡ some p
+        by none q r = absurd (omega arith)
+        by (some f) q r = ap some (sym r)
+
+    pub lone-low : s ≤ p
+    lone-low = first-is t s (e - s) p first-one .low
+
+    module _ (lone : LoneOn t s e) where
+      last-one : lastTouched t s (e - s) ≡ some p
+      unfolding foundOr
+      last-one = by (lastTouched t s (e - s)) (found ∙ lone)
+        where
+          by : (x : Option ℕ) → p ≡ foundOr e x → x ≡ some p
+          by none r = absurd (omega arith)
+          by (some f) r = ap some (sym r)
+
+      only : (i : ℕ) → s ≤ i → i < e → 0 < getD t i 0 → i ≡ p
+      only i x y m = by (decLt i p) (decLt p i)
+        where
+          by : Dec (i < p) → Dec (p < i) → i ≡ p
+          by (yes l) r = absurd (omega (arith, first-is t s (e - s) p first-one .clear i l x))
+          by (no l) (yes r) = absurd (omega (arith, last-is t s (e - s) p last-one .clear i (omega arith) r))
+          by (no l) (no r) = omega arith
+
+      comes-to : (i : ℕ) → s ≤ i → i < e → shiftedAt o c p i ≡ weakAt o c t (contour s e) i
+      comes-to i x y = by (isTouched t i) refl
+        where
+          by : (b : Bool) → isTouched t i ≡ b → shiftedAt o c p i ≡ weakAt o c t (contour s e) i
+          by true m = let z = only i x y (marked t i m) in rw z (shifted-own o c p) ∙ sym (weak-touched o c t (contour s e) i (marked t i m))
+          by false m = sym (weak-one o c t (contour s e) i p (unmarked t i m) (lone-one t s e i x y p (unmarked t i m) first-one last-one))
+
+      pub lone-shift : (d : List ℤ) → Wrote (shiftedAt o c p) s e c d → Wrote (weakAt o c t (contour s e)) s e c d
+      lone-shift d w = record { len = w .len; inside = λ i x y. w .inside i x y ∙ comes-to i x y; below = w .below; above = w .above }

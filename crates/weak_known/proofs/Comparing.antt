@@ -22,7 +22,7 @@ and-assoc : (x y z : Bool) → (x && (y && z)) ≡ ((x && y) && z)
 and-assoc true y z = refl
 and-assoc false y z = refl
 
-and-true : (x : Bool) → (x && true) ≡ x
+pub and-true : (x : Bool) → (x && true) ≡ x
 and-true true = refl
 and-true false = refl
 

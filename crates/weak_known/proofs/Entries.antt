@@ -50,11 +50,11 @@ beyond t i p u m n = ⊎-elim (λ q. absurd (omega (arith, ap (λ (x : ℕ). get
 -- ---- one contour
 module _ (t : List ℕ) (s e i : ℕ) (low : s ≤ i) (high : i < e) where
   -- no point is touched
-  lone-none : getD t i 0 ≡ 0 → firstTouched t s (e - s) ≡ none → references t (contour s e) i ≡ none
+  pub lone-none : getD t i 0 ≡ 0 → firstTouched t s (e - s) ≡ none → references t (contour s e) i ≡ none
   lone-none unmark q = refs-none t (contour s e) i low high (λ z h l. first-clear t s (e - s) q z (omega arith) l)
 
   -- one is
-  lone-one : (p : ℕ) → getD t i 0 ≡ 0 → firstTouched t s (e - s) ≡ some p → lastTouched t s (e - s) ≡ some p → references t (contour s e) i ≡ some (refs p p)
+  pub lone-one : (p : ℕ) → getD t i 0 ≡ 0 → firstTouched t s (e - s) ≡ some p → lastTouched t s (e - s) ≡ some p → references t (contour s e) i ≡ some (refs p p)
   lone-one p unmark a b = by (first-is t s (e - s) p a) (last-is t s (e - s) p b) (decLt i p)
     where
       by : First t s (s + (e - s)) p → Last t s (s + (e - s)) p → Dec (i < p) → references t (contour s e) i ≡ some (refs p p)

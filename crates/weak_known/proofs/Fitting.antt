@@ -14,8 +14,8 @@ use Rattle.contours.specs.Limits.{mostPoints}
 use Rattle.contours.specs.Contour.{isTouched, firstTouched, lastTouched}
 use Rattle.contours.proofs.Searches.{is-touched, not-touched, marked, first-is, last-is, first-clear, last-clear}
 use Rattle.weak_known.specs.Known.{sameAs, touchedNumber, oneOrNoneNumber}
-use Rattle.weak_known.specs.Walks.{contour, foundOr, beforeOn, behindOn, plainAt, priorAt, laterAt, saidOn, shows, firstShown, lastShown, showTwo, seamHolds, fits, fitsAt, allFrom, weight, weightAt, sumFrom, Says, TwoOn}
-use Rattle.weak_known.proofs.Comparing.{same-at}
+use Rattle.weak_known.specs.Walks.{contour, foundOr, beforeOn, behindOn, plainAt, priorAt, laterAt, saidOn, shows, firstShown, lastShown, showTwo, seamHolds, fits, fitsAt, allFrom, weight, weightAt, sumFrom, Says, TwoOn, LoneOn}
+use Rattle.weak_known.proofs.Comparing.{and-true, same-at}
 use Rattle.weak_known.proofs.Remembering.{same-put}
 use Rattle.weak_known.proofs.Entries.{lone-before, lone-behind, more-before, more-behind, both-found, prior-next, prior-first, later-next, later-last}
 
@@ -405,11 +405,8 @@ module _ (t : List ℕ) (s e : ℕ) (lo : s < e) (hi : e ≤ mostPoints) where
       all-two = all-of (fitsAt t b h) s (e - suc s) (λ j a c. fits-two j a (omega arith))
 
     -- ---- a contour with one touched point or none: both searches come to the same
-    abbrev Lone : Type 0
-    Lone = foundOr e (firstTouched t s (e - s)) ≡ foundOr e (lastTouched t s (e - s))
-
     -- two touched points of it are one
-    lone-only : Lone → (i j : ℕ) → s ≤ i → i < e → 0 < getD t i 0 → s ≤ j → j < e → 0 < getD t j 0 → i ≡ j
+    lone-only : LoneOn t s e → (i j : ℕ) → s ≤ i → i < e → 0 < getD t i 0 → s ≤ j → j < e → 0 < getD t j 0 → i ≡ j
     unfolding foundOr
     lone-only q i j a c m x y z = by (firstTouched t s (e - s)) (lastTouched t s (e - s)) refl refl q
       where
@@ -426,7 +423,7 @@ module _ (t : List ℕ) (s e : ℕ) (lo : s < e) (hi : e ≤ mostPoints) where
                 only (no d) (yes r) = absurd (omega (arith, last-is t s (e - s) p ev .clear k (omega arith) (omega (arith, w))))
                 only (no d) (no r) = omega arith
 
-    module _ (says : Says t b h s e) (q : Lone) where
+    module _ (says : Says t b h s e) (q : LoneOn t s e) where
       plain-before : (i : ℕ) → s ≤ i → i < e → getD b i 0 ≡ plainAt t oneOrNoneNumber i
       plain-before i a c = says .before i a c ∙ sym (lone-before t s e i a c q)
 
@@ -488,10 +485,10 @@ module _ (t : List ℕ) (s e : ℕ) (lo : s < e) (hi : e ≤ mostPoints) where
           let y = weight-touched (getD t j 0) (getD b j 0) (getD h j 0) (is-touched t j n) in
           absurd (omega arith)
 
-      weighs-lone : Lone
+      weighs-lone : LoneOn t s e
       weighs-lone = by (ℕ-discrete (foundOr e (firstTouched t s (e - s))) (foundOr e (lastTouched t s (e - s))))
         where
-          by : Dec Lone → Lone
+          by : Dec (LoneOn t s e) → LoneOn t s e
           by (yes q) = q
           by (no n) =
               let r = both-found t s e n in
@@ -511,13 +508,13 @@ module _ (t : List ℕ) (s e : ℕ) (lo : s < e) (hi : e ≤ mostPoints) where
       }
 
     -- ---- what the code decides
-    found : Dec Lone → (Lone → Says t b h s e → ⊥) → Says t b h s e → (showTwo b h s e ≡ true) × ((seamHolds t b h s e ≡ true) × (allFrom (fitsAt t b h) s (e - suc s) ≡ true))
+    found : Dec (LoneOn t s e) → (LoneOn t s e → Says t b h s e → ⊥) → Says t b h s e → (showTwo b h s e ≡ true) × ((seamHolds t b h s e ≡ true) × (allFrom (fitsAt t b h) s (e - suc s) ≡ true))
     found (yes q) n w = absurd (n q w)
     found (no q) n w =
         let r = both-found t s e q in
         (shows-two w _ _ (r .0) (r .1) q, (seam-two w _ _ (r .0) (r .1) q, all-two w _ _ (r .0) (r .1) q))
 
-    abbrev lone? : Dec Lone
+    abbrev lone? : Dec (LoneOn t s e)
     lone? = ℕ-discrete (foundOr e (firstTouched t s (e - s))) (foundOr e (lastTouched t s (e - s)))
 
     -- by the weights, where the ends show no two points
@@ -526,9 +523,17 @@ module _ (t : List ℕ) (s e : ℕ) (lo : s < e) (hi : e ≤ mostPoints) where
         both-ways (ltb (sumFrom (weightAt t b h) s (e - s)) 2) (saidOn t b h s e) (λ q. says-said t b h s e (weighs-says (ltb-true (sumFrom (weightAt t b h) s (e - s)) 2 q)))
         (λ q. by (said-says t b h s e q) lone?)
       where
-        by : Says t b h s e → Dec Lone → ltb (sumFrom (weightAt t b h) s (e - s)) 2 ≡ true
+        by : Says t b h s e → Dec (LoneOn t s e) → ltb (sumFrom (weightAt t b h) s (e - s)) 2 ≡ true
         by w (yes q) = lt-ltb (sumFrom (weightAt t b h) s (e - s)) 2 (lone-weighs w q)
         by w (no q) = absurd (never (sym z ∙ found (no q) (λ y _. q y) w .0))
+
+    -- and where the lists are right one point is touched or none
+    pub shown-lone : showTwo b h s e ≡ false → Says t b h s e → LoneOn t s e
+    shown-lone z w = by lone?
+      where
+        by : Dec (LoneOn t s e) → LoneOn t s e
+        by (yes q) = q
+        by (no q) = absurd (never (sym z ∙ found (no q) (λ y _. q y) w .0))
 
     -- by the seam and the neighbours, where they do
     module _ (z : showTwo b h s e ≡ true) where
@@ -545,7 +550,7 @@ module _ (t : List ℕ) (s e : ℕ) (lo : s < e) (hi : e ≤ mostPoints) where
       pub shown-two : Says t b h s e → TwoOn t s e
       shown-two w = by lone?
         where
-          by : Dec Lone → TwoOn t s e
+          by : Dec (LoneOn t s e) → TwoOn t s e
           by (yes q) = absurd (lone-shows w q z)
           by (no q) = let r = both-found t s e q in record { first = _; last = _; first-is = r .0; last-is = r .1; different = q }
 
@@ -561,21 +566,61 @@ fits-next t b h i o =
     let a : i ≡ suc (i - 1) = omega arith in
     ap (λ (x : ℕ). fits (getD t x 0) (getD b (i - 1) 0) (getD b x 0) (getD h (i - 1) 0) (getD h x 0) (i - 1) x) a
 
-pub all-none : (f : ℕ → Bool) (s e : ℕ) → allFrom f s (e - suc s) ≡ (true && allFrom f (s + 1 - 1) (e - (s + 1)))
+pub fits-here : (t b h : List ℕ) (j : ℕ) → fits (getD t (j + 1) 0) (getD b j 0) (getD b (j + 1) 0) (getD h j 0) (getD h (j + 1) 0) j (j + 1) ≡ fitsAt t b h j
+unfolding fitsAt
+fits-here t b h j = let a : j + 1 ≡ suc j = omega arith in ap (λ (x : ℕ). fits (getD t x 0) (getD b j 0) (getD b x 0) (getD h j 0) (getD h x 0) j x) a
+
+-- one by one: those from j on decide, where i is behind j
+pub all-none : (f : ℕ → Bool) (s e : ℕ) → allFrom f s (e - suc s) ≡ allFrom f (s + 1 - 1) (e - (s + 1))
 all-none f s e = let a : s + 1 - 1 ≡ s = omega arith in let c : e - (s + 1) ≡ e - suc s = omega arith in rw (a, c)
 
-pub all-next : (f : ℕ → Bool) (e i : ℕ) (before here : Bool) → 0 < i → i < e → here ≡ f (i - 1) → (before && allFrom f (i - 1) (e - i)) ≡ ((before && here) && allFrom f (i + 1 - 1) (e - (i + 1)))
+pub all-next : (f : ℕ → Bool) (e i : ℕ) (here : Bool) → 0 < i → i < e → here ≡ f (i - 1) → here ≡ true → allFrom f (i - 1) (e - i) ≡ allFrom f (i + 1 - 1) (e - (i + 1))
 unfolding allFrom
-all-next f e i true here o g q =
+all-next f e i here o g q y =
     let a : e - i ≡ suc (e - (i + 1)) = omega arith in
     let c : suc (i - 1) ≡ i + 1 - 1 = omega arith in
-    rw (a, q, c)
-all-next f e i false here o g q = refl
+    rw (a, sym q ∙ y, c)
 
-pub all-end : (f : ℕ → Bool) (e i : ℕ) (before : Bool) → e ≤ i → (before && allFrom f (i - 1) (e - i)) ≡ before
+pub all-fails : (f : ℕ → Bool) (e i : ℕ) (here : Bool) → i < e → here ≡ f (i - 1) → here ≡ false → allFrom f (i - 1) (e - i) ≡ false
 unfolding allFrom
-all-end f e i true g = let a : e - i ≡ 0 = omega arith in rw a
-all-end f e i false g = refl
+all-fails f e i here g q n = let a : e - i ≡ suc (e - (i + 1)) = omega arith in rw (a, sym q ∙ n)
+
+pub all-end : (f : ℕ → Bool) (e i : ℕ) → e ≤ i → allFrom f (i - 1) (e - i) ≡ true
+unfolding allFrom
+all-end f e i g = let a : e - i ≡ 0 = omega arith in rw a
+
+-- some more: two runs that meet or overlap are one
+pub all-joined : (f : ℕ → Bool) (s i a n : ℕ) → s ≤ a → a ≤ i → i ≤ a + n → (allFrom f s (i - s) && allFrom f a n) ≡ allFrom f s (a + n - s)
+all-joined f s i a n l m h =
+    both-ways (allFrom f s (i - s) && allFrom f a n) (allFrom f s (a + n - s))
+    (λ q. all-of f s (a + n - s) (λ j x y. by j x y (decLt j i) (and-first (allFrom f s (i - s)) (allFrom f a n) q) (and-second (allFrom f s (i - s)) (allFrom f a n) q)))
+    (λ q. rw (all-of f s (i - s) (λ j x y. all-at f s (a + n - s) q j x (omega arith)), all-of f a n (λ j x y. all-at f s (a + n - s) q j (omega arith) (omega arith))))
+  where
+    by : (j : ℕ) → s ≤ j → j < s + (a + n - s) → Dec (j < i) → allFrom f s (i - s) ≡ true → allFrom f a n ≡ true → f j ≡ true
+    by j x y (yes z) u v = all-at f s (i - s) u j x (omega arith)
+    by j x y (no z) u v = all-at f a n v j (omega arith) (omega arith)
+
+-- the next one of a run, and the next run
+pub all-more : (f : ℕ → Bool) (a k : ℕ) (ok here : Bool) → ok ≡ allFrom f a k → here ≡ f (a + k) → (ok && here) ≡ allFrom f a (k + 1)
+unfolding allFrom
+all-more f a k ok here q r =
+    let z : a + k + 1 - a ≡ k + 1 = omega arith in
+    let y : a + k - a ≡ k = omega arith in
+    let x : allFrom f (a + k) 1 ≡ f (a + k) = and-true (f (a + k)) in
+    (λ o. q o && (r ∙ sym x) o) ∙ ap (λ (n : ℕ). allFrom f a n && allFrom f (a + k) 1) (sym y) ∙ all-joined f a (a + k) (a + k) 1 (omega arith) (omega arith) (omega arith) ∙ ap (allFrom f a) z
+
+pub runs-none : (f : ℕ → Bool) (s : ℕ) → true ≡ allFrom f s (s - s)
+unfolding allFrom
+runs-none f s = let a : s - s ≡ 0 = omega arith in rw a
+
+pub runs-more : (f : ℕ → Bool) (s i n : ℕ) (ok here : Bool) → s ≤ i → ok ≡ allFrom f s (i - s) → here ≡ allFrom f i n → (ok && here) ≡ allFrom f s (i + n - s)
+runs-more f s i n ok here l q r = (λ o. q o && r o) ∙ all-joined f s i i n l (omega arith) (omega arith)
+
+-- the last run, up to the point in front of e
+pub runs-end : (f : ℕ → Bool) (s e i a : ℕ) (ok here : Bool) → s ≤ a → a + 9 ≡ e → a ≤ i → i ≤ a + 8 → ok ≡ allFrom f s (i - s) → here ≡ allFrom f a 8 → (ok && here) ≡ allFrom f s (e - suc s)
+runs-end f s e i a ok here l n g h q r =
+    let z : a + 8 - s ≡ e - suc s = omega arith in
+    (λ o. q o && r o) ∙ all-joined f s i a 8 l g h ∙ ap (allFrom f s) z
 
 -- weights
 pub weights-next : (t b h : List ℕ) (e i sum w : ℕ) → i < e → w ≡ weight (getD t i 0) (getD b i 0) (getD h i 0)

@@ -113,6 +113,10 @@ pub record TwoOn (t : List ℕ) (s e : ℕ) : Type 0 where
   pub last-is : lastTouched t s (e - s) ≡ some last
   pub different : first ≡ last → ⊥
 
+-- one is or none: the first that is found is the last
+abbrev pub LoneOn : List ℕ → ℕ → ℕ → Type 0
+LoneOn t s e = foundOr e (firstTouched t s (e - s)) ≡ foundOr e (lastTouched t s (e - s))
+
 -- the coordinates from s up to e are accepted: those of contours that are aligned already may lie beyond
 abbrev pub CoordinatesOn : List ℤ → ℕ → ℕ → Type 0
 CoordinatesOn c s e = (i : ℕ) → s ≤ i → i < e → Coordinate (at c i)

@@ -22,7 +22,7 @@ pub fn stretch_end(i: usize, q: usize, e: usize) -> usize
     e
 }
 
-// Aligns the points from s up to e.
+// Aligns the points from s up to e. Behind a stretch stands a touched point or the end, which is passed with it.
 pub fn align_round(
     originals: &[i32],
     currents: &mut [i32],
@@ -49,6 +49,6 @@ pub fn align_round(
         let q = wide(behind[i]);
         let to = stretch_end(i, q, e);
         iup_interpolate(originals, currents, i, to, p, q);
-        i = to;
+        i = to + 1;
     }
 }

@@ -5,7 +5,7 @@ use super::number::number_by;
 use super::number::same;
 use super::number::shown;
 ghost use mathlib.Core.Path.{_≡_};
-ghost use Prim.Native.Nat.{suc, _-_, _≤_, _<_};
+ghost use Prim.Native.Nat.{suc, _+_, _-_, _≤_, _<_};
 ghost use lib.Dec.{ltb};
 ghost use lib.ListN.{length};
 ghost use Rattle.contours.specs.Limits.{mostPoints};
@@ -48,20 +48,58 @@ fn pair_same(
     front & rear
 }
 
-// Whether the entries of all neighbours from s up to e fit: each entry is read in its turn and no touched point is searched for.
+// Whether the entries of the eight neighbours from a on fit the ones behind them: as many as the compiler compares at once.
+fn eight_same(touched: &[u8], before: &[u16], behind: &[u16], a: usize) -> bool
+    requires { ⌜ (a + 8 < length (now touched)) × (a + 8 < length (now before)) × (a + 8 < length (now behind)) × (a + 8 ≤ mostPoints) ⌝ }
+    ensures { λ r. ⌜ r ≡ allFrom (fitsAt (now (touched .entry)) (now (before .entry)) (now (behind .entry))) a 8 ⌝ }
+{
+    let mut ok = true;
+    let mut k: usize = 0;
+    while k < 8 {
+        let j = a + k;
+        let i = j + 1;
+        let here = pair_same(touched[i], before[j], before[i], behind[j], behind[i], j, i);
+        ok = ok & here;
+        k += 1;
+    }
+    ok
+}
+
+// Whether the entries of neighbours from s up to e fit, one pair at a time.
+fn few_same(touched: &[u8], before: &[u16], behind: &[u16], s: usize, e: usize) -> bool
+    requires { ⌜ (s < e) × (e ≤ length (now touched)) × (e ≤ length (now before)) × (e ≤ length (now behind)) × (e ≤ mostPoints) ⌝ }
+    ensures { λ r. ⌜ r ≡ allFrom (fitsAt (now (touched .entry)) (now (before .entry)) (now (behind .entry))) s (e - suc s) ⌝ }
+{
+    let mut i = s + 1;
+    while i < e {
+        let j = i - 1;
+        if !pair_same(touched[i], before[j], before[i], behind[j], behind[i], j, i) {
+            return false;
+        }
+        i += 1;
+    }
+    true
+}
+
+// Whether the entries of all neighbours from s up to e fit: each entry is read in its turn and no touched point is searched for. Eight at a time, the last eight from the end: some
+// pairs are compared twice, and none by itself.
 pub fn pairs_same(touched: &[u8], before: &[u16], behind: &[u16], s: usize, e: usize) -> bool
     requires { ⌜ (s < e) × (e ≤ length (now touched)) × (e ≤ length (now before)) × (e ≤ length (now behind)) × (e ≤ mostPoints) ⌝ }
     ensures { λ r. ⌜ r ≡ allFrom (fitsAt (now (touched .entry)) (now (before .entry)) (now (behind .entry))) s (e - suc s) ⌝ }
 {
-    let mut ok = true;
-    let mut i = s + 1;
-    while i < e {
-        let j = i - 1;
-        let here = pair_same(touched[i], before[j], before[i], behind[j], behind[i], j, i);
-        ok = ok & here;
-        i += 1;
+    if e - s < 9 {
+        return few_same(touched, before, behind, s, e);
     }
-    ok
+    let last = e - 9;
+    let mut ok = true;
+    let mut i = s;
+    while i < last {
+        let here = eight_same(touched, before, behind, i);
+        ok = ok & here;
+        i += 8;
+    }
+    let rest = eight_same(touched, before, behind, last);
+    ok & rest
 }
 
 // The weight of a point of a contour that has one touched point or none: 2 where an entry is wrong, else 1 of a touched point.

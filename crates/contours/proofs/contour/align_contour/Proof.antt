@@ -29,7 +29,7 @@ iup-shift-requires c κs =
     let s = n .before .before in
     let u = g .align-gaps .ensures .0 in
     let k = kept (s .args .originals .now) (s .args .currents .now) (s .args .touched .now) _ _ _ (n .next-touched .ensures) u (g .align-gaps .ensures .1) in
-    ((u .len ∙ s .pre .0 .0, omega (arith, u .low, u .high)), (s .pre .1 .0, rw (k .1) (s .pre .1 .1 (n .next-touched .result))))
+    ((u .len ∙ s .pre .0 .0, omega arith, omega arith, omega (arith, u .low, u .high)), (s .pre .1 .0, rw (k .1) (s .pre .1 .1 (n .next-touched .result))))
 
 same-length : tie.Need-same-length
 same-length c = search needs

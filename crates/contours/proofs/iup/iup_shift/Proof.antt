@@ -52,47 +52,25 @@ module _ (s : tie.Start) where
 returns : tie.Need-returns
 returns c =
     let s = c .before .before .before in
-    shifted-still _ _ _ (sym (is (current-fits s)) ∙ ap (toZ w32) (c .if1 .taken) ∙ is (original-fits s))
+    shifted-still _ _ _ _ _ (sym (is (current-fits s)) ∙ ap (toZ w32) (c .if1 .taken) ∙ is (original-fits s))
 
-sub-delta : tie.Need-sub-delta
-sub-delta c = delta-fits (c .before .before .before)
+sub-move-by : tie.Need-sub-move-by
+sub-move-by c = delta-fits (c .before .before .before .before)
 
 move-by-requires : tie.Need-move-by-requires
 move-by-requires c κs =
     let s = c .before .before .before .before in
-    ((s .pre .0 .0, omega arith, omega arith), (s .pre .1 .0, subst (Between mostDelta mostDelta) (sym (delta-is s)) (delta-small s)))
-
-add-move-by : tie.Need-add-move-by
-add-move-by c = search needs
-
-move-by-requires-2 : tie.Need-move-by-requires-2
-move-by-requires-2 c κs =
-    let s = c .before .before .before .before .before .before .before in
-    ((c .before .before .move-by .ensures .len ∙ s .pre .0 .0, omega arith, omega arith), (s .pre .1 .0, subst (Between mostDelta mostDelta) (sym (delta-is s)) (delta-small s)))
+    ((s .pre .0 .0, s .pre .0 .1, s .pre .0 .2), (s .pre .1 .0, subst (Between mostDelta mostDelta) (sym (delta-is s)) (delta-small s)))
 
 same-length : tie.Need-same-length
 same-length c = search needs
 
 returns-2 : tie.Need-returns-2
 returns-2 c =
-    let m = c .before .before .before .before in
+    let m = c .before in
     let s = m .before .before .before .before .before in
-    shifted-moved _ _ _ _ _ _ (sym (s .pre .0 .0)) (λ e. m .before .before .if1 .left (ap (ofZ w32) e))
-    (rw (delta-is s) at (m .move-by .ensures))
-    (rw (delta-is s) at (c .before .move-by2 .ensures))
+    shifted-moved _ _ _ _ _ _ (λ e. m .before .before .if1 .left (ap (ofZ w32) e)) (rw (delta-is s) at (m .move-by .ensures))
 
 pub iup-shift-spec : {M : Type 1} → statement M
 iup-shift-spec =
-    tie.close
-    (tie.spec
-    mul-u
-    slice-copy-out-u
-    mul-v
-    shared-slice-copy-out-v
-    returns
-    sub-delta
-    move-by-requires
-    add-move-by
-    move-by-requires-2
-    same-length
-    returns-2)
+    tie.close (tie.spec mul-u slice-copy-out-u mul-v shared-slice-copy-out-v returns sub-move-by move-by-requires same-length returns-2)

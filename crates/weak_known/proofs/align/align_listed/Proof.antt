@@ -1,15 +1,15 @@
 -- `weak_known::align::align_listed` meets its contract. The invariant: the contours passed are aligned, and nothing behind them is written. Assumes nothing.
 use borrow.Author.Needs.{needs}
 use native.Mathlib.Omega.{arith}
-use borrow.Author.Tests.{not-false}
+use borrow.Author.Tests.{not-true, not-false}
 use mathlib.Core.Path.{_≡_, sym, _∙_}
 use Prim.Native.Nat.{_+_, _-_, _≤_, _<_}
 use lib.ListN.{length}
 use Rattle.outline.proofs.Refusals.{end-at}
-use Rattle.outline.proofs.Contours.{Sofar, sofar-none, sofar-next, sofar-all, part-length, coordinates-part}
-use Rattle.outline.proofs.Steepness.{own-gentle}
+use Rattle.outline.proofs.Contours.{Sofar, sofar-none, sofar-all}
+use Rattle.weak_known.specs.Walks.{Says, CoordinatesOn}
 use Rattle.weak_known.proofs.Listed.{low, high, coordinates-on, gentle-on, says, sofar-round}
-use Rattle.weak_known.proofs.Fitting.{shown-two}
+use Rattle.weak_known.proofs.Fitting.{shown-lone, shown-two}
 use Rattle.weak_known.proofs.align.align_listed.Statement.{statement}
 use Rattle.weak_known.proofs.align.align_listed.Tie as tie
 
@@ -57,51 +57,32 @@ show-two-requires c κs =
     let r = entry c .pre .1 .1 in
     (omega (arith, x .low), omega (arith, x .high, r .0), omega (arith, x .high, r .1), omega (arith, x .high, x .points))
 
-mul-align-contour : tie.Need-mul-align-contour Inv-loop μ-loop
-mul-align-contour c = let w = c .before .before in omega (arith, within w, entry w .good)
-
-sub-align-contour : tie.Need-sub-align-contour Inv-loop μ-loop
-sub-align-contour c = let w = c .before .before in omega (arith, within w, entry w .good)
-
-part-align-contour-start : tie.Need-part-align-contour-start Inv-loop μ-loop
-part-align-contour-start c = let w = c .before .before in omega (arith, within w, entry w .good)
-
-part-align-contour-end : tie.Need-part-align-contour-end Inv-loop μ-loop
-part-align-contour-end c = let w = c .before .before in omega (arith, within w, entry w .good)
-
-mul-align-contour-2 : tie.Need-mul-align-contour-2 Inv-loop μ-loop
-mul-align-contour-2 c = let w = c .before .before .before in omega (arith, within w, entry w .good)
-
-sub-align-contour-2 : tie.Need-sub-align-contour-2 Inv-loop μ-loop
-sub-align-contour-2 c = let w = c .before .before .before in omega (arith, within w, entry w .good)
-
-part-align-contour-start-2 : tie.Need-part-align-contour-start-2 Inv-loop μ-loop
-part-align-contour-start-2 c = let w = c .before .before .before in omega (arith, within w, entry w .good)
-
-part-align-contour-end-2 : tie.Need-part-align-contour-end-2 Inv-loop μ-loop
-part-align-contour-end-2 c = let w = c .before .before .before in omega (arith, within w, entry w .good)
-
-sub-align-contour-3 : tie.Need-sub-align-contour-3 Inv-loop μ-loop
-sub-align-contour-3 c = let w = c .before .before .before .before in omega (arith, within w, entry w .good)
-
-part-align-contour-start-3 : tie.Need-part-align-contour-start-3 Inv-loop μ-loop
-part-align-contour-start-3 c = let w = c .before .before .before .before in omega (arith, within w, entry w .good)
-
-part-align-contour-end-3 : tie.Need-part-align-contour-end-3 Inv-loop μ-loop
-part-align-contour-end-3 c = let w = c .before .before .before .before in omega (arith, within w, entry w .good)
-
-align-contour-requires : tie.Need-align-contour-requires Inv-loop μ-loop
-align-contour-requires c κs =
-    let w = c .before .before .before .before .before in
+-- what matching lists say of the turn's contour
+said : (w : tie.After-wide Inv-loop μ-loop) → let a = entry w .args in Says (a .touched .now) (a .before .now) (a .behind .now) (lo w .loop .start) (w .wide .result + 1)
+said w =
     let s = entry w in
     let l = lo w .loop in
-    let n = w .wide .result + 1 - l .start in (
-      (part-length (l .currents) (s .args .originals .now) n (l .start) (within w .now-length), part-length (s .args .touched .now) (s .args .originals .now) n (l .start) (within w .marks-length)),
-      (
-        coordinates-part (s .args .originals .now) n (l .start) (s .pre .0 .originals),
-        λ i. rw (l .inv .rest) (coordinates-part (s .args .currents .now) n (l .start) (s .pre .0 .currents) i),
-        rw (l .inv .rest) (own-gentle (s .args .originals .now) (s .args .currents .now) (s .args .touched .now) (s .args .ends .now) (s .pre .0 .marks-length) (l .k) (l .start) (w .wide .result) (w .wide .ensures) (w .before .before .loop-test .taken) (l .inv .search) (l .inv .ends) (s .pre .1 .0)),
-      ),
+    let a = s .args in
+    says (a .originals .now) (a .currents .now) (a .touched .now) (a .ends .now) (l .k) (l .start) (w .wide .result) (l .currents) (w .wide .ensures) (w .before .before .loop-test .taken) (l .inv) (a .before .now) (a .behind .now) (within w .marks-length) (s .pre .1 .1 .2)
+
+-- its currents are as they came
+accepted : (w : tie.After-wide Inv-loop μ-loop) → CoordinatesOn (lo w .loop .currents) (lo w .loop .start) (w .wide .result + 1)
+accepted w =
+    let s = entry w in
+    let l = lo w .loop in
+    let a = s .args in
+    coordinates-on (a .originals .now) (a .currents .now) (a .touched .now) (a .ends .now) (l .k) (l .start) (w .wide .result) (l .currents) (w .wide .ensures) (w .before .before .loop-test .taken) (l .inv) (s .pre .0 .currents)
+
+align-lone-requires : tie.Need-align-lone-requires Inv-loop μ-loop
+align-lone-requires c κs =
+    let h = c .before in
+    let f = h .before in
+    let w = f .before in
+    let s = entry w in
+    let a = s .args in
+    let x = within w in (
+      (x .now-length, x .marks-length, omega (arith, x .low), omega (arith, x .high)),
+      (s .pre .0 .originals, accepted w, shown-lone (a .touched .now) (lo w .loop .start) (w .wide .result + 1) (omega (arith, x .low)) (omega (arith, x .high, x .points)) (a .before .now) (a .behind .now) (sym (f .show-two .ensures) ∙ not-true _ (h .if1 .taken)) (said w)),
     )
 
 loop-less : tie.Need-loop-less Inv-loop μ-loop
@@ -109,12 +90,12 @@ loop-less c = omega arith
 
 loop-again : tie.Need-loop-again Inv-loop μ-loop
 loop-again c =
-    let w = c .before .before .before .before .before .before .before in
+    let w = c .before .before .before .before .before in
     let s = entry w in
     let l = lo w .loop in
     let a = s .args in
-    sofar-next (a .originals .now) (a .currents .now) (a .touched .now) (a .ends .now) (s .pre .0 .currents-length) (s .pre .0 .marks-length) (l .k) (l .start) (w .wide .result) (l .currents) _
-    (w .wide .ensures) (w .before .before .loop-test .taken) (l .inv) (c .before .align-contour .ensures)
+    sofar-round (a .originals .now) (a .currents .now) (a .touched .now) (a .ends .now) (l .k) (l .start) (w .wide .result) (l .currents) (w .wide .ensures) (w .before .before .loop-test .taken) (l .inv) _
+    (s .pre .0 .currents-length) (c .before .align-lone .ensures)
 
 align-round-requires : tie.Need-align-round-requires Inv-loop μ-loop
 align-round-requires c κs =
@@ -124,22 +105,17 @@ align-round-requires c κs =
     let s = entry w in
     let l = lo w .loop in
     let a = s .args in
-    let o = a .originals .now in
-    let t = a .touched .now in
-    let es = a .ends .now in
-    let m = w .before .before .loop-test .taken in
-    let x = within w in
-    let said = says o (a .currents .now) t es (l .k) (l .start) (w .wide .result) (l .currents) (w .wide .ensures) m (l .inv) (a .before .now) (a .behind .now) (x .marks-length) (s .pre .1 .1 .2) in (
+    let x = within w in (
       (x .now-length, x .marks-length, s .pre .1 .1 .0, s .pre .1 .1 .1),
       (
         (omega (arith, x .low), omega (arith, x .high), omega (arith, x .high, x .points)),
         (
-          (s .pre .0 .originals, coordinates-on o (a .currents .now) t es (l .k) (l .start) (w .wide .result) (l .currents) (w .wide .ensures) m (l .inv) (s .pre .0 .currents)),
+          (s .pre .0 .originals, accepted w),
           (
-            gentle-on o (a .currents .now) t es (l .k) (l .start) (w .wide .result) (l .currents) (w .wide .ensures) m (l .inv) (s .pre .1 .0),
+            gentle-on (a .originals .now) (a .currents .now) (a .touched .now) (a .ends .now) (l .k) (l .start) (w .wide .result) (l .currents) (w .wide .ensures) (w .before .before .loop-test .taken) (l .inv) (s .pre .1 .0),
             (
-              shown-two t (l .start) (w .wide .result + 1) (omega (arith, x .low)) (omega (arith, x .high, x .points)) (a .before .now) (a .behind .now) (sym (f .show-two .ensures) ∙ not-false _ (h .if1 .left)) said,
-              said,
+              shown-two (a .touched .now) (l .start) (w .wide .result + 1) (omega (arith, x .low)) (omega (arith, x .high, x .points)) (a .before .now) (a .behind .now) (sym (f .show-two .ensures) ∙ not-false _ (h .if1 .left)) (said w),
+              said w,
             ),
           ),
         ),
@@ -191,18 +167,7 @@ align-listed-spec =
     wide-requires
     add-end
     show-two-requires
-    mul-align-contour
-    sub-align-contour
-    part-align-contour-start
-    part-align-contour-end
-    mul-align-contour-2
-    sub-align-contour-2
-    part-align-contour-start-2
-    part-align-contour-end-2
-    sub-align-contour-3
-    part-align-contour-start-3
-    part-align-contour-end-3
-    align-contour-requires
+    align-lone-requires
     add-k
     loop-less
     loop-again

@@ -1,4 +1,4 @@
--- `weak_known::round::align_round` meets its contract. The invariant: the points passed are aligned. Assumes nothing.
+-- `weak_known::round::align_round` meets its contract. The invariant: the points passed are aligned, up to i or the contour's end. Assumes nothing.
 use borrow.Author.Needs.{needs}
 use native.Mathlib.Omega.{arith}
 use mathlib.Core.Path.{_≡_, refl, _∙_}
@@ -12,18 +12,18 @@ use mathlib.Core.List.{List}
 use lib.Dec.{ltb}
 use lib.IntN.{ℤ}
 use Rattle.weak_known.specs.Walks.{contour, Says, TwoOn}
-use Rattle.weak_known.proofs.Aligning.{turn-touched, by-number, by-other, both-on, kept-p, kept-q, to-low, to-high, stretch-gentle, turn-stretch}
+use Rattle.weak_known.proofs.Aligning.{WroteTo, to-here, from-here, to-end, passed, by-number, by-other, both-on, kept-p, kept-q, to-low, to-high, stretch-gentle, turn-past}
 use Rattle.weak_known.proofs.round.align_round.Statement.{statement}
 use Rattle.weak_known.proofs.round.align_round.Tie as tie
 
 abbrev Inv-loop : tie.InvT-loop
-Inv-loop originals currents₀ touched before behind s e i₀ currents i = (s ≤ i) × (i ≤ e) × Wrote (weakAt originals currents₀ touched (contour s e)) s i currents₀ currents
+Inv-loop originals currents₀ touched before behind s e i₀ currents i = (s ≤ i) × WroteTo (weakAt originals currents₀ touched (contour s e)) s e i currents₀ currents
 
 abbrev μ-loop : tie.MeasureT-loop
 μ-loop originals currents₀ touched before behind s e i₀ currents i = e - i
 
 loop-holds : tie.Need-loop-holds Inv-loop μ-loop
-loop-holds c = (omega arith, omega arith, wrote-none _ _ _)
+loop-holds c = (omega arith, to-here _ _ _ _ _ _ (omega arith) (wrote-none _ _ _))
 
 abbrev lo : tie.After-wide Inv-loop μ-loop → tie.At-loop Inv-loop μ-loop
 lo c = c .before .before .before
@@ -34,6 +34,10 @@ st c = lo c .before .before .before .before
 mul-wide : tie.Need-mul-wide Inv-loop μ-loop
 mul-wide c = search needs
 
+-- the points in front of the turn's are aligned
+so-far : (w : tie.After-wide Inv-loop μ-loop) → let a = st w .args in let v = lo w .loop in Wrote (weakAt (a .originals .now) (a .currents .now) (a .touched .now) (contour (a .s) (a .e))) (a .s) (v .i) (a .currents .now) (v .currents)
+so-far w = from-here _ _ _ _ _ _ (omega (arith, w .before .before .loop-test .taken)) (lo w .loop .inv .1)
+
 loop-again : tie.Need-loop-again Inv-loop μ-loop
 loop-again c =
     let w = c .before in
@@ -42,11 +46,9 @@ loop-again c =
     let v = lo w .loop in
     let h = w .before .before .loop-test .taken in (
       omega arith,
-      omega arith,
-      turn-touched (a .originals .now) (a .currents .now) (v .currents) (a .touched .now) (a .before .now) (a .behind .now) (a .s) (a .e) (v .i) (w .wide .result) (getD (a .behind .now) (v .i) 0) (v .inv .0) h (r .0) (r .1)
-          (w .wide .ensures) refl (v .inv .2)
+      to-here _ _ _ _ _ _ (omega arith) (passed (a .originals .now) (a .currents .now) (v .currents) (a .touched .now) (a .s) (a .e) (v .i)
           (by-number (a .originals .now) (a .currents .now) (v .currents) (a .touched .now) (a .before .now) (a .behind .now) (a .s) (a .e) (v .i) (w .wide .result) (getD (a .behind .now) (v .i) 0) (v .inv .0) h (r .0) (r .1)
-          (w .wide .ensures) refl (v .inv .2) (st w .pre .1 .0 .2) (c .if1 .taken)),
+          (w .wide .ensures) refl (so-far w) (st w .pre .1 .0 .2) (c .if1 .taken)) (so-far w)),
     )
 
 -- the stretch of a turn
@@ -106,7 +108,7 @@ module _ (z : tie.After-stretch-end Inv-loop μ-loop) where
   says = st wi .pre .1 .1 .1 .1 .1
 
   so : Wrote (weakAt o c₀ t (contour s e)) s i c₀ d
-  so = lo wi .loop .inv .2
+  so = so-far wi
 
   free : getD t i 0 ≡ 0
   free = by-other o c₀ d t b h s e i p q low high twos says ep eq so (z .before .before .before .if1 .left)
@@ -143,24 +145,24 @@ iup-interpolate-requires c κs =
     let z = c .before in
     ((len z, omega (arith, from-to z), omega (arith, to-e z, e-len z)), ((omega (arith, on z .0 .1, e-len z), omega (arith, on z .1 .1, e-len z)), (st (wi z) .pre .1 .1 .0 .0, current-p z, current-q z, gentle z)))
 
+add-i-2 : tie.Need-add-i-2 Inv-loop μ-loop
+add-i-2 c = let z = c .before .before .before in omega (arith, to-e z, st (wi z) .pre .1 .0 .2)
+
 loop-less-2 : tie.Need-loop-less-2 Inv-loop μ-loop
-loop-less-2 c = let z = c .before .before .before in omega (arith, from-to z, to-e z)
+loop-less-2 c = let z = c .before .before .before in omega (arith, from-to z, high z)
 
 loop-again-2 : tie.Need-loop-again-2 Inv-loop μ-loop
 loop-again-2 c =
     let z = c .before .before .before in (
       omega (arith, from-to z, low z),
-      to-e z,
-      turn-stretch (o z) (c₀ z) (d z) (t z) (b z) (h z) (s z) (e z) (i z) (p z) (q z) (low z) (high z) (twos z) (says z) (ep z) (eq z) (so z) (free z) (z .stretch-end .result) (et z) _ (c .before .iup-interpolate .ensures),
+      turn-past (o z) (c₀ z) (d z) (t z) (b z) (h z) (s z) (e z) (i z) (p z) (q z) (low z) (high z) (twos z) (says z) (ep z) (eq z) (so z) (free z) (z .stretch-end .result) (et z) _ (c .before .iup-interpolate .ensures),
     )
 
 same-length : tie.Need-same-length Inv-loop μ-loop
-same-length c = c .before .loop .inv .2 .len
+same-length c = c .before .loop .inv .1 .len
 
 returns : tie.Need-returns Inv-loop μ-loop
-returns c =
-    let q : c .before .loop .i ≡ c .before .before .before .before .before .args .e = omega arith in
-    rw q at (c .before .loop .inv .2)
+returns c = to-end _ _ _ _ _ _ (omega (arith, c .loop-test .left)) (c .before .loop .inv .1)
 
 shared-slice-read-wide : tie.Need-shared-slice-read-wide Inv-loop μ-loop
 shared-slice-read-wide c = search needs
@@ -204,6 +206,7 @@ align-round-spec =
     wide-requires-2
     stretch-end-requires
     iup-interpolate-requires
+    add-i-2
     loop-less-2
     loop-again-2
     same-length

@@ -1,73 +1,55 @@
--- `weak_known::same::pairs_same` meets its contract. The invariant: the neighbours passed are compared, and what is left decides. Assumes nothing.
+-- `weak_known::same::pairs_same` meets its contract. The invariant: the neighbours passed are compared. Assumes nothing.
 use borrow.Author.Needs.{needs}
 use native.Mathlib.Omega.{arith}
-use mathlib.Core.Path.{_≡_, sym, _∙_}
-use mathlib.Core.Bool.{_&&_}
-use Prim.Native.Nat.{suc, _-_, _≤_, _<_}
+use mathlib.Core.Path.{_≡_, refl, _∙_, ap}
+use Prim.Native.Nat.{_+_, _-_, _≤_}
 use Rattle.weak_known.specs.Walks.{fitsAt, allFrom}
-use Rattle.weak_known.proofs.Fitting.{fits-next, all-none, all-next, all-end}
+use Rattle.weak_known.proofs.Fitting.{runs-none, runs-more, runs-end}
 use Rattle.weak_known.proofs.same.pairs_same.Statement.{statement}
 use Rattle.weak_known.proofs.same.pairs_same.Tie as tie
 
 abbrev Inv-loop : tie.InvT-loop
-Inv-loop touched before behind s e ok₀ i₀ ok i = (s < i) × (i ≤ e) × (allFrom (fitsAt touched before behind) s (e - suc s) ≡ (ok && allFrom (fitsAt touched before behind) (i - 1) (e - i)))
+Inv-loop touched before behind s e last ok₀ i₀ ok i = (s ≤ i) × (i ≤ last + 8) × (ok ≡ allFrom (fitsAt touched before behind) s (i - s))
 
 abbrev μ-loop : tie.MeasureT-loop
-μ-loop touched before behind s e ok₀ i₀ ok i = e - i
+μ-loop touched before behind s e last ok₀ i₀ ok i = last - i
+
+sub-if1 : tie.Need-sub-if1 Inv-loop μ-loop
+sub-if1 c = search needs
+
+few-same-requires : tie.Need-few-same-requires Inv-loop μ-loop
+few-same-requires c κs = search needs
+
+returns : tie.Need-returns Inv-loop μ-loop
+returns c = c .few-same .ensures
+
+sub-last : tie.Need-sub-last Inv-loop μ-loop
+sub-last c = search needs
+
+loop-holds : tie.Need-loop-holds Inv-loop μ-loop
+loop-holds c = (omega arith, omega arith, runs-none _ _)
+
+eight-same-requires : tie.Need-eight-same-requires Inv-loop μ-loop
+eight-same-requires c κs = search needs
 
 add-i : tie.Need-add-i Inv-loop μ-loop
 add-i c = search needs
-
-loop-holds : tie.Need-loop-holds Inv-loop μ-loop
-loop-holds c = (omega arith, omega arith, all-none _ _ _)
-
-sub-j : tie.Need-sub-j Inv-loop μ-loop
-sub-j c = search needs
-
-shared-slice-read-pair-same : tie.Need-shared-slice-read-pair-same Inv-loop μ-loop
-shared-slice-read-pair-same c = search needs
-
-mul-pair-same : tie.Need-mul-pair-same Inv-loop μ-loop
-mul-pair-same c = search needs
-
-shared-slice-read-pair-same-2 : tie.Need-shared-slice-read-pair-same-2 Inv-loop μ-loop
-shared-slice-read-pair-same-2 c = search needs
-
-mul-pair-same-2 : tie.Need-mul-pair-same-2 Inv-loop μ-loop
-mul-pair-same-2 c = search needs
-
-shared-slice-read-pair-same-3 : tie.Need-shared-slice-read-pair-same-3 Inv-loop μ-loop
-shared-slice-read-pair-same-3 c = search needs
-
-mul-pair-same-3 : tie.Need-mul-pair-same-3 Inv-loop μ-loop
-mul-pair-same-3 c = search needs
-
-shared-slice-read-pair-same-4 : tie.Need-shared-slice-read-pair-same-4 Inv-loop μ-loop
-shared-slice-read-pair-same-4 c = search needs
-
-mul-pair-same-4 : tie.Need-mul-pair-same-4 Inv-loop μ-loop
-mul-pair-same-4 c = search needs
-
-shared-slice-read-pair-same-5 : tie.Need-shared-slice-read-pair-same-5 Inv-loop μ-loop
-shared-slice-read-pair-same-5 c = search needs
-
-pair-same-requires : tie.Need-pair-same-requires Inv-loop μ-loop
-pair-same-requires c κs = search needs
-
-add-i-2 : tie.Need-add-i-2 Inv-loop μ-loop
-add-i-2 c = search needs
 
 loop-less : tie.Need-loop-less Inv-loop μ-loop
 loop-less c = search needs
 
 loop-again : tie.Need-loop-again Inv-loop μ-loop
 loop-again c =
-    let l = c .before .before .before .before .before .before .before in
-    let a = l .before .before .before .before .args in
-    (omega arith, omega arith, l .loop .inv .2 ∙ all-next (fitsAt (a .touched .now) (a .before .now) (a .behind .now)) (a .e) (l .loop .i) (l .loop .ok) (c .pair-same .result) (omega arith) (omega arith) (c .pair-same .ensures ∙ fits-next _ _ _ _ (omega arith)))
+    let l = c .before .before in
+    (omega arith, omega arith, runs-more _ _ _ _ _ _ (l .loop .inv .0) (l .loop .inv .2) (c .eight-same .ensures))
 
-returns : tie.Need-returns Inv-loop μ-loop
-returns c = sym (c .before .loop .inv .2 ∙ all-end _ _ _ _ (omega (arith, c .loop-test .left)))
+eight-same-requires-2 : tie.Need-eight-same-requires-2 Inv-loop μ-loop
+eight-same-requires-2 c κs = search needs
+
+returns-2 : tie.Need-returns-2 Inv-loop μ-loop
+returns-2 c =
+    let l = c .before .before in
+    runs-end _ _ _ _ _ _ _ (omega arith) (omega arith) (omega arith) (omega arith) (l .loop .inv .2) (c .eight-same2 .ensures)
 
 pub pairs-same-spec : {M : Type 1} → statement M
 pairs-same-spec =
@@ -75,20 +57,14 @@ pairs-same-spec =
     (tie.spec
     Inv-loop
     μ-loop
-    add-i
+    sub-if1
+    few-same-requires
+    returns
+    sub-last
     loop-holds
-    sub-j
-    shared-slice-read-pair-same
-    mul-pair-same
-    shared-slice-read-pair-same-2
-    mul-pair-same-2
-    shared-slice-read-pair-same-3
-    mul-pair-same-3
-    shared-slice-read-pair-same-4
-    mul-pair-same-4
-    shared-slice-read-pair-same-5
-    pair-same-requires
-    add-i-2
+    eight-same-requires
+    add-i
     loop-less
     loop-again
-    returns)
+    eight-same-requires-2
+    returns-2)
