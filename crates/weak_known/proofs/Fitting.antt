@@ -590,7 +590,7 @@ unfolding allFrom
 all-end f e i g = let a : e - i ≡ 0 = omega arith in rw a
 
 -- some more: two runs that meet or overlap are one
-pub all-joined : (f : ℕ → Bool) (s i a n : ℕ) → s ≤ a → a ≤ i → i ≤ a + n → (allFrom f s (i - s) && allFrom f a n) ≡ allFrom f s (a + n - s)
+all-joined : (f : ℕ → Bool) (s i a n : ℕ) → s ≤ a → a ≤ i → i ≤ a + n → (allFrom f s (i - s) && allFrom f a n) ≡ allFrom f s (a + n - s)
 all-joined f s i a n l m h =
     both-ways (allFrom f s (i - s) && allFrom f a n) (allFrom f s (a + n - s))
     (λ q. all-of f s (a + n - s) (λ j x y. by j x y (decLt j i) (and-first (allFrom f s (i - s)) (allFrom f a n) q) (and-second (allFrom f s (i - s)) (allFrom f a n) q)))

@@ -1,7 +1,7 @@
 -- `weak_known::same::pairs_same` meets its contract. The invariant: the neighbours passed are compared. Assumes nothing.
 use borrow.Author.Needs.{needs}
 use native.Mathlib.Omega.{arith}
-use mathlib.Core.Path.{_≡_, refl, _∙_, ap}
+use mathlib.Core.Path.{_≡_}
 use Prim.Native.Nat.{_+_, _-_, _≤_}
 use Rattle.weak_known.specs.Walks.{fitsAt, allFrom}
 use Rattle.weak_known.proofs.Fitting.{runs-none, runs-more, runs-end}
