@@ -284,8 +284,8 @@ uint8_t khs_remember_references(const uint8_t *touched, khs_length touched_len, 
  * originals, currents, touched, ends: as there. before, behind: one entry for each point, else KHS_TOO_LONG. They are to be what khs_remember_references writes for these
  * marks and ends: every entry is tested, those of touched points too, and KHS_NOT_MATCHING is answered where one is another, behind KHS_BAD_INDEX and in front of
  * KHS_OUT_OF_RANGE. Other marks of the same touched points match. A list that was written for these touched points and ends is never refused so.
- * The test reads every mark, which is all that the search without lists reads, so the lists pay little in time: on x86-64 this call takes 0.92 to 0.97 of the time of
- * khs_align_weak_points on outlines like glyphs of 16 to 4,096 points, 0.96 to 1.03 with one scattered point in 4 touched, and 1.10 to 1.15 with one in 16, where many
+ * The test reads every mark, which is all that the search without lists reads, so the lists pay little in time: on x86-64 this call takes 0.88 to 0.92 of the time of
+ * khs_align_weak_points on outlines like glyphs of 16 to 4,096 points, 0.91 to 0.92 with one scattered point in 4 touched, and 1.04 to 1.08 with one in 16, where many
  * contours have no two touched points. They pay most where a caller reads them: who refers to whom is known without a search.
  * Writes currents. Answers: KHS_DONE, KHS_TOO_LONG, KHS_BAD_INDEX, KHS_NOT_MATCHING, KHS_OUT_OF_RANGE, KHS_TOO_STEEP. */
 uint8_t khs_align_with_references(const int32_t *originals, khs_length originals_len, int32_t *currents, khs_length currents_len, const uint8_t *touched,
