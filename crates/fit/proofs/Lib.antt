@@ -1,1 +1,2 @@
--- The laws of `fit`.
+-- The laws of `fit`: rows by hand.
+pub mod Worked

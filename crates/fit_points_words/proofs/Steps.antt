@@ -24,7 +24,7 @@ use Rattle.edge_points.specs.EdgePoints.{Points, moveAll, segmentsPoints, mover
 use Rattle.edge_points_walk.specs.Steps.{points, reached, Reach}
 use Rattle.edge_points_words.specs.Steps.{Accepted}
 use Rattle.strong.specs.Strong.{Aligned, listTests, allPlaced, strongTests, alignedAll, refusedBy, alignStrong}
-use Rattle.strong_words.specs.Strong.{Placeable, PlacedAll}
+use Rattle.strong_words.specs.Strong.{Placeable, PlacedEach}
 use Rattle.words.specs.Edge.{edgesIn}
 use Rattle.words.specs.Segment.{flatSegments}
 use Rattle.lent.specs.Lent.{edgesOf}
@@ -92,18 +92,20 @@ module _ (ws f o : List ℤ) (w es : List ℕ) (s : Points) (g : ReadyStrong ws 
         eqb-true (length (s .currents)) (length f) (l .1 .1 .0),
       )
 
-  module _ {b : Bool} (e : b ≡ (coordinatesHold mostCoordinate o && coordinatesHold mostCoordinate (s .currents))) (t : b ≡ true) {p : Bool} (a : p ≡ allPlaced A f o (s .touched) w) where
+  module _ {b : Bool} (e : b ≡ (coordinatesHold mostCoordinate o && coordinatesHold mostCoordinate (s .currents))) (t : b ≡ true) {p : Bool} {c : List ℤ} {m : List ℕ} (d : PlacedEach ws f o (s .currents) (s .touched) w p c m) where
     pub strong-steep : {x : Points} → p ≡ false → WentPoints (thenStrong ws f o w es s) steep x
-    strong-steep q = stops (strong-as (tests-are (near-as e t) (sym a ∙ q))) (λ z. omega (arith, z))
+    strong-steep q = stops (strong-as (tests-are (near-as e t) (sym (d .told) ∙ q))) (λ z. omega (arith, z))
 
-    pub strong-goes : {r : ℕ} {c c′ : List ℤ} {m : List ℕ} → p ≡ true → PlacedAll ws f o (s .currents) (s .touched) w c m → Outcome o c m es r c′ → WentPoints (thenStrong ws f o w es s) r (points c′ m)
-    strong-goes {r} {c} {c′} {m} q d u = record {
+    pub strong-goes : {r : ℕ} {c′ : List ℤ} → p ≡ true → Outcome o c m es r c′ → WentPoints (thenStrong ws f o w es s) r (points c′ m)
+    strong-goes {r} {c′} q u = record {
       answer = u .answer ∙ ap (λ (x : LeftPoints). x .answer) (sym row);
       goes = λ z. (λ j. points (u .currents j) m) ∙ ap (λ (x : LeftPoints). x .points) (sym row);
     }
       where
         row : thenStrong ws f o w es s ≡ thenWeak o es (points c m)
-        row = strong-as (tests-are (near-as e t) (sym a ∙ q)) ∙ (λ j. thenWeak o es (points (sym (d .currents) j) (sym (d .touched) j)))
+        row =
+            let a = d .placed q in
+            strong-as (tests-are (near-as e t) (sym (d .told) ∙ q)) ∙ (λ j. thenWeak o es (points (sym (a .currents) j) (sym (a .touched) j)))
 
 -- ---- edge points
 module _ (n : Numbers) (ss ws f o : List ℤ) (w es : List ℕ) (s : Points) (g : Ready ss ws f o w es s) where

@@ -5,8 +5,7 @@ use fit::numbers::Numbers;
 use outline::weak::align_weak_points;
 use refusals::order::OUT_OF_RANGE;
 use refusals::order::TOO_STEEP;
-use strong_words::place::place_all;
-use strong_words::refuse::all_placed;
+use strong_words::place::place_each;
 use strong_words::refuse::coordinates_hold;
 ghost use Rattle.edge_points_walk.specs.Steps.{points};
 ghost use Rattle.fit.specs.Points.{thenStrong, fitPoints};
@@ -29,10 +28,9 @@ fn then_strong(
     if !coordinates_hold(originals, currents) {
         return OUT_OF_RANGE;
     }
-    if !all_placed(edges, fonts, originals, touched, weak) {
+    if !place_each(edges, fonts, originals, currents, touched, weak) {
         return TOO_STEEP;
     }
-    place_all(edges, fonts, originals, currents, touched, weak);
     align_weak_points(originals, currents, touched, ends)
 }
 

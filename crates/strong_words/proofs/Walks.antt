@@ -1,12 +1,12 @@
 -- Lists of which the first places are written anew, one after the other, and what is read of the marks meanwhile.
 use mathlib.Core.Path.{_≡_, refl, sym, ap, _∙_}
-use mathlib.Core.Bool.{_||_, cond}
+use mathlib.Core.Bool.{Bool, true, false, _||_, cond}
 use mathlib.Core.List.{List, append-nil}
 use mathlib.Core.Logic.{⊎-elim}
 use Prim.Native.Nat.{ℕ, _+_, _≤_, _<_}
 use native.Mathlib.Nat.{eq-or-lt-of-le}
 use native.Mathlib.Omega.{arith}
-use lib.Dec.{ltb}
+use borrow.Author.Tests.{lt-ltb}
 use lib.IntN.{ℤ}
 use lib.ListN.{length, getD, set, length-set}
 use lib.Seq.{ext-getD, getD-set-same, getD-set-other}
@@ -17,7 +17,6 @@ use Rattle.words.proofs.Places.{firsts-at}
 use Rattle.words.proofs.Tables.{firsts-length}
 use Rattle.strong.specs.declared.place.Place.the-variants.{Stays}
 use Rattle.strong.specs.Strong.{placeOf, strongAt}
-use Rattle.strong_words.specs.Strong.{Placeable}
 
 -- the first i places of `now` are those of a sequence, and the others are as they were
 pub record Upto {A : Type 0} (d : A) (f : ℕ → A) (i : ℕ) (old now : List A) : Type 0 where
@@ -55,19 +54,25 @@ module _ {A : Type 0} (d : A) (f : ℕ → A) where
       ext-getD d now (firsts f n) (w .len ∙ e ∙ sym (firsts-length f n))
       (λ j l. w .passed j (omega (arith, w .len, e)) ∙ sym (ap (λ (xs : List A). getD xs j d) (sym (append-nil (firsts f n))) ∙ firsts-at f n j _ d (omega (arith, w .len, e))))
 
--- a point is placed by its own marks
-pub own-marks : (axis : Axis) (f o : List ℤ) (t t′ w : List ℕ) (i : ℕ) → getD t′ i 0 ≡ getD t i 0 → strongAt axis f o t′ w i ≡ strongAt axis f o t w i
-unfolding strongAt
-own-marks axis f o t t′ w i e = ap (λ (m : ℕ). cond (ltb 0 m || isTouched w i) Stays (placeOf axis (at f i) (at o i))) e
+-- ---- points that stay
+module _ (t w : List ℕ) (i : ℕ) where
+  abbrev pub held : Bool
+  held = isTouched t i || isTouched w i
 
--- and can be placed as before where only marks were changed
-pub still : {ws f o : List ℤ} {t t′ w : List ℕ} → Placeable ws f o t w → length t′ ≡ length t → Placeable ws f o t′ w
-still p e = record {
-  whole = p .whole;
-  axis = p .axis;
-  points = p .points;
-  originals-length = p .originals-length;
-  marks-length = e ∙ p .marks-length;
-  weak-length = p .weak-length;
-  originals = p .originals;
-}
+  pub held-touched : (getD t i 0 ≡ 0 → ⊥) → true ≡ held
+  held-touched n = rw (lt-ltb 0 (getD t i 0) (omega (arith, n)))
+
+  pub held-weak : getD t i 0 ≡ 0 → (getD w i 0 ≡ 0 → ⊥) → true ≡ held
+  held-weak e n = rw (e, lt-ltb 0 (getD w i 0) (omega (arith, n)))
+
+  pub held-not : getD t i 0 ≡ 0 → getD w i 0 ≡ 0 → false ≡ held
+  held-not e g = rw (e, g)
+
+  module _ (axis : Axis) (f o : List ℤ) where
+    pub strong-held : held ≡ true → strongAt axis f o t w i ≡ Stays
+    unfolding strongAt
+    strong-held h = ap (λ (b : Bool). cond b Stays (placeOf axis (at f i) (at o i))) h
+
+    pub strong-free : held ≡ false → strongAt axis f o t w i ≡ placeOf axis (at f i) (at o i)
+    unfolding strongAt
+    strong-free h = ap (λ (b : Bool). cond b Stays (placeOf axis (at f i) (at o i))) h

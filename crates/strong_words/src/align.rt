@@ -1,5 +1,5 @@
 // The public call (the Rust's `align_strong_points`, for one axis).
-use super::place::place_all;
+use super::place::place_each;
 use super::refuse::all_placed;
 use super::refuse::coordinates_hold;
 use super::refuse::list_refusal;
@@ -29,6 +29,6 @@ pub fn align_strong_points(
     if !all_placed(edges, fonts, originals, touched, weak) {
         return TOO_STEEP;
     }
-    place_all(edges, fonts, originals, currents, touched, weak);
+    place_each(edges, fonts, originals, currents, touched, weak);
     0
 }

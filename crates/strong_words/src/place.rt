@@ -4,6 +4,7 @@ use super::search::fpos_in;
 use strong::place::Place;
 use strong::place::between;
 use strong::place::current_after;
+use strong::place::is_placed;
 use strong::place::mark_after;
 use strong::place::moved_with;
 use words::edge::EDGE_WORDS;
@@ -11,17 +12,19 @@ use words::edge::OPOS_PLACE;
 use words::edge::POS_PLACE;
 use words::word::word_in;
 ghost use mathlib.Core.Path.{_≡_};
+ghost use mathlib.Core.Bool.{_||_};
 ghost use Prim.Native.Nat.{_<_};
 ghost use lib.ListN.{length};
 ghost use Rattle.axis.specs.Accepted.{AxisWithin};
 ghost use Rattle.axis.specs.Edge.{edgeAt};
 ghost use Rattle.axis.specs.Limits.{mostPos};
-ghost use Rattle.contours.specs.Steps.{Coordinate};
+ghost use Rattle.contours.specs.Contour.{at, isTouched};
+ghost use Rattle.contours.specs.Steps.{Coordinate, Coordinates};
 ghost use Rattle.words.specs.Edge.{edgesIn};
 ghost use Rattle.lent.specs.Lent.{edgesOf};
 ghost use Rattle.edges_in.specs.Whole.{Whole};
 ghost use Rattle.strong.specs.Strong.{withEdge, placeOf, strongAt};
-ghost use Rattle.strong_words.specs.Strong.{Placeable, PlacedAll};
+ghost use Rattle.strong_words.specs.Strong.{Placeable, PlacedAll, PlacedEach};
 
 // The position of an edge.
 fn pos_in(words: &[i32], i: usize) -> i32
@@ -64,6 +67,28 @@ fn place_in(words: &[i32], u: i32, v: i32) -> Place
     between(u, fpos_in(words, k - 1), pos_in(words, k - 1), fpos, pos)
 }
 
+// Whether a point stays where it is: it is touched or weak.
+fn is_held(touched: &[u8], weak: &[u8], i: usize) -> bool
+    requires { ⌜ (i < length (now touched)) × (i < length (now weak)) ⌝ }
+    ensures { λ r. ⌜ r ≡ (isTouched (now (touched .entry)) i || isTouched (now (weak .entry)) i) ⌝ }
+{
+    if touched[i] != 0 {
+        return true;
+    }
+    if weak[i] != 0 {
+        return true;
+    }
+    false
+}
+
+// Where a point of the outline comes to that does not stay.
+fn free_at(words: &[i32], fonts: &[i16], originals: &[i32], i: usize) -> Place
+    requires { ⌜ Whole (now words) × AxisWithin mostPos (edgesOf (now words)) × (i < length (now fonts)) × (length (now originals) ≡ length (now fonts)) × Coordinates (now originals) ⌝ }
+    ensures { λ r. ⌜ r ≡ placeOf (edgesOf (now (words .entry))) (at (now (fonts .entry)) i) (at (now (originals .entry)) i) ⌝ }
+{
+    place_in(words, fonts[i] as i32, originals[i])
+}
+
 // Where a point of the outline comes to; it stays where it is touched or weak.
 pub fn strong_at(
     words: &[i32],
@@ -76,33 +101,37 @@ pub fn strong_at(
     requires { ⌜ Placeable (now words) (now fonts) (now originals) (now touched) (now weak) × (i < length (now fonts)) ⌝ }
     ensures { λ r. ⌜ r ≡ strongAt (edgesOf (now (words .entry))) (now (fonts .entry)) (now (originals .entry)) (now (touched .entry)) (now (weak .entry)) i ⌝ }
 {
-    if touched[i] != 0 {
+    if is_held(touched, weak, i) {
         return Place::Stays;
     }
-    if weak[i] != 0 {
-        return Place::Stays;
-    }
-    place_in(words, fonts[i] as i32, originals[i])
+    free_at(words, fonts, originals, i)
 }
 
-// Brings every point to its place, and touches those that come to one.
-pub fn place_all(
+// Brings every point to its place, and touches those that come to one, up to the first that is refused; whether there is none.
+pub fn place_each(
     words: &[i32],
     fonts: &[i16],
     originals: &[i32],
     currents: &mut [i32],
     touched: &mut [u8],
     weak: &[u8],
-)
+) -> bool
     requires { ⌜ Placeable (now words) (now fonts) (now originals) (now touched) (now weak) × (length (now currents) ≡ length (now fonts)) ⌝ }
-    ensures { λ _. ⌜ PlacedAll (now (words .entry)) (now (fonts .entry)) (now (originals .entry)) (now (currents .entry)) (now (touched .entry)) (now (weak .entry)) (now (currents .exit)) (now (touched .exit)) ⌝ }
+    ensures { λ r. ⌜ PlacedEach (now (words .entry)) (now (fonts .entry)) (now (originals .entry)) (now (currents .entry)) (now (touched .entry)) (now (weak .entry)) r (now (currents .exit)) (now (touched .exit)) ⌝ }
 {
     let n = fonts.len();
     for i in 0..n {
-        let place = strong_at(words, fonts, originals, touched, weak, i);
+        if is_held(touched, weak, i) {
+            continue;
+        }
+        let place = free_at(words, fonts, originals, i);
+        if !is_placed(place) {
+            return false;
+        }
         let current = current_after(currents[i], place);
         let mark = mark_after(touched[i], place);
         currents[i] = current;
         touched[i] = mark;
     }
+    true
 }

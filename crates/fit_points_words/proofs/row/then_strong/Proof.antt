@@ -14,6 +14,9 @@ use Rattle.fit_points_words.proofs.row.then_strong.Tie as tie
 abbrev start : tie.After-coordinates-hold → tie.Start
 start k = k .before .before .before .before .before
 
+abbrev placed : tie.After-slice-known2 → tie.After-place-each
+placed c = c .before .before .before
+
 abbrev lent : tie.Start → Points
 lent s = points (s .args .currents .now) (s .args .touched .now)
 
@@ -37,8 +40,8 @@ returns c =
     let a = s .args in
     strong-far (a .edges .now) (a .fonts .now) (a .originals .now) (a .weak .now) (a .ends .now) (lent s) (s .pre) (k .coordinates-hold .ensures) (not-true _ (c .if1 .taken))
 
-all-placed-requires : tie.Need-all-placed-requires
-all-placed-requires c κs = ready (c .before .before) .0
+place-each-requires : tie.Need-place-each-requires
+place-each-requires c κs = ready (c .before .before .before)
 
 same-length-2 : tie.Need-same-length-2
 same-length-2 c = search needs
@@ -48,16 +51,13 @@ same-length-3 c = search needs
 
 returns-2 : tie.Need-returns-2
 returns-2 c =
-    let p = c .before in
-    let e = p .before .before in
+    let d = placed (c .before) in
+    let e = d .before .before .before in
     let k = e .before in
     let s = start k in
     let a = s .args in
-    strong-steep (a .edges .now) (a .fonts .now) (a .originals .now) (a .weak .now) (a .ends .now) (lent s) (s .pre) (k .coordinates-hold .ensures) (not-false _ (e .if1 .left)) (p .all-placed .ensures)
+    strong-steep (a .edges .now) (a .fonts .now) (a .originals .now) (a .weak .now) (a .ends .now) (lent s) (s .pre) (k .coordinates-hold .ensures) (not-false _ (e .if1 .left)) (d .place-each .ensures)
     (not-true _ (c .if2 .taken))
-
-place-all-requires : tie.Need-place-all-requires
-place-all-requires c κs = ready (c .before .before .before .before .before .before)
 
 align-weak-points-requires : tie.Need-align-weak-points-requires
 align-weak-points-requires c κs = search needs
@@ -71,15 +71,14 @@ same-length-5 c = search needs
 returns-3 : tie.Need-returns-3
 returns-3 c =
     let u = c .before in
-    let d = u .before .before .before .before .before .before in
-    let l = d .before .before .before in
-    let p = l .before in
-    let e = p .before .before in
+    let o = u .before .before .before in
+    let d = placed (o .before) in
+    let e = d .before .before .before in
     let k = e .before in
     let s = start k in
     let a = s .args in
-    strong-goes (a .edges .now) (a .fonts .now) (a .originals .now) (a .weak .now) (a .ends .now) (lent s) (s .pre) (k .coordinates-hold .ensures) (not-false _ (e .if1 .left)) (p .all-placed .ensures)
-    (not-false _ (l .if2 .left)) (d .place-all .ensures) (u .align-weak-points .ensures)
+    strong-goes (a .edges .now) (a .fonts .now) (a .originals .now) (a .weak .now) (a .ends .now) (lent s) (s .pre) (k .coordinates-hold .ensures) (not-false _ (e .if1 .left)) (d .place-each .ensures)
+    (not-false _ (o .if2 .left)) (u .align-weak-points .ensures)
 
 pub then-strong-spec : {M : Type 1} → statement M
 then-strong-spec =
@@ -88,11 +87,10 @@ then-strong-spec =
     coordinates-hold-requires
     same-length
     returns
-    all-placed-requires
+    place-each-requires
     same-length-2
     same-length-3
     returns-2
-    place-all-requires
     align-weak-points-requires
     same-length-4
     same-length-5

@@ -1,7 +1,7 @@
 -- `strong_words::align::align_strong_points` meets its contract: what is not refused is written. Assumes nothing.
 use borrow.Author.Needs.{needs}
 use borrow.Author.Tests.{not-true, not-false}
-use mathlib.Core.Path.{_≡_}
+use mathlib.Core.Path.{_≡_, sym, _∙_}
 use mathlib.Core.Bool.{_&&_}
 use lib.ListN.{length}
 use Rattle.refusals.specs.Refusal.{refusal}
@@ -72,8 +72,8 @@ returns-2 c =
     point-refuses (a .edges .now) (a .fonts .now) (a .originals .now) (a .currents .now) (a .touched .now) (a .weak .now) (lists-tell t) (ranges-tell t) (t .edges-test .ensures) (e .if1 .left)
     (p .all-placed .ensures) (not-true _ (c .if2 .taken))
 
-place-all-requires : tie.Need-place-all-requires
-place-all-requires c κs = ready (c .before .before .before .before .before)
+place-each-requires : tie.Need-place-each-requires
+place-each-requires c κs = ready (c .before .before .before .before .before)
 
 same-length-5 : tie.Need-same-length-5
 same-length-5 c = search needs
@@ -90,7 +90,7 @@ returns-3 c =
     let t = e .before in
     let a = start t .args in
     all-placed (a .edges .now) (a .fonts .now) (a .originals .now) (a .currents .now) (a .touched .now) (a .weak .now) (lists-tell t) (ranges-tell t) (t .edges-test .ensures) (e .if1 .left)
-    (p .all-placed .ensures) (not-false _ (l .if2 .left)) (d .place-all .ensures)
+    (p .all-placed .ensures) (not-false _ (l .if2 .left)) (d .place-each .ensures .placed (d .place-each .ensures .told ∙ sym (p .all-placed .ensures) ∙ not-false _ (l .if2 .left)))
 
 pub align-strong-points-spec : {M : Type 1} → statement M
 align-strong-points-spec =
@@ -106,7 +106,7 @@ align-strong-points-spec =
     same-length-3
     same-length-4
     returns-2
-    place-all-requires
+    place-each-requires
     same-length-5
     same-length-6
     returns-3)
