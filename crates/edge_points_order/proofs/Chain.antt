@@ -48,16 +48,16 @@ unfolding coordinatesHold coordinateHolds
 all-within most [] h = refl
 all-within most (z ∷ l) h = rw (le-leb (natAbs z) most (h 0), all-within most l (λ i. h (suc i)))
 
-record Taken (alone : Bool) (axis : Axis) (t : Segments) (s : Points) (es : List ℕ) : Type 0 where
-  few : length (s .currents) ≤ mostPoints
-  marks : length (s .touched) ≡ length (s .currents)
-  ends : endsHold 0 (length (s .currents)) es ≡ true
-  edges : (i k : ℕ) → i < t .len → segmentAt t i .edge ≡ Links.To k → k < axis .len
-  walks : (i : ℕ) → i < t .len → segmentPoints es (segmentAt t i) (segmentAt t i .edge) ≡ true
-  currents : coordinatesHold mostCoordinate (s .currents) ≡ true
-  positions : (i k : ℕ) → i < t .len → segmentAt t i .edge ≡ Links.To k → moves alone (edgeAt axis k) ≡ true → natAbs (edgeAt axis k .pos) ≤ mostCoordinate
+pub record Taken (alone : Bool) (axis : Axis) (t : Segments) (s : Points) (es : List ℕ) : Type 0 where
+  pub few : length (s .currents) ≤ mostPoints
+  pub marks : length (s .touched) ≡ length (s .currents)
+  pub ends : endsHold 0 (length (s .currents)) es ≡ true
+  pub edges : (i k : ℕ) → i < t .len → segmentAt t i .edge ≡ Links.To k → k < axis .len
+  pub walks : (i : ℕ) → i < t .len → segmentPoints es (segmentAt t i) (segmentAt t i .edge) ≡ true
+  pub currents : coordinatesHold mostCoordinate (s .currents) ≡ true
+  pub positions : (i k : ℕ) → i < t .len → segmentAt t i .edge ≡ Links.To k → moves alone (edgeAt axis k) ≡ true → natAbs (edgeAt axis k .pos) ≤ mostCoordinate
 
-taken : (alone : Bool) (axis : Axis) (t : Segments) (s : Points) (es : List ℕ) → edgeAnswer alone axis t s es ≡ 0 → Taken alone axis t s es
+pub taken : (alone : Bool) (axis : Axis) (t : Segments) (s : Points) (es : List ℕ) → edgeAnswer alone axis t s es ≡ 0 → Taken alone axis t s es
 unfolding edgeAnswer segmentsEdges segmentEdge segmentsPoints moversHold moverHolds
 taken alone axis t s es e =
     let h = all-hold (pointsTests alone axis t s es) refl e in
@@ -88,7 +88,7 @@ mover-done true done h f = h
 mover-done false done h f = f refl
 
 -- a point that was where an edge was comes to where that is, with snap and without
-comes-along : (snap : Bool) (e : Edge) (v : ℤ) → v ≡ e .opos → movedBy snap e v ≡ e .pos
+pub comes-along : (snap : Bool) (e : Edge) (v : ℤ) → v ≡ e .opos → movedBy snap e v ≡ e .pos
 unfolding movedBy
 comes-along true e v q = refl
 comes-along false e v q = same (omega (arith, signed))
