@@ -76,14 +76,14 @@ module _ (n : Numbers) (count : ℕ) (anchor : Link) (ws : List ℤ) where
   pub guard-stops : {r : FittedEdges} → Ready n count anchor ws → positionsHold (edgesOf ws) ≡ false → r ≡ refusedEdges outOfRange → Went (thenGuard n count anchor ws) r ws ws
   guard-stops g f q = went-stopped outOfRange (guard-as (guard-refuses g f)) q (omega arith) refl
 
-  pub guard-ready : Accepted n count anchor ws → Whole ws × AxisWithin mostPos (edgesOf ws)
+  pub guard-ready : Accepted n count ws → Whole ws × AxisWithin mostPos (edgesOf ws)
   guard-ready a = (a .whole, edges-within (edgesOf ws) (a .edges))
 
-  guard-accepts : Accepted n count anchor ws → refusal (gapsTests (edgesOf ws) (n .least)) ≡ 0
+  guard-accepts : Accepted n count ws → refusal (gapsTests (edgesOf ws) (n .least)) ≡ 0
   unfolding refusal
   guard-accepts a = let t = a .edges in λ j. cond (t .short j) (cond (a .least j) (cond (t .indexed j) (cond (t .in-range j) 0 outOfRange) badIndex) badParameter) tooLong
 
-  pub guard-goes : Accepted n count anchor ws → {g : Gaps} → g ≡ foundIn (n .least) (n .linked) (edgesOf ws)
+  pub guard-goes : Accepted n count ws → {g : Gaps} → g ≡ foundIn (n .least) (n .linked) (edgesOf ws)
       → Went (thenGuard n count anchor ws) (record { answer = 0; count = count; anchor = anchor; gaps = g }) ws ws
   unfolding foundTo
   guard-goes a {g} e = record {
@@ -104,7 +104,7 @@ module _ (n : Numbers) (count : ℕ) (anchor : Link) (ws : List ℤ) where
       told-few : few-of (foundIn (n .least) (n .linked) (edgesOf ws))
       told-few = let f = few-found (n .least) (n .linked) (edgesOf ws) (edges-within (edgesOf ws) (a .edges)) in record { passed = a .few; gaps = f .gaps; stems = f .stems; undone = f .undone }
 
-  pub ready-accepted : Ready n count anchor ws → positionsHold (edgesOf ws) ≡ true → Accepted n count anchor ws
+  pub ready-accepted : Ready n count anchor ws → positionsHold (edgesOf ws) ≡ true → Accepted n count ws
   ready-accepted g t = record { whole = g .whole; edges = loose-accepted (g .loose) t; few = g .few; least = g .least }
 
 -- ---- remaining edges
@@ -154,7 +154,7 @@ module _ (n : Numbers) (count : ℕ) (anchor : Link) {ws : List ℤ} (g : Ready 
       pub remaining-beyond : {r : FittedEdges} → past .beyond ≡ true → r ≡ refusedEdges steep → Went (thenRemaining n count anchor ws) r ws w1
       remaining-beyond b q = went-stopped steep (remaining-as (tests-are t (ap (λ (x : Progress). x .beyond) (sym past-is) ∙ b))) q (omega arith) (p .long)
 
-      pub remaining-accepted : Accepted n count (past .anchor) w1
+      pub remaining-accepted : Accepted n count w1
       remaining-accepted = record { whole = p .whole; edges = edges-accepted (edgesOf w1) (p .axis); few = g .few; least = g .least }
 
       module _ (b : past .beyond ≡ false) where

@@ -77,7 +77,7 @@ pub record Ready (n : Numbers) (count : ℕ) (anchor : Link) (ws : List ℤ) : T
   pub least : LeastHolds n
 
 -- those whose positions are accepted
-pub record Accepted (n : Numbers) (count : ℕ) (anchor : Link) (ws : List ℤ) : Type 0 where
+pub record Accepted (n : Numbers) (count : ℕ) (ws : List ℤ) : Type 0 where
   pub whole : Whole ws
   pub edges : EdgesAccepted (edgesOf ws)
   pub few : count ≤ mostEdges

@@ -19,7 +19,7 @@ ghost use Rattle.fit_edges_words.specs.Row.{Begun, Ready, Accepted, Went
 
 // The guard on edges that are accepted.
 fn guarded(words: &[i32], by: Numbers, count: usize, anchor: Link) -> FittedEdges
-    requires { ⌜ Accepted by count anchor (now words) ⌝ }
+    requires { ⌜ Accepted by count (now words) ⌝ }
     ensures { λ r. ⌜ Went (thenGuard by count anchor (now (words .entry))) r (now (words .entry)) (now (words .exit)) ⌝ }
 {
     let gaps = find_in(words, by.least, by.linked);

@@ -1,5 +1,6 @@
 -- `fit_back_words::rooms::fit_in_rooms` meets its contract. Assumes nothing.
-use mathlib.Core.Path.{sym, ap, _∙_}
+use mathlib.Core.Path.{ap}
+use native.Mathlib.Omega.{arith}
 use lib.ListN.{length}
 use Rattle.edge_points_walk.specs.Steps.{points}
 use Rattle.fit.specs.Fit.{Given, given, Fitted, fitted}
@@ -53,7 +54,7 @@ copy-requires : tie.Need-copy-requires
 copy-requires c κs =
     let p = pointed (c .before .before .before) in
     let k = p .before .before .before .before .before .before .before in
-    k .before .before .edges .given ∙ sym (ap length (edged k .edges-back .ensures .kept))
+    omega (arith, k .before .before .edges .given, ap length (edged k .edges-back .ensures .kept))
 
 same-length-3 : tie.Need-same-length-3
 same-length-3 c = search needs
