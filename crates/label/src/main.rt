@@ -27,7 +27,7 @@ fn take(words: &mut [i32], line: Line, byte: u8) -> Line
 
 fn main() {
     text(
-        b"The sample label, fitted. Positions and widths are in pixels and 64ths of a pixel, before and after a step; an edge's line ends with what gave it its position.\nA path is in pixels: M moves, L draws a line, Q a curve by a control point, Z closes.\n",
+        b"The sample label, fitted. Positions and widths are in pixels and 64ths of a pixel, before and after a step; an edge's line ends with what gave it its position.\nA path is in pixels: M moves, L draws a line, Q a curve by a control point, Z closes.\nOne call tells whether khs_fit_axis alone leaves an axis as the steps above it did: edges, points and what is told of them.\n",
     );
     let mut byte = [0u8; 1];
     let mut words = [0i32; MOST_WORDS];

@@ -1,7 +1,7 @@
 // A step of the chain, by the call that its job names.
-use label_fit::fit::fitting;
-use label_fit::fit::m;
-use label_fit::fit::remaining;
+use label_fit::edges::fitting;
+use label_fit::edges::m;
+use label_fit::edges::remaining;
 use label_fit::glyph::Glyph;
 use label_fit::topo::build;
 use label_fit::topo::link;

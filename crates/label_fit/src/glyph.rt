@@ -1,6 +1,8 @@
 // A glyph on its way through the chain.
 use axis::accept::least;
 use axis::limits::MOST_EDGES;
+use fit::numbers::NUMBER_WORDS;
+use fit::outcome::TOLD_WORDS;
 use lines::limits::MOST_NUMBERS;
 use lines::limits::MOST_WORDS;
 use words::edge::EDGE_WORDS;
@@ -8,16 +10,23 @@ use words::edge::TABLE_WORDS;
 ghost use Prim.Native.Nat.{_≤_};
 ghost use Rattle.words.specs.Edge.{tableSize};
 
+// The numbers that an axis is fitted with, and behind them a count and the most standards that a width rule takes.
+pub const ASKED_WORDS: usize = NUMBER_WORDS + 1 + 16;
+
 // What the steps hand on: the axis that is being fitted, as the building job names it; the words of the job that has its segments, as the last step left them; the
-// words of its edges, and how many there are; how many of them the stems passed over; its anchor; where its points are drawn, which of them are weak, and how
-// many there are; where the points were and where they came to, on both axes; and whether a step refused what it was given.
+// words of its edges as they were with their zones, as the last step left them, and how many there are; the numbers and standards that they are fitted with; how many of
+// them the stems passed over; its anchor; these two behind what the guard has told; where its points are drawn, which of them are weak, and how many there are; where
+// the points were and where they came to, on both axes; and whether a step refused what it was given.
 pub struct Glyph {
     pub dim: i32,
     pub topo: [i32; MOST_WORDS],
+    pub zoned: [i32; TABLE_WORDS],
     pub edges: [i32; TABLE_WORDS],
     pub count: usize,
+    pub asked: [i32; ASKED_WORDS],
     pub passed: i32,
     pub anchor: i32,
+    pub told: [i32; TOLD_WORDS],
     pub fonts: [i16; MOST_NUMBERS],
     pub weak: [u8; MOST_NUMBERS],
     pub drawn: usize,
@@ -34,10 +43,13 @@ impl Glyph {
         Glyph {
             dim: 0,
             topo: [0; MOST_WORDS],
+            zoned: [0; TABLE_WORDS],
             edges: [0; TABLE_WORDS],
             count: 0,
+            asked: [0; ASKED_WORDS],
             passed: 0,
             anchor: -1,
+            told: [0; TOLD_WORDS],
             fonts: [0; MOST_NUMBERS],
             weak: [0; MOST_NUMBERS],
             drawn: 0,
@@ -78,6 +90,24 @@ pub fn words_of(glyph: Glyph) -> [i32; MOST_WORDS] {
 pub fn edges_of(glyph: Glyph) -> [i32; TABLE_WORDS] {
     let edges = glyph.edges;
     edges
+}
+
+// The edges of a glyph with their zones, as they were before they were fitted.
+pub fn zoned_of(glyph: Glyph) -> [i32; TABLE_WORDS] {
+    let zoned = glyph.zoned;
+    zoned
+}
+
+// The numbers and standards that the edges of a glyph are fitted with.
+pub fn asked_of(glyph: Glyph) -> [i32; ASKED_WORDS] {
+    let asked = glyph.asked;
+    asked
+}
+
+// What the steps told of the edges of a glyph.
+pub fn told_of(glyph: Glyph) -> [i32; TOLD_WORDS] {
+    let told = glyph.told;
+    told
 }
 
 // Where the points of a glyph are drawn.

@@ -3,6 +3,8 @@ use axis::accept::least;
 use khsaemudol::khs_align_edge_points;
 use khsaemudol::khs_align_strong_points;
 use khsaemudol::khs_align_weak_points;
+use label_fit::edges::DONE_ALONE;
+use label_fit::edges::SNAP;
 use label_fit::glyph::Glyph;
 use label_fit::glyph::edge_words;
 use label_fit::glyph::edges_of;
@@ -12,6 +14,7 @@ use label_fit::glyph::stopped;
 use label_fit::glyph::weak_of;
 use label_fit::glyph::words_of;
 use label_fit::topo::segments;
+use label_one::once::once;
 use label_print::print::refused;
 use label_print::print::show;
 use lines::limits::MOST_NUMBERS;
@@ -23,11 +26,8 @@ use tool_lists::number::read_shorts;
 use words::segment::SEGMENT_WORDS;
 use words::word::count_word;
 ghost use Prim.Native.Nat.{_≤_};
-
-// Points come to their edge's position, and every edge moves its own, as in the Rust: what can be placed is placed by then.
-const SNAP: i32 = 1;
-
-const DONE_ALONE: i32 = 0;
+ghost use lib.ListN.{length};
+ghost use Rattle.lines.specs.Limits.{mostNumbers};
 
 // 1 where a mark says that a point is touched.
 fn one_of(mark: u8) -> usize
@@ -133,29 +133,52 @@ pub fn strong(words: &[i32], mut glyph: Glyph) -> Glyph {
     glyph
 }
 
-// Fits the points of a job, which start at their originals.
-pub fn weak(words: &[i32], glyph: Glyph) -> Glyph {
-    let originals = nth_list(words, 0);
-    let n = originals.len();
-    let contours = nth_list(words, 3);
-    let mut ends = [0u16; MOST_NUMBERS];
-    read_indices(contours, &mut ends);
+// Fits the points of an axis, which start at their originals, and writes whether one call comes to the same; tells whether it was done.
+fn fits(
+    glyph: Glyph,
+    originals: &[i32],
+    ends: &[u16],
+    currents: &mut [i32],
+    touched: &mut [u8],
+) -> bool
+    requires { ⌜ length (now originals) ≤ mostNumbers ⌝ }
+{
     let topo = words_of(glyph);
     let end = 2 + SEGMENT_WORDS * segments(&topo);
     let edges = edges_of(glyph);
     let fonts = fonts_of(glyph);
     let weak = weak_of(glyph);
     let drawn = least(glyph.drawn, MOST_NUMBERS);
-    let mut old = [0i32; MOST_NUMBERS];
-    put(&mut old, 0, originals);
-    let mut currents = old;
-    let mut touched = [0u8; MOST_NUMBERS];
     if aligned(
         &fonts[0..drawn],
         &weak[0..drawn],
         originals,
         &topo[2..end],
         &edges[0..edge_words(glyph)],
+        ends,
+        currents,
+        touched,
+    ) {
+        once(glyph, originals, ends, currents, touched);
+        return true;
+    }
+    false
+}
+
+// Fits the points of a job.
+pub fn weak(words: &[i32], glyph: Glyph) -> Glyph {
+    let originals = nth_list(words, 0);
+    let n = originals.len();
+    let contours = nth_list(words, 3);
+    let mut ends = [0u16; MOST_NUMBERS];
+    read_indices(contours, &mut ends);
+    let mut old = [0i32; MOST_NUMBERS];
+    put(&mut old, 0, originals);
+    let mut currents = old;
+    let mut touched = [0u8; MOST_NUMBERS];
+    if fits(
+        glyph,
+        originals,
         &ends[0..contours.len()],
         &mut currents[0..n],
         &mut touched[0..n],

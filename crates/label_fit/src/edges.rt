@@ -1,12 +1,15 @@
 // Edges fitted: put on their zones, with the stems behind them, then the m rule and the edges that are left, whose jobs have no edges of their own; behind these
 // the guard is asked.
+use super::glyph::ASKED_WORDS;
 use super::glyph::Glyph;
+use super::glyph::asked_of;
 use super::glyph::edge_words;
 use super::glyph::edges_of;
 use super::glyph::stopped;
 use super::topo::tail;
 use axis::accept::least;
 use axis::limits::MOST_EDGES;
+use fit::outcome::TOLD_WORDS;
 use khsaemudol::khs_align_blues_and_stems;
 use khsaemudol::khs_align_remaining_edges;
 use khsaemudol::khs_hint_lowercase_m;
@@ -18,6 +21,8 @@ use label_print::edges::field;
 use label_print::print::refused;
 use label_print::print::show;
 use label_print::print::text;
+use tool_lists::list::put;
+use tool_lists::list::put_list;
 use words::edge::EDGE_WORDS;
 use words::edge::TABLE_WORDS;
 use words::word::size_of;
@@ -55,13 +60,65 @@ fn fitted(mut glyph: Glyph, edges: [i32; TABLE_WORDS], anchor: i32) -> Glyph {
     glyph
 }
 
+// Points come to their edge's position, and every edge moves its own, as in the Rust: what can be placed is placed by then.
+pub const SNAP: i32 = 1;
+
+pub const DONE_ALONE: i32 = 0;
+
 // The guard is asked for gaps half a pixel wide and more, and for pairs of edges that have links.
 const LEAST_GAP: i32 = 32;
 
 const LINKED: i32 = 1;
 
-// Writes that a gap or a stem between placed edges was lost, where the guard finds one.
-fn guard(glyph: Glyph) {
+// Where it stands among the numbers of an axis whether the glyph is an m.
+const LOWERCASE_M: usize = 6;
+
+// The numbers and standards of an axis by those of a fitting job, of a glyph that is no m.
+fn asked_by(numbers: &[i32]) -> [i32; ASKED_WORDS] {
+    let standards = tail(numbers, 6);
+    let mut asked = [0i32; ASKED_WORDS];
+    let words = [
+        word_at(numbers, 0),
+        word_at(numbers, 1),
+        word_at(numbers, 2),
+        SNAP,
+        DONE_ALONE,
+        word_at(numbers, 4),
+        0,
+        LEAST_GAP,
+        LINKED,
+    ];
+    let at = put(&mut asked, 0, &words);
+    put_list(&mut asked, at, standards.len(), standards);
+    asked
+}
+
+// Writes that a gap or a stem between placed edges was lost, where the guard has found one.
+fn warn(answer: u8, told: [i32; TOLD_WORDS]) {
+    if answer == 0 {
+        if told[3] < 0 {
+            return;
+        }
+    }
+    if refused(b"  guard     ", answer) {
+        return;
+    }
+    show(
+        b"# gaps and # stems lost, the first between edges # and #, width ~ -> ~, # edges not done\n",
+        &[
+            told[0],
+            told[1],
+            told[3],
+            told[4],
+            told[5],
+            told[6],
+            told[2],
+        ],
+    );
+}
+
+// The glyph with what the steps on its edges have told, of which the guard is the last; where it has found something, that is written.
+fn guard(mut glyph: Glyph) -> Glyph {
     let edges = edges_of(glyph);
     let n = edge_words(glyph);
     let mut count = 0;
@@ -83,18 +140,22 @@ fn guard(glyph: Glyph) {
         &mut stems,
         &mut not_done,
     );
-    if answer == 0 {
-        if first < 0 {
-            return;
-        }
-    }
-    if refused(b"  guard     ", answer) {
-        return;
-    }
-    show(
-        b"# gaps and # stems lost, the first between edges # and #, width ~ -> ~, # edges not done\n",
-        &[count, stems, first, second, before, after, not_done],
-    );
+    let passed = glyph.passed;
+    let anchor = glyph.anchor;
+    let told = [
+        count,
+        stems,
+        not_done,
+        first,
+        second,
+        before,
+        after,
+        passed,
+        anchor,
+    ];
+    warn(answer, told);
+    glyph.told = told;
+    glyph
 }
 
 // Puts the edges on the zones that a job gives them, and aligns the stems to the anchor and to each other.
@@ -103,7 +164,8 @@ pub fn fitting(words: &[i32], glyph: Glyph) -> Glyph {
         words,
         2 + EDGE_WORDS * least(size_of(word_at(words, 1)), MOST_EDGES),
     );
-    let mut edges = with_zones(words, glyph);
+    let zoned = with_zones(words, glyph);
+    let mut edges = zoned;
     let n = edge_words(glyph);
     let mut passed = 0;
     let mut anchor = -1;
@@ -124,6 +186,9 @@ pub fn fitting(words: &[i32], glyph: Glyph) -> Glyph {
     show(b"# passed over, ", &[passed]);
     anchored(anchor);
     let mut glyph = fitted(glyph, edges, anchor);
+    glyph.zoned = zoned;
+    let asked = asked_by(numbers);
+    glyph.asked = asked;
     glyph.passed = passed;
     glyph
 }
@@ -137,7 +202,11 @@ pub fn m(words: &[i32], glyph: Glyph) -> Glyph {
         return stopped(glyph);
     }
     text(b"equal distances between the stems\n");
-    fitted(glyph, edges, glyph.anchor)
+    let mut asked = asked_of(glyph);
+    asked[LOWERCASE_M] = 1;
+    let mut glyph = fitted(glyph, edges, glyph.anchor);
+    glyph.asked = asked;
+    glyph
 }
 
 // Whether the Rust asks for the edges that are left: where the stems have passed over some, or there is no anchor.
@@ -173,8 +242,8 @@ pub fn remaining(words: &[i32], mut glyph: Glyph) -> Glyph {
     if left(glyph.passed, glyph.anchor) {
         glyph = placed(words, glyph);
     }
-    if !glyph.refused {
-        guard(glyph);
+    if glyph.refused {
+        return glyph;
     }
-    glyph
+    guard(glyph)
 }

@@ -1,9 +1,9 @@
--- `label_fit::fit::with_zones` is safe.
+-- `label_fit::edges::with_zones` is safe.
 use borrow.Author.Needs.{needs}
 use Prim.Native.Nat.{_≤_, _-_}
 use Rattle.axis.specs.Limits.{mostEdges}
-use Rattle.label_fit.proofs.fit.with_zones.Statement.{statement}
-use Rattle.label_fit.proofs.fit.with_zones.Tie as tie
+use Rattle.label_fit.proofs.edges.with_zones.Statement.{statement}
+use Rattle.label_fit.proofs.edges.with_zones.Tie as tie
 
 abbrev Inv-loop : tie.InvT-loop
 Inv-loop words zones edges₀ n i₀ edges i = (i ≤ n) × (n ≤ mostEdges)
