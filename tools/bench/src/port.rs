@@ -307,7 +307,6 @@ impl Prepared {
             | Job::Mend(..)
             | Job::Pack(..)
             | Job::TurnOver(..)
-            | Job::Fit(..)
             | Job::WriteFrame(..)
             | Job::ReadFrame(..) => return Self::by_job(words),
         };
