@@ -101,8 +101,8 @@
  * No call allocates, keeps a pointer, prints or fails otherwise. Each may be called from any thread, and on other lists at the same time. Working tables stand on
  * the stack: on x86-64 and aarch64 khs_turn_over was measured to use 7 KiB of it, khs_compute_edges 3 KiB and every other call at most 1 KiB, but for
  * khs_align_remaining_edges, khs_count_shown, khs_pack_axis and khs_mend, of which 7, 7, 5 and 4 KiB were measured on x86-64, and khs_fit_axis, of which 28 KiB were with a
- * glyph at all limits: it keeps copies to put back; and 4 KiB more where a dynamic linker looks up memcpy or memset in the call. A thread with a stack of 36 KiB is enough
- * for khs_fit_axis, and one of 24 KiB for every other call. */
+ * glyph at all limits: it keeps copies to put back; and 4 KiB more where a dynamic linker looks up memcpy or memset in the call. A stack of 36 KiB has
+ * room for all of that, and one of 24 KiB is enough for every other call. */
 #ifndef KHSAEMUDOL_H
 #define KHSAEMUDOL_H
 
