@@ -1,6 +1,5 @@
 // The points of every segment moved by its edge.
 use axis::kinds::Link;
-use edge_points_walk::contour::contour_of;
 use edge_points_walk::walk::move_walk;
 use edges_in::edge::fit_in;
 use outline::accept::wide;
@@ -57,8 +56,7 @@ fn move_segment(
     }
     let first = wide(index_at(segments, at + FIRST_PLACE));
     let last = wide(index_at(segments, at + LAST_PLACE));
-    let contour = contour_of(ends, first);
-    move_walk(currents, touched, contour, first, last, snap, edge);
+    move_walk(currents, touched, ends, first, last, snap, edge);
 }
 
 // Moves the points of every segment, in the order of the table.

@@ -2,7 +2,7 @@
 use borrow.Author.Needs.{needs}
 use borrow.Author.Tests.{not-true, not-false}
 use native.Mathlib.Omega.{arith}
-use mathlib.Core.Path.{_≡_, sym, _∙_}
+use mathlib.Core.Path.{_≡_, refl, sym, _∙_}
 use Rattle.axis.specs.Segment.{segmentAt}
 use Rattle.words.specs.Segment.{flatSegments}
 use Rattle.tables_test.proofs.Tables.{edge-is}
@@ -19,23 +19,22 @@ linked : (c : tie.After-link-at) → c .link-at .result ≡ segmentAt (flatSegme
 linked c = let s = from c in c .link-at .ensures ∙ edge-is (s .args .segments .now) (s .args .i) (s .pre .0 .0 .segments) (s .pre .0 .1)
 
 -- where the edge is known to move points, and the points that were read behind it
-abbrev other : tie.After-contour-of → tie.Else1
-other c = c .before .before .before .before .before
+abbrev other : tie.After-wide2 → tie.Else1
+other c = c .before .before .before .before
 
-abbrev start : tie.After-contour-of → tie.Start
+abbrev start : tie.After-wide2 → tie.Start
 start c = from (other c .before .before .before .before .before .before)
 
-first-read : (c : tie.After-contour-of) → c .before .before .before .wide .result ≡ segmentAt (flatSegments (start c .args .segments .now)) (start c .args .i) .first
+first-read : (c : tie.After-wide2) → c .before .before .wide .result ≡ segmentAt (flatSegments (start c .args .segments .now)) (start c .args .i) .first
 first-read c =
-    let x = c .before .before .before in
+    let x = c .before .before in
     let s = start c in
     x .wide .ensures ∙ x .before .index-at .ensures ∙ first-is (s .args .segments .now) (s .args .i) (s .pre .0 .0 .segments) (s .pre .0 .1)
 
-last-read : (c : tie.After-contour-of) → c .before .wide2 .result ≡ segmentAt (flatSegments (start c .args .segments .now)) (start c .args .i) .last
+last-read : (c : tie.After-wide2) → c .wide2 .result ≡ segmentAt (flatSegments (start c .args .segments .now)) (start c .args .i) .last
 last-read c =
-    let y = c .before in
     let s = start c in
-    y .wide2 .ensures ∙ y .before .index-at2 .ensures ∙ last-is (s .args .segments .now) (s .args .i) (s .pre .0 .0 .segments) (s .pre .0 .1)
+    c .wide2 .ensures ∙ c .before .index-at2 .ensures ∙ last-is (s .args .segments .now) (s .args .i) (s .pre .0 .0 .segments) (s .pre .0 .1)
 
 mul-at : tie.Need-mul-at
 mul-at c = let s = c .before .before in omega (arith, s .pre .0 .1, s .pre .0 .0 .segments .few)
@@ -98,9 +97,6 @@ index-at-requires-2 c κs = search needs
 wide-requires-2 : tie.Need-wide-requires-2
 wide-requires-2 c κs = search needs
 
-contour-of-requires : tie.Need-contour-of-requires
-contour-of-requires c κs = search needs
-
 move-walk-requires : tie.Need-move-walk-requires
 move-walk-requires c κs =
     let k = c .before .before in
@@ -113,7 +109,7 @@ move-walk-requires c κs =
     let a = s .pre .0 .0 in
     let e = sym (linked l) ∙ link .link .given .1 in
     let moving = read-moves (s .args .alone) (s .args .segments .now) (s .args .edges .now) (s .args .i) (f .fit-in .result) _ e (f .fit-in .ensures) (m .moves .ensures) (not-false _ (o .if1 .left)) in (
-      (segment-ready _ _ _ _ _ a _ (s .pre .0 .1) _ e _ _ (first-read k) (last-read k) _ (k .contour-of .ensures), s .pre .1 .0),
+      (segment-ready _ _ _ _ _ a _ (s .pre .0 .1) _ e _ _ (first-read k) (last-read k) _ refl, s .pre .1 .0),
       (
         read-mover _ _ (f .fit-in .ensures) (is-mover _ _ _ _ _ a _ (s .pre .0 .1) _ e moving),
         reach-most (s .args .i) (s .args .currents .now) (omega (arith, s .pre .0 .1, a .segments .few)) (s .pre .1 .1),
@@ -138,7 +134,7 @@ returns-3 c =
     let s = from l in
     let e = sym (linked l) ∙ link .link .given .1 in
     let moving = read-moves (s .args .alone) (s .args .segments .now) (s .args .edges .now) (s .args .i) (f .fit-in .result) _ e (f .fit-in .ensures) (m .moves .ensures) (not-false _ (o .if1 .left)) in
-    segment-moved _ _ _ _ _ (s .pre .0 .0) _ (s .pre .0 .1) _ e _ _ (first-read k) (last-read k) _ (k .contour-of .ensures) _ _ _ _ (f .fit-in .ensures) moving (r .move-walk .ensures)
+    segment-moved _ _ _ _ _ (s .pre .0 .0) _ (s .pre .0 .1) _ e _ _ (first-read k) (last-read k) _ refl _ _ _ _ (f .fit-in .ensures) moving (r .move-walk .ensures)
 
 pub move-segment-spec : {M : Type 1} → statement M
 move-segment-spec =
@@ -160,7 +156,6 @@ move-segment-spec =
     add-index-at-2
     index-at-requires-2
     wide-requires-2
-    contour-of-requires
     move-walk-requires
     same-length
     same-length-2
