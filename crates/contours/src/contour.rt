@@ -4,7 +4,8 @@ use super::iup::iup_shift;
 ghost use mathlib.Core.Path.{_≡_};
 ghost use Prim.Native.Nat.{_+_, _≤_, _<_};
 ghost use lib.ListN.{length, getD};
-ghost use Rattle.contours.specs.Steps.{Coordinates, Next, Upto, Done, Gentle};
+ghost use Rattle.contours.specs.Contour.{at, refs, betweenAt};
+ghost use Rattle.contours.specs.Steps.{Coordinate, Coordinates, Wrote, GentleRefs, Next, Upto, Done, Gentle};
 
 // The first touched point at or behind `from`, or the number of points.
 pub fn next_touched(touched: &[u8], from: usize) -> usize
@@ -21,6 +22,25 @@ pub fn next_touched(touched: &[u8], from: usize) -> usize
     i
 }
 
+// Interpolates the points from `from` up to `to`, where there are any: most touched points are neighbours, which this passes without a call.
+fn interpolate_some(
+    originals: &[i32],
+    currents: &mut [i32],
+    from: usize,
+    to: usize,
+    ref1: usize,
+    ref2: usize,
+)
+    requires { ⌜ (length (now currents) ≡ length (now originals)) × (from ≤ to) × (to ≤ length (now originals)) ⌝ }
+    requires { ⌜ (ref1 < length (now originals)) × (ref2 < length (now originals)) ⌝ }
+    requires { ⌜ Coordinates (now originals) × Coordinate (at (now currents) ref1) × Coordinate (at (now currents) ref2) × GentleRefs (now originals) (now currents) (refs ref1 ref2) from to ⌝ }
+    ensures { λ _. ⌜ Wrote (betweenAt (now (originals .entry)) (now (currents .entry)) (refs ref1 ref2)) from to (now (currents .entry)) (now (currents .exit)) ⌝ }
+{
+    if from < to {
+        iup_interpolate(originals, currents, from, to, ref1, ref2);
+    }
+}
+
 // Interpolates the points between touched ones, from the first touched one on, and returns the last touched one.
 fn align_gaps(originals: &[i32], currents: &mut [i32], touched: &[u8], first: usize) -> usize
     requires { ⌜ (length (now currents) ≡ length (now originals)) × (length (now touched) ≡ length (now originals)) ⌝ }
@@ -33,7 +53,7 @@ fn align_gaps(originals: &[i32], currents: &mut [i32], touched: &[u8], first: us
     let mut last = first;
     let mut next = next_touched(touched, last + 1);
     while next < n {
-        iup_interpolate(originals, currents, last + 1, next, last, next);
+        interpolate_some(originals, currents, last + 1, next, last, next);
         last = next;
         next = next_touched(touched, last + 1);
     }
@@ -56,6 +76,6 @@ pub fn align_contour(originals: &[i32], currents: &mut [i32], touched: &[u8])
         iup_shift(originals, currents, 0, n, first);
         return;
     }
-    iup_interpolate(originals, currents, last + 1, n, last, first);
-    iup_interpolate(originals, currents, 0, first, last, first);
+    interpolate_some(originals, currents, last + 1, n, last, first);
+    interpolate_some(originals, currents, 0, first, last, first);
 }

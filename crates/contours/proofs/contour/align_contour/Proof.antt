@@ -43,11 +43,11 @@ returns-2 c =
     let gaps = g .align-gaps .ensures in
     done-one (a .originals .now) (a .currents .now) (a .touched .now) _ _ _ (omega arith) (n .next-touched .ensures) (rw e at (gaps .0)) (rw e at (gaps .1)) (c .before .iup-shift .ensures)
 
-add-iup-interpolate : tie.Need-add-iup-interpolate
-add-iup-interpolate c = search needs
+add-interpolate-some : tie.Need-add-interpolate-some
+add-interpolate-some c = search needs
 
-iup-interpolate-requires : tie.Need-iup-interpolate-requires
-iup-interpolate-requires c κs =
+interpolate-some-requires : tie.Need-interpolate-some-requires
+interpolate-some-requires c κs =
     let g = c .before .before .before in
     let n = g .before .before .before in
     let s = n .before .before in
@@ -57,14 +57,14 @@ iup-interpolate-requires c κs =
       ((omega (arith, u .high), omega (arith, u .low, u .high)), (s .pre .1 .0, rw (k .0) (s .pre .1 .1 (g .align-gaps .result)), rw (k .1) (s .pre .1 .1 (n .next-touched .result)), gentle-behind (s .args .originals .now) (s .args .currents .now) (s .args .touched .now) _ _ _ (n .next-touched .ensures) u (g .align-gaps .ensures .1) (s .pre .1 .2))),
     )
 
-iup-interpolate-requires-2 : tie.Need-iup-interpolate-requires-2
-iup-interpolate-requires-2 c κs =
+interpolate-some-requires-2 : tie.Need-interpolate-some-requires-2
+interpolate-some-requires-2 c κs =
     let i = c .before .before in
     let g = i .before .before .before .before in
     let n = g .before .before .before in
     let s = n .before .before in
     let u = g .align-gaps .ensures .0 in
-    let w = i .iup-interpolate .ensures in
+    let w = i .interpolate-some .ensures in
     let k = kept-behind (s .args .originals .now) (s .args .currents .now) (s .args .touched .now) _ _ _ (n .next-touched .ensures) u (g .align-gaps .ensures .1) _ w in (
       (w .len ∙ u .len ∙ s .pre .0 .0, omega arith, omega (arith, u .low, u .high)),
       ((omega (arith, u .high), omega (arith, u .low, u .high)), (s .pre .1 .0, rw (k .0) (s .pre .1 .1 (g .align-gaps .result)), rw (k .1) (s .pre .1 .1 (n .next-touched .result)), gentle-front (s .args .originals .now) (s .args .currents .now) (s .args .touched .now) _ _ _ (n .next-touched .ensures) u (g .align-gaps .ensures .1) _ w (s .pre .1 .2))),
@@ -80,9 +80,9 @@ returns-3 c =
     let n = g .before .before .before in
     let a = n .before .before .args in
     let gaps = g .align-gaps .ensures in
-    done-more (a .originals .now) (a .currents .now) (a .touched .now) _ _ _ (n .next-touched .ensures) (gaps .0) (gaps .1) _ (i .iup-interpolate .ensures) _ (omega arith)
+    done-more (a .originals .now) (a .currents .now) (a .touched .now) _ _ _ (n .next-touched .ensures) (gaps .0) (gaps .1) _ (i .interpolate-some .ensures) _ (omega arith)
     (i .before .before .if2 .left)
-    (c .before .iup-interpolate2 .ensures)
+    (c .before .interpolate-some2 .ensures)
 
 pub align-contour-spec : {M : Type 1} → statement M
 align-contour-spec =
@@ -94,8 +94,8 @@ align-contour-spec =
     iup-shift-requires
     same-length
     returns-2
-    add-iup-interpolate
-    iup-interpolate-requires
-    iup-interpolate-requires-2
+    add-interpolate-some
+    interpolate-some-requires
+    interpolate-some-requires-2
     same-length-2
     returns-3)

@@ -26,11 +26,11 @@ loop-holds c =
     let s = c .before .before in
     (upto-first (s .args .originals .now) (s .args .currents .now) (s .args .touched .now) (s .args .first) (omega arith) (s .pre .1 .0 .1), c .next-touched .ensures)
 
-add-iup-interpolate : tie.Need-add-iup-interpolate Inv-loop μ-loop
-add-iup-interpolate c = search needs
+add-interpolate-some : tie.Need-add-interpolate-some Inv-loop μ-loop
+add-interpolate-some c = search needs
 
-iup-interpolate-requires : tie.Need-iup-interpolate-requires Inv-loop μ-loop
-iup-interpolate-requires c κs =
+interpolate-some-requires : tie.Need-interpolate-some-requires Inv-loop μ-loop
+interpolate-some-requires c κs =
     let s = c .before .before .before .before .before in
     let l = c .before .before .loop in
     let u = l .inv .0 in
@@ -54,7 +54,7 @@ loop-again c =
     let i = c .before .before in
     let t = i .before .before in
     let l = t .before .loop in
-    (upto-next _ _ _ _ _ _ _ (l .inv .0) (l .inv .1) _ (t .loop-test .taken) (i .iup-interpolate .ensures), c .next-touched2 .ensures)
+    (upto-next _ _ _ _ _ _ _ (l .inv .0) (l .inv .1) _ (t .loop-test .taken) (i .interpolate-some .ensures), c .next-touched2 .ensures)
 
 same-length : tie.Need-same-length Inv-loop μ-loop
 same-length c = c .before .loop .inv .0 .len
@@ -74,8 +74,8 @@ align-gaps-spec =
     add-next-touched
     next-touched-requires
     loop-holds
-    add-iup-interpolate
-    iup-interpolate-requires
+    add-interpolate-some
+    interpolate-some-requires
     add-next-touched-2
     next-touched-requires-2
     loop-less
