@@ -1,6 +1,6 @@
 -- The tests of the call, as the code comes to them.
 use mathlib.Core.Path.{_≡_, refl, sym, ap, _∙_}
-use mathlib.Core.Bool.{Bool, true, false, not, cond, _&&_, _||_}
+use mathlib.Core.Bool.{Bool, true, false, not, _&&_, _||_}
 use mathlib.Core.List.{List, [], _∷_}
 use Prim.Native.Nat.{ℕ, _≤_, _<_}
 use native.Mathlib.Omega.{arith}
@@ -20,7 +20,7 @@ use Rattle.axis.specs.declared.segment.Segments.{Segments}
 use Rattle.axis.specs.Edge.{edgeAt}
 use Rattle.axis.specs.Refusals.{within, segmentsInRange, edgesInRange}
 use Rattle.contours.specs.Limits.{mostPoints, mostCoordinate}
-use Rattle.outline.specs.Weak.{endsHold, coordinatesHold, rangeTests, contourOf}
+use Rattle.outline.specs.Weak.{endsHold, coordinatesHold, contourOf}
 use Rattle.turning.specs.Indices.{segmentsEdges, indexTests}
 use Rattle.edges_in.specs.Whole.{reduced}
 use Rattle.edge_points.specs.EdgePoints.{Points, moves, isOn, onOne, segmentPoints, segmentsPoints, moverHolds, moversHold, pointsTests}
@@ -60,15 +60,6 @@ module _ (alone : Bool) (axis : Axis) (l : Link) where
   pub mover-asked : (k : ℕ) (d : Edge) (r : Bool) → l ≡ Links.To k → d ≡ reduced (edgeAt axis k) → moves alone (edgeAt axis k) ≡ true → r ≡ within mostCoordinate (d .pos) → r ≡ moverHolds alone axis l
   unfolding moverHolds
   mover-asked k d r e q m t = t ∙ ap (λ (x : Edge). within mostCoordinate (x .pos)) q ∙ or-asked _ _ m ∙ sym (ap (moverHolds alone axis) e)
-
--- ---- the currents
-pub currents-tested : (c : List ℤ) (r : ℕ) → r ≡ refusal (rangeTests mostCoordinate c c) → eqb r 0 ≡ coordinatesHold mostCoordinate c
-unfolding refusal
-currents-tested c r e = ap (λ (x : ℕ). eqb x 0) e ∙ by (coordinatesHold mostCoordinate c)
-  where
-    by : (b : Bool) → eqb (cond b (cond b 0 outOfRange) outOfRange) 0 ≡ b
-    by true = refl
-    by false = refl
 
 -- ---- the refusal
 module _ (alone : Bool) (axis : Axis) (t : Segments) (s : Points) (es : List ℕ) where

@@ -6,9 +6,9 @@ use edge_points_walk::contour::contour_of;
 use edge_points_walk::contour::is_on;
 use edges_in::edge::fit_in;
 use outline::accept::ends_hold;
-use outline::accept::range_refusal;
 use outline::accept::wide;
 use outline::limits::MOST_COORDINATE;
+use outline::reach::coordinates_hold;
 use refusals::order::BAD_INDEX;
 use refusals::order::OUT_OF_RANGE;
 use refusals::order::or_refused;
@@ -27,8 +27,7 @@ ghost use Prim.Native.Nat.{_≤_, _<_};
 ghost use lib.ListN.{length};
 ghost use Rattle.refusals.specs.Refusal.{refusal};
 ghost use Rattle.axis.specs.Segment.{segmentAt};
-ghost use Rattle.contours.specs.Limits.{mostPoints, mostCoordinate};
-ghost use Rattle.outline.specs.Weak.{coordinatesHold};
+ghost use Rattle.contours.specs.Limits.{mostPoints};
 ghost use Rattle.turning.specs.Indices.{segmentsEdges};
 ghost use Rattle.words.specs.Edge.{edgesIn};
 ghost use Rattle.words.specs.Segment.{segmentsIn, flatSegments};
@@ -100,13 +99,6 @@ pub fn movers_hold(segments: &[i32], edges: &[i32], alone: bool) -> bool
     true
 }
 
-// Whether every current is a coordinate: an outline's test of two lists, which are one here.
-fn currents_hold(currents: &[i32]) -> bool
-    ensures { λ r. ⌜ r ≡ coordinatesHold mostCoordinate (now (currents .entry)) ⌝ }
-{
-    range_refusal(currents, currents, MOST_COORDINATE) == 0
-}
-
 // The refusal of both tables, which need no test where they hold, and of an outline, or 0.
 pub fn points_refusal(
     segments: &[i32],
@@ -130,6 +122,10 @@ pub fn points_refusal(
     let answer = or_refused(answer, segments_points(segments, ends), BAD_INDEX);
     let answer = or_refused(answer, segments_ranged(segments, edges, held), OUT_OF_RANGE);
     let answer = or_refused(answer, edges_ranged(segments, edges, held), OUT_OF_RANGE);
-    let answer = or_refused(answer, currents_hold(currents), OUT_OF_RANGE);
+    let answer = or_refused(
+        answer,
+        coordinates_hold(currents, MOST_COORDINATE),
+        OUT_OF_RANGE,
+    );
     or_refused(answer, movers_hold(segments, edges, alone), OUT_OF_RANGE)
 }

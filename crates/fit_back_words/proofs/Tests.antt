@@ -65,7 +65,7 @@ module _ (n : Numbers) (g : Given) (l : Fitted) (a : Accepted n g l) where
       let r = i .1 .1 .1 .1 .1 .1 .1 in
       record {
         segments = a .segments;
-        strong = record { whole = w; edges = e; lists = a .lists; originals = r .1 .1 .1 .1 .0 };
+        strong = record { whole = w; edges = e; lists = a .lists; contours = ap (λ (m : ℕ). endsHold 0 m (g .ends)) (sym same-count) ∙ r .0; originals = r .1 .1 .1 .1 .0 };
         indices =
             no-refusal (indexTests (edgesOf ws) (flatSegments (g .segments))) (
               i .0,
@@ -80,7 +80,6 @@ module _ (n : Numbers) (g : Given) (l : Fitted) (a : Accepted n g l) where
                 ),
               ),
             );
-        contours = ap (λ (m : ℕ). endsHold 0 m (g .ends)) (sym same-count) ∙ r .0;
         on-one = r .1 .0;
         in-range = r .1 .1 .0;
         near = r .1 .1 .1 .1 .1 .0;

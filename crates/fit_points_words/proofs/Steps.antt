@@ -1,6 +1,6 @@
 -- Each step of the row: where it refuses, and what the row is behind it.
 use mathlib.Core.Path.{_≡_, refl, sym, ap, subst, _∙_}
-use mathlib.Core.Bool.{Bool, true, false, cond, _&&_}
+use mathlib.Core.Bool.{Bool, true, false, cond}
 use mathlib.Core.List.{List, [], _∷_, _++_}
 use Prim.Native.Nat.{ℕ, _≤_}
 use native.Mathlib.Omega.{arith}
@@ -17,7 +17,7 @@ use Rattle.axis.specs.Refusals.{edgesShort, edgesIndexed, edgesInRange, segment
 use Rattle.axis.proofs.Accepting.{edges-within}
 use Rattle.contours.specs.Limits.{mostPoints, mostCoordinate}
 use Rattle.contours.specs.Contour.{at}
-use Rattle.outline.specs.Weak.{endsHold, coordinatesHold, weakTests, result, rangeTests, Outcome}
+use Rattle.outline.specs.Weak.{endsHold, coordinatesHold, listTests as outlineLists, weakTests, result, rangeTests, Outcome}
 use Rattle.outline.proofs.Refusals.{coordinates-of}
 use Rattle.turning.specs.Indices.{indexTests, segmentsEdges}
 use Rattle.edge_points.specs.EdgePoints.{Points, moveAll, segmentsPoints, moversHold, pointsTests, edgeAnswer, edgeResult}
@@ -40,7 +40,7 @@ stops : {d : LeftPoints} {s s′ : Points} {k : ℕ} → d ≡ halted s′ k →
 stops e h = record { answer = ap (λ (d : LeftPoints). d .answer) (sym e); goes = λ z. absurd (h z) }
 
 -- ---- strong points
-module _ (ws f o : List ℤ) (w es : List ℕ) (s : Points) (g : ReadyStrong ws f o w s) where
+module _ (ws f o : List ℤ) (w es : List ℕ) (s : Points) (g : ReadyStrong ws f o w es s) where
   abbrev A : Axis
   A = edgesOf ws
 
@@ -70,12 +70,8 @@ module _ (ws f o : List ℤ) (w es : List ℕ) (s : Points) (g : ReadyStrong ws 
   unfolding thenStrong alignStrong
   strong-as q = ap (λ (k : ℕ). behindStrong o es s (answered k (refusedBy (s .currents) (s .touched)) (alignedAll A f o (s .currents) (s .touched) w))) q
 
-  -- originals are coordinates, so that the test of both lists is that of the currents
-  near-as : {b n : Bool} → b ≡ (coordinatesHold mostCoordinate o && coordinatesHold mostCoordinate (s .currents)) → b ≡ n → coordinatesHold mostCoordinate (s .currents) ≡ n
-  near-as e q = ap (λ (x : Bool). x && coordinatesHold mostCoordinate (s .currents)) (sym (g .originals)) ∙ sym e ∙ q
-
-  pub strong-far : {x : Points} {b : Bool} → b ≡ (coordinatesHold mostCoordinate o && coordinatesHold mostCoordinate (s .currents)) → b ≡ false → WentPoints (thenStrong ws f o w es s) outOfRange x
-  strong-far e q = stops (strong-as (tests-are (near-as e q) refl)) (λ z. omega (arith, z))
+  pub strong-far : {x : Points} {b : Bool} → b ≡ coordinatesHold mostCoordinate (s .currents) → b ≡ false → WentPoints (thenStrong ws f o w es s) outOfRange x
+  strong-far e q = stops (strong-as (tests-are (sym e ∙ q) refl)) (λ z. omega (arith, z))
 
   pub strong-ready : Placeable ws f o (s .touched) w × (length (s .currents) ≡ length f)
   strong-ready =
@@ -92,9 +88,23 @@ module _ (ws f o : List ℤ) (w es : List ℕ) (s : Points) (g : ReadyStrong ws 
         eqb-true (length (s .currents)) (length f) (l .1 .1 .0),
       )
 
-  module _ {b : Bool} (e : b ≡ (coordinatesHold mostCoordinate o && coordinatesHold mostCoordinate (s .currents))) (t : b ≡ true) {p : Bool} {c : List ℤ} {m : List ℕ} (d : PlacedEach ws f o (s .currents) (s .touched) w p c m) where
+  module _ {b : Bool} (e : b ≡ coordinatesHold mostCoordinate (s .currents)) (t : b ≡ true) {p : Bool} {c : List ℤ} {m : List ℕ} (d : PlacedEach ws f o (s .currents) (s .touched) w p c m) where
     pub strong-steep : {x : Points} → p ≡ false → WentPoints (thenStrong ws f o w es s) steep x
-    strong-steep q = stops (strong-as (tests-are (near-as e t) (sym (d .told) ∙ q))) (λ z. omega (arith, z))
+    strong-steep q = stops (strong-as (tests-are (sym e ∙ t) (sym (d .told) ∙ q))) (λ z. omega (arith, z))
+
+    -- as many points and marks are left, which is what weak points need
+    pub weak-ready : length c ≡ length (s .currents) → length m ≡ length (s .touched) → (refusal (outlineLists o c m es) ≡ 0) × (coordinatesHold mostCoordinate o ≡ true)
+    weak-ready h q =
+        let l = lists-hold in
+        let long = eqb-true (length o) (length f) (l .1 .0) in
+        let counted = eqb-true (length (s .currents)) (length f) (l .1 .1 .0) ∙ sym long in
+        let marked = eqb-true (length (s .touched)) (length f) (l .1 .1 .1 .0) ∙ sym long in (
+          no-refusal (outlineLists o c m es) (
+            ap (λ (n : ℕ). leb n mostPoints) long ∙ l .0,
+            (eq-eqb (length c) (length o) (h ∙ counted), (eq-eqb (length m) (length o) (q ∙ marked), (ap (λ (n : ℕ). endsHold 0 n es) (sym counted) ∙ g .contours, refl))),
+          ),
+          g .originals,
+        )
 
     pub strong-goes : {r : ℕ} {c′ : List ℤ} → p ≡ true → Outcome o c m es r c′ → WentPoints (thenStrong ws f o w es s) r (points c′ m)
     strong-goes {r} {c′} q u = record {
@@ -105,7 +115,7 @@ module _ (ws f o : List ℤ) (w es : List ℕ) (s : Points) (g : ReadyStrong ws 
         row : thenStrong ws f o w es s ≡ thenWeak o es (points c m)
         row =
             let a = d .placed q in
-            strong-as (tests-are (near-as e t) (sym (d .told) ∙ q)) ∙ (λ j. thenWeak o es (points (sym (a .currents) j) (sym (a .touched) j)))
+            strong-as (tests-are (sym e ∙ t) (sym (d .told) ∙ q)) ∙ (λ j. thenWeak o es (points (sym (a .currents) j) (sym (a .touched) j)))
 
 -- ---- edge points
 module _ (n : Numbers) (ss ws f o : List ℤ) (w es : List ℕ) (s : Points) (g : Ready ss ws f o w es s) where
@@ -167,7 +177,7 @@ module _ (n : Numbers) (ss ws f o : List ℤ) (w es : List ℕ) (s : Points) (g 
                       i .1 .1 .1 .1 .1 .0,
                       (
                         i .1 .1 .1 .1 .1 .1 .0,
-                        (g .contours, (g .on-one, (g .in-range, (g .strong .edges .in-range, (g .near, refl))))),
+                        (g .strong .contours, (g .on-one, (g .in-range, (g .strong .edges .in-range, (g .near, refl))))),
                       ),
                     ),
                   ),
@@ -199,7 +209,7 @@ module _ (n : Numbers) (ss ws f o : List ℤ) (w es : List ℕ) (s : Points) (g 
           few = few;
           to-edges = to-edges;
           in-range = edges-within B (g .strong .edges);
-          contours = g .contours;
+          contours = g .strong .contours;
           on-one = g .on-one;
           movers = sym e ∙ t;
         }
@@ -209,7 +219,7 @@ module _ (n : Numbers) (ss ws f o : List ℤ) (w es : List ℕ) (s : Points) (g 
 
     module _ {x : Points} (m : x ≡ moveAll (n .snap) (n .alone) B T es s) where
       -- as many points and marks are left
-      pub moved-ready : length (x .currents) ≡ length (s .currents) → length (x .touched) ≡ length (s .touched) → ReadyStrong ws f o w x
+      pub moved-ready : length (x .currents) ≡ length (s .currents) → length (x .touched) ≡ length (s .touched) → ReadyStrong ws f o w es x
       moved-ready c t = record {
         whole = g .strong .whole;
         edges = g .strong .edges;
@@ -217,6 +227,7 @@ module _ (n : Numbers) (ss ws f o : List ℤ) (w es : List ℕ) (s : Points) (g 
             let l = marks-hold in
             no-refusal (listTests f o (x .currents) (x .touched) w)
             (l .0, (l .1 .0, (ap (λ (k : ℕ). eqb k (length f)) c ∙ l .1 .1 .0, (ap (λ (k : ℕ). eqb k (length f)) t ∙ l .1 .1 .1 .0, (l .1 .1 .1 .1 .0, refl)))));
+        contours = ap (λ (k : ℕ). endsHold 0 k es) c ∙ g .strong .contours;
         originals = g .strong .originals;
       }
 

@@ -21,19 +21,19 @@ use Rattle.segments_in.specs.Whole as Segments
 use Rattle.fit.specs.Points.{LeftPoints}
 
 -- ---- what a step may use
--- strong points: accepted edges, as many of each of a point's numbers, and originals that are coordinates
-pub record ReadyStrong (ws f o : List ℤ) (w : List ℕ) (s : Points) : Type 0 where
+-- strong points: accepted edges, as many of each of a point's numbers, contours of them, and originals that are coordinates
+pub record ReadyStrong (ws f o : List ℤ) (w es : List ℕ) (s : Points) : Type 0 where
   pub whole : Edges.Whole ws
   pub edges : EdgesAccepted (edgesOf ws)
   pub lists : refusal (listTests f o (s .currents) (s .touched) w) ≡ 0
+  pub contours : endsHold 0 (length (s .currents)) es ≡ true
   pub originals : coordinatesHold mostCoordinate o ≡ true
 
 -- the first step: no test refuses the tables and the outline but that of the edges by which points are moved
 pub record Ready (ss ws f o : List ℤ) (w es : List ℕ) (s : Points) : Type 0 where
   pub segments : Segments.Whole ss
-  pub strong : ReadyStrong ws f o w s
+  pub strong : ReadyStrong ws f o w es s
   pub indices : refusal (indexTests (edgesOf ws) (flatSegments ss)) ≡ 0
-  pub contours : endsHold 0 (length (s .currents)) es ≡ true
   pub on-one : segmentsPoints es (flatSegments ss) ≡ true
   pub in-range : segmentsNumbers (flatSegments ss) ≡ true
   pub near : coordinatesHold mostCoordinate (s .currents) ≡ true

@@ -2,11 +2,13 @@
 use edge_points_words::pass::move_all;
 use edge_points_words::test::movers_hold;
 use fit::numbers::Numbers;
-use outline::weak::align_weak_points;
+use outline::accept::currents_refusal;
+use outline::limits::MOST_COORDINATE;
+use outline::reach::coordinates_hold;
+use outline::weak::align_unrefused;
 use refusals::order::OUT_OF_RANGE;
 use refusals::order::TOO_STEEP;
 use strong_words::place::place_each;
-use strong_words::refuse::coordinates_hold;
 ghost use Rattle.edge_points_walk.specs.Steps.{points};
 ghost use Rattle.fit.specs.Points.{thenStrong, fitPoints};
 ghost use Rattle.fit_points_words.specs.Row.{Ready, ReadyStrong, WentPoints};
@@ -21,17 +23,18 @@ fn then_strong(
     weak: &[u8],
     ends: &[u16],
 ) -> u8
-    requires { ⌜ ReadyStrong (now edges) (now fonts) (now originals) (now weak) (points (now currents) (now touched)) ⌝ }
+    requires { ⌜ ReadyStrong (now edges) (now fonts) (now originals) (now weak) (now ends) (points (now currents) (now touched)) ⌝ }
     ensures { λ r. ⌜ WentPoints (thenStrong (now (edges .entry)) (now (fonts .entry)) (now (originals .entry)) (now (weak .entry)) (now (ends .entry)) (points (now (currents .entry)) (now (touched .entry))))
         r (points (now (currents .exit)) (now (touched .exit))) ⌝ }
 {
-    if !coordinates_hold(originals, currents) {
+    if !coordinates_hold(currents, MOST_COORDINATE) {
         return OUT_OF_RANGE;
     }
     if !place_each(edges, fonts, originals, currents, touched, weak) {
         return TOO_STEEP;
     }
-    align_weak_points(originals, currents, touched, ends)
+    let answer = currents_refusal(originals, currents, touched, ends);
+    align_unrefused(originals, currents, touched, ends, answer)
 }
 
 // Moves the points of an outline that is not refused by edges that are fitted. The answer is 0, or the number of the refusal of a step, which leaves the points as the steps before did.

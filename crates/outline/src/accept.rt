@@ -11,10 +11,12 @@ use refusals::order::OUT_OF_RANGE;
 use refusals::order::TOO_LONG;
 use refusals::order::TOO_STEEP;
 ghost use mathlib.Core.Path.{_≡_};
+ghost use mathlib.Core.Bool.{true};
 ghost use lib.IntN.{pos, natAbs};
 ghost use lib.Signed.{_≤ℤ_};
 ghost use Rattle.refusals.specs.Refusal.{refusal};
-ghost use Rattle.outline.specs.Weak.{endsHold, listTests, rangeTests, outlineTests, numberTests, weakTests};
+ghost use Rattle.contours.specs.Limits.{mostCoordinate};
+ghost use Rattle.outline.specs.Weak.{endsHold, coordinatesHold, listTests, rangeTests, outlineTests, numberTests, weakTests};
 ghost use Rattle.outline.specs.Steps.{allNear};
 
 // A contour end as an index.
@@ -126,6 +128,17 @@ pub fn number_refusal(originals: &[i32], currents: &[i32], touched: &[u8], ends:
     0
 }
 
+// The refusal of weak points by their currents and by a point that is too steep, where lists, contour ends and originals are passed, or 0: an ordinary outline's currents are near 0.
+pub fn currents_refusal(originals: &[i32], currents: &[i32], touched: &[u8], ends: &[u16]) -> u8
+    requires { ⌜ (refusal (listTests (now originals) (now currents) (now touched) (now ends)) ≡ 0) × (coordinatesHold mostCoordinate (now originals) ≡ true) ⌝ }
+    ensures { λ r. ⌜ r ≡ refusal (weakTests (now (originals .entry)) (now (currents .entry)) (now (touched .entry)) (now (ends .entry))) ⌝ }
+{
+    if coordinates_hold(currents, MOST_NEAR) {
+        return 0;
+    }
+    number_refusal(originals, currents, touched, ends)
+}
+
 // The refusal of weak points, or 0.
 pub fn weak_refusal(originals: &[i32], currents: &[i32], touched: &[u8], ends: &[u16]) -> u8
     ensures { λ r. ⌜ r ≡ refusal (weakTests (now (originals .entry)) (now (currents .entry)) (now (touched .entry)) (now (ends .entry))) ⌝ }
@@ -134,8 +147,8 @@ pub fn weak_refusal(originals: &[i32], currents: &[i32], touched: &[u8], ends: &
     if 0 < answer {
         return answer;
     }
-    if all_near(originals, currents) {
-        return 0;
+    if !coordinates_hold(originals, MOST_COORDINATE) {
+        return OUT_OF_RANGE;
     }
-    number_refusal(originals, currents, touched, ends)
+    currents_refusal(originals, currents, touched, ends)
 }

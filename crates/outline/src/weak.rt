@@ -2,7 +2,9 @@
 use super::accept::weak_refusal;
 use super::accept::wide;
 use contours::contour::align_contour;
-ghost use Rattle.outline.specs.Weak.{Outcome};
+ghost use mathlib.Core.Path.{_≡_};
+ghost use Rattle.refusals.specs.Refusal.{refusal};
+ghost use Rattle.outline.specs.Weak.{weakTests, Outcome};
 ghost use Rattle.outline.specs.Steps.{Accepted, GentleAll, AllDone};
 
 // Aligns each contour on its own stretch of the lists.
@@ -25,6 +27,24 @@ fn align_contours(originals: &[i32], currents: &mut [i32], touched: &[u8], ends:
     }
 }
 
+// Aligns the weak points of an outline where the answer of its tests is 0, and hands that answer on.
+pub fn align_unrefused(
+    originals: &[i32],
+    currents: &mut [i32],
+    touched: &[u8],
+    ends: &[u16],
+    answer: u8,
+) -> u8
+    requires { ⌜ answer ≡ refusal (weakTests (now originals) (now currents) (now touched) (now ends)) ⌝ }
+    ensures { λ r. ⌜ Outcome (now (originals .entry)) (now (currents .entry)) (now (touched .entry)) (now (ends .entry)) r (now (currents .exit)) ⌝ }
+{
+    if 0 < answer {
+        return answer;
+    }
+    align_contours(originals, currents, touched, ends);
+    0
+}
+
 // Aligns the weak points of one axis. The answer is 0, or document 01's number of the refusal, 1, 3, 4 or 8, which writes nothing.
 pub fn align_weak_points(
     originals: &[i32],
@@ -35,9 +55,5 @@ pub fn align_weak_points(
     ensures { λ r. ⌜ Outcome (now (originals .entry)) (now (currents .entry)) (now (touched .entry)) (now (ends .entry)) r (now (currents .exit)) ⌝ }
 {
     let answer = weak_refusal(originals, currents, touched, ends);
-    if 0 < answer {
-        return answer;
-    }
-    align_contours(originals, currents, touched, ends);
-    0
+    align_unrefused(originals, currents, touched, ends, answer)
 }

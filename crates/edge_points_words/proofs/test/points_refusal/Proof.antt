@@ -50,8 +50,8 @@ edges-ranged-requires c κs = from (c .before .before .before .before .before .b
 or-refused-requires-4 : tie.Need-or-refused-requires-4
 or-refused-requires-4 c κs = search needs
 
-currents-hold-requires : tie.Need-currents-hold-requires
-currents-hold-requires c κs = search needs
+coordinates-hold-requires : tie.Need-coordinates-hold-requires
+coordinates-hold-requires c κs = search needs
 
 or-refused-requires-5 : tie.Need-or-refused-requires-5
 or-refused-requires-5 c κs = search needs
@@ -87,7 +87,7 @@ returns-2 c =
     let held2 = then-tested badIndex held1 refl (two .or-refused2 .ensures) (test2 .segments-points .ensures) in
     let held3 = then-tested outOfRange held2 refl (three .or-refused3 .ensures) (test3 .segments-ranged .ensures) in
     let held4 = then-tested outOfRange held3 refl (four .or-refused4 .ensures) (test4 .edges-ranged .ensures) in
-    let held5 = then-tested outOfRange held4 refl (five .or-refused5 .ensures) (test5 .currents-hold .ensures) in
+    let held5 = then-tested outOfRange held4 refl (five .or-refused5 .ensures) (test5 .coordinates-hold .ensures) in
     let a = s .args in
     own-refuses (a .alone) (edgesOf (a .edges .now)) (flatSegments (a .segments .now)) (points (a .currents .now) (a .touched .now)) (a .ends .now) (s .pre .1 .1 .0) (s .pre .1 .1 .1) _ (r .tables-indexed .ensures) (o .if1 .left) _ (then-tested outOfRange held5 refl (c .or-refused6 .ensures) (test6 .movers-hold .ensures) .refused)
 
@@ -105,7 +105,7 @@ points-refusal-spec =
     or-refused-requires-3
     edges-ranged-requires
     or-refused-requires-4
-    currents-hold-requires
+    coordinates-hold-requires
     or-refused-requires-5
     movers-hold-requires
     or-refused-requires-6

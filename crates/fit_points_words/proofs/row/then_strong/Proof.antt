@@ -5,7 +5,7 @@ use borrow.Author.Tests.{not-true, not-false}
 use Rattle.edge_points.specs.EdgePoints.{Points}
 use Rattle.edge_points_walk.specs.Steps.{points}
 use Rattle.strong_words.specs.Strong.{Placeable}
-use Rattle.fit_points_words.proofs.Steps.{strong-far, strong-ready, strong-steep, strong-goes}
+use Rattle.fit_points_words.proofs.Steps.{strong-far, strong-ready, strong-steep, weak-ready, strong-goes}
 use borrow.Author.Needs.{needs}
 use Rattle.fit_points_words.proofs.row.then_strong.Statement.{statement}
 use Rattle.fit_points_words.proofs.row.then_strong.Tie as tie
@@ -59,8 +59,20 @@ returns-2 c =
     strong-steep (a .edges .now) (a .fonts .now) (a .originals .now) (a .weak .now) (a .ends .now) (lent s) (s .pre) (k .coordinates-hold .ensures) (not-false _ (e .if1 .left)) (d .place-each .ensures)
     (not-true _ (c .if2 .taken))
 
-align-weak-points-requires : tie.Need-align-weak-points-requires
-align-weak-points-requires c κs = search needs
+currents-refusal-requires : tie.Need-currents-refusal-requires
+currents-refusal-requires c κs =
+    let u = c .before .before .before .before in
+    let v = u .before in
+    let d = v .before in
+    let e = d .before .before .before in
+    let k = e .before in
+    let s = start k in
+    let a = s .args in
+    weak-ready (a .edges .now) (a .fonts .now) (a .originals .now) (a .weak .now) (a .ends .now) (lent s) (s .pre) (k .coordinates-hold .ensures) (not-false _ (e .if1 .left)) (d .place-each .ensures)
+    (v .currents .given) (u .touched .given)
+
+align-unrefused-requires : tie.Need-align-unrefused-requires
+align-unrefused-requires c κs = c .before .before .currents-refusal .ensures
 
 same-length-4 : tie.Need-same-length-4
 same-length-4 c = search needs
@@ -71,14 +83,14 @@ same-length-5 c = search needs
 returns-3 : tie.Need-returns-3
 returns-3 c =
     let u = c .before in
-    let o = u .before .before .before in
+    let o = u .before .before .before .before .before .before in
     let d = placed (o .before) in
     let e = d .before .before .before in
     let k = e .before in
     let s = start k in
     let a = s .args in
     strong-goes (a .edges .now) (a .fonts .now) (a .originals .now) (a .weak .now) (a .ends .now) (lent s) (s .pre) (k .coordinates-hold .ensures) (not-false _ (e .if1 .left)) (d .place-each .ensures)
-    (not-false _ (o .if2 .left)) (u .align-weak-points .ensures)
+    (not-false _ (o .if2 .left)) (u .align-unrefused .ensures)
 
 pub then-strong-spec : {M : Type 1} → statement M
 then-strong-spec =
@@ -91,7 +103,8 @@ then-strong-spec =
     same-length-2
     same-length-3
     returns-2
-    align-weak-points-requires
+    currents-refusal-requires
+    align-unrefused-requires
     same-length-4
     same-length-5
     returns-3)

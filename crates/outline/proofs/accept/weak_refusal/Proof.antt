@@ -1,5 +1,6 @@
--- `outline::accept::weak_refusal` meets its contract: the tests of numbers stand behind those of lists and ends. Assumes nothing.
+-- `outline::accept::weak_refusal` meets its contract: the tests of numbers stand behind those of lists and ends, and that of the originals is their first. Assumes nothing.
 use borrow.Author.Needs.{needs}
+use borrow.Author.Tests.{not-true, not-false}
 use native.Mathlib.Omega.{arith}
 use mathlib.Core.Path.{_≡_, refl, sym, _∙_}
 use mathlib.Core.List.{List}
@@ -7,7 +8,7 @@ use Prim.Native.Nat.{ℕ}
 use Rattle.refusals.specs.Refusal.{Test, refusal}
 use Rattle.refusals.proofs.Tests.{own-first, answered-no, answered-yes}
 use Rattle.outline.specs.Weak.{listTests, numberTests}
-use Rattle.outline.proofs.Steepness.{near-numbers}
+use Rattle.outline.proofs.Refusals.{number-originals}
 use Rattle.outline.proofs.accept.weak_refusal.Statement.{statement}
 use Rattle.outline.proofs.accept.weak_refusal.Tie as tie
 
@@ -30,8 +31,8 @@ returns c =
     let s = start (c .before) in
     answered-no _ _ (λ (k : ℕ). k) (refusal (numbers s)) (c .before .list-refusal .ensures) (c .if1 .taken) ∙ sym (own-first (lists s) (numbers s) refl)
 
-all-near-requires : tie.Need-all-near-requires
-all-near-requires c κs = search needs
+coordinates-hold-requires : tie.Need-coordinates-hold-requires
+coordinates-hold-requires c κs = search needs
 
 returns-2 : tie.Need-returns-2
 returns-2 c =
@@ -39,17 +40,17 @@ returns-2 c =
     let o = n .before .before in
     let s = start o in
     let a = s .args in
-    let none = near-numbers (a .originals .now) (a .currents .now) (a .touched .now) (a .ends .now) (sym (n .all-near .ensures) ∙ c .if2 .taken) in
-    answered-yes _ _ (λ (k : ℕ). k) (refusal (numbers s)) _ (o .list-refusal .ensures) (n .before .if1 .left) (sym none) ∙ sym (own-first (lists s) (numbers s) refl)
+    let far = number-originals (a .originals .now) (a .currents .now) (a .touched .now) (a .ends .now) (sym (n .coordinates-hold .ensures) ∙ not-true _ (c .if2 .taken)) in
+    answered-yes _ _ (λ (k : ℕ). k) (refusal (numbers s)) _ (o .list-refusal .ensures) (n .before .if1 .left) (sym far) ∙ sym (own-first (lists s) (numbers s) refl)
 
-number-refusal-requires : tie.Need-number-refusal-requires
-number-refusal-requires c κs = let e = c .before .before in omega (arith, e .before .list-refusal .ensures, e .if1 .left)
+currents-refusal-requires : tie.Need-currents-refusal-requires
+currents-refusal-requires c κs =
+    let n = c .before in
+    let e = n .before in
+    (omega (arith, e .before .list-refusal .ensures, e .if1 .left), sym (n .coordinates-hold .ensures) ∙ not-false _ (c .if2 .left))
 
 returns-3 : tie.Need-returns-3
-returns-3 c =
-    let e = c .before .before .before in
-    let s = start (e .before) in
-    answered-yes _ _ (λ (k : ℕ). k) (refusal (numbers s)) _ (e .before .list-refusal .ensures) (e .if1 .left) (c .number-refusal .ensures) ∙ sym (own-first (lists s) (numbers s) refl)
+returns-3 c = c .currents-refusal .ensures
 
 pub weak-refusal-spec : {M : Type 1} → statement M
-weak-refusal-spec = tie.close (tie.spec list-refusal-requires returns all-near-requires returns-2 number-refusal-requires returns-3)
+weak-refusal-spec = tie.close (tie.spec list-refusal-requires returns coordinates-hold-requires returns-2 currents-refusal-requires returns-3)
