@@ -1,5 +1,6 @@
 // The guard over lent edges: the edges are tested and searched where their words stand.
 use axis::accept::is_inside;
+use axis::edge::Edge;
 use axis::kinds::Link;
 use axis::limits::MOST_UNITS;
 use axis::link::index_or;
@@ -9,6 +10,7 @@ use gaps::find::Gaps;
 use gaps::find::NOTHING;
 use gaps::find::asked_for;
 use gaps::find::with_pair;
+use gaps::pair::is_gone;
 use refusals::order::BAD_PARAMETER;
 use refusals::order::or_refused;
 use shape::field::CHOICE;
@@ -18,12 +20,23 @@ use words::field::choice_of;
 use words::field::link_word;
 use words::word::count_word;
 ghost use mathlib.Core.Path.{_≡_};
+ghost use Rattle.signed.specs.Range.{Between};
 ghost use Rattle.axis.specs.Accepted.{AxisWithin};
-ghost use Rattle.axis.specs.Limits.{mostPos};
+ghost use Rattle.axis.specs.Limits.{mostUnits, mostPos};
 ghost use Rattle.gaps.specs.Gaps.{foundIn};
+ghost use Rattle.gaps.specs.Steps.{goneOf};
 ghost use Rattle.lent.specs.Lent.{edgesOf};
 ghost use Rattle.edges_in.specs.Whole.{Whole};
 ghost use Rattle.flat_gaps.specs.Find.{GapsLent};
+
+// Whether the pair from one edge to another is gone. Few are: only of those a pair is made.
+fn is_lost(first: Edge, second: Edge) -> bool
+    requires { ⌜ Between mostUnits mostUnits (first .opos) × Between mostUnits mostUnits (second .opos) ⌝ }
+    requires { ⌜ Between mostPos mostPos (first .pos) × Between mostPos mostPos (second .pos) ⌝ }
+    ensures { λ r. ⌜ r ≡ goneOf first second ⌝ }
+{
+    is_gone(second.opos - first.opos, first.pos, second.pos)
+}
 
 // The lost pairs of lent edges: each edge that counts ends one that starts at the last edge in front of it that counts.
 pub fn find_in(words: &[i32], least: i32, linked: bool) -> Gaps
@@ -44,8 +57,12 @@ pub fn find_in(words: &[i32], least: i32, linked: bool) -> Gaps
             continue;
         }
         let k = index_or(last, i); // the first edge that counts is no width behind itself, which loses nothing
-        found = with_pair(found, k, fit_in(words, k), i, edge, least);
         last = Link::To(i as u16);
+        let front = fit_in(words, k);
+        if !is_lost(front, edge) {
+            continue;
+        }
+        found = with_pair(found, k, front, i, edge, least);
     }
     found
 }

@@ -1,16 +1,20 @@
 -- `flat_gaps::find::find_in` meets its contract: each turn adds the pair that an edge ends. Assumes nothing.
 use native.Mathlib.Omega.{arith}
-use mathlib.Core.Path.{ap, _∙_}
-use Prim.Native.Nat.{_-_, _<_}
+use mathlib.Core.Path.{_≡_, sym, ap, _∙_}
+use mathlib.Core.List.{List}
+use Prim.Native.Nat.{_+_, _-_, _<_}
 use borrow.Author.Needs.{needs}
 use borrow.Author.Tests.{not-true, not-false}
 use lib.IntN.{ℤ}
 use mir.Syntax.{w32}
 use mir.Val.{toZ, ofZ}
 use Rattle.signed.proofs.Signed.{is}
+use Rattle.axis.specs.declared.kinds.Link.the-variants as Links
 use Rattle.axis.specs.Limits.{mostEdges}
+use Rattle.gaps.specs.declared.find.Gaps.{Gaps}
 use Rattle.gaps.specs.Gaps.{foundIn}
-use Rattle.gaps.proofs.Turns.{Searched, search-starts, search-ends, search-few, search-undone, search-skips, starts-inside, search-steps}
+use Rattle.gaps.specs.Steps.{Placed, withPair}
+use Rattle.gaps.proofs.Turns.{Searched, adds-kept, search-starts, search-ends, search-few, search-undone, search-skips, starts-inside, search-steps}
 use Rattle.lent.specs.Lent.{edgesOf}
 use Rattle.edges_in.proofs.Wholes.{edges-len}
 use Rattle.flat_gaps.proofs.Search.{read-placed, read-done, read-asked, read-pair}
@@ -85,40 +89,79 @@ loop-again-2 c =
 index-or-requires : tie.Need-index-or-requires Inv-loop μ-loop
 index-or-requires c κs = search needs
 
+cast-t18 : tie.Need-cast-t18 Inv-loop μ-loop
+cast-t18 c = omega (arith, inside (turn c))
+
 fit-in-requires-2 : tie.Need-fit-in-requires-2 Inv-loop μ-loop
 fit-in-requires-2 c κs = let s = turn c .before .before in (s .pre .0, omega (arith, start-in c, edges-len (s .args .words .now)))
 
-with-pair-requires : tie.Need-with-pair-requires Inv-loop μ-loop
-with-pair-requires c κs =
+-- the test of the pair
+module _ (c : tie.After-is-lost Inv-loop μ-loop) where
+  abbrev front : tie.After-fit-in2 Inv-loop μ-loop
+  front = c .before
+
+  abbrev here : tie.After-fit-in Inv-loop μ-loop
+  here = front .before .before .before .before .before .before
+
+  abbrev words : List ℤ
+  words = here .before .before .before .args .words .now
+
+  -- what is made of it is the next turn's
+  steps : {new : Gaps}
+      → new ≡ withPair (toZ w32 (ofZ w32 (here .before .before .before .args .least))) (here .before .before .loop .found) (front .before .index-or .result) (front .fit-in2 .result) (here .before .before .loop .i) (here .fit-in .result)
+      → Searched (toZ w32 (ofZ w32 (here .before .before .before .args .least))) (here .before .before .before .args .linked) (edgesOf words) (here .before .before .loop .i + 1) (Links.To (here .before .before .loop .i)) new
+  steps e =
+      let from = front .before in
+      let o = from .before in
+      let a = o .before in
+      let t = here .before in
+      let s = t .before .before in
+      search-steps _ _ _ _ _ _ (t .before .loop .inv) (of-axis t) (read-done words _ (here .fit-in .ensures) (not-false _ (a .before .if1 .left))) _
+      (read-asked words _ (here .fit-in .ensures) (s .args .linked) (a .asked-for .ensures)) (not-false _ (o .if2 .left)) _ _ (from .index-or .ensures)
+      (read-pair words _ (front .fit-in2 .ensures) (toZ w32 (ofZ w32 (s .args .least))) (t .before .loop .found) _ (here .fit-in .ensures) e)
+
+-- both edges are placed
+placed : (c : tie.After-fit-in2 Inv-loop μ-loop) → let f = c .before .before .before .before .before .before in Placed (c .before .index-or .result) (c .fit-in2 .result) × Placed (f .before .before .loop .i) (f .fit-in .result)
+placed c =
     let from = c .before in
     let f = from .before .before .before .before .before in
     let t = f .before in
     let s = t .before .before in
     let ws = s .args .words .now in
-    (search-few _ _ _ _ _ _ (t .before .loop .inv) (s .pre .1), read-placed ws _ (c .fit-in2 .ensures) (s .pre .1) (start-in from), read-placed ws _ (f .fit-in .ensures) (s .pre .1) (of-axis t))
+    (read-placed ws _ (c .fit-in2 .ensures) (s .pre .1) (start-in from), read-placed ws _ (f .fit-in .ensures) (s .pre .1) (of-axis t))
 
-cast-t18 : tie.Need-cast-t18 Inv-loop μ-loop
-cast-t18 c = omega (arith, inside (turn (c .before .before)))
+is-lost-requires : tie.Need-is-lost-requires Inv-loop μ-loop
+is-lost-requires c κs = let p = placed c in ((p .0 .opos, p .1 .opos), (p .0 .pos, p .1 .pos))
 
 add-i-3 : tie.Need-add-i-3 Inv-loop μ-loop
-add-i-3 c = omega (arith, inside (turn (c .before .before)))
+add-i-3 c = omega (arith, inside (turn (c .before .before .before)))
 
 loop-less-3 : tie.Need-loop-less-3 Inv-loop μ-loop
-loop-less-3 c = omega (arith, turn (c .before .before) .loop-test .taken)
+loop-less-3 c = omega (arith, turn (c .before .before .before) .loop-test .taken)
 
 loop-again-3 : tie.Need-loop-again-3 Inv-loop μ-loop
 loop-again-3 c =
-    let two = c .before in
-    let from = two .before in
-    let o = from .before in
-    let a = o .before in
-    let f = a .before .before .before in
-    let t = f .before in
-    let s = t .before .before in
-    let ws = s .args .words .now in
-    search-steps _ _ _ _ _ _ (t .before .loop .inv) (of-axis t) (read-done ws _ (f .fit-in .ensures) (not-false _ (a .before .if1 .left))) _
-    (read-asked ws _ (f .fit-in .ensures) (s .args .linked) (a .asked-for .ensures)) (not-false _ (o .if2 .left)) _ _ (from .index-or .ensures)
-    (read-pair ws _ (two .fit-in2 .ensures) (toZ w32 (ofZ w32 (s .args .least))) (t .before .loop .found) _ (f .fit-in .ensures) (c .with-pair .ensures))
+    let k = c .before in
+    let f = here k in
+    let l = f .before .before .loop in
+    let none = sym (k .is-lost .ensures) ∙ not-true _ (c .if3 .taken) in
+    steps k (adds-kept (toZ w32 (ofZ w32 (f .before .before .before .args .least))) (l .found) (front k .before .index-or .result) (front k .fit-in2 .result) (l .i) (f .fit-in .result) none)
+
+with-pair-requires : tie.Need-with-pair-requires Inv-loop μ-loop
+with-pair-requires c κs =
+    let k = c .before in
+    let t = here k .before in
+    let p = placed (k .before) in
+    (search-few _ _ _ _ _ _ (t .before .loop .inv) (t .before .before .pre .1), p .0, p .1)
+
+add-i-4 : tie.Need-add-i-4 Inv-loop μ-loop
+add-i-4 c = omega (arith, inside (turn (c .before .before .before .before)))
+
+loop-less-4 : tie.Need-loop-less-4 Inv-loop μ-loop
+loop-less-4 c = omega (arith, turn (c .before .before .before .before) .loop-test .taken)
+
+loop-again-4 : tie.Need-loop-again-4 Inv-loop μ-loop
+loop-again-4 c = steps (c .before .before) (c .with-pair .ensures)
 
 returns : tie.Need-returns Inv-loop μ-loop
 returns c =
@@ -144,10 +187,14 @@ find-in-spec =
     loop-less-2
     loop-again-2
     index-or-requires
-    fit-in-requires-2
-    with-pair-requires
     cast-t18
+    fit-in-requires-2
+    is-lost-requires
     add-i-3
     loop-less-3
     loop-again-3
+    with-pair-requires
+    add-i-4
+    loop-less-4
+    loop-again-4
     returns)
