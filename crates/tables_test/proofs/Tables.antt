@@ -2,14 +2,18 @@
 use mathlib.Core.Path.{_≡_, refl, sym, ap, _∙_}
 use mathlib.Core.Bool.{Bool, true, _&&_}
 use mathlib.Core.List.{List}
-use Prim.Native.Nat.{ℕ, _<_, min}
+use Prim.Native.Nat.{ℕ, _%_, _≤_, _<_, min}
+use native.Mathlib.Nat.{mod-eq-of-lt}
 use native.Mathlib.Omega.{arith}
+use borrow.Author.Tests.{lt-ltb}
 use lib.Dec.{ltb, leb}
-use lib.IntN.{ℤ}
+use lib.IntN.{ℤ, pos, negsuc, _-ℤ_}
+use lib.Signed.{leZ}
+use Rattle.signed.proofs.Signed.{sub-law}
+use Rattle.signed.proofs.Order.{le-true}
 use Rattle.refusals.specs.Refusal.{refusal}
 use Rattle.refusals.proofs.Tests.{and-first, and-second, no-refusal}
 use Rattle.axis.specs.declared.edge.Edge.{Edge}
-use Rattle.axis.specs.declared.kinds.Link.{Link}
 use Rattle.axis.specs.declared.segment.Segment.{Segment}
 use Rattle.axis.specs.Edge.{edgeAt}
 use Rattle.axis.specs.Limits.{mostEdges, mostSegments}
@@ -20,14 +24,26 @@ use Rattle.words.specs.Word.{wordAt}
 use Rattle.words.specs.Field.{indexOf, linkOf}
 use Rattle.words.specs.Edge as E
 use Rattle.words.specs.Segment as S
+use Rattle.shape.specs.declared.field.Range.{Range}
+use Rattle.shape.specs.Shape as Shape
 use Rattle.shape.specs.Shape.{edgesShown, segmentsShown}
 use Rattle.lent.specs.Lent.{edgesOf}
-use Rattle.lent.proofs.Holding.{and-both}
+use Rattle.lent.proofs.Holding.{clash, and-both, link-holds}
 use Rattle.edges_in.specs.Whole as Edges
 use Rattle.edges_in.proofs.Wholes.{edges-len, edge-in}
 use Rattle.segments_in.specs.Whole as Segments
 use Rattle.segments_in.proofs.Wholes.{segments-len, segment-in}
-use Rattle.tables_test.specs.Held.{Held}
+use Rattle.edges_test.specs.Held.{linksTo}
+use Rattle.tables_test.specs.Held.{indicesTo, Held}
+
+-- an index below a count
+index-below : (n : ℕ) (w : ℤ) → n ≤ mostSegments → Shape.isIn (indicesTo n) w ≡ true → ltb (indexOf w) n ≡ true
+index-below n (negsuc m) few h = absurd (clash h)
+index-below n (pos m) few h =
+    let l = le-true (pos m) (pos n -ℤ pos 1) (and-second (leZ (pos 0) (pos m)) _ h) in
+    let s = sub-law (pos n) (pos 1) in
+    let e : m % 65536 ≡ m = mod-eq-of-lt (omega (arith, l, s)) in
+    lt-ltb (m % 65536) n (omega (arith, l, s, e))
 
 -- ---- words of a segment
 module _ (ws : List ℤ) (i : ℕ) (w : Segments.Whole ws) (h : i < S.segmentsIn ws) where
@@ -39,9 +55,13 @@ module _ (ws : List ℤ) (i : ℕ) (w : Segments.Whole ws) (h : i < S.segmentsIn
   pub tested-segment : i < min (S.flatSegments ws .len) mostSegments
   tested-segment = omega (arith, segments-len ws, w .few)
 
-  pub edge-tested : (m : ℕ) (l : Link) (r v : Bool) → l ≡ linkOf (wordAt ws (S.wordOfSegment i S.edgePlace)) → r ≡ linkHolds m l → r ≡ v → segmentEdge m (segmentAt (S.flatSegments ws) i) ≡ v
+  -- its edge is one of so many where its word is one of those values
+  pub edge-named : (m : ℕ) {links : Range} {r : Bool} → m ≤ mostSegments → links ≡ linksTo m → r ≡ Shape.isIn links (wordAt ws (S.wordOfSegment i S.edgePlace)) → r ≡ true
+      → segmentEdge m (segmentAt (S.flatSegments ws) i) ≡ true
   unfolding segmentEdge
-  edge-tested m l r v e q g = sym (q ∙ ap (linkHolds m) (e ∙ edge-is)) ∙ g
+  edge-named m {links} few l e g =
+      ap (linkHolds m) (sym edge-is)
+      ∙ link-holds m _ (omega (arith, few)) (ap (λ (x : Range). Shape.isIn x (wordAt ws (S.wordOfSegment i S.edgePlace))) (sym l) ∙ sym e ∙ g)
 
 -- ---- and of an edge
 module _ (es : List ℤ) (i : ℕ) (w : Edges.Whole es) (h : i < E.edgesIn es) where
@@ -53,13 +73,15 @@ module _ (es : List ℤ) (i : ℕ) (w : Edges.Whole es) (h : i < E.edgesIn es) w
   unfolding E.edgeFrom
   last-is = sym (ap (λ (e : Edge). e .last) (edge-in es _ i w h))
 
-  pub tested-edge : i < min (edgesOf es .len) mostEdges
-  tested-edge = omega (arith, edges-len es, w .few)
-
-  pub ends-tested : (n first last : ℕ) (r v : Bool) → first ≡ indexOf (wordAt es (E.wordOfEdge i E.firstPlace)) → last ≡ indexOf (wordAt es (E.wordOfEdge i E.lastPlace))
-      → r ≡ (ltb first n && ltb last n) → r ≡ v → edgeSegments n (edgeAt (edgesOf es) i) ≡ v
+  -- its first and last are of so many where their words are of those values
+  pub ends-named : (n : ℕ) {indices : Range} {p q r : Bool} → n ≤ mostSegments → indices ≡ indicesTo n → p ≡ Shape.isIn indices (wordAt es (E.wordOfEdge i E.firstPlace))
+      → q ≡ Shape.isIn indices (wordAt es (E.wordOfEdge i E.lastPlace)) → r ≡ (p && q) → r ≡ true → edgeSegments n (edgeAt (edgesOf es) i) ≡ true
   unfolding edgeSegments
-  ends-tested n first last r v p q e g = sym (e ∙ (λ x. ltb ((p ∙ first-is) x) n && ltb ((q ∙ last-is) x) n)) ∙ g
+  ends-named n {indices} {p} {q} few l a b e g =
+      let t = sym e ∙ g in
+      and-both _ _
+      (ap (λ (x : ℕ). ltb x n) (sym first-is) ∙ index-below n (wordAt es (E.wordOfEdge i E.firstPlace)) few (ap (λ (x : Range). Shape.isIn x (wordAt es (E.wordOfEdge i E.firstPlace))) (sym l) ∙ sym a ∙ and-first p q t))
+      (ap (λ (x : ℕ). ltb x n) (sym last-is) ∙ index-below n (wordAt es (E.wordOfEdge i E.lastPlace)) few (ap (λ (x : Range). Shape.isIn x (wordAt es (E.wordOfEdge i E.lastPlace))) (sym l) ∙ sym b ∙ and-second p q t))
 
 -- ---- words that hold
 module _ (ws es : List ℤ) (h : Held ws es) where

@@ -1,33 +1,44 @@
 // Whether words are those of segments and edges that every call accepts which is given both: no record is made.
-use axis::accept::link_holds;
 use edges_test::hold::edges_hold;
+use edges_test::hold::links_to;
 use lent::shown::both;
 use segments_test::hold::segments_hold;
+use shape::field::Range;
+use shape::field::in_at;
 use words::edge::EDGE_WORDS;
 use words::edge::FIRST_PLACE;
 use words::edge::LAST_PLACE;
-use words::field::index_at;
-use words::field::link_at;
 use words::segment::EDGE_PLACE;
 use words::segment::SEGMENT_WORDS;
 ghost use mathlib.Core.Path.{_≡_};
 ghost use mathlib.Core.Bool.{true};
+ghost use Prim.Native.Nat.{_≤_};
+ghost use Rattle.axis.specs.Limits.{mostSegments};
 ghost use Rattle.turning.specs.Indices.{segmentsEdges, edgesSegments};
 ghost use Rattle.words.specs.Segment.{flatSegments};
 ghost use Rattle.lent.specs.Lent.{edgesOf};
 ghost use Rattle.edges_in.specs.Whole as Edges;
 ghost use Rattle.segments_in.specs.Whole as Segments;
-ghost use Rattle.tables_test.specs.Held.{Held};
+ghost use Rattle.tables_test.specs.Held.{indicesTo, Held};
+
+// The values of an index of one of so many.
+fn indices_to(n: usize) -> Range
+    requires { ⌜ n ≤ mostSegments ⌝ }
+    ensures { λ r. ⌜ r ≡ indicesTo n ⌝ }
+{
+    let last = (n as i32) - 1;
+    Range { low: 0, high: last }
+}
 
 // Whether the edge of every segment is one of so many.
 fn edges_named(segments: &[i32], count: usize) -> bool
-    requires { ⌜ Segments.Whole (now segments) ⌝ }
-    ensures { λ r. ⌜ r ≡ segmentsEdges count (flatSegments (now (segments .entry))) ⌝ }
+    requires { ⌜ Segments.Whole (now segments) × (count ≤ mostSegments) ⌝ }
+    ensures { λ r. ⌜ (r ≡ true → segmentsEdges count (flatSegments (now (segments .entry))) ≡ true) ⌝ }
 {
     let n = segments.len() / SEGMENT_WORDS;
+    let links = links_to(count);
     for i in 0..n {
-        let edge = link_at(segments, SEGMENT_WORDS * i + EDGE_PLACE);
-        if !link_holds(edge, count) {
+        if !in_at(segments, SEGMENT_WORDS * i + EDGE_PLACE, links) {
             return false;
         }
     }
@@ -36,14 +47,15 @@ fn edges_named(segments: &[i32], count: usize) -> bool
 
 // Whether first and last of every edge are of so many segments.
 fn segments_named(edges: &[i32], count: usize) -> bool
-    requires { ⌜ Edges.Whole (now edges) ⌝ }
-    ensures { λ r. ⌜ r ≡ edgesSegments count (edgesOf (now (edges .entry))) ⌝ }
+    requires { ⌜ Edges.Whole (now edges) × (count ≤ mostSegments) ⌝ }
+    ensures { λ r. ⌜ (r ≡ true → edgesSegments count (edgesOf (now (edges .entry))) ≡ true) ⌝ }
 {
     let n = edges.len() / EDGE_WORDS;
+    let indices = indices_to(count);
     for i in 0..n {
-        let first = index_at(edges, EDGE_WORDS * i + FIRST_PLACE);
-        let last = index_at(edges, EDGE_WORDS * i + LAST_PLACE);
-        if !both((first as usize) < count, (last as usize) < count) {
+        let first = in_at(edges, EDGE_WORDS * i + FIRST_PLACE, indices);
+        let last = in_at(edges, EDGE_WORDS * i + LAST_PLACE, indices);
+        if !both(first, last) {
             return false;
         }
     }

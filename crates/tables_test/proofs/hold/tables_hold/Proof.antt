@@ -1,7 +1,8 @@
 -- `tables_test::hold::tables_hold` meets its contract. Assumes nothing.
 use borrow.Author.Needs.{needs}
+use native.Mathlib.Omega.{arith}
 use borrow.Author.Tests.{not-false, leb-true}
-use mathlib.Core.Path.{sym, ap, _∙_}
+use mathlib.Core.Path.{ap, _∙_}
 use mathlib.Core.Bool.{true}
 use Prim.Native.Nat.{ℕ}
 use Rattle.axis.specs.Limits.{mostEdges, mostSegments}
@@ -44,7 +45,7 @@ returns-2 : tie.Need-returns-2
 returns-2 c = λ h. absurd (clash h)
 
 edges-named-requires : tie.Need-edges-named-requires
-edges-named-requires c κs = first-whole (c .before)
+edges-named-requires c κs = let es = start (c .before) .args .edges .now in (first-whole (c .before), omega (arith, leb-true (edgesIn es) mostEdges (second c .few)))
 
 returns-3 : tie.Need-returns-3
 returns-3 c = λ h. absurd (clash h)
@@ -52,9 +53,11 @@ returns-3 c = λ h. absurd (clash h)
 segments-named-requires : tie.Need-segments-named-requires
 segments-named-requires c κs =
     let e = c .before .before in
-    let es = start (e .before) .args .edges .now in
+    let s = start (e .before) in
+    let ws = s .args .segments .now in
+    let es = s .args .edges .now in
     let h = second e in
-    shown-whole es (h .words) (leb-true (edgesIn es) mostEdges (h .few))
+    (shown-whole es (h .words) (leb-true (edgesIn es) mostEdges (h .few)), leb-true (segmentsIn ws) mostSegments (first (e .before) .few))
 
 returns-4 : tie.Need-returns-4
 returns-4 c = λ t.
@@ -66,8 +69,8 @@ returns-4 c = λ t.
     record {
       segments = first (e .before);
       edges = second e;
-      to-edges = ap (λ (m : ℕ). segmentsEdges m (flatSegments ws)) (edges-len es) ∙ sym (n .before .edges-named .ensures) ∙ not-false _ (n .if3 .left);
-      to-segments = ap (λ (m : ℕ). edgesSegments m (edgesOf es)) (segments-len ws) ∙ sym (c .segments-named .ensures) ∙ t;
+      to-edges = ap (λ (m : ℕ). segmentsEdges m (flatSegments ws)) (edges-len es) ∙ n .before .edges-named .ensures (not-false _ (n .if3 .left));
+      to-segments = ap (λ (m : ℕ). edgesSegments m (edgesOf es)) (segments-len ws) ∙ c .segments-named .ensures t;
     }
 
 pub tables-hold-spec : {M : Type 1} → statement M
