@@ -1,13 +1,10 @@
 // The points of every segment moved by its edge.
+use super::segment::edge_of;
+use super::segment::first_of;
+use super::segment::last_of;
 use axis::kinds::Link;
 use edge_points_walk::walk::move_walk;
 use edges_in::edge::fit_in;
-use outline::accept::wide;
-use words::field::index_at;
-use words::field::link_at;
-use words::segment::EDGE_PLACE;
-use words::segment::FIRST_PLACE;
-use words::segment::LAST_PLACE;
 use words::segment::SEGMENT_WORDS;
 ghost use mathlib.Core.Path.{_≡_};
 ghost use mathlib.Core.Bool.{not, _||_};
@@ -45,8 +42,7 @@ fn move_segment(
     ensures { λ _. ⌜ points (now (currents .exit)) (now (touched .exit))
         ≡ visitSegment snap alone (edgesOf (now (edges .entry))) (flatSegments (now (segments .entry))) (now (ends .entry)) (points (now (currents .entry)) (now (touched .entry))) i ⌝ }
 {
-    let at = SEGMENT_WORDS * i;
-    let link = link_at(segments, at + EDGE_PLACE);
+    let link = edge_of(segments, i);
     let Link::To(k) = link else {
         return;
     };
@@ -54,8 +50,8 @@ fn move_segment(
     if !moves(edge.flags.done, alone) {
         return;
     }
-    let first = wide(index_at(segments, at + FIRST_PLACE));
-    let last = wide(index_at(segments, at + LAST_PLACE));
+    let first = first_of(segments, i);
+    let last = last_of(segments, i);
     move_walk(currents, touched, ends, first, last, snap, edge);
 }
 

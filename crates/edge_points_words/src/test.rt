@@ -1,12 +1,14 @@
 // The tests of the call behind those of its words.
 use super::pass::moves;
+use super::segment::edge_of;
+use super::segment::first_of;
+use super::segment::last_of;
 use axis::accept::is_inside;
 use axis::kinds::Link;
 use edge_points_walk::contour::contour_of;
 use edge_points_walk::contour::is_on;
 use edges_in::edge::fit_in;
 use outline::accept::ends_hold;
-use outline::accept::wide;
 use outline::limits::MOST_COORDINATE;
 use outline::reach::coordinates_hold;
 use refusals::order::BAD_INDEX;
@@ -15,11 +17,6 @@ use refusals::order::or_refused;
 use tables_test::test::edges_ranged;
 use tables_test::test::segments_ranged;
 use tables_test::test::tables_indexed;
-use words::field::index_at;
-use words::field::link_at;
-use words::segment::EDGE_PLACE;
-use words::segment::FIRST_PLACE;
-use words::segment::LAST_PLACE;
 use words::segment::SEGMENT_WORDS;
 ghost use mathlib.Core.Path.{_≡_};
 ghost use mathlib.Core.Bool.{true};
@@ -43,13 +40,12 @@ fn segment_points(segments: &[i32], i: usize, ends: &[u16]) -> bool
     requires { ⌜ Segments.Whole (now segments) × (i < segmentsIn (now segments)) ⌝ }
     ensures { λ r. ⌜ r ≡ segmentPoints (now (ends .entry)) (segmentAt (flatSegments (now (segments .entry))) i) (segmentAt (flatSegments (now (segments .entry))) i .edge) ⌝ }
 {
-    let at = SEGMENT_WORDS * i;
-    let link = link_at(segments, at + EDGE_PLACE);
+    let link = edge_of(segments, i);
     let Link::To(_) = link else {
         return true;
     };
-    let first = wide(index_at(segments, at + FIRST_PLACE));
-    let last = wide(index_at(segments, at + LAST_PLACE));
+    let first = first_of(segments, i);
+    let last = last_of(segments, i);
     is_on(contour_of(ends, first), last)
 }
 
@@ -73,7 +69,7 @@ fn mover_holds(segments: &[i32], i: usize, edges: &[i32], alone: bool) -> bool
     requires { ⌜ Edges.Whole (now edges) × (segmentsEdges (edgesIn (now edges)) (flatSegments (now segments)) ≡ true) ⌝ }
     ensures { λ r. ⌜ r ≡ moverHolds alone (edgesOf (now (edges .entry))) (segmentAt (flatSegments (now (segments .entry))) i .edge) ⌝ }
 {
-    let link = link_at(segments, SEGMENT_WORDS * i + EDGE_PLACE);
+    let link = edge_of(segments, i);
     let Link::To(k) = link else {
         return true;
     };

@@ -3,47 +3,41 @@ use borrow.Author.Needs.{needs}
 use borrow.Author.Tests.{not-true, not-false}
 use native.Mathlib.Omega.{arith}
 use mathlib.Core.Path.{_≡_, refl, sym, _∙_}
+use Prim.Native.Nat.{_<_}
 use Rattle.axis.specs.Segment.{segmentAt}
-use Rattle.words.specs.Segment.{flatSegments}
-use Rattle.tables_test.proofs.Tables.{edge-is}
-use Rattle.edge_points_words.proofs.Read.{first-is, last-is, named, is-mover}
+use Rattle.words.specs.Segment.{segmentsIn, flatSegments}
+use Rattle.segments_in.specs.Whole.{Whole}
+use Rattle.edge_points_words.proofs.Read.{named, is-mover}
 use Rattle.edge_points_words.proofs.Visit.{visit-none, visit-still, read-moves, read-mover, segment-ready, segment-moved, reach-most}
 use Rattle.edge_points_words.proofs.pass.move_segment.Statement.{statement}
 use Rattle.edge_points_words.proofs.pass.move_segment.Tie as tie
 
 -- where the function starts, and the link that was read
-abbrev from : tie.After-link-at → tie.Start
+abbrev from : tie.After-edge-of → tie.Start
 from c = c .before .before .before
 
-linked : (c : tie.After-link-at) → c .link-at .result ≡ segmentAt (flatSegments (from c .args .segments .now)) (from c .args .i) .edge
-linked c = let s = from c in c .link-at .ensures ∙ edge-is (s .args .segments .now) (s .args .i) (s .pre .0 .0 .segments) (s .pre .0 .1)
+linked : (c : tie.After-edge-of) → c .edge-of .result ≡ segmentAt (flatSegments (from c .args .segments .now)) (from c .args .i) .edge
+linked c = c .edge-of .ensures
 
 -- where the edge is known to move points, and the points that were read behind it
-abbrev other : tie.After-wide2 → tie.Else1
-other c = c .before .before .before .before
+abbrev other : tie.After-last-of → tie.Else1
+other c = c .before .before
 
-abbrev start : tie.After-wide2 → tie.Start
+abbrev start : tie.After-last-of → tie.Start
 start c = from (other c .before .before .before .before .before .before)
 
-first-read : (c : tie.After-wide2) → c .before .before .wide .result ≡ segmentAt (flatSegments (start c .args .segments .now)) (start c .args .i) .first
-first-read c =
-    let x = c .before .before in
-    let s = start c in
-    x .wide .ensures ∙ x .before .index-at .ensures ∙ first-is (s .args .segments .now) (s .args .i) (s .pre .0 .0 .segments) (s .pre .0 .1)
+first-read : (c : tie.After-last-of) → c .before .first-of .result ≡ segmentAt (flatSegments (start c .args .segments .now)) (start c .args .i) .first
+first-read c = c .before .first-of .ensures
 
-last-read : (c : tie.After-wide2) → c .wide2 .result ≡ segmentAt (flatSegments (start c .args .segments .now)) (start c .args .i) .last
-last-read c =
-    let s = start c in
-    c .wide2 .ensures ∙ c .before .index-at2 .ensures ∙ last-is (s .args .segments .now) (s .args .i) (s .pre .0 .0 .segments) (s .pre .0 .1)
+last-read : (c : tie.After-last-of) → c .last-of .result ≡ segmentAt (flatSegments (start c .args .segments .now)) (start c .args .i) .last
+last-read c = c .last-of .ensures
 
-mul-at : tie.Need-mul-at
-mul-at c = let s = c .before .before in omega (arith, s .pre .0 .1, s .pre .0 .0 .segments .few)
+-- the segment, and that it is one of the list
+segment : (c : tie.Else1) → let a = from (c .before .before .before .before .before .before) .args in Whole (a .segments .now) × (a .i < segmentsIn (a .segments .now))
+segment c = let p = from (c .before .before .before .before .before .before) .pre .0 in (p .0 .segments, p .1)
 
-add-link-at : tie.Need-add-link-at
-add-link-at c = let s = c .before .before in omega (arith, s .pre .0 .1, s .pre .0 .0 .segments .few)
-
-link-at-requires : tie.Need-link-at-requires
-link-at-requires c κs = search needs
+edge-of-requires : tie.Need-edge-of-requires
+edge-of-requires c κs = let p = c .before .before .pre .0 in (p .0 .segments, p .1)
 
 enum-known-link : tie.Need-enum-known-link
 enum-known-link c = search needs
@@ -79,23 +73,11 @@ returns-2 c =
     let e = sym (linked l) ∙ link .link .given .1 in
     visit-still _ _ _ _ _ _ _ _ e (read-moves (a .alone) (a .segments .now) (a .edges .now) (a .i) (f .fit-in .result) _ e (f .fit-in .ensures) (m .moves .ensures) (not-true _ (c .if1 .taken)))
 
-add-index-at : tie.Need-add-index-at
-add-index-at c = search needs
+first-of-requires : tie.Need-first-of-requires
+first-of-requires c κs = segment c
 
-index-at-requires : tie.Need-index-at-requires
-index-at-requires c κs = search needs
-
-wide-requires : tie.Need-wide-requires
-wide-requires c κs = search needs
-
-add-index-at-2 : tie.Need-add-index-at-2
-add-index-at-2 c = search needs
-
-index-at-requires-2 : tie.Need-index-at-requires-2
-index-at-requires-2 c κs = search needs
-
-wide-requires-2 : tie.Need-wide-requires-2
-wide-requires-2 c κs = search needs
+last-of-requires : tie.Need-last-of-requires
+last-of-requires c κs = segment (c .before)
 
 move-walk-requires : tie.Need-move-walk-requires
 move-walk-requires c κs =
@@ -140,9 +122,7 @@ pub move-segment-spec : {M : Type 1} → statement M
 move-segment-spec =
     tie.close
     (tie.spec
-    mul-at
-    add-link-at
-    link-at-requires
+    edge-of-requires
     enum-known-link
     enum-told
     returns
@@ -150,12 +130,8 @@ move-segment-spec =
     fit-in-requires
     moves-requires
     returns-2
-    add-index-at
-    index-at-requires
-    wide-requires
-    add-index-at-2
-    index-at-requires-2
-    wide-requires-2
+    first-of-requires
+    last-of-requires
     move-walk-requires
     same-length
     same-length-2

@@ -1,7 +1,6 @@
 -- `edge_points_words::test::mover_holds` meets its contract. Assumes nothing.
 use borrow.Author.Needs.{needs}
 use borrow.Author.Tests.{not-true, not-false}
-use native.Mathlib.Omega.{arith}
 use mathlib.Core.Path.{_≡_, sym, ap, _∙_}
 use mir.Syntax.{w32}
 use Rattle.signed.proofs.Signed.{is, got}
@@ -9,7 +8,6 @@ use Rattle.axis.specs.Refusals.{within}
 use Rattle.axis.specs.Segment.{segmentAt}
 use Rattle.contours.specs.Limits.{mostCoordinate}
 use Rattle.words.specs.Segment.{flatSegments}
-use Rattle.tables_test.proofs.Tables.{edge-is}
 use Rattle.edge_points_words.proofs.Read.{edge-below}
 use Rattle.edge_points_words.proofs.Visit.{read-moves}
 use Rattle.edge_points_words.proofs.Tests.{mover-free, mover-still, mover-asked}
@@ -17,20 +15,14 @@ use Rattle.edge_points_words.proofs.test.mover_holds.Statement.{stateme
 use Rattle.edge_points_words.proofs.test.mover_holds.Tie as tie
 
 -- where the function starts, and the link that was read
-abbrev from : tie.After-link-at → tie.Start
+abbrev from : tie.After-edge-of → tie.Start
 from c = c .before
 
-linked : (c : tie.After-link-at) → c .link-at .result ≡ segmentAt (flatSegments (from c .args .segments .now)) (from c .args .i) .edge
-linked c = let s = from c in c .link-at .ensures ∙ edge-is (s .args .segments .now) (s .args .i) (s .pre .0 .0) (s .pre .0 .1)
+linked : (c : tie.After-edge-of) → c .edge-of .result ≡ segmentAt (flatSegments (from c .args .segments .now)) (from c .args .i) .edge
+linked c = c .edge-of .ensures
 
-mul-link-at : tie.Need-mul-link-at
-mul-link-at c = omega (arith, c .pre .0 .1, c .pre .0 .0 .few)
-
-add-link-at : tie.Need-add-link-at
-add-link-at c = omega (arith, c .pre .0 .1, c .pre .0 .0 .few)
-
-link-at-requires : tie.Need-link-at-requires
-link-at-requires c κs = search needs
+edge-of-requires : tie.Need-edge-of-requires
+edge-of-requires c κs = c .pre .0
 
 enum-known-link : tie.Need-enum-known-link
 enum-known-link c = search needs
@@ -90,9 +82,7 @@ pub mover-holds-spec : {M : Type 1} → statement M
 mover-holds-spec =
     tie.close
     (tie.spec
-    mul-link-at
-    add-link-at
-    link-at-requires
+    edge-of-requires
     enum-known-link
     enum-told
     returns
