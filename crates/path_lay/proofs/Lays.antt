@@ -11,12 +11,12 @@ use Rattle.path_trip.specs.Numbers.{kindOf, firstOf, secondOf}
 use Rattle.path_lay.specs.Laying.{Lists, lent, placedAt, laid, lay, Room}
 
 -- one step
-pub laid-is : (ks : List ℕ) (ps : List Float) (n : ℕ) (s : PathStep) (kind : ℕ) (p q : PixelPoint) (ks′ : List ℕ) (ps′ : List Float) (r : ℕ)
-    → (r ≡ n + 1) × (ks′ ≡ set ks n kind) × (ps′ ≡ placedAt (placedAt ps (4 * n) p) (4 * n + 2) q)
-    → kind ≡ kindOf s → p ≡ firstOf s → q ≡ secondOf s → lent ks′ ps′ r ≡ laid (lent ks ps n) s
+pub laid-is : (ks : List ℕ) (ps : List Float) (n : ℕ) (s : PathStep) (kind : ℕ) (p q : PixelPoint) (ks′ : List ℕ) (ps′ : List Float)
+    → (ks′ ≡ set ks n kind) × (ps′ ≡ placedAt (placedAt ps (4 * n) p) (4 * n + 2) q)
+    → kind ≡ kindOf s → p ≡ firstOf s → q ≡ secondOf s → lent ks′ ps′ (n + 1) ≡ laid (lent ks ps n) s
 unfolding laid
-laid-is ks ps n s kind p q ks′ ps′ r e k f g =
-    λ i. lent ((e .1 ∙ ap (set ks n) k) i) ((e .2 ∙ λ j. placedAt (placedAt ps (4 * n) (f j)) (4 * n + 2) (g j)) i) (e .0 i)
+laid-is ks ps n s kind p q ks′ ps′ e k f g =
+    λ i. lent ((e .0 ∙ ap (set ks n) k) i) ((e .1 ∙ λ j. placedAt (placedAt ps (4 * n) (f j)) (4 * n + 2) (g j)) i) (n + 1)
 
 -- ---- several
 -- none

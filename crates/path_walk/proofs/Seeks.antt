@@ -103,20 +103,6 @@ module _ (o : Points) (start : PixelPoint) where
   turn-next i is false true k e h = rw e (seek-next _ _ k h)
   turn-next i is false false k e h = rw e (seek-next _ _ k h)
 
-  turn-none : (i : ℕ) (is : List ℕ) (on joined : Bool) → onCurve o i ≡ on → countOf on joined ≡ 0 → walked o start joined (i ∷ is) ≡ walked o start on is
-  unfolding walked
-  turn-none i is true true e h = let z : ⊥ = omega arith in absurd z
-  turn-none i is true false e h = rw e
-  turn-none i is false true e h = let z : ⊥ = omega arith in absurd z
-  turn-none i is false false e h = let z : ⊥ = omega arith in absurd z
-
-  turn-some : (i : ℕ) (is : List ℕ) (on joined : Bool) → onCurve o i ≡ on → (countOf on joined ≡ 0 → ⊥) → walked o start joined (i ∷ is) ≡ stepOf o start i is ∷ walked o start on is
-  unfolding walked
-  turn-some i is true true e h = rw e
-  turn-some i is true false e h = absurd (h refl)
-  turn-some i is false true e h = rw e
-  turn-some i is false false e h = rw e
-
   closes : (joined : Bool) → walked o start joined [] ≡ Close ∷ []
   unfolding walked
   closes joined = refl
@@ -129,14 +115,6 @@ module _ (o : Points) (start : PixelPoint) where
     pub walk-next : (j : ℕ) → j < n → (on joined : Bool) (k : ℕ) → onCurve o (around a e (s + j)) ≡ on → countOf on joined ≤ k
         → seek (walked o start joined (drop j w)) k ≡ seek (walked o start on (drop (j + 1) w)) (k - countOf on joined)
     walk-next j h on joined k q l = ap (λ (x : List ℕ). seek (walked o start joined x) k) (one-more w a e s n t j h) ∙ turn-next (around a e (s + j)) (drop (j + 1) w) on joined k q l
-
-    pub walk-none : (j : ℕ) → j < n → (on joined : Bool) → onCurve o (around a e (s + j)) ≡ on → countOf on joined ≡ 0
-        → walked o start joined (drop j w) ≡ walked o start on (drop (j + 1) w)
-    walk-none j h on joined q l = ap (walked o start joined) (one-more w a e s n t j h) ∙ turn-none (around a e (s + j)) (drop (j + 1) w) on joined q l
-
-    pub walk-some : (j : ℕ) → j < n → (on joined : Bool) → onCurve o (around a e (s + j)) ≡ on → (countOf on joined ≡ 0 → ⊥)
-        → walked o start joined (drop j w) ≡ stepOf o start (around a e (s + j)) (drop (j + 1) w) ∷ walked o start on (drop (j + 1) w)
-    walk-some j h on joined q l = ap (walked o start joined) (one-more w a e s n t j h) ∙ turn-some (around a e (s + j)) (drop (j + 1) w) on joined q l
 
     pub walk-closed : (j : ℕ) → n ≤ j → (joined : Bool) → walked o start joined (drop j w) ≡ Close ∷ []
     walk-closed j h joined = ap (walked o start joined) (drop-of-length-le w {i = j} (omega (arith, t .len))) ∙ closes joined

@@ -21,7 +21,7 @@ pub enum Sought {
 }
 
 // How many steps a point gives.
-pub fn count_of(on: bool, joined: bool) -> usize
+fn count_of(on: bool, joined: bool) -> usize
     ensures { λ r. ⌜ r ≡ countOf on joined ⌝ }
 {
     if on {
@@ -95,7 +95,7 @@ fn curve_end(
 }
 
 // The step of the point at place `j` of a trip, which gives one.
-pub fn step_here(
+fn step_here(
     xs: &[i32],
     ys: &[i32],
     marks: &[u8],

@@ -16,6 +16,9 @@ second-of-requires c κs = search needs
 put-step-requires : tie.Need-put-step-requires
 put-step-requires c κs = search needs
 
+add-result : tie.Need-add-result
+add-result c = search needs
+
 same-length : tie.Need-same-length
 same-length c = search needs
 
@@ -25,8 +28,8 @@ same-length-2 c = search needs
 returns : tie.Need-returns
 returns c =
     let m = c .before .before .before .before in
-    let q = m .before in
-    laid-is _ _ _ _ _ _ _ _ _ _ (m .put-step .ensures) (q .before .before .kind-of .ensures) (q .before .first-of .ensures) (q .second-of .ensures)
+    let q = m .before .before .before in
+    laid-is _ _ _ _ _ (q .before .first-of .result) (q .second-of .result) _ _ (m .put-step .ensures) (q .before .before .kind-of .ensures) (q .before .first-of .ensures) (q .second-of .ensures)
 
 pub lay-step-spec : {M : Type 1} → statement M
 lay-step-spec =
@@ -36,6 +39,7 @@ lay-step-spec =
     first-of-requires
     second-of-requires
     put-step-requires
+    add-result
     same-length
     same-length-2
     returns)

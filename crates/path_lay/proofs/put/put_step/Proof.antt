@@ -4,7 +4,7 @@ use mathlib.Core.Path.{refl, ap, _∙_}
 use mathlib.Core.List.{List}
 use Prim.Native.Nat.{_+_, _*_}
 use lib.Ieee.{Float}
-use Rattle.path_lay.specs.Laying.{placedAt}
+use Rattle.path_lay.specs.Laying.{pairAt}
 use Rattle.path_lay.proofs.put.put_step.Statement.{statement}
 use Rattle.path_lay.proofs.put.put_step.Tie as tie
 
@@ -26,9 +26,6 @@ add-put-place c = search needs
 put-place-requires-2 : tie.Need-put-place-requires-2
 put-place-requires-2 c κs = search needs
 
-add-result : tie.Need-add-result
-add-result c = search needs
-
 same-length : tie.Need-same-length
 same-length c = search needs
 
@@ -39,7 +36,7 @@ returns : tie.Need-returns
 returns c =
     let m = c .before .before in
     let s = m .before .before .before .before .before .before .before .before in
-    (refl, refl, m .put-place2 .ensures ∙ ap (λ (l : List Float). placedAt l (4 * s .args .count + 2) (s .args .q)) (m .before .before .before .before .put-place .ensures))
+    (refl, m .put-place2 .ensures ∙ ap (λ (l : List Float). pairAt l (4 * s .args .count + 2) (s .args .u) (s .args .v)) (m .before .before .before .before .put-place .ensures))
 
 pub put-step-spec : {M : Type 1} → statement M
 put-step-spec =
@@ -51,7 +48,6 @@ put-step-spec =
     mul-put-place-2
     add-put-place
     put-place-requires-2
-    add-result
     same-length
     same-length-2
     returns)
