@@ -3,18 +3,19 @@ use mathlib.Core.Path.{_≡_, refl, sym, ap, _∙_}
 use mathlib.Core.Bool.{true}
 use Prim.Native.Nat.{ℕ, _≤_, _-_, min}
 use native.Mathlib.Omega.{arith}
+use lib.IntN.{pos}
 use mir.Syntax.{w32}
 use mir.Val.{toZ}
 use borrow.Author.Needs.{needs}
 use borrow.Author.Tests.{not-true, not-false}
 use Rattle.signed.proofs.Signed.{is}
 use Rattle.axis.specs.Limits.{mostSegments}
-use Rattle.axis.specs.Refusals.{every}
+use Rattle.axis.specs.Refusals.{every, inside}
 use Rattle.axis.specs.Segment.{segmentAt}
 use Rattle.axis.proofs.Tests.{every-none, every-more, every-fails, every-done}
 use Rattle.building.specs.Building.{scaledHolds, productsHold}
 use Rattle.words.specs.Segment.{segmentsIn, segmentsRun, flatSegments}
-use Rattle.building_in.proofs.Scaled.{scaled-tested}
+use Rattle.building_in.proofs.Scaled.{safeScale, safe-products, scaled-tested}
 use Rattle.building_in.proofs.products.products_in.Statement.{statement}
 use Rattle.building_in.proofs.products.products_in.Tie as tie
 
@@ -28,6 +29,15 @@ abbrev μ-loop : tie.MeasureT-loop
 returns : tie.Need-returns Inv-loop μ-loop
 returns c few = absurd (omega arith)
 
+is-inside-requires : tie.Need-is-inside-requires Inv-loop μ-loop
+is-inside-requires c κs = search needs
+
+returns-2 : tie.Need-returns-2 Inv-loop μ-loop
+returns-2 c few =
+    let i = c .before in
+    let s = i .before .before in
+    safe-products (s .args .words .now) (s .args .scale) (ap (inside (pos 0) (pos safeScale)) (sym (is (s .fits .scale))) ∙ sym (i .is-inside .ensures) ∙ c .if2 .taken)
+
 loop-holds : tie.Need-loop-holds Inv-loop μ-loop
 loop-holds c = (omega arith, refl, omega arith, every-none _)
 
@@ -40,15 +50,15 @@ segment-in-requires c κs = search needs
 scaled-holds-requires : tie.Need-scaled-holds-requires Inv-loop μ-loop
 scaled-holds-requires c κs = search needs
 
-returns-2 : tie.Need-returns-2 Inv-loop μ-loop
+returns-3 : tie.Need-returns-3 Inv-loop μ-loop
 unfolding productsHold flatSegments segmentsRun
-returns-2 c few =
+returns-3 c few =
     let t = c .before in
     let g = t .before in
     let o = g .before .before in
-    let s = o .before .before in
+    let s = o .before .before .before .before in
     sym (every-fails _ (o .loop .i) _ (omega arith)
-    (scaled-tested (s .args .words .now) (s .args .scale) _ (o .loop .i) _ _ _ (is (s .fits .scale)) (omega arith) few (g .segment-in .ensures) (t .scaled-holds .ensures) (not-true _ (c .if2 .taken))))
+    (scaled-tested (s .args .words .now) (s .args .scale) _ (o .loop .i) _ _ _ (is (s .fits .scale)) (omega arith) few (g .segment-in .ensures) (t .scaled-holds .ensures) (not-true _ (c .if3 .taken))))
 
 add-i : tie.Need-add-i Inv-loop μ-loop
 add-i c = omega arith
@@ -61,20 +71,20 @@ loop-again c =
     let t = c .before in
     let g = t .before in
     let o = g .before .before in
-    let s = o .before .before in
+    let s = o .before .before .before .before in
     let v = o .loop .inv in (
       omega arith,
       v .1,
       v .2,
       every-more _ _ (v .3)
-          (scaled-tested (s .args .words .now) _ _ (o .loop .i) _ _ _ refl (omega arith) (v .2) (g .segment-in .ensures) (t .scaled-holds .ensures) (not-false _ (c .if2 .left))),
+          (scaled-tested (s .args .words .now) _ _ (o .loop .i) _ _ _ refl (omega arith) (v .2) (g .segment-in .ensures) (t .scaled-holds .ensures) (not-false _ (c .if3 .left))),
     )
 
-returns-3 : tie.Need-returns-3 Inv-loop μ-loop
+returns-4 : tie.Need-returns-4 Inv-loop μ-loop
 unfolding productsHold flatSegments segmentsRun
-returns-3 c few =
+returns-4 c few =
     let o = c .before in
-    let s = o .before .before in
+    let s = o .before .before .before .before in
     let v = o .loop .inv in
     let e = rw (is (s .fits .scale)) at (v .3) in
     every-done _ _ _ _ (v .0) (omega arith) (omega (arith, v .1)) e
@@ -86,12 +96,14 @@ products-in-spec =
     Inv-loop
     μ-loop
     returns
+    is-inside-requires
+    returns-2
     loop-holds
     cast-segment-in
     segment-in-requires
     scaled-holds-requires
-    returns-2
+    returns-3
     add-i
     loop-less
     loop-again
-    returns-3)
+    returns-4)
