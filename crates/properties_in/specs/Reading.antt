@@ -8,9 +8,11 @@ use Rattle.axis.specs.declared.kinds.Link.the-variants as Links
 use Rattle.axis.specs.declared.segment.Segment.{Segment}
 use Rattle.axis.specs.Accepted.{Below}
 use Rattle.axis.specs.Flags.{normal}
+use Rattle.axis.specs.Handed.{Short}
 use Rattle.properties.specs.declared.join.Join.{Join}
 use Rattle.properties.specs.Properties.{joinOf}
-use Rattle.words.specs.Segment.{segmentSize, segmentsIn, segmentFrom}
+use Rattle.words.specs.Segment.{segmentSize, posPlace, wordOfSegment, segmentsIn, segmentFrom}
+use Rattle.words.specs.Word.{wordAt}
 
 -- what a join asks of a segment, its other fields empty
 abbrev pub asked : Segment → Segment
@@ -35,6 +37,10 @@ asked s = record {
 -- the segment whose words are the i-th
 abbrev pub wordsOf : List ℤ → ℕ → Segment
 wordsOf ws i = segmentFrom ws (segmentSize * i)
+
+-- the position of every segment is a 16-bit number as it stands
+abbrev pub Shorts : List ℤ → Type 0
+Shorts ws = (i : ℕ) → i < segmentsIn ws → Short (wordAt ws (wordOfSegment i posPlace))
 
 -- what is asked of the segment that an index names, and without an index the segment's own
 abbrev pub namedIn : List ℤ → Segment → Link → Segment

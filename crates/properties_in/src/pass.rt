@@ -5,11 +5,12 @@ ghost use Rattle.properties.specs.Steps.{Ready};
 ghost use Rattle.words.specs.Segment.{flatSegments};
 ghost use Rattle.lent.specs.Lent.{edgesOf};
 ghost use Rattle.edges_in.specs.Whole.{Whole, Became};
+ghost use Rattle.properties_in.specs.Reading.{Shorts};
 ghost use Rattle.properties_in.specs.Steps.{propertiesOf};
 
 // Gives each edge its flags, its link and its serif, by the segments of its ring.
 pub fn properties_in(segments: &[i32], edges: &mut [i32])
-    requires { ⌜ Whole (now edges) × Ready (edgesOf (now edges)) (flatSegments (now segments)) ⌝ }
+    requires { ⌜ Whole (now edges) × Ready (edgesOf (now edges)) (flatSegments (now segments)) × Shorts (now segments) ⌝ }
     ensures { λ _. ⌜ Became (propertiesOf (flatSegments (now (segments .entry)))) (now (edges .entry)) (now (edges .exit)) ⌝ }
 {
     let n = edges.len() / EDGE_WORDS;

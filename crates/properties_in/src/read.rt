@@ -7,7 +7,6 @@ use properties::join::Join;
 use properties::join::join_of;
 use words::field::flags_of;
 use words::field::link_of;
-use words::field::short_of;
 use words::segment::EDGE_PLACE;
 use words::segment::LINK_PLACE;
 use words::segment::NEXT_PLACE;
@@ -17,21 +16,34 @@ use words::segment::SERIF_PLACE;
 use words::word::word_in;
 ghost use mathlib.Core.Path.{_≡_};
 ghost use Prim.Native.Nat.{_<_};
+ghost use lib.ListN.{length};
 ghost use Rattle.axis.specs.Accepted.{Below};
+ghost use Rattle.axis.specs.Handed.{Short};
 ghost use Rattle.axis.specs.Link.{indexOr};
-ghost use Rattle.words.specs.Segment.{segmentsIn};
-ghost use Rattle.properties_in.specs.Reading.{asked, wordsOf, namedIn, Naming, joinIn};
+ghost use Rattle.words.specs.Field.{shortOf};
+ghost use Rattle.words.specs.Segment.{posPlace, wordOfSegment, segmentsIn};
+ghost use Rattle.words.specs.Word.{wordAt};
+ghost use Rattle.properties_in.specs.Reading.{asked, wordsOf, Shorts, namedIn, Naming, joinIn};
+
+// A word that is a 16-bit number.
+fn short_in(words: &[i32], at: usize) -> i16
+    requires { ⌜ (at < length (now words)) × Short (wordAt (now words) at) ⌝ }
+    ensures { λ r. ⌜ r ≡ shortOf (wordAt (now (words .entry)) at) ⌝ }
+{
+    let word = words[at];
+    word as i16
+}
 
 // What a join asks of a segment, its other fields empty.
 fn segment_in(words: &[i32], i: u16) -> Segment
-    requires { ⌜ i < segmentsIn (now words) ⌝ }
+    requires { ⌜ (i < segmentsIn (now words)) × Short (wordAt (now words) (wordOfSegment i posPlace)) ⌝ }
     ensures { λ r. ⌜ r ≡ asked (wordsOf (now (words .entry)) i) ⌝ }
 {
     let at = SEGMENT_WORDS * (i as usize);
     Segment {
         flags: NORMAL,
         dir: Direction::None,
-        pos: short_of(word_in(words, at + POS_PLACE)),
+        pos: short_in(words, at + POS_PLACE),
         delta: 0,
         min_coord: 0,
         max_coord: 0,
@@ -49,7 +61,7 @@ fn segment_in(words: &[i32], i: u16) -> Segment
 
 // The same of the segment that an index names; without an index it is the segment's own.
 fn named_in(words: &[i32], ix: Link, own: Segment) -> Segment
-    requires { ⌜ Below (segmentsIn (now words)) ix ⌝ }
+    requires { ⌜ Below (segmentsIn (now words)) ix × Shorts (now words) ⌝ }
     ensures { λ r. ⌜ r ≡ namedIn (now (words .entry)) own ix ⌝ }
 {
     match ix {
@@ -60,7 +72,7 @@ fn named_in(words: &[i32], ix: Link, own: Segment) -> Segment
 
 // What segment ix of edge k asks for.
 pub fn join_in(words: &[i32], k: usize, ix: u16) -> Join
-    requires { ⌜ Naming (now words) ix ⌝ }
+    requires { ⌜ Naming (now words) ix × Shorts (now words) ⌝ }
     ensures { λ r. ⌜ r ≡ joinIn (now (words .entry)) k ix ⌝ }
 {
     let segment = segment_in(words, ix);

@@ -19,10 +19,11 @@ ghost use Rattle.words.specs.Edge.{edgesIn};
 ghost use Rattle.words.specs.Segment.{segmentsIn, flatSegments};
 ghost use Rattle.lent.specs.Lent.{edgesOf};
 ghost use Rattle.edges_in.specs.Whole.{Whole, Became};
+ghost use Rattle.properties_in.specs.Reading.{Shorts};
 
 // The visit of one segment: edge k is joined to what it asks for.
 fn member_in(segments: &[i32], edges: &mut [i32], k: usize, ix: u16)
-    requires { ⌜ Whole (now edges) × Ready (edgesOf (now edges)) (flatSegments (now segments)) × (k < edgesIn (now edges)) × (ix < segmentsIn (now segments)) ⌝ }
+    requires { ⌜ Whole (now edges) × Ready (edgesOf (now edges)) (flatSegments (now segments)) × (k < edgesIn (now edges)) × (ix < segmentsIn (now segments)) × Shorts (now segments) ⌝ }
     ensures { λ _. ⌜ Became (member (flatSegments (now (segments .entry))) k ix) (now (edges .entry)) (now (edges .exit)) ⌝ }
 {
     let join = join_in(segments, k, ix);
@@ -39,7 +40,7 @@ fn member_in(segments: &[i32], edges: &mut [i32], k: usize, ix: u16)
 
 // The visit of edge k: its segments from the first to the last, of which the round and the straight ones are counted.
 pub fn visit_in(segments: &[i32], edges: &mut [i32], k: usize)
-    requires { ⌜ Whole (now edges) × Ready (edgesOf (now edges)) (flatSegments (now segments)) × (k < edgesIn (now edges)) ⌝ }
+    requires { ⌜ Whole (now edges) × Ready (edgesOf (now edges)) (flatSegments (now segments)) × (k < edgesIn (now edges)) × Shorts (now segments) ⌝ }
     ensures { λ _. ⌜ Became (visit (flatSegments (now (segments .entry))) k (members (edgesOf (now (edges .entry))) (flatSegments (now (segments .entry))) k))
         (now (edges .entry)) (now (edges .exit)) ⌝ }
 {

@@ -6,6 +6,7 @@ use mir.Val.{toZ, ofZ}
 use Rattle.signed.proofs.Reading.{back}
 use Rattle.words.specs.Word.{written, joined}
 use Rattle.words.specs.Edge.{edgesIn}
+use Rattle.segments_in.proofs.Wholes.{pos-short}
 use Rattle.building_in.specs.Edges.{listedWords, Room}
 use Rattle.building_in.proofs.Built.{room-there, made-long, made-whole, rings-there, properties-ready, built-in}
 use Rattle.building_in.proofs.build.build_listed.Statement.{statement}
@@ -43,7 +44,8 @@ properties-in-requires c κs =
     let m = c .before .before .before in
     let w = m .before .before .before in
     let s = start (w .before) in
-    (made-whole (s .pre) (wrote w), properties-ready (s .pre) (wrote w) refl (m .mark-in .ensures))
+    let after = m .mark-in .ensures in
+    (made-whole (s .pre) (wrote w), properties-ready (s .pre) (wrote w) refl after, λ i h. pos-short _ i (after .whole) h)
 
 same-length : tie.Need-same-length
 same-length c = c .before .before .before .before .before .mark-in .ensures .long

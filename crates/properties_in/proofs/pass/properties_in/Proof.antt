@@ -18,7 +18,10 @@ loop-holds : tie.Need-loop-holds Inv-loop μ-loop
 loop-holds c = (omega arith, pass-starts _ _ (c .pre .0))
 
 visit-in-requires : tie.Need-visit-in-requires Inv-loop μ-loop
-visit-in-requires c κs = let l = c .before .before in pass-ready _ _ _ (l .loop .inv .1) (l .before .pre .1) (c .before .loop-test .taken)
+visit-in-requires c κs =
+    let l = c .before .before in
+    let p = pass-ready _ _ _ (l .loop .inv .1) (l .before .pre .1) (c .before .loop-test .taken) in
+    (p .0, p .1, p .2, l .before .pre .2)
 
 add-k : tie.Need-add-k Inv-loop μ-loop
 add-k c = let s = c .before .before .before .before .before in let h = c .before .before .before .loop-test .taken in omega (arith, s .pre .0 .few, h)

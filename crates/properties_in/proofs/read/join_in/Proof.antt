@@ -9,18 +9,18 @@ use Rattle.properties_in.proofs.read.join_in.Statement.{statement}
 use Rattle.properties_in.proofs.read.join_in.Tie as tie
 
 segment-in-requires : tie.Need-segment-in-requires
-segment-in-requires c κs = c .pre .inside
+segment-in-requires c κs = (c .pre .0 .inside, c .pre .1 _ (c .pre .0 .inside))
 
 named-in-requires : tie.Need-named-in-requires
 named-in-requires c κs =
     let s = c .before in
-    subst (λ (x : Segment). Below (segmentsIn (s .args .words .now)) (x .serif)) (sym (c .segment-in .ensures)) (s .pre .serif)
+    (subst (λ (x : Segment). Below (segmentsIn (s .args .words .now)) (x .serif)) (sym (c .segment-in .ensures)) (s .pre .0 .serif), s .pre .1)
 
 named-in-requires-2 : tie.Need-named-in-requires-2
 named-in-requires-2 c κs =
     let segment = c .before in
     let s = segment .before in
-    subst (λ (x : Segment). Below (segmentsIn (s .args .words .now)) (x .link)) (sym (segment .segment-in .ensures)) (s .pre .link)
+    (subst (λ (x : Segment). Below (segmentsIn (s .args .words .now)) (x .link)) (sym (segment .segment-in .ensures)) (s .pre .0 .link), s .pre .1)
 
 join-of-requires : tie.Need-join-of-requires
 join-of-requires c κs = search needs

@@ -14,7 +14,9 @@ enum-known-ix c = search needs
 segment-in-requires : tie.Need-segment-in-requires
 segment-in-requires c κs =
     let ix = c .before in
-    ix .before .before .pre .at _ (ix .ix .given .1)
+    let s = ix .before .before in
+    let h = s .pre .0 .at _ (ix .ix .given .1) in
+    (h, s .pre .1 _ h)
 
 returns : tie.Need-returns
 returns c =

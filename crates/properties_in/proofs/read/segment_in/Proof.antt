@@ -5,7 +5,7 @@ use mir.Syntax.{w16, w32}
 use Rattle.axis.specs.declared.kinds.Direction.the-variants as Directions
 use Rattle.axis.specs.declared.kinds.Link.the-variants as Links
 use Rattle.axis.specs.Flags.{normal}
-use Rattle.words.specs.Field.{shortOf, linkOf}
+use Rattle.words.specs.Field.{linkOf}
 use Rattle.words.specs.Segment.{segmentFrom}
 use Rattle.words.proofs.Fields.{kept}
 use borrow.Author.Needs.{needs}
@@ -15,14 +15,20 @@ use Rattle.properties_in.proofs.read.segment_in.Tie as tie
 mul-at : tie.Need-mul-at
 mul-at c = search needs
 
+add-short-in : tie.Need-add-short-in
+add-short-in c = search needs
+
+short-in-requires : tie.Need-short-in-requires
+short-in-requires c κs = search needs
+
 add-word-in : tie.Need-add-word-in
 add-word-in c = search needs
 
 word-in-requires : tie.Need-word-in-requires
 word-in-requires c κs = search needs
 
-short-of-requires : tie.Need-short-of-requires
-short-of-requires c κs = search needs
+link-of-requires : tie.Need-link-of-requires
+link-of-requires c κs = search needs
 
 add-word-in-2 : tie.Need-add-word-in-2
 add-word-in-2 c = search needs
@@ -30,23 +36,14 @@ add-word-in-2 c = search needs
 word-in-requires-2 : tie.Need-word-in-requires-2
 word-in-requires-2 c κs = search needs
 
-link-of-requires : tie.Need-link-of-requires
-link-of-requires c κs = search needs
+link-of-requires-2 : tie.Need-link-of-requires-2
+link-of-requires-2 c κs = search needs
 
 add-word-in-3 : tie.Need-add-word-in-3
 add-word-in-3 c = search needs
 
 word-in-requires-3 : tie.Need-word-in-requires-3
 word-in-requires-3 c κs = search needs
-
-link-of-requires-2 : tie.Need-link-of-requires-2
-link-of-requires-2 c κs = search needs
-
-add-word-in-4 : tie.Need-add-word-in-4
-add-word-in-4 c = search needs
-
-word-in-requires-4 : tie.Need-word-in-requires-4
-word-in-requires-4 c κs = search needs
 
 link-of-requires-3 : tie.Need-link-of-requires-3
 link-of-requires-3 c κs = search needs
@@ -60,22 +57,21 @@ returns c =
     let link = w3 .before in
     let w2 = link .before in
     let place = w2 .before in
-    let w1 = place .before in
     λ n. record {
       flags = normal;
       dir = Directions.None;
-      pos = (kept w16 (place .short-of .result) (place .short-of .ok) ∙ place .short-of .ensures ∙ ap shortOf (kept w32 (w1 .word-in .result) (w1 .word-in .ok) ∙ w1 .word-in .ensures)) n;
+      pos = (kept w16 (place .short-in .result) (place .short-in .ok) ∙ place .short-in .ensures) n;
       delta = pos 0;
       «min_coord» = pos 0;
       «max_coord» = pos 0;
       height = pos 0;
       score = pos 0;
       len = pos 0;
-      link = (link .link-of .ensures ∙ ap linkOf (kept w32 (w2 .word-in2 .result) (w2 .word-in2 .ok) ∙ w2 .word-in2 .ensures)) n;
-      serif = (serif .link-of2 .ensures ∙ ap linkOf (kept w32 (w3 .word-in3 .result) (w3 .word-in3 .ok) ∙ w3 .word-in3 .ensures)) n;
+      link = (link .link-of .ensures ∙ ap linkOf (kept w32 (w2 .word-in .result) (w2 .word-in .ok) ∙ w2 .word-in .ensures)) n;
+      serif = (serif .link-of2 .ensures ∙ ap linkOf (kept w32 (w3 .word-in2 .result) (w3 .word-in2 .ok) ∙ w3 .word-in2 .ensures)) n;
       first = 0;
       last = 0;
-      edge = (c .link-of3 .ensures ∙ ap linkOf (kept w32 (e .word-in4 .result) (e .word-in4 .ok) ∙ e .word-in4 .ensures)) n;
+      edge = (c .link-of3 .ensures ∙ ap linkOf (kept w32 (e .word-in3 .result) (e .word-in3 .ok) ∙ e .word-in3 .ensures)) n;
       next = Links.None;
     }
 
@@ -84,16 +80,15 @@ segment-in-spec =
     tie.close
     (tie.spec
     mul-at
+    add-short-in
+    short-in-requires
     add-word-in
     word-in-requires
-    short-of-requires
+    link-of-requires
     add-word-in-2
     word-in-requires-2
-    link-of-requires
+    link-of-requires-2
     add-word-in-3
     word-in-requires-3
-    link-of-requires-2
-    add-word-in-4
-    word-in-requires-4
     link-of-requires-3
     returns)

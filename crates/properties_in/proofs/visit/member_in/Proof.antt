@@ -10,7 +10,7 @@ use Rattle.properties_in.proofs.visit.member_in.Statement.{statement}
 use Rattle.properties_in.proofs.visit.member_in.Tie as tie
 
 join-in-requires : tie.Need-join-in-requires
-join-in-requires c κs = named-in (c .args .segments .now) (c .args .edges .now) (c .args .k) (c .pre .0) (c .pre .1) (c .pre .2) (c .args .ix) (c .pre .3)
+join-in-requires c κs = (named-in (c .args .segments .now) (c .args .edges .now) (c .args .k) (c .pre .0) (c .pre .1) (c .pre .2) (c .args .ix) (c .pre .3), c .pre .4)
 
 enum-known-edge : tie.Need-enum-known-edge
 enum-known-edge c = search needs

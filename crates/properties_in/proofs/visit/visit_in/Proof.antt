@@ -75,7 +75,10 @@ loop-holds c =
     (last .index-of .ensures ∙ ap indexOf (kept w32 (l .result) (l .ok) ∙ l .ensures))
 
 member-in-requires : tie.Need-member-in-requires Inv-loop μ-loop
-member-in-requires c κs = let g = c .before .loop .inv in (g .whole, g .ready, g .edge, going-inside g)
+member-in-requires c κs =
+    let l = c .before in
+    let g = l .loop .inv in
+    (g .whole, g .ready, g .edge, going-inside g, l .before .before .before .before .before .before .before .pre .3)
 
 round-in-requires : tie.Need-round-in-requires Inv-loop μ-loop
 round-in-requires c κs = going-inside (c .before .before .before .loop .inv)
