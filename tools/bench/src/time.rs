@@ -2,7 +2,7 @@
 
 use std::time::{Duration, Instant};
 
-/// Rounds of each measurement.
+/// Rounds of each measurement, unless `KHS_ROUNDS` says otherwise.
 const ROUNDS: usize = 1_001;
 
 /// One of those that are timed against each other.
@@ -26,12 +26,20 @@ impl<S: Side> Side for Vec<S> {
 /// The median times of some sides in nanoseconds, taken turn by turn.
 pub fn medians<const N: usize>(mut sides: [&mut dyn Side; N]) -> [f64; N] {
     let mut times = [const { Vec::new() }; N];
-    for _ in 0..ROUNDS {
+    for _ in 0..rounds() {
         for (times, side) in times.iter_mut().zip(&mut sides) {
             times.push(timed(*side));
         }
     }
     times.map(median)
+}
+
+/// How many rounds a median is of.
+fn rounds() -> usize {
+    let asked = std::env::var("KHS_ROUNDS").ok();
+    asked.map_or(ROUNDS, |rounds| {
+        rounds.parse().expect("KHS_ROUNDS is a number")
+    })
 }
 
 /// How long a side's work takes once.
