@@ -94,12 +94,22 @@ static int is_cubic(const FT_Outline *outline) {
     return 0;
 }
 
-/* A glyph at a size: what it leaves out, as it has no outline or both axes were not asked for, is no glyph of the label. */
+/* A character in UTF-8. */
+static void put_character(FT_ULong c) {
+    if (c < 0x80) putchar((int)c);
+    else if (c < 0x800) printf("%c%c", (int)(0xC0 | c >> 6), (int)(0x80 | (c & 0x3F)));
+    else if (c < 0x10000) printf("%c%c%c", (int)(0xE0 | c >> 12), (int)(0x80 | (c >> 6 & 0x3F)), (int)(0x80 | (c & 0x3F)));
+    else printf("%c%c%c%c", (int)(0xF0 | c >> 18), (int)(0x80 | (c >> 12 & 0x3F)), (int)(0x80 | (c >> 6 & 0x3F)), (int)(0x80 | (c & 0x3F)));
+}
+
+/* A glyph at a size. One that has no outline, or an axis that was left to FreeType, is no glyph of the label. */
 static void put_glyph(struct build *build, const struct asked *asked, struct glyph glyph, int size, int rule) {
     memset(build->jobs, 0, 2 * sizeof *build->jobs);
     if (build->load(build->face, glyph.index, hinted(asked)) || !build->face->glyph->outline.n_points) return;
     if (!build->jobs[0][AF_KHS_FITTED].count || !build->jobs[1][AF_KHS_FITTED].count) return;
-    printf("\n# U+%04lX, at %d pixels to the em\n", glyph.character, size);
+    printf("\n# U+%04lX ", glyph.character);
+    put_character(glyph.character);
+    printf(", at %d pixels to the em\n", size);
     put_axis(build, 1, rule);
     put_axis(build, 0, rule);
     put_path(&build->face->glyph->outline);

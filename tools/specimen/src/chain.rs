@@ -7,8 +7,8 @@ use crate::{
 use khsaemudol::{
     align_blues_and_stems, align_edge_points, align_remaining_edges, align_strong_points,
     align_weak_points, compute_edges, hint_lowercase_m, link_segments_cjk, lost_gaps, path,
-    BluesAndStems, Building, Dimension, Edge, LostGaps, Mark, Moving, Outline, PathStep, Refusal,
-    Segment, Stems, MOST_EDGES,
+    BluesAndStems, Building, Dimension, Edge, Flags, LostGaps, Mark, Moving, Outline, PathStep,
+    Refusal, Segment, Stems, MOST_EDGES,
 };
 use std::ops::RangeInclusive;
 
@@ -204,11 +204,16 @@ fn fit_axis(axis: &Axis) -> Result<FittedAxis, Refused> {
     })
 }
 
-/// Gives the edges at the positions of zones their zones.
+/// Gives edges their zones.
 fn give_zones(axis: &Axis, edges: &mut [Edge]) {
     for edge in edges {
-        let zone = axis.zones.iter().find(|zone| zone.position == edge.fpos());
-        edge.set_blue(zone.map(|zone| zone.fitted));
+        let Some(zone) = axis.zones.iter().find(|zone| zone.has(edge)) else {
+            continue;
+        };
+        edge.set_blue(Some(zone.fitted));
+        if zone.is_neutral {
+            edge.set_flags(edge.flags() | Flags::NEUTRAL);
+        }
     }
 }
 

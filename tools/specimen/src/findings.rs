@@ -126,7 +126,7 @@ fn found(fitted: &Fitted, outline: &Shape, fine: &Shape, coarse: &Shape) -> Vec<
 
 /// A bitmap and its parts.
 pub struct Shape {
-    bitmap: Bitmap,
+    pub bitmap: Bitmap,
     parts: Parts,
 }
 

@@ -2,7 +2,7 @@
 
 use crate::text;
 use khsaemudol::{
-    Building, Dimension, Direction, Edge, Group, Order, Segment, WidthRule, EDGE_WORDS,
+    Building, Dimension, Direction, Edge, Flags, Group, Order, Segment, WidthRule, EDGE_WORDS,
     SEGMENT_WORDS,
 };
 
@@ -41,11 +41,20 @@ pub struct Axis {
     pub ends: Vec<u16>,
 }
 
-/// A blue zone: the design position of its edges, and where that comes to, in units.
-#[derive(Clone, Copy, Debug, PartialEq)]
+/// A blue zone: the design position of its edges, their direction where only those of one have it, where that comes to, in units, and whether it is neutral.
+#[derive(Clone, Copy, Debug, Default, PartialEq)]
 pub struct Zone {
     pub position: i16,
+    pub direction: Direction,
     pub fitted: i32,
+    pub is_neutral: bool,
+}
+
+impl Zone {
+    /// Whether an edge is in this zone.
+    pub fn has(&self, edge: &Edge) -> bool {
+        self.position == edge.fpos() && [Direction::None, edge.dir()].contains(&self.direction)
+    }
 }
 
 impl Axis {
@@ -325,7 +334,9 @@ impl Words {
         let zone = |edge: &Edge| {
             Some(Zone {
                 position: edge.fpos(),
+                direction: edge.dir(),
                 fitted: edge.blue()?,
+                is_neutral: edge.flags().contains(Flags::NEUTRAL),
             })
         };
         let zones = edges.iter().filter_map(zone).collect();

@@ -9,6 +9,12 @@
   let dragged = null;
   let held = null;
 
+  // Makes a drawing of the text that stands for it.
+  const make = figure => {
+    const later = figure.querySelector(".later");
+    if (later) later.outerHTML = later.firstChild.textContent;
+  };
+
   // Shows the outlines before or after.
   const show = view => {
     putBack();
@@ -46,6 +52,7 @@
 
   // Goes on to the next edge or point of a glyph, or back.
   const step = (figure, by) => {
+    make(figure);
     const marks = [...figure.querySelectorAll("[data-n]")].filter(mark => mark.getBoundingClientRect().width + mark.getBoundingClientRect().height > 0);
     if (marks.length === 0) return;
     const at = marks.indexOf(pointed);
@@ -192,6 +199,16 @@
     else return;
     event.preventDefault();
   });
+  // Drawings are made when they come near the view, and all of them to be printed.
+  const near = new IntersectionObserver(entries => {
+    for (const {target} of entries.filter(entry => entry.isIntersecting)) {
+      make(target);
+      near.unobserve(target);
+    }
+  }, {rootMargin: "50%"});
+  const figures = document.querySelectorAll("figure");
+  figures.forEach(figure => near.observe(figure));
+  addEventListener("beforeprint", () => figures.forEach(make));
   // A page that is shown again may keep what was ticked.
   for (const input of document.querySelectorAll("input:checked[name=view]")) show(input.value);
   for (const input of document.getElementsByName("layer")) body.classList.toggle("no-" + input.value, !input.checked);

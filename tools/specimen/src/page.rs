@@ -5,7 +5,7 @@ use crate::{
     findings::{Finding, Judged, TIMES},
     report::{guard, joined, numbered, refusals, summary, unplaced},
     specimen::{Cell, Outcome, Row, Specimen},
-    svg::{drawing, escaped, pixels_id, Frame, View},
+    svg::{drawing, escaped, pixels, pixels_id, Frame, View},
     symbols::{symbol_id, symbols},
 };
 use khsaemudol::{Mark, Refusal};
@@ -16,7 +16,7 @@ const OVERVIEW: i32 = 3;
 /// How to use the page.
 const NOTE: &str = "Point at an edge or a point for its numbers, or go through those of a drawing by the arrow keys; keys b and a switch to before and after. \
     Drag a touched point of a fitted drawing, or move the one that is pointed at by Shift and an arrow key, to see what follows; Escape puts it back. The only touched point of a contour that is set on its original moves nothing. \
-    Below a drawing stand the pieces and holes of its pixels, and the edges and points that nothing placed.";
+    Below a drawing stand the pieces and holes of its pixels, what the guard says, and the edges and points that nothing placed.";
 
 /// The whole page of a label that has this name.
 pub fn html(specimen: &Specimen, name: &str) -> String {
@@ -26,7 +26,7 @@ pub fn html(specimen: &Specimen, name: &str) -> String {
     let glyphs: String = rows.map(|(number, row)| glyph(number, row)).collect();
     format!(
         r#"{head}<body class="after">
-<svg width="0" height="0" aria-hidden="true" class="symbols"><defs>{}</defs></svg>
+<svg width="0" height="0" aria-hidden="true" class="symbols"><defs>{}{}</defs></svg>
 <header>
 <h1>Specimen of {}</h1>
 {}
@@ -47,6 +47,7 @@ pub fn html(specimen: &Specimen, name: &str) -> String {
 </html>
 "#,
         symbols(),
+        all_pixels(specimen),
         escaped(name),
         controls(),
         legend(),
@@ -54,6 +55,13 @@ pub fn html(specimen: &Specimen, name: &str) -> String {
         found(specimen),
         overview(specimen),
     )
+}
+
+/// The pixels of all glyphs at all sizes.
+fn all_pixels(specimen: &Specimen) -> String {
+    let rows = specimen.rows.iter().enumerate();
+    rows.flat_map(|(number, row)| row.cells.iter().map(move |cell| pixels(number, cell)))
+        .collect()
 }
 
 /// All in front of the page's body.
@@ -236,25 +244,32 @@ fn refusal(refusal: Refusal) -> String {
     format!(r#"<strong class="refusal">{number}, {refusal:?}</strong>: {reason}"#)
 }
 
-/// All glyphs in a row, for each size.
+/// All glyphs in a row for each size, unfitted and below that fitted.
 fn overview(specimen: &Specimen) -> String {
-    let line = |size: &i32| {
+    let line = |size: &i32, view: View| {
         let glyphs: String = specimen
             .rows
             .iter()
             .enumerate()
-            .map(|(number, row)| small(number, row, *size))
+            .map(|(number, row)| small(number, row, *size, view))
             .collect();
-        format!(r#"<div class="line"><span class="size">{size}</span>{glyphs}</div>"#)
+        let (name, size) = match view {
+            View::Before => ("unfitted", size.to_string()),
+            View::After => ("fitted", String::new()),
+        };
+        format!(
+            r#"<div class="line"><span class="size">{size}</span><span class="view">{name}</span>{glyphs}</div>"#
+        )
     };
-    let lines: String = specimen.sizes.iter().map(line).collect();
+    let both = |size| View::BOTH.map(|view| line(size, view)).concat();
+    let lines: String = specimen.sizes.iter().map(both).collect();
     format!(
         r#"<section class="overview" aria-label="Everything at once, {OVERVIEW} times its size">{lines}</section>"#
     )
 }
 
 /// A glyph's pixels at a size, in the overview.
-fn small(number: usize, row: &Row, size: i32) -> String {
+fn small(number: usize, row: &Row, size: i32, view: View) -> String {
     let Some(cell) = row.cells.iter().find(|cell| cell.size == size) else {
         return String::new();
     };
@@ -269,22 +284,14 @@ fn small(number: usize, row: &Row, size: i32) -> String {
     // a line of an em and a quarter, with the baseline at its place in all
     let (down, up) = ((size + 2) / 4, size);
     let (width, height) = (right - left, up + down);
-    let uses: String = View::BOTH
-        .map(|view| {
-            format!(
-                r##"<g class="px {}"><use href="#{}"/></g>"##,
-                view.class(),
-                pixels_id(number, size, view)
-            )
-        })
-        .concat();
-    let class = if cell.findings().is_empty() {
+    let pixels = pixels_id(number, size, view);
+    let class = if view == View::Before || cell.findings().is_empty() {
         ""
     } else {
         r#" class="found""#
     };
     format!(
-        r##"<a{class} href="#{id}" aria-label="{label}"><svg width="{}" height="{}" viewBox="{left} -{up} {width} {height}" aria-hidden="true"><g transform="scale(1 -1)">{uses}</g></svg></a>"##,
+        r##"<a{class} href="#{id}" aria-label="{label}"><svg width="{}" height="{}" viewBox="{left} -{up} {width} {height}" aria-hidden="true"><use href="#{pixels}" transform="scale(1 -1)"/></svg></a>"##,
         width * OVERVIEW,
         height * OVERVIEW
     )
@@ -309,7 +316,7 @@ fn glyph(number: usize, row: &Row) -> String {
     ) + "\n"
 }
 
-/// A glyph at a size.
+/// A glyph at a size. Its drawing is kept as text: the page makes it when it comes into view.
 fn figure(number: usize, row: &Row, cell: &Cell, frame: Frame) -> String {
     let caption = match &cell.outcome {
         Outcome::Fitted(fitted) => caption(cell, &fitted.0, &fitted.1),
@@ -318,14 +325,16 @@ fn figure(number: usize, row: &Row, cell: &Cell, frame: Frame) -> String {
         }
     };
     format!(
-        r#"<figure id="{}" tabindex="0">{}<figcaption><b>{}</b>{caption}</figcaption></figure>"#,
+        r#"<figure id="{}" tabindex="0"><div class="later" style="width:{}px;height:{}px"><script type="text/plain">{}</script></div><figcaption><b>{}</b>{caption}</figcaption></figure>"#,
         cell_id(number, cell),
+        frame.width(),
+        frame.height(),
         drawing(number, row, cell, frame),
         cell.size
     )
 }
 
-/// Pieces and holes, what was found, and what nothing placed.
+/// Pieces and holes, what was found, what the guard says, and what nothing placed.
 fn caption(cell: &Cell, fitted: &Fitted, judged: &Judged) -> String {
     let mut caption = format!(
         r#"<span class="b">{}</span><span class="a">{}</span>"#,
@@ -335,6 +344,9 @@ fn caption(cell: &Cell, fitted: &Fitted, judged: &Judged) -> String {
         let (class, what) = (finding_class(finding), &finding.what);
         caption += &format!(r#"<p class="{class}">{what}</p>"#);
     }
+    let lost = guard(fitted);
+    let lost = lost.as_deref().unwrap_or("nothing");
+    caption += &format!(r#"<p class="guard">guard: {lost}</p>"#);
     for axis in [&fitted.heights, &fitted.widths] {
         if let Some(text) = nothing_placed(axis) {
             caption += &format!(

@@ -104,16 +104,19 @@ mod tests {
         let zone = Zone {
             position: 712,
             fitted: 8 * PIXEL,
+            ..Zone::default()
         };
         assert_eq!(reference(zone, scale_of(12, 1_000)), Ok(707));
         let flat = Zone {
             position: 700,
             fitted: 8 * PIXEL,
+            ..Zone::default()
         };
         assert_eq!(reference(flat, scale_of(12, 1_000)), Ok(700));
         let lost = Zone {
             position: 700,
             fitted: 8 * PIXEL + 1,
+            ..Zone::default()
         };
         assert!(reference(lost, scale_of(12, 1_000)).is_err());
     }

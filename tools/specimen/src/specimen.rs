@@ -4,10 +4,11 @@ use crate::{
     chain::{self, Fitted, Refused},
     findings::{judge, Finding, Judged},
     label::Glyph,
+    progress::Progress,
     size::{at_scale, scale_of},
 };
 use khsaemudol::PathStep;
-use std::time::{Duration, Instant};
+use std::collections::BTreeSet;
 
 /// The glyphs of a label at all sizes.
 pub struct Specimen {
@@ -39,23 +40,35 @@ pub enum Outcome {
     Refused(Refused, Option<Vec<PathStep>>),
 }
 
-/// How long nothing is said.
-const PATIENCE: Duration = Duration::from_secs(1);
-
 impl Specimen {
-    /// Fits and judges all glyphs, telling on standard error how far it is where that takes longer than a second.
+    /// Fits and judges all glyphs at these sizes.
     pub fn of(glyphs: &[Glyph], sizes: &[i32], units_per_em: i32) -> Result<Self, String> {
-        let mut told = Instant::now();
+        let mut progress = Progress::of(glyphs.len());
         let mut rows = Vec::new();
-        for (number, glyph) in glyphs.iter().enumerate() {
-            if told.elapsed() > PATIENCE {
-                eprintln!("specimen: {number} of {} glyphs are fitted", glyphs.len());
-                told = Instant::now();
-            }
+        for glyph in glyphs {
             rows.push(Row::of(glyph, sizes, units_per_em)?);
+            progress.step();
         }
         Ok(Self {
             sizes: sizes.to_vec(),
+            rows,
+        })
+    }
+
+    /// Fits and judges all glyphs as they are drawn, each at the size that its title tells: those of one name in a row are one glyph.
+    pub fn drawn(glyphs: &[Glyph]) -> Result<Self, String> {
+        let mut progress = Progress::of(glyphs.len());
+        let mut rows = Vec::new();
+        for drawn in glyphs.chunk_by(same_name) {
+            rows.push(Row::drawn(drawn)?);
+            drawn.iter().for_each(|_| progress.step());
+        }
+        let sizes: BTreeSet<i32> = rows
+            .iter()
+            .flat_map(|row| row.cells.iter().map(|cell| cell.size))
+            .collect();
+        Ok(Self {
+            sizes: sizes.into_iter().collect(),
             rows,
         })
     }
@@ -99,6 +112,26 @@ impl Row {
     }
 }
 
+impl Row {
+    /// A glyph that is drawn at each of its sizes.
+    fn drawn(drawn: &[Glyph]) -> Result<Self, String> {
+        let cell = |glyph: &Glyph| {
+            let size = size_of(&glyph.title);
+            Ok(Cell {
+                size: size.ok_or_else(|| format!("{}: the title tells no size", glyph.title))?,
+                outcome: outcome(glyph),
+            })
+        };
+        let first = &drawn[0];
+        Ok(Self {
+            name: name_of(&first.title).into(),
+            on_curve: first.on_curve.clone(),
+            ends: first.ends.clone(),
+            cells: drawn.iter().map(cell).collect::<Result<_, String>>()?,
+        })
+    }
+}
+
 impl Cell {
     /// What was found of it.
     pub fn findings(&self) -> &[Finding] {
@@ -128,10 +161,24 @@ fn outcome(glyph: &Glyph) -> Outcome {
     }
 }
 
+/// Whether two glyphs have one name.
+pub fn same_name(first: &Glyph, second: &Glyph) -> bool {
+    name_of(&first.title) == name_of(&second.title)
+}
+
 /// A title without the size that it has in the file.
-fn name_of(title: &str) -> &str {
-    let size = title
+pub fn name_of(title: &str) -> &str {
+    parts_of(title).map_or(title, |(name, _)| name)
+}
+
+/// The size that a title tells, in pixels to the em.
+pub fn size_of(title: &str) -> Option<i32> {
+    parts_of(title)?.1.parse().ok()
+}
+
+/// The name and the size of a title that has both.
+fn parts_of(title: &str) -> Option<(&str, &str)> {
+    title
+        .strip_suffix(" pixels to the em")?
         .rsplit_once(", at ")
-        .filter(|(_, size)| size.ends_with(" pixels to the em"));
-    size.map_or(title, |(name, _)| name)
 }

@@ -83,6 +83,21 @@ impl Frame {
         }
         frame
     }
+
+    /// The width of the drawings.
+    pub fn width(self) -> f64 {
+        tenths(self.right - self.left)
+    }
+
+    /// Their height.
+    pub fn height(self) -> f64 {
+        tenths(self.top - self.bottom)
+    }
+}
+
+/// A length in ems as the drawing has it, to a tenth.
+fn tenths(ems: f64) -> f64 {
+    (ems * EM * 10.0).round() / 10.0
 }
 
 /// What is filled of a cell.
@@ -91,6 +106,19 @@ fn bitmaps(cell: &Cell) -> Vec<Bitmap> {
         Outcome::Fitted(fitted) => vec![fitted.1.before.clone(), fitted.1.after.clone()],
         Outcome::Refused(_, outline) => outline.iter().map(|path| fill(path, 1)).collect(),
     }
+}
+
+/// The pixels of a cell, of the row of this number, in both views, for drawings to show.
+pub fn pixels(number: usize, cell: &Cell) -> String {
+    let Outcome::Fitted(fitted) = &cell.outcome else {
+        return String::new();
+    };
+    let bitmaps = [&fitted.1.before, &fitted.1.after];
+    let path = |(view, bitmap): (View, &Bitmap)| {
+        let id = pixels_id(number, cell.size, view);
+        format!(r#"<path id="{id}" d="{}"/>"#, runs(bitmap))
+    };
+    View::BOTH.into_iter().zip(bitmaps).map(path).collect()
 }
 
 /// A drawing of a glyph at a size.
@@ -122,37 +150,24 @@ impl Drawing {
 
     /// Where an x in units is in the drawing.
     fn x(&self, units: i32) -> f64 {
-        self.at(f64::from(units) / f64::from(PIXEL) / self.size - self.frame.left)
+        tenths(f64::from(units) / f64::from(PIXEL) / self.size - self.frame.left)
     }
 
     /// Where a height in units is.
     fn y(&self, units: i32) -> f64 {
-        self.at(self.frame.top - f64::from(units) / f64::from(PIXEL) / self.size)
-    }
-
-    /// A length in ems, to a tenth.
-    fn at(&self, ems: f64) -> f64 {
-        (ems * EM * 10.0).round() / 10.0
-    }
-
-    fn width(&self) -> f64 {
-        self.at(self.frame.right - self.frame.left)
-    }
-
-    fn height(&self) -> f64 {
-        self.at(self.frame.top - self.frame.bottom)
+        tenths(self.frame.top - f64::from(units) / f64::from(PIXEL) / self.size)
     }
 
     fn open(&mut self, label: &str) {
-        let (width, height) = (self.width(), self.height());
+        let (width, height) = (self.frame.width(), self.frame.height());
         self.put(format_args!(r#"<svg width="{width}" height="{height}" viewBox="0 0 {width} {height}" role="img" aria-label="{}">"#, escaped(label)));
     }
 
     /// Opens a group in which a pixel has length 1 and heights go up.
     fn in_pixels(&mut self) {
         let (x, y, pixel) = (
-            self.at(-self.frame.left),
-            self.at(self.frame.top),
+            tenths(-self.frame.left),
+            tenths(self.frame.top),
             EM / self.size,
         );
         self.put(format_args!(
@@ -191,15 +206,6 @@ impl Drawing {
 
     /// A fitted glyph.
     fn fitted(&mut self, number: usize, row: &Row, size: i32, fitted: &Fitted, judged: &Judged) {
-        self.put(format_args!("<defs>"));
-        for (view, bitmap) in View::BOTH.into_iter().zip([&judged.before, &judged.after]) {
-            self.put(format_args!(
-                r#"<path id="{}" d="{}"/>"#,
-                pixels_id(number, size, view),
-                runs(bitmap)
-            ));
-        }
-        self.put(format_args!("</defs>"));
         self.in_pixels();
         for view in View::BOTH {
             self.put(format_args!(
@@ -317,8 +323,8 @@ impl Drawing {
             edge.pos()
         };
         match axis.dimension {
-            Dimension::Horizontal => format!("M{} 0V{}", self.x(position), self.height()),
-            Dimension::Vertical => format!("M0 {}H{}", self.y(position), self.width()),
+            Dimension::Horizontal => format!("M{} 0V{}", self.x(position), self.frame.height()),
+            Dimension::Vertical => format!("M0 {}H{}", self.y(position), self.frame.width()),
         }
     }
 
