@@ -79,9 +79,13 @@ static void put_axis(struct build *build, int dim, int rule) {
     free(of);
 }
 
-/* The path's job: no coordinates, on-curve marks and contour ends. */
+/* The path's job, of the outline as FreeType hands it out: its points, on-curve marks and contour ends. */
 static void put_path(const FT_Outline *outline) {
-    word(15), word(0), word(0), word(outline->n_points);
+    word(15), word(outline->n_points);
+    for (int i = 0; i < outline->n_points; i++) word((int32_t)outline->points[i].x);
+    word(outline->n_points);
+    for (int i = 0; i < outline->n_points; i++) word((int32_t)outline->points[i].y);
+    word(outline->n_points);
     for (int i = 0; i < outline->n_points; i++) word(outline->tags[i] & 1);
     word(outline->n_contours);
     for (int i = 0; i < outline->n_contours; i++) word(outline->contours[i]);
@@ -94,8 +98,9 @@ static int is_cubic(const FT_Outline *outline) {
     return 0;
 }
 
-/* A character in UTF-8. */
+/* A character in UTF-8, unless it is a control. */
 static void put_character(FT_ULong c) {
+    if (c < 0x20 || (c >= 0x7F && c < 0xA0)) return;
     if (c < 0x80) putchar((int)c);
     else if (c < 0x800) printf("%c%c", (int)(0xC0 | c >> 6), (int)(0x80 | (c & 0x3F)));
     else if (c < 0x10000) printf("%c%c%c", (int)(0xE0 | c >> 12), (int)(0x80 | (c >> 6 & 0x3F)), (int)(0x80 | (c & 0x3F)));

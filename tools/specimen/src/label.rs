@@ -14,6 +14,8 @@ pub struct Glyph {
     pub widths: Axis,
     pub on_curve: Vec<u8>,
     pub ends: Vec<u16>,
+    /// The fitted points, x and y, where the file has them: those of another hinter, for this one to be held to.
+    pub held_to: [Vec<i32>; 2],
 }
 
 /// What the chain is given of an axis.
@@ -148,7 +150,7 @@ impl<'a> Lines<'a> {
     /// The jobs of a glyph.
     fn glyph(&mut self, title: String) -> Result<Glyph, String> {
         let axes = [self.axis()?, self.axis()?];
-        let (on_curve, ends) = self.path()?;
+        let (held_to, on_curve, ends) = self.path()?;
         let [first, second] = axes;
         let (heights, widths) = match first.building.dimension {
             Dimension::Vertical => (first, second),
@@ -168,6 +170,7 @@ impl<'a> Lines<'a> {
             widths,
             on_curve,
             ends,
+            held_to,
         })
     }
 
@@ -212,8 +215,8 @@ impl<'a> Lines<'a> {
         })
     }
 
-    /// The job of the path: on-curve marks and contour ends.
-    fn path(&mut self) -> Result<(Vec<u8>, Vec<u16>), String> {
+    /// The job of the path: coordinates, if it has them, on-curve marks and contour ends.
+    fn path(&mut self) -> Result<Walk, String> {
         let job = self.job(PATH, "the path")?;
         self.read_by(job, Words::path)
     }
@@ -229,6 +232,9 @@ impl<'a> Lines<'a> {
             .ok_or_else(|| self.wrong("the words are not those of such a job"))
     }
 }
+
+/// What the path is told: x and y of points, on-curve marks and contour ends.
+type Walk = ([Vec<i32>; 2], Vec<u8>, Vec<u16>);
 
 /// The points of an axis: originals, segments and contour ends.
 type Points = (Vec<i32>, Vec<Option<usize>>, Vec<u16>);
@@ -386,12 +392,11 @@ impl Words {
         known.then_some((originals, segment_of, ends))
     }
 
-    /// The path: no coordinates, on-curve marks and contour ends.
-    fn path(&mut self) -> Option<(Vec<u8>, Vec<u16>)> {
-        self.numbers::<i32>()?;
-        self.numbers::<i32>()?;
+    /// The path: coordinates or none, on-curve marks and contour ends.
+    fn path(&mut self) -> Option<Walk> {
+        let places = [self.numbers()?, self.numbers()?];
         let marks: Vec<i32> = self.numbers()?;
         let on_curve = marks.iter().map(|mark| u8::from(*mark != 0)).collect();
-        Some((on_curve, self.numbers()?))
+        Some((places, on_curve, self.numbers()?))
     }
 }

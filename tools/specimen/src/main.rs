@@ -9,6 +9,7 @@ mod guards_text;
 mod label;
 mod list;
 mod numbers;
+mod packed;
 mod page;
 mod pieces;
 mod place;

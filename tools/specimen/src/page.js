@@ -12,7 +12,7 @@
   // Makes a drawing of the text that stands for it.
   const make = figure => {
     const later = figure.querySelector(".later");
-    if (later) later.outerHTML = later.firstChild.textContent;
+    if (later) later.outerHTML = later.firstChild.textContent.replace(/~(.)/g, (_, letter) => PHRASES[letter]);
   };
 
   // Shows the outlines before or after.

@@ -3,6 +3,7 @@
 use crate::{
     chain::{name, Fitted, FittedAxis, Placing},
     findings::{Finding, Judged, TIMES},
+    packed,
     report::{guard, joined, numbered, refusals, summary, unplaced},
     specimen::{Cell, Outcome, Row, Specimen},
     svg::{drawing, escaped, pixels, pixels_id, Frame, View},
@@ -12,6 +13,9 @@ use khsaemudol::{Mark, Refusal};
 
 /// How many times their size the pixels of the overview are drawn.
 const OVERVIEW: i32 = 3;
+
+/// The most drawings of a page whose points can be dragged: what is asked of the library for that makes a page much larger.
+const MOST_DRAGGED: usize = 400;
 
 /// How to use the page.
 const NOTE: &str = "Point at an edge or a point for its numbers, or go through those of a drawing by the arrow keys; keys b and a switch to before and after. \
@@ -23,7 +27,10 @@ pub fn html(specimen: &Specimen, name: &str) -> String {
     let head = head(name);
     let script = include_str!("page.js");
     let rows = specimen.rows.iter().enumerate();
-    let glyphs: String = rows.map(|(number, row)| glyph(number, row)).collect();
+    let drags = specimen.cells().count() <= MOST_DRAGGED;
+    let glyphs: String = rows
+        .map(|(number, row)| glyph(number, row, drags))
+        .collect();
     format!(
         r#"{head}<body class="after">
 <svg width="0" height="0" aria-hidden="true" class="symbols"><defs>{}{}</defs></svg>
@@ -42,7 +49,7 @@ pub fn html(specimen: &Specimen, name: &str) -> String {
 </main>
 <div id="numbers" role="status" hidden></div>
 <script>
-{script}</script>
+{}{script}</script>
 </body>
 </html>
 "#,
@@ -54,6 +61,7 @@ pub fn html(specimen: &Specimen, name: &str) -> String {
         summary(specimen),
         found(specimen),
         overview(specimen),
+        packed::script(),
     )
 }
 
@@ -302,13 +310,13 @@ fn cell_id(number: usize, cell: &Cell) -> String {
     format!("g{number}-{}", cell.size)
 }
 
-/// A glyph at all sizes.
-fn glyph(number: usize, row: &Row) -> String {
+/// A glyph at all sizes, whose points can be dragged or not.
+fn glyph(number: usize, row: &Row, drags: bool) -> String {
     let frame = Frame::of(row);
     let cells: String = row
         .cells
         .iter()
-        .map(|cell| figure(number, row, cell, frame))
+        .map(|cell| figure(number, row, cell, frame, drags))
         .collect();
     format!(
         r#"<section class="glyph"><h2>{}</h2><div class="cells">{cells}</div></section>"#,
@@ -316,8 +324,8 @@ fn glyph(number: usize, row: &Row) -> String {
     ) + "\n"
 }
 
-/// A glyph at a size. Its drawing is kept as text: the page makes it when it comes into view.
-fn figure(number: usize, row: &Row, cell: &Cell, frame: Frame) -> String {
+/// A glyph at a size. Its drawing is kept as short text: the page makes it when it comes into view.
+fn figure(number: usize, row: &Row, cell: &Cell, frame: Frame, drags: bool) -> String {
     let caption = match &cell.outcome {
         Outcome::Fitted(fitted) => caption(cell, &fitted.0, &fitted.1),
         Outcome::Refused(refused, _) => {
@@ -329,7 +337,7 @@ fn figure(number: usize, row: &Row, cell: &Cell, frame: Frame) -> String {
         cell_id(number, cell),
         frame.width(),
         frame.height(),
-        drawing(number, row, cell, frame),
+        packed::packed(&drawing(number, row, cell, frame, drags)),
         cell.size
     )
 }

@@ -5,7 +5,7 @@ use crate::{
     findings::{judge, Finding, Judged},
     label::Glyph,
     progress::Progress,
-    size::{at_scale, scale_of},
+    size::{at_scale, scale_of, PIXEL},
 };
 use khsaemudol::PathStep;
 use std::collections::BTreeSet;
@@ -117,10 +117,17 @@ impl Row {
     fn drawn(drawn: &[Glyph]) -> Result<Self, String> {
         let cell = |glyph: &Glyph| {
             let size = size_of(&glyph.title);
-            Ok(Cell {
+            let cell = Cell {
                 size: size.ok_or_else(|| format!("{}: the title tells no size", glyph.title))?,
                 outcome: outcome(glyph),
-            })
+            };
+            match cell.holds(glyph) {
+                true => Ok(cell),
+                false => Err(format!(
+                    "{}: the points of the file are others",
+                    glyph.title
+                )),
+            }
         };
         let first = &drawn[0];
         Ok(Self {
@@ -139,6 +146,22 @@ impl Cell {
             Outcome::Fitted(fitted) => &fitted.1.findings,
             Outcome::Refused(..) => &[],
         }
+    }
+
+    /// Whether it is fitted as the file has it, but for a shift to the side by whole pixels.
+    fn holds(&self, glyph: &Glyph) -> bool {
+        let [xs, ys] = &glyph.held_to;
+        let Outcome::Fitted(fitted) = &self.outcome else {
+            return true;
+        };
+        let (widths, heights) = (&fitted.0.widths.after, &fitted.0.heights.after);
+        let shifts = || xs.iter().zip(widths).map(|(x, fitted)| x - fitted);
+        let shift = shifts().next().unwrap_or(0);
+        xs.is_empty()
+            || ys == heights
+                && xs.len() == widths.len()
+                && shift % PIXEL == 0
+                && shifts().all(|other| other == shift)
     }
 
     /// Why it was refused, if it was.

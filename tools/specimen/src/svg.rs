@@ -125,14 +125,17 @@ pub fn pixels(number: usize, cell: &Cell) -> String {
 struct Drawing {
     frame: Frame,
     size: f64,
+    /// Whether its points can be dragged.
+    drags: bool,
     text: String,
 }
 
 /// The drawing of a cell, of the row of this number.
-pub fn drawing(number: usize, row: &Row, cell: &Cell, frame: Frame) -> String {
+pub fn drawing(number: usize, row: &Row, cell: &Cell, frame: Frame, drags: bool) -> String {
     let mut drawing = Drawing {
         frame,
         size: cell.size.into(),
+        drags,
         text: String::new(),
     };
     drawing.open(&format!("{} at {} pixels to the em", row.name, cell.size));
@@ -340,7 +343,11 @@ impl Drawing {
             point_numbers(row, fitted, point)
         ));
         for (letter, axis) in [("x", &fitted.widths), ("y", &fitted.heights)] {
-            if let Some(moving) = drags(row, fitted, axis, point) {
+            if let Some(moving) = self
+                .drags
+                .then(|| drags(row, fitted, axis, point))
+                .flatten()
+            {
                 self.put(format_args!(r#" data-{letter}="{}""#, text(&moving)));
             }
         }
