@@ -1,4 +1,4 @@
-/* fonts MODE [OPTION..] FONT..: what tools/fonts/compare, damaged, time and label run. The three builds stand beside the program; see fonts.h. */
+/* fonts MODE [OPTION..] FONT..: what the commands in tools/fonts run, ./bench fonts and ./specimen --font. The three builds stand beside the program; see fonts.h. */
 #include "fonts.h"
 
 #include <dlfcn.h>
@@ -133,11 +133,11 @@ static struct asked read_words(int count, char **words) {
 }
 
 int main(int argc, char **argv) {
-    static const struct { const char *name; int (*run)(const struct asked *); } modes[] = {{"compare", compare}, {"damaged", damaged}, {"time", timed}, {"label", labels}};
-    if (argc < 2) fail("compare, damaged, time or label?");
+    static const struct { const char *name; int (*run)(const struct asked *); } modes[] = {{"compare", compare}, {"damaged", damaged}, {"time", timed}, {"label", labels}, {"jobs", jobs}};
+    if (argc < 2) fail("compare, damaged, time, label or jobs?");
     for (int b = 0; b < BUILDS; b++) load(&builds[b], argv[0], build_names[b]);
     struct asked asked = read_words(argc - 2, argv + 2);
     for (size_t m = 0; m < sizeof modes / sizeof *modes; m++)
         if (is(argv[1], modes[m].name)) return modes[m].run(&asked);
-    fail("compare, damaged, time or label?");
+    fail("compare, damaged, time, label or jobs?");
 }

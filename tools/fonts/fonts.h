@@ -48,6 +48,7 @@ int compare(const struct asked *asked);
 int damaged(const struct asked *asked);
 int timed(const struct asked *asked);
 int labels(const struct asked *asked);
+int jobs(const struct asked *asked);
 
 /* How a glyph is loaded: hinted by the autofitter whatever the font has. */
 FT_Int32 hinted(const struct asked *asked);
