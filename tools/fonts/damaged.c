@@ -12,29 +12,12 @@
 enum { GLYPHS = 96, SECONDS = 20, TOLD = 10 };
 static const int sizes[] = {9, 12, 16};
 
-struct file {
-    unsigned char *bytes;
-    size_t length;
-};
-
 /* What a run came to: what it ended with, a digest of all outlines and errors, how many glyphs were loaded, and how many calls were refused. */
 struct end {
     int status;
     uint64_t digest;
     long loaded, refused;
 };
-
-static struct file read_file(const char *path) {
-    FILE *in = fopen(path, "rb");
-    struct file file = {NULL, 0};
-    if (!in || fseek(in, 0, SEEK_END)) return file;
-    long length = ftell(in);
-    rewind(in);
-    file.bytes = malloc((size_t)length);
-    if (file.bytes && fread(file.bytes, 1, (size_t)length, in) == (size_t)length) file.length = (size_t)length;
-    fclose(in);
-    return file;
-}
 
 static uint32_t state;
 static uint32_t below(uint32_t limit) {
@@ -55,7 +38,7 @@ static void add(uint64_t *digest, const void *data, size_t length) {
 
 /* Loads glyphs of a font in memory, all over it. */
 static void load_all(struct build *build, const struct asked *asked, const struct file *file, struct end *end) {
-    FT_Error error = build->read(build->library, file->bytes, (FT_Long)file->length, 0, &build->face);
+    FT_Error error = build->open(build->library, file->bytes, (FT_Long)file->length, 0, &build->face);
     add(&end->digest, &error, sizeof error);
     if (error) return;
     FT_ULong count = (FT_ULong)build->face->num_glyphs;

@@ -29,8 +29,7 @@ static void load(struct build *build, const char *program, const char *name) {
     void *library = dlopen(path, RTLD_NOW | RTLD_LOCAL);
     if (!library) fail(dlerror());
     init = named(library, "FT_Init_FreeType");
-    build->open = named(library, "FT_New_Face");
-    build->read = named(library, "FT_New_Memory_Face");
+    build->open = named(library, "FT_New_Memory_Face");
     build->close = named(library, "FT_Done_Face");
     build->size = named(library, "FT_Set_Char_Size");
     build->load = named(library, "FT_Load_Glyph");
@@ -52,7 +51,28 @@ const char *base_of(const char *path) { return strrchr(path, '/') ? strrchr(path
 
 FT_Int32 hinted(const struct asked *asked) { return FT_LOAD_FORCE_AUTOHINT | FT_LOAD_NO_BITMAP | asked->target; }
 
-int opened(struct build *build, const char *path) { return !build->open(build->library, path, 0, &build->face); }
+struct file read_file(const char *path) {
+    FILE *in = fopen(path, "rb");
+    struct file file = {NULL, 0};
+    long length = in && !fseek(in, 0, SEEK_END) ? ftell(in) : 0;
+    if (length > 0) {
+        rewind(in);
+        file.bytes = malloc((size_t)length);
+        if (file.bytes && fread(file.bytes, 1, (size_t)length, in) == (size_t)length) file.length = (size_t)length;
+    }
+    if (in) fclose(in);
+    return file;
+}
+
+int opened(struct build *build, const char *path) {
+    static struct file file;
+    static const char *of;
+    if (of != path) {
+        free(file.bytes);
+        file = read_file(path), of = path;
+    }
+    return file.length && !build->open(build->library, file.bytes, (FT_Long)file.length, 0, &build->face);
+}
 
 int all_opened(const char *path) {
     for (int b = 0; b < BUILDS; b++)

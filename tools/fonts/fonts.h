@@ -11,8 +11,7 @@ enum { OWN, CALLS, ONE, BUILDS };
 enum { KEEP, SNAP, RULES };
 
 struct build {
-    FT_Error (*open)(FT_Library, const char *, FT_Long, FT_Face *);
-    FT_Error (*read)(FT_Library, const FT_Byte *, FT_Long, FT_Long, FT_Face *);
+    FT_Error (*open)(FT_Library, const FT_Byte *, FT_Long, FT_Long, FT_Face *);
     FT_Error (*close)(FT_Face);
     FT_Error (*size)(FT_Face, FT_F26Dot6, FT_F26Dot6, FT_UInt, FT_UInt);
     FT_Error (*load)(FT_Face, FT_UInt, FT_Int32);
@@ -53,7 +52,14 @@ int jobs(const struct asked *asked);
 /* How a glyph is loaded: hinted by the autofitter whatever the font has. */
 FT_Int32 hinted(const struct asked *asked);
 
-/* Opens a font in a build, or in all, and tells whether that was done. */
+/* The bytes of a file, none where it cannot be read; the caller frees them. */
+struct file {
+    unsigned char *bytes;
+    size_t length;
+};
+struct file read_file(const char *path);
+
+/* Opens a font in a build, or in all, and tells whether that was done. It is read once: what is opened stays until another is. */
 int opened(struct build *build, const char *path);
 int all_opened(const char *path);
 void close_all(void);

@@ -5,8 +5,8 @@
 #include <stdlib.h>
 #include <time.h>
 
-/* Each time is the least of so many rounds; sizes go by so many pixels. */
-enum { ROUNDS = 7, STEP = 4, EMPTY = 100000 };
+/* Each time is the least of so many rounds; sizes go by so many pixels. The clock's own time is the least of many short rounds, so that nothing else runs in one of them. */
+enum { ROUNDS = 7, STEP = 4, CLOCK_ROUNDS = 1000, READINGS = 500 };
 
 static double now(void) {
     struct timespec now;
@@ -26,12 +26,12 @@ static double pass(struct build *build, const struct glyph *list, int n, FT_Int3
 /* What reading the client's clock takes between one reading and the next. */
 static double clock_time(void) {
     double best = 1e9;
-    for (int round = 0; round < ROUNDS; round++) {
+    for (int round = 0; round < CLOCK_ROUNDS; round++) {
         struct timespec at, from, to;
         clock_gettime(CLOCK_MONOTONIC, &from);
-        for (int i = 0; i < EMPTY; i++) clock_gettime(CLOCK_MONOTONIC, &at);
+        for (int i = 0; i < READINGS; i++) clock_gettime(CLOCK_MONOTONIC, &at);
         clock_gettime(CLOCK_MONOTONIC, &to);
-        best = least(best, ((double)(to.tv_sec - from.tv_sec) * 1e9 + (double)(to.tv_nsec - from.tv_nsec)) / EMPTY);
+        best = least(best, ((double)(to.tv_sec - from.tv_sec) * 1e9 + (double)(to.tv_nsec - from.tv_nsec)) / READINGS);
     }
     return best;
 }
@@ -43,29 +43,38 @@ static long calls(const struct build *build) {
     return n;
 }
 
-/* What is spent in the library when all glyphs are loaded, without what the clock takes. */
-static double inside(struct build *build, const struct glyph *list, int n, FT_Int32 flags) {
-    long before = calls(build);
-    *build->time = 0, *build->timed = 1;
-    pass(build, list, n, flags);
+/* What is spent in the library when all glyphs are loaded one behind the other, without what the clock takes: of each glyph the least of some rounds. */
+static double inside(struct build *build, const struct glyph *list, int n, FT_Int32 flags, double clock) {
+    double *best = calloc((size_t)n + 1, sizeof *best), sum = 0;
+    *build->timed = 1;
+    for (int round = 0; best && round < ROUNDS; round++)
+        for (int i = 0; i < n; i++) {
+            long before = calls(build);
+            *build->time = 0;
+            build->load(build->face, list[i].index, flags);
+            double spent = *build->time - (double)(calls(build) - before) * clock;
+            best[i] = round ? least(best[i], spent) : spent;
+        }
     *build->timed = 0;
-    return *build->time - (double)(calls(build) - before) * clock_time();
+    for (int i = 0; best && i < n; i++) sum += best[i];
+    free(best);
+    return sum;
 }
 
 static void font(const struct asked *asked, const char *path, int rule) {
     struct glyph *list;
     int n = glyphs_of(&builds[OWN], asked->text, &list), sizes = 0;
-    double sum[BUILDS] = {0}, ours[BUILDS] = {0}, unhinted = 0;
+    double sum[BUILDS] = {0}, ours[BUILDS] = {0}, unhinted = 0, clock = clock_time();
     for (int b = 0; b < BUILDS; b++) *builds[b].rule = rule;
     for (int size = asked->smallest; size <= asked->largest; size += STEP, sizes++) {
-        double best[BUILDS] = {1e18, 1e18, 1e18}, own[BUILDS] = {1e18, 1e18, 1e18}, bare = 1e18;
+        double best[BUILDS] = {1e18, 1e18, 1e18}, bare = 1e18;
         for (int b = 0; b < BUILDS; b++) set_size(&builds[b], size);
         for (int round = 0; round < ROUNDS; round++) {
             for (int b = 0; b < BUILDS; b++) best[b] = least(best[b], pass(&builds[b], list, n, hinted(asked)));
-            for (int b = CALLS; b < BUILDS; b++) own[b] = least(own[b], inside(&builds[b], list, n, hinted(asked)));
             bare = least(bare, pass(&builds[OWN], list, n, FT_LOAD_NO_SCALE | FT_LOAD_NO_BITMAP));
         }
-        for (int b = 0; b < BUILDS; b++) sum[b] += best[b], ours[b] += own[b];
+        for (int b = 0; b < BUILDS; b++) sum[b] += best[b];
+        for (int b = CALLS; b < BUILDS; b++) ours[b] += inside(&builds[b], list, n, hinted(asked), clock);
         unhinted += bare;
     }
     free(list);
