@@ -107,17 +107,18 @@ static void put_character(FT_ULong c) {
     else printf("%c%c%c%c", (int)(0xF0 | c >> 18), (int)(0x80 | (c >> 12 & 0x3F)), (int)(0x80 | (c >> 6 & 0x3F)), (int)(0x80 | (c & 0x3F)));
 }
 
-/* A glyph at a size. One that has no outline, or an axis that was left to FreeType, is no glyph of the label. */
-static void put_glyph(struct build *build, const struct asked *asked, struct glyph glyph, int size, int rule) {
+/* A glyph at a size, and whether it is one of the label: one that has no outline, or an axis that was left to FreeType, is not. */
+static int put_glyph(struct build *build, const struct asked *asked, struct glyph glyph, int size, int rule) {
     memset(build->jobs, 0, 2 * sizeof *build->jobs);
-    if (build->load(build->face, glyph.index, hinted(asked)) || !build->face->glyph->outline.n_points) return;
-    if (!build->jobs[0][AF_KHS_FITTED].count || !build->jobs[1][AF_KHS_FITTED].count) return;
+    if (build->load(build->face, glyph.index, hinted(asked)) || !build->face->glyph->outline.n_points) return 0;
+    if (!build->jobs[0][AF_KHS_FITTED].count || !build->jobs[1][AF_KHS_FITTED].count) return 0;
     printf("\n# U+%04lX ", glyph.character);
     put_character(glyph.character);
     printf(", at %d pixels to the em\n", size);
     put_axis(build, 1, rule);
     put_axis(build, 0, rule);
     put_path(&build->face->glyph->outline);
+    return 1;
 }
 
 int labels(const struct asked *asked) {
@@ -127,13 +128,14 @@ int labels(const struct asked *asked) {
     if (asked->font_count != 1) return fprintf(stderr, "fonts: one font is wanted\n"), 2;
     if (!opened(build, asked->fonts[0])) return fprintf(stderr, "fonts: %s is no font that can be read\n", asked->fonts[0]), 2;
     *build->rule = rule, *build->watch = 1;
-    int n = glyphs_of(build, asked->text, &list);
+    int n = glyphs_of(build, asked->text, &list), left_out = 0;
     for (int i = 0; i < n; i++)
         for (int size = asked->smallest; size <= asked->largest; size++) {
             set_size(build, size);
             if (!build->load(build->face, list[i].index, FT_LOAD_NO_SCALE) && is_cubic(&build->face->glyph->outline)) return fprintf(stderr, "fonts: %s has cubic curves, which the path has not\n", asked->fonts[0]), 2;
-            put_glyph(build, asked, list[i], size, rule);
+            left_out += !put_glyph(build, asked, list[i], size, rule);
         }
+    if (left_out) fprintf(stderr, "fonts: left out %d of %d glyphs at a size, which have no outline or are hinted from top to bottom\n", left_out, n * (asked->largest - asked->smallest + 1));
     free(list);
     build->close(build->face);
     return 0;

@@ -258,3 +258,14 @@ fn rows(pixels: &Bitmap) -> impl Iterator<Item = String> + '_ {
     };
     (area.bottom + 1..area.top).rev().map(row)
 }
+
+#[cfg(test)]
+mod tests {
+    use super::number;
+
+    #[test]
+    fn numbers_have_commas_between_thousands() {
+        let numbers = [0, 999, 1_000, 27_192, 1_234_567].map(number);
+        assert_eq!(numbers, ["0", "999", "1,000", "27,192", "1,234,567"]);
+    }
+}

@@ -44,3 +44,30 @@ pub fn script() -> String {
     let phrases: String = PHRASES.iter().map(phrase).collect();
     format!("const PHRASES = {{{phrases}\"~\": \"~\"}};\n")
 }
+
+#[cfg(test)]
+mod tests {
+    use super::{packed, PHRASES};
+
+    /// A short text made long again, as the page does it.
+    fn made(text: &str) -> String {
+        let mut long = String::new();
+        let mut letters = text.chars();
+        while let Some(letter) = letters.next() {
+            let behind = if letter == '~' { letters.next() } else { None };
+            let phrase = PHRASES.iter().find(|(own, _)| Some(*own) == behind);
+            long += phrase.map_or(&behind.unwrap_or(letter).to_string(), |(_, phrase)| phrase);
+        }
+        long
+    }
+
+    #[test]
+    fn what_is_made_is_what_was_packed() {
+        let all: String = PHRASES.iter().map(|(_, phrase)| *phrase).collect();
+        let numbers = "point 0, on the curve\nx 1/64 → 2/64 pixels (1 → 2 units): weak";
+        for text in [&all, "~", "~a~~b~", "U+007E ~ at 9", numbers, ""] {
+            assert_eq!(made(&packed(text)), text);
+        }
+        assert!(packed(numbers).len() < numbers.len() / 2);
+    }
+}
