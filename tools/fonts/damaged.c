@@ -61,8 +61,11 @@ static void load_all(struct build *build, const struct asked *asked, const struc
 
 /* A run in a process of its own. */
 static struct end run(struct build *build, const struct asked *asked, const struct file *file) {
-    struct end end = {0, 14695981039346656037U, 0, 0};
+    struct end end;
     int ends[2], status;
+    memset(&end, 0, sizeof end); /* what is between its fields is sent, too */
+    end.digest = 14695981039346656037U;
+    fflush(stdout);
     if (pipe(ends)) exit(2);
     pid_t child = fork();
     if (child < 0) exit(2);
