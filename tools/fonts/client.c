@@ -14,6 +14,7 @@
   FT_EXPORT_DEF( int )                  af_khs_timed;                            /* whether the library's calls are timed */
   FT_EXPORT_DEF( double )               af_khs_time;                             /* what they took, in nanoseconds, with one reading of the clock each */
   FT_EXPORT_DEF( long )                 af_khs_answers[AF_KHS_STEPS][256];       /* how often each step's call gave each answer */
+  FT_EXPORT_DEF( long )                 af_khs_refused;                          /* how many of these were refusals */
   FT_EXPORT_DEF( long )                 af_khs_left;                             /* axes that are hinted from top to bottom, which is retired, and were left to FreeType */
   FT_EXPORT_DEF( struct af_khs_words )  af_khs_tables[2][AF_KHS_STEPS];
   FT_EXPORT_DEF( struct af_khs_words )  af_khs_jobs[2][AF_KHS_STEPS];
@@ -102,6 +103,7 @@
     if ( af_khs_timed )
       af_khs_time += khs_now() - khs_began;
     af_khs_answers[step][answer]++;
+    af_khs_refused += answer != KHS_DONE;
     return answer == KHS_DONE;
   }
 
@@ -139,6 +141,19 @@
                AF_Dimension   dim )
   {
     return khs_group( hints ) == KHS_LATIN && dim == AF_DIMENSION_VERT && af_script_classes[hints->metrics->style_class->script]->top_to_bottom_hinting;
+  }
+
+  /* Whether an axis is left to FreeType, and counted. */
+
+  static FT_Bool
+  khs_left( AF_GlyphHints  hints,
+            AF_Dimension   dim )
+  {
+    FT_Bool  left = khs_retired( hints, dim );
+
+
+    af_khs_left += left;
+    return left;
   }
 
   static void
@@ -521,74 +536,122 @@
     return 1;
   }
 
+  /* The edges of an axis on their way from one call to the next, with what these are told. */
+
+  struct khs_edges
+  {
+    AF_Dimension     dim;
+    FT_Int           count, widths;
+    int32_t          group, adjust, anchor, passed_over;
+    int32_t          standards[KHS_WIDTHS];
+    struct khs_edge  edges[KHS_MOST_EDGES];
+  };
+
+#define KHS_EDGES_OF( e )      (int32_t*)(e)->edges, (khs_length)(e)->count * KHS_EDGE_WORDS
+#define KHS_STANDARDS_OF( e )  (e)->standards, (khs_length)(e)->widths
+
+  /* Begins a job over these edges. */
+
+  static void
+  khs_job_of( struct khs_edges*  e,
+              int                step,
+              int                call )
+  {
+    khs_job( e->dim, step, call );
+    KHS_NOTE_EDGES( e->edges, e->count );
+  }
+
+  static void
+  khs_note_rule( struct khs_edges*  e )
+  {
+    khs_note( af_khs_rule );
+    KHS_NOTE_LIST( e->standards, e->widths );
+  }
+
+  static FT_Int
+  khs_blues( struct khs_edges*  e )
+  {
+    khs_job_of( e, AF_KHS_BLUES, 106 );
+    khs_note( KHS_DIM( e->dim ) );
+    khs_note( e->group );
+    khs_note_rule( e );
+    return KHS_DONE_BY( AF_KHS_BLUES, khs_align_edges_to_blues( KHS_EDGES_OF( e ), KHS_DIM( e->dim ), e->group, af_khs_rule, KHS_STANDARDS_OF( e ), &e->anchor ) );
+  }
+
+  static FT_Int
+  khs_stems( struct khs_edges*  e )
+  {
+    int32_t  zone = e->anchor;
+
+
+    khs_job_of( e, AF_KHS_STEMS, 112 );
+    khs_note( KHS_DIM( e->dim ) );
+    khs_note( e->group );
+    khs_note( e->adjust );
+    khs_note( 0 );
+    khs_note( zone );
+    khs_note_rule( e );
+    return KHS_DONE_BY( AF_KHS_STEMS,
+                        khs_align_stem_edges( KHS_EDGES_OF( e ), KHS_DIM( e->dim ), e->group, e->adjust, 0, zone, af_khs_rule, KHS_STANDARDS_OF( e ),
+                                              &e->passed_over, &e->anchor ) );
+  }
+
+  /* FreeType takes every glyph with 6 or 12 upright edges for an m. */
+
+  static FT_Int
+  khs_lowercase_m( struct khs_edges*  e )
+  {
+    if ( e->dim != AF_DIMENSION_HORZ || ( e->count != 6 && e->count != 12 ) )
+      return 1;
+    khs_job_of( e, AF_KHS_M, 113 );
+    khs_note( e->group );
+    return KHS_DONE_BY( AF_KHS_M, khs_hint_lowercase_m( KHS_EDGES_OF( e ), e->group ) );
+  }
+
+  static FT_Int
+  khs_remaining( struct khs_edges*  e )
+  {
+    int32_t  anchor = e->anchor;
+
+
+    if ( e->passed_over == 0 && anchor != KHS_NONE )
+      return 1;
+    khs_job_of( e, AF_KHS_REMAINING, 130 );
+    khs_note( KHS_DIM( e->dim ) );
+    khs_note( e->group );
+    khs_note( e->passed_over );
+    khs_note( anchor );
+    return KHS_DONE_BY( AF_KHS_REMAINING, khs_align_remaining_edges( KHS_EDGES_OF( e ), KHS_DIM( e->dim ), e->group, e->passed_over, anchor, &e->anchor ) );
+  }
+
   FT_LOCAL_DEF( FT_Int )
   af_khs_hint_edges( AF_GlyphHints  hints,
                      AF_Dimension   dim )
   {
-    AF_AxisHints     axis   = &hints->axis[dim];
-    FT_Int           n      = axis->num_edges, widths;
-    khs_length       length = (khs_length)n * KHS_EDGE_WORDS;
-    int32_t          group  = khs_group( hints ), adjust = AF_LATIN_HINTS_DO_STEM_ADJUST( hints ) != 0;
-    int32_t          standards[KHS_WIDTHS], zone, count, anchor, found;
-    struct khs_edge  edges[KHS_MOST_EDGES];
-    int32_t*         words = (int32_t*)edges;
+    static FT_Int  ( * const steps[] )( struct khs_edges* ) = { khs_blues, khs_stems, khs_lowercase_m, khs_remaining };
+
+    AF_AxisHints      axis = &hints->axis[dim];
+    struct khs_edges  e;
+    FT_Int            i;
 
 
-    if ( AF_KHS != AF_KHS_CALLS )
+    if ( AF_KHS != AF_KHS_CALLS || khs_left( hints, dim ) )
       return 0;
-    if ( khs_retired( hints, dim ) )
-    {
-      af_khs_left++;
-      return 0;
-    }
-    if ( n > KHS_MOST_EDGES )
+    if ( axis->num_edges > KHS_MOST_EDGES )
       return khs_answered( AF_KHS_BLUES, KHS_TOO_LONG );
-    khs_take_edges( axis, edges );
-    widths = af_khs_rule == KHS_SNAP ? khs_standards( hints, dim, standards ) : 0;
-    khs_job( dim, AF_KHS_BLUES, 106 );
-    KHS_NOTE_EDGES( edges, n );
-    khs_note( KHS_DIM( dim ) );
-    khs_note( group );
-    khs_note( af_khs_rule );
-    KHS_NOTE_LIST( standards, widths );
-    if ( !KHS_DONE_BY( AF_KHS_BLUES, khs_align_edges_to_blues( words, length, KHS_DIM( dim ), group, af_khs_rule, standards, (khs_length)widths, &zone ) ) )
-      return 0;
-    khs_see_edges( dim, AF_KHS_BLUES, edges, n );
-    khs_job( dim, AF_KHS_STEMS, 112 );
-    KHS_NOTE_EDGES( edges, n );
-    khs_note( KHS_DIM( dim ) );
-    khs_note( group );
-    khs_note( adjust );
-    khs_note( 0 );
-    khs_note( zone );
-    khs_note( af_khs_rule );
-    KHS_NOTE_LIST( standards, widths );
-    if ( !KHS_DONE_BY( AF_KHS_STEMS,
-                       khs_align_stem_edges( words, length, KHS_DIM( dim ), group, adjust, 0, zone, af_khs_rule, standards, (khs_length)widths, &count, &anchor ) ) )
-      return 0;
-    khs_see_edges( dim, AF_KHS_STEMS, edges, n );
-    khs_note_in( &af_khs_jobs[dim][AF_KHS_M] );
-    if ( dim == AF_DIMENSION_HORZ && ( n == 6 || n == 12 ) )
+    e.dim    = dim;
+    e.count  = axis->num_edges;
+    e.group  = khs_group( hints );
+    e.adjust = AF_LATIN_HINTS_DO_STEM_ADJUST( hints ) != 0;
+    e.widths = af_khs_rule == KHS_SNAP ? khs_standards( hints, dim, e.standards ) : 0;
+    khs_take_edges( axis, e.edges );
+    for ( i = 0; i < 4; i++ )
     {
-      khs_note( 113 );
-      KHS_NOTE_EDGES( edges, n );
-      khs_note( group );
-      if ( !KHS_DONE_BY( AF_KHS_M, khs_hint_lowercase_m( words, length, group ) ) )
+      if ( !steps[i]( &e ) )
         return 0;
+      khs_see_edges( dim, AF_KHS_BLUES + i, e.edges, e.count );
     }
-    khs_see_edges( dim, AF_KHS_M, edges, n );
-    if ( count > 0 || anchor == KHS_NONE )
-    {
-      khs_job( dim, AF_KHS_REMAINING, 130 );
-      KHS_NOTE_EDGES( edges, n );
-      khs_note( KHS_DIM( dim ) );
-      khs_note( group );
-      khs_note( count );
-      khs_note( anchor );
-      if ( !KHS_DONE_BY( AF_KHS_REMAINING, khs_align_remaining_edges( words, length, KHS_DIM( dim ), group, count, anchor, &found ) ) )
-        return 0;
-    }
-    khs_put_edges( axis, edges );
+    khs_put_edges( axis, e.edges );
     return 1;
   }
 
@@ -692,6 +755,17 @@
     return 1;
   }
 
+  static void
+  khs_note_points( const struct khs_points*  points )
+  {
+    KHS_NOTE_LIST( points->fonts, points->count );
+    KHS_NOTE_LIST( points->originals, points->count );
+    KHS_NOTE_LIST( points->currents, points->count );
+    KHS_NOTE_LIST( points->touched, points->count );
+    KHS_NOTE_LIST( points->weak, points->count );
+    KHS_NOTE_LIST( points->ends, points->contours );
+  }
+
   FT_LOCAL_DEF( FT_Int )
   af_khs_fit_axis( AF_GlyphHints  hints,
                    AF_Dimension   dim )
@@ -707,13 +781,8 @@
     FT_Int              widths;
 
 
-    if ( AF_KHS != AF_KHS_ONE )
+    if ( AF_KHS != AF_KHS_ONE || khs_left( hints, dim ) )
       return 0;
-    if ( khs_retired( hints, dim ) )
-    {
-      af_khs_left++;
-      return 0;
-    }
     if ( axis->num_segments > KHS_MOST_SEGMENTS || axis->num_edges > KHS_MOST_EDGES || !khs_take_points( hints, dim, &points ) )
       return khs_answered( AF_KHS_FITTED, KHS_TOO_LONG );
     khs_take_segments( hints, axis, segments );
@@ -732,12 +801,7 @@
     KHS_NOTE_EDGES( edges, axis->num_edges );
     KHS_NOTE_LIST( (const int32_t*)&numbers, KHS_FIT_WORDS );
     KHS_NOTE_LIST( standards, widths );
-    KHS_NOTE_LIST( points.fonts, points.count );
-    KHS_NOTE_LIST( points.originals, points.count );
-    KHS_NOTE_LIST( points.currents, points.count );
-    KHS_NOTE_LIST( points.touched, points.count );
-    KHS_NOTE_LIST( points.weak, points.count );
-    KHS_NOTE_LIST( points.ends, points.contours );
+    khs_note_points( &points );
     if ( !KHS_DONE_BY( AF_KHS_FITTED,
                        khs_fit_axis( (const int32_t*)segments, (khs_length)axis->num_segments * KHS_SEGMENT_WORDS, (int32_t*)edges, (khs_length)axis->num_edges * KHS_EDGE_WORDS,
                                      (const int32_t*)&numbers, KHS_FIT_WORDS, standards, (khs_length)widths, points.fonts, count, points.originals, count,

@@ -18,14 +18,6 @@ static int same(FT_GlyphSlot p, FT_GlyphSlot q) {
         && !memcmp(o->contours, r->contours, (size_t)o->n_contours * sizeof *o->contours);
 }
 
-/* How often the library refused in a build. */
-static long refusals(const struct build *build) {
-    long n = 0;
-    for (int step = 0; step < AF_KHS_STEPS; step++)
-        for (int answer = 1; answer < 256; answer++) n += build->answers[step][answer];
-    return n;
-}
-
 /* Loads a glyph again with its tables and jobs kept. */
 static void watch(struct build *build, FT_UInt glyph, FT_Int32 flags) {
     memset(build->tables, 0, 2 * sizeof *build->tables);
@@ -74,7 +66,7 @@ static void one(const struct asked *asked, const char *font, struct glyph glyph,
     FT_Int32 flags = hinted(asked);
     long before[BUILDS];
     for (int b = 0; b < BUILDS; b++) {
-        before[b] = refusals(&builds[b]);
+        before[b] = *builds[b].refused;
         errors[b] = builds[b].load(builds[b].face, glyph.index, flags);
     }
     tally->loads++;
@@ -85,7 +77,7 @@ static void one(const struct asked *asked, const char *font, struct glyph glyph,
             printf("  different: %s, U+%04lX, glyph %u at %d, %s, by %s\n", font, glyph.character, glyph.index, size, rule_names[rule], build_names[b]);
             tell(b, glyph.index, flags);
         }
-        if (refusals(&builds[b]) != before[b] && tally->refused++ < TOLD) {
+        if (*builds[b].refused != before[b] && tally->refused++ < TOLD) {
             printf("  refused: %s, U+%04lX, glyph %u at %d, %s, by %s\n", font, glyph.character, glyph.index, size, rule_names[rule], build_names[b]);
             tell_refused(b, glyph.index, flags);
         }

@@ -54,8 +54,7 @@ static void load_all(struct build *build, const struct asked *asked, const struc
             add(&end->digest, outline->tags, (size_t)outline->n_points);
         }
     }
-    for (int step = 0; step < AF_KHS_STEPS; step++)
-        for (int answer = 1; answer < 256; answer++) end->refused += build->answers[step][answer];
+    end->refused = *build->refused;
     build->close(build->face);
 }
 

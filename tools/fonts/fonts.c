@@ -41,6 +41,7 @@ static void load(struct build *build, const char *program, const char *name) {
     build->timed = named(library, "af_khs_timed");
     build->time = named(library, "af_khs_time");
     build->answers = named(library, "af_khs_answers");
+    build->refused = named(library, "af_khs_refused");
     build->left = named(library, "af_khs_left");
     build->tables = named(library, "af_khs_tables");
     build->jobs = named(library, "af_khs_jobs");

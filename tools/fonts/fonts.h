@@ -23,7 +23,7 @@ struct build {
     /* the client's, see client.c */
     int *rule, *watch, *timed;
     double *time;
-    long (*answers)[256], *left;
+    long (*answers)[256], *refused, *left;
     struct af_khs_words (*tables)[AF_KHS_STEPS], (*jobs)[AF_KHS_STEPS];
 };
 
