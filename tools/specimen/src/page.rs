@@ -19,8 +19,10 @@ const MOST_DRAGGED: usize = 400;
 
 /// How to use the page.
 const NOTE: &str = "Point at an edge or a point for its numbers, or go through those of a drawing by the arrow keys; keys b and a switch to before and after. \
-    Drag a touched point of a fitted drawing, or move the one that is pointed at by Shift and an arrow key, to see what follows; Escape puts it back. The only touched point of a contour that is set on its original moves nothing. \
     Below a drawing stand the pieces and holes of its pixels, what the guard says, and the edges and points that nothing placed.";
+
+/// How to drag points, where they can be.
+const NOTE_OF_DRAGGING: &str = " Drag a touched point of a fitted drawing, or move the one that is pointed at by Shift and an arrow key, to see what follows; Escape puts it back. The only touched point of a contour that is set on its original moves nothing.";
 
 /// The whole page of a label that has this name.
 pub fn html(specimen: &Specimen, name: &str) -> String {
@@ -28,6 +30,7 @@ pub fn html(specimen: &Specimen, name: &str) -> String {
     let script = include_str!("page.js");
     let rows = specimen.rows.iter().enumerate();
     let drags = specimen.cells().count() <= MOST_DRAGGED;
+    let dragging = if drags { NOTE_OF_DRAGGING } else { "" };
     let glyphs: String = rows
         .map(|(number, row)| glyph(number, row, drags))
         .collect();
@@ -43,7 +46,7 @@ pub fn html(specimen: &Specimen, name: &str) -> String {
 <p class="summary">{}</p>
 {}
 {}
-<p class="note">{NOTE}</p>
+<p class="note">{NOTE}{dragging}</p>
 <div class="glyphs">
 {glyphs}</div>
 </main>
