@@ -42,7 +42,8 @@ use Rattle.axis.proofs.Tests.{every-at}
 
 -- ---- one number, one index
 pub within-between : (n : ℕ) (z : ℤ) → within n z ≡ true → Between n n z
-within-between n z h = let a = and-first (leZ (negℤ (pos n)) z) _ h in let b = and-second (leZ (negℤ (pos n)) z) _ h in omega (arith, signed, up-neg (pos n), dn-neg (pos n))
+within-between n z h =
+    let a = and-first (leZ (negℤ (pos n)) z) _ h in let b = and-second (leZ (negℤ (pos n)) z) _ h in omega (arith, signed, up-neg (pos n), dn-neg (pos n))
 
 pub inside-between : (n : ℕ) (z : ℤ) → inside (pos 0) (pos n) z ≡ true → Between 0 n z
 inside-between n z h = let a = and-first (leZ (pos 0) z) _ h in let b = and-second (leZ (pos 0) z) _ h in omega (arith, signed)

@@ -44,7 +44,9 @@ map-set (x ∷ l) (suc i) e = ap (λ (es : List Edge). unmarked x ∷ es) (map-s
 
 pub at-alike : (a b : Axis) (i : ℕ) → AlikeAxis a b → Alike (edgeAt a i) (edgeAt b i)
 at-alike a b i h = record {
-  same = sym (List·getD-map unmarked (a .edges) i emptyEdge) ∙ ap (λ (x : Axis). getD (x .edges) i emptyEdge) (h .same) ∙ List·getD-map unmarked (b .edges) i emptyEdge;
+  same =
+      sym (List·getD-map unmarked (a .edges) i emptyEdge) ∙ ap (λ (x : Axis). getD (x .edges) i emptyEdge) (h .same)
+      ∙ List·getD-map unmarked (b .edges) i emptyEdge;
 }
 
 pub put-alike : (a b : Axis) (i : ℕ) (e f : Edge) → AlikeAxis a b → Alike e f → AlikeAxis (putEdge a i e) (putEdge b i f)
@@ -60,7 +62,8 @@ put-alike a b i e f h g = record {
 
 -- an axis and itself without marks
 pub unmarked-alike : (axis : Axis) → AlikeAxis (unmarkedAxis axis) axis
-unmarked-alike axis = record { same = ap (λ (es : List Edge). record { dim = axis .dim; «major_dir» = axis .«major_dir»; edges = es; len = axis .len }) (twice (axis .edges)) }
+unmarked-alike axis =
+    record { same = ap (λ (es : List Edge). record { dim = axis .dim; «major_dir» = axis .«major_dir»; edges = es; len = axis .len }) (twice (axis .edges)) }
   where
     twice : (l : List Edge) → map unmarked (map unmarked l) ≡ map unmarked l
     twice [] = refl
@@ -94,7 +97,8 @@ pub indices-alike : (a b : Axis) → AlikeAxis a b → edgesIndices a ≡ edgesI
 unfolding edgesIndices edgeIndices
 indices-alike a b h =
     let n = alike-len a b h in
-    every-same _ _ (λ (i : ℕ). λ k. edgeIndices (n k) (at-alike a b i h .same k)) (min (a .len) mostEdges) ∙ ap (λ (c : ℕ). every (λ (i : ℕ). edgeIndices (b .len) (edgeAt b i)) (min c mostEdges)) n
+    every-same _ _ (λ (i : ℕ). λ k. edgeIndices (n k) (at-alike a b i h .same k)) (min (a .len) mostEdges)
+    ∙ ap (λ (c : ℕ). every (λ (i : ℕ). edgeIndices (b .len) (edgeAt b i)) (min c mostEdges)) n
 
 pub numbers-alike : (a b : Axis) → AlikeAxis a b → edgesNumbers a ≡ edgesNumbers b
 unfolding edgesNumbers edgeNumbers

@@ -1,4 +1,5 @@
--- What every value of the declared types meets (specs/Handed.antt), by the kit's own meaning of them. At the entry of a function `c .good` has this relation for each
+-- What every value of the declared types meets (specs/Handed.antt), by the kit's own meaning of them. At the entry of a function `c .good` has this relation
+-- for each
 -- parameter, in their order, so that `typed-segment (c .args .s) _ (c .good .0)` is what a proof there writes.
 use mathlib.Core.Path.{sym, _∙_}
 use mathlib.Core.List.{List, [], _∷_, map}
@@ -38,7 +39,8 @@ pub empty-typed : TypedSegment emptySegment
 empty-typed = record { pos = omega arith; low = omega arith; high = omega arith }
 
 -- each of a list of them, and what stands behind its end
-all-typed : (ss : List Segment) (us : List Val) → shadow (each (SegmentType.the-field .row .Denot) (SegmentType.the-field .row .own) (map (SegmentType.the-field .into) ss) us)
+all-typed : (ss : List Segment) (us : List Val) → shadow
+    (each (SegmentType.the-field .row .Denot) (SegmentType.the-field .row .own) (map (SegmentType.the-field .into) ss) us)
     → (i : ℕ) → TypedSegment (getD ss i emptySegment)
 all-typed [] us p i = empty-typed
 all-typed (s ∷ ss) [] p i = absurd p

@@ -56,7 +56,8 @@ left-then a b (Blues.Fitted z) p q = p ∙ ap (zoneLeft a) (sym q)
 -- ---- one edge
 -- an edge at a position, with such a mark, flag done and neutral, and a zone
 abbrev pub remade : Edge → ℤ → Mark → Bool → Bool → Blue → Edge
-remade e p m done neutral b = changed e p m (record { round = e .flags .round; serif = e .flags .serif; done = done; neutral = neutral }) b (e .link) (e .serif) (e .last)
+remade e p m done neutral b =
+    changed e p m (record { round = e .flags .round; serif = e .flags .serif; done = done; neutral = neutral }) b (e .link) (e .serif) (e .last)
 
 stayed : (e : Edge) → Stayed e e
 stayed e = record { pos = refl; mark = refl; done = refl }
@@ -77,7 +78,8 @@ stayed-then a b c p q = record { pos = q .pos ∙ p .pos; mark = q .mark ∙ p .
 marked-then : (ms : List Mark) (b c : Edge) → c .mark ≡ b .mark → among ms (b .mark) ≡ true → among ms (c .mark) ≡ true
 marked-then ms b c e h = ap (among ms) e ∙ h
 
-told-then : (ms : List Mark) (a b c : Edge) → Stayed a b ⊎ (among ms (b .mark) ≡ true) → Stayed b c ⊎ (among ms (c .mark) ≡ true) → Stayed a c ⊎ (among ms (c .mark) ≡ true)
+told-then : (ms : List Mark) (a b c : Edge) → Stayed a b ⊎ (among ms (b .mark) ≡ true) → Stayed b c ⊎ (among ms (c .mark) ≡ true)
+    → Stayed a c ⊎ (among ms (c .mark) ≡ true)
 told-then ms a b c p (inr q) = inr q
 told-then ms a b c (inl p) (inl q) = inl (stayed-then a b c p q)
 told-then ms a b c (inr p) (inl q) = inr (marked-then ms b c (q .mark) p)
@@ -91,22 +93,27 @@ zoned-then ms a b c l p (inr (inl q)) = inr (inl q)
 zoned-then ms a b c l (inl p) (inl q) = inl (stayed-then a b c p q)
 zoned-then ms a b c l (inr (inl p)) (inl q) = inr (inl (marked-then ms b c (q .mark) p))
 zoned-then ms a b c l (inr (inr p)) (inl q) = inr (inr (record { done = p .done; mark = q .mark ∙ p .mark; zone = p .zone ∙ ap Blues.Fitted (sym (q .pos)) }))
-zoned-then ms a b c l (inl p) (inr (inr q)) = inr (inr (record { done = sym (p .done) ∙ q .done; mark = q .mark ∙ p .mark; zone = zone-before a b (c .pos) l (q .zone) }))
+zoned-then ms a b c l (inl p) (inr (inr q)) =
+    inr (inr (record { done = sym (p .done) ∙ q .done; mark = q .mark ∙ p .mark; zone = zone-before a b (c .pos) l (q .zone) }))
 zoned-then ms a b c l (inr (inl p)) (inr (inr q)) = inr (inl (marked-then ms b c (q .mark) p))
 zoned-then ms a b c l (inr (inr p)) (inr (inr q)) = inr (inr (record { done = p .done; mark = q .mark ∙ p .mark; zone = zone-before a b (c .pos) l (q .zone) }))
 
 pub then-edge : (x : Extent) (a b c : Edge) → Only x a b → Only x b c → Only x a c
 then-edge nothing a b c p q = record { rest = q .rest ∙ p .rest; told = stayed-then a b c (p .told) (q .told) }
-then-edge (position ms) a b c p q = record { rest = q .rest ∙ ap (λ (e : Edge). placed e (c .pos) (c .mark)) (p .rest); told = told-then ms a b c (p .told) (q .told) }
+then-edge (position ms) a b c p q =
+    record { rest = q .rest ∙ ap (λ (e : Edge). placed e (c .pos) (c .mark)) (p .rest); told = told-then ms a b c (p .told) (q .told) }
 then-edge (place ms) a b c p q =
-    let d = or-then (a .flags .done) (b .flags .done) (c .flags .done) (ap (λ (e : Edge). e .flags .done) (p .rest)) (ap (λ (e : Edge). e .flags .done) (q .rest)) in
+    let d = or-then (a .flags .done) (b .flags .done) (c .flags .done) (ap (λ (e : Edge). e .flags .done) (p .rest))
+    (ap (λ (e : Edge). e .flags .done) (q .rest)) in
     record {
       rest = q .rest ∙ (λ i. remade (p .rest i) (c .pos) (c .mark) (d i) (p .rest i .flags .neutral) (p .rest i .blue));
       told = told-then ms a b c (p .told) (q .told);
     }
 then-edge (zone ms) a b c p q =
-    let d = or-then (a .flags .done) (b .flags .done) (c .flags .done) (ap (λ (e : Edge). e .flags .done) (p .rest)) (ap (λ (e : Edge). e .flags .done) (q .rest)) in
-    let n = and-then (a .flags .neutral) (b .flags .neutral) (c .flags .neutral) (ap (λ (e : Edge). e .flags .neutral) (p .rest)) (ap (λ (e : Edge). e .flags .neutral) (q .rest)) in
+    let d = or-then (a .flags .done) (b .flags .done) (c .flags .done) (ap (λ (e : Edge). e .flags .done) (p .rest))
+    (ap (λ (e : Edge). e .flags .done) (q .rest)) in
+    let n = and-then (a .flags .neutral) (b .flags .neutral) (c .flags .neutral) (ap (λ (e : Edge). e .flags .neutral) (p .rest))
+    (ap (λ (e : Edge). e .flags .neutral) (q .rest)) in
     let l = ap (λ (e : Edge). e .blue) (p .rest) in
     let z = left-then (a .blue) (b .blue) (c .blue) l (ap (λ (e : Edge). e .blue) (q .rest)) in
     record { rest = q .rest ∙ (λ i. remade (p .rest i) (c .pos) (c .mark) (d i) (n i) (z i)); told = zoned-then ms a b c l (p .told) (q .told) }
@@ -184,7 +191,8 @@ same-link (zone ms) a b p = ap (λ (e : Edge). e .link) (p .rest)
 
 -- ---- edges in their places
 -- one is stored
-set-only : (extent : ℕ → Extent) (l : List Edge) (i k : ℕ) (e : Edge) → Only (extent i) (getD l i emptyEdge) e → Only (extent k) (getD l k emptyEdge) (getD (set l i e) k emptyEdge)
+set-only : (extent : ℕ → Extent) (l : List Edge) (i k : ℕ) (e : Edge) → Only (extent i) (getD l i emptyEdge) e
+    → Only (extent k) (getD l k emptyEdge) (getD (set l i e) k emptyEdge)
 set-only extent [] i k e h = same-edge (extent k) emptyEdge
 set-only extent (x ∷ l) zero zero e h = h
 set-only extent (x ∷ l) zero (suc k) e h = same-edge (extent (suc k)) (getD l k emptyEdge)
@@ -245,4 +253,5 @@ pub call-changes : {A R : Type 0} (Small : A → A → Type 0) (k : ℕ) (old : 
     → ((j : ℕ) → of (refused j) ≡ old) → Small old old → answer done ≡ 0 → (k ≡ 0 → Small old (of done))
     → Changes Small (answer (answered k refused done)) old (of (answered k refused done))
 call-changes Small zero old refused done answer of given same accepted small = record { refused = λ h. absurd (omega (arith, accepted)); only = small refl }
-call-changes Small (suc k) old refused done answer of given same accepted small = record { refused = λ h. given (suc k); only = subst (Small old) (sym (given (suc k))) same }
+call-changes Small (suc k) old refused done answer of given same accepted small =
+    record { refused = λ h. given (suc k); only = subst (Small old) (sym (given (suc k))) same }

@@ -39,7 +39,8 @@ unfolding ends walk
 walk-more next most last zero ix e = rw e
 walk-more next most last (suc n) ix e = go (eqb ix last) (ltb (next ix) most) _ _ _ (walk-more next most last n (next ix)) e
   where
-    go : (a b end : Bool) (more few : List ℕ) → (end ≡ true → more ≡ few) → cond a true (b && end) ≡ true → cond a (ix ∷ []) (ix ∷ more) ≡ cond a (ix ∷ []) (ix ∷ few)
+    go : (a b end : Bool) (more few : List ℕ) → (end ≡ true → more ≡ few) → cond a true (b && end) ≡ true
+        → cond a (ix ∷ []) (ix ∷ more) ≡ cond a (ix ∷ []) (ix ∷ few)
     go true b end more few f h = refl
     go false true end more few f h = ap (λ (l : List ℕ). ix ∷ l) (f h)
     go false false end more few f h = absurd (let z : _≡_ {A = ℕ} 0 1 = cc in omega arith)

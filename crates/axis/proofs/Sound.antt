@@ -63,7 +63,8 @@ unfolding ends
 last-below next n last zero x h e = let q = eqb-true x last e in omega arith
 last-below next n last (suc fuel) x h e = by (λ l q. last-below next n last fuel (next x) l q) (eqb x last) refl e
   where
-    by : (next x < n → ends next n last fuel (next x) ≡ true → last < n) → (b : Bool) → eqb x last ≡ b → cond b true (ltb (next x) n && ends next n last fuel (next x)) ≡ true → last < n
+    by : (next x < n → ends next n last fuel (next x) ≡ true → last < n) → (b : Bool) → eqb x last ≡ b
+        → cond b true (ltb (next x) n && ends next n last fuel (next x)) ≡ true → last < n
     by rest true q e = let r = eqb-true x last q in omega arith
     by rest false q e = rest (ltb-true (next x) n (and-first _ _ e)) (and-second (ltb (next x) n) _ e)
 
@@ -166,7 +167,8 @@ module _ (axis : Axis) (t : Segments) (k : ℕ) where
 
     -- every segment of the edge has a next
     pub sound-led : (i : ℕ) → i < t .len → segmentAt t i .edge ≡ Links.To k → isLinked (segmentAt t i .next) ≡ true
-    sound-led i h e = linked-below (t .len) (segmentAt t i .next) (leads-inside (isOf t k) (ledTo t) (t .len) first last s i h (of-link (segmentAt t i .edge) k e))
+    sound-led i h e =
+        linked-below (t .len) (segmentAt t i .next) (leads-inside (isOf t k) (ledTo t) (t .len) first last s i h (of-link (segmentAt t i .edge) k e))
 
     -- its segments in their order are those that it visits
     pub sound-members : visited (ledTo t) first last ≡ members axis t k

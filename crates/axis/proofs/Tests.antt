@@ -39,7 +39,8 @@ every-more p i h g = rw (add-one, h) g
 pub every-fails : (p : ℕ → Bool) (i n : ℕ) → i < n → p i ≡ false → every p n ≡ false
 unfolding every
 every-fails p i zero h g = absurd (omega arith)
-every-fails p i (suc n) h g = ⊎-elim (λ w. let g′ : p n ≡ false = rw w at g in rw g′ (and-false (every p n))) (λ w. rw (every-fails p i n w g)) (eq-or-lt-of-le (omega arith))
+every-fails p i (suc n) h g =
+    ⊎-elim (λ w. let g′ : p n ≡ false = rw w at g in rw g′ (and-false (every p n))) (λ w. rw (every-fails p i n w g)) (eq-or-lt-of-le (omega arith))
 
 pub every-at : (p : ℕ → Bool) (i n : ℕ) → every p n ≡ true → i < n → p i ≡ true
 unfolding every

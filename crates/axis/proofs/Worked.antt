@@ -92,7 +92,14 @@ member next = record {
 }
 
 abbrev edges : Axis
-edges = record { dim = Dimensions.Vertical; «major_dir» = Directions.Right; edges = changed emptyEdge (pos 0) Marks.Nothing (emptyEdge .flags) Blues.None Links.None Links.None 1 ∷ []; len = 1 }
+edges =
+    record {
+      dim = Dimensions.Vertical;
+      «major_dir» = Directions.Right;
+      edges = changed emptyEdge (pos 0) Marks.Nothing (emptyEdge .flags) Blues.None
+          Links.None Links.None 1 ∷ [];
+      len = 1;
+    }
 
 abbrev leading : Link → Segments
 leading next = record { segments = member next ∷ member (Links.To 0) ∷ []; len = 2 }

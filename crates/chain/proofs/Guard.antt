@@ -8,13 +8,13 @@ use Rattle.axis.specs.declared.edge.Axis.{Axis}
 use Rattle.axis.specs.declared.kinds.Group.{Group}
 use Rattle.axis.specs.declared.segment.Segments.{Segments}
 use Rattle.fixed.specs.declared.width.WidthRule.{WidthRule}
-use Rattle.building.specs.declared.numbers.Thresholds.{Thresholds}
-use Rattle.building.specs.Building.{computeEdges}
-use Rattle.building.proofs.Handed as Building
+use Rattle.build.specs.declared.numbers.Thresholds.{Thresholds}
+use Rattle.build.specs.Building.{computeEdges}
+use Rattle.build.proofs.Handed as Building
 use Rattle.gaps.specs.Gaps.{isDone, lostGaps, EdgesRise, SameOpos, KeepsOrder}
 use Rattle.gaps.proofs.Order as Order
-use Rattle.joined.specs.Joined.{alignBluesAndStems}
-use Rattle.joined.proofs.Changed as Joined
+use Rattle.zones_stems.specs.Joined.{alignBluesAndStems}
+use Rattle.zones_stems.proofs.Changed as Joined
 
 -- where the guard finds nothing at width 0, done edges are in order
 abbrev pub Guarded : Axis → Type 0
@@ -34,4 +34,5 @@ module _ (t : Segments) (old : Axis) (group : Group) (ttb : Bool) (scale : ℤ) 
   pub chain-guarded : (zoned : Axis) → SameOpos (computeEdges t old group ttb scale by .axis) zoned → (adjust : Bool) (rule : WidthRule) (xs : List ℤ)
       → Guarded (alignBluesAndStems zoned group adjust false rule xs .axis)
   chain-guarded zoned s adjust rule xs =
-      guarded _ (Order.same-opos _ zoned _ s (Order.pass-keeps _ zoned _ (Joined.changed zoned group adjust false rule xs {r = alignBluesAndStems zoned group adjust false rule xs} refl .only)))
+      guarded _ (Order.same-opos _ zoned _ s (Order.pass-keeps _ zoned _
+      (Joined.changed zoned group adjust false rule xs {r = alignBluesAndStems zoned group adjust false rule xs} refl .only)))

@@ -1,4 +1,5 @@
--- What a call hands back with answer 0 is accepted by the calls behind it, whose own parameters are right: linking, building, blue zones, stems, the two in one call, and the others beside; and what mending hands back.
+-- What a call hands back with answer 0 is accepted by the calls behind it, whose own parameters are right: linking, building, blue zones, stems, the two in one
+-- call, and the others beside; and what mending hands back.
 use mathlib.Core.Path.{_≡_, refl, sym, ap, subst, _∙_}
 use mathlib.Core.Bool.{Bool, true, false, cond}
 use mathlib.Core.List.{List}
@@ -18,23 +19,23 @@ use Rattle.axis.specs.Limits.{mostEdges}
 use Rattle.mend.specs.Altered.{alterations}
 use Rattle.mend.specs.Mend.{Mended, mendingTests, mend}
 use Rattle.mend.specs.Mended.{mendedAxis, mendedSegments}
-use Rattle.mend.proofs.Outcomes as Mending
-use Rattle.turning.specs.Turning.{turningTests}
-use Rattle.linking.specs.Linking.{linkSegmentsCjk}
-use Rattle.linking.specs.Linking as L
-use Rattle.linking.proofs.Handed as Linking
-use Rattle.building.specs.declared.numbers.Thresholds.{Thresholds}
-use Rattle.building.specs.Building.{numbersHold, productsHold, isCjk, rulesOf, lastState, computeEdges}
-use Rattle.building.proofs.Handed as Building
-use Rattle.fitting.proofs.Handed as Fitting
-use Rattle.blues.specs.Zones.{alignEdgesToBlues}
-use Rattle.blues.proofs.Handed as Blues
-use Rattle.stem_cjk.proofs.Handed as Cjk
+use Rattle.mend.proofs.Determined as Mending
+use Rattle.turn.specs.Turning.{turningTests}
+use Rattle.link.specs.Linking.{linkSegmentsCjk}
+use Rattle.link.specs.Linking as L
+use Rattle.link.proofs.Handed as Linking
+use Rattle.build.specs.declared.numbers.Thresholds.{Thresholds}
+use Rattle.build.specs.Building.{numbersHold, productsHold, isCjk, rulesOf, lastState, computeEdges}
+use Rattle.build.proofs.Handed as Building
+use Rattle.place.proofs.Handed as Fitting
+use Rattle.zones.specs.Call.{alignEdgesToBlues}
+use Rattle.zones.proofs.Handed as Blues
+use Rattle.stems_cjk.proofs.Handed as Cjk
 use Rattle.stems.specs.Stems.{alignStemEdges}
 use Rattle.stems.proofs.Handed as Stems
-use Rattle.joined.proofs.Handed as Joined
+use Rattle.zones_stems.proofs.Handed as Joined
 use Rattle.lowercase_m.proofs.Handed as M
-use Rattle.gaps.proofs.Outcomes as Gaps
+use Rattle.gaps.proofs.Determined as Gaps
 use Rattle.chain.specs.Accepts.{Accepts}
 
 -- ---- edges that are accepted
@@ -71,7 +72,8 @@ module _ (t : Segments) (dir : Direction) (upem scale : ℤ) (e : linkSegmentsCj
       (Building.accepts linked old group false at by (Linking.handed-on t dir upem scale e c) few refl n p)
 
   -- and linking accepts
-  pub linked-linked : (major : Direction) (em at : ℤ) → L.numbersHold em at ≡ true → linkSegmentsCjk (linkSegmentsCjk t dir upem scale .segments) major em at .answer ≡ 0
+  pub linked-linked : (major : Direction) (em at : ℤ) → L.numbersHold em at ≡ true
+      → linkSegmentsCjk (linkSegmentsCjk t dir upem scale .segments) major em at .answer ≡ 0
   linked-linked major em at n = Linking.accepts linked major em at (Linking.handed-on t dir upem scale e c) (Linking.nexts-handed-on t dir upem scale e) n
 
 -- ---- building
@@ -81,7 +83,8 @@ module _ (t : Segments) (old : Axis) (group : Group) (ttb : Bool) (scale : ℤ) 
   built-accepted = accepts _ (Building.edges-handed-on t old group ttb scale by e)
 
   -- and its segments linking
-  pub built-linked : (major : Direction) (em at : ℤ) → L.numbersHold em at ≡ true → linkSegmentsCjk (computeEdges t old group ttb scale by .segments) major em at .answer ≡ 0
+  pub built-linked : (major : Direction) (em at : ℤ) → L.numbersHold em at ≡ true
+      → linkSegmentsCjk (computeEdges t old group ttb scale by .segments) major em at .answer ≡ 0
   built-linked major em at n =
       Linking.accepts _ major em at (Building.segments-handed-on t old group ttb scale by e) (Building.nexts-handed-on t old group ttb scale by e) n
 
@@ -102,7 +105,14 @@ module _ (axis : Axis) (t : Segments) (w : TypedAxis axis) (v : Typed t) (e : me
   none-refused = Mending.accepted axis t e
 
   abbrev handed : Mended
-  handed = record { answer = 0; axis = mendedAxis axis t; segments = mendedSegments axis t; altered = alterations axis t (mendedAxis axis t) (mendedSegments axis t) }
+  handed =
+      record {
+        answer = 0;
+        axis = mendedAxis axis t;
+        segments = mendedSegments axis t;
+        altered = alterations axis t (mendedAxis axis t)
+            (mendedSegments axis t);
+      }
 
   outcome : mend axis t ≡ handed
   outcome = Mending.when-accepted axis t none-refused

@@ -22,7 +22,7 @@ use Rattle.axis.specs.Limits.{mostEdges, mostSegments, mostUnits, mostPos}
 use Rattle.axis.specs.Refusals.{within, blueHolds, everyEdge, everySegment, edgeNumbers, edgesNumbers, edgesInRange}
 use Rattle.axis.proofs.Tests.{every-at}
 use Rattle.mend.proofs.Plan.{every-same}
-use Rattle.building.specs.Building.{scaledHolds, productsHold}
+use Rattle.build.specs.Building.{scaledHolds, productsHold}
 
 -- document 01's limit of `opos`, `fitted` and building's product before request #109
 abbrev pub oldUnits : ℕ
@@ -70,7 +70,8 @@ edge-same e h =
     λ k. (within-more (e .opos) o ∙ sym o) k && (within mostPos (e .pos) && b k)
 
 -- a call's refusal is that of its tests with the old limit, whatever they are
-pub old-edges : (axis : Axis) (tests : Test → List Test) → everyEdge isOld axis ≡ true → refusal (tests (edgesInRange axis)) ≡ refusal (tests (edgesInRangeAt oldUnits axis))
+pub old-edges : (axis : Axis) (tests : Test → List Test) → everyEdge isOld axis ≡ true
+    → refusal (tests (edgesInRange axis)) ≡ refusal (tests (edgesInRangeAt oldUnits axis))
 unfolding edgesNumbers
 old-edges axis tests h =
     ap (λ (b : Bool). refusal (tests (outOfRange unless b)))
@@ -78,7 +79,8 @@ old-edges axis tests h =
     (λ i g. edge-same (edgeAt axis i) (every-at (λ (j : ℕ). isOld (edgeAt axis j)) i (min (axis .len) mostEdges) h g)))
 
 -- ---- building's products
-pub old-products : (t : Segments) (scale : ℤ) (tests : Bool → List Test) → productsHoldAt oldUnits t scale ≡ true → refusal (tests (productsHold t scale)) ≡ refusal (tests (productsHoldAt oldUnits t scale))
+pub old-products : (t : Segments) (scale : ℤ) (tests : Bool → List Test) → productsHoldAt oldUnits t scale ≡ true
+    → refusal (tests (productsHold t scale)) ≡ refusal (tests (productsHoldAt oldUnits t scale))
 unfolding productsHold scaledHolds
 old-products t scale tests h =
     ap (λ (b : Bool). refusal (tests b))

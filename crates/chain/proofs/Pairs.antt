@@ -11,8 +11,21 @@ use Rattle.signed.proofs.Choices.{either-way}
 use Rattle.signed.proofs.Operations.{quot-up, quot-dn}
 use Rattle.signed.proofs.Signed.{signed, one-zero, add-law, sub-law, mul-up, mul-dn, same}
 use Rattle.fixed.specs.Pixel.{pixFloor, pixRound}
-use Rattle.stem_latin.specs.Latin.{centreOf, lowerOffset, upperOffset, lowerCentre, upperCentre, nearerCentre, thinCentre, thinFirst, thinSecond, wideFirst, anchoredFirst, anchoredSecond}
-use Rattle.stem_latin.proofs.Chosen.{first-thin, second-thin}
+use Rattle.stems_latin.specs.Latin.{
+  centreOf,
+  lowerOffset,
+  upperOffset,
+  lowerCentre,
+  upperCentre,
+  nearerCentre,
+  thinCentre,
+  thinFirst,
+  thinSecond,
+  wideFirst,
+  anchoredFirst,
+  anchoredSecond,
+}
+use Rattle.stems_latin.proofs.Chosen.{first-thin, second-thin}
 use Rattle.gaps.specs.Gaps.{centre, rowFrom, rows, gone}
 use Rattle.gaps.proofs.Losing.{row-stays}
 use Rattle.gaps.proofs.Rows.{pixel-row}
@@ -63,13 +76,18 @@ thin-row : (l t w : ℤ) → pos 1 <ℤ w → OnCentre t → gone l (t -ℤ quot
 thin-row l t w g o =
     let q = quotZ w (pos 2) in
     let h = halves t w g in
-    row-stays l (t -ℤ q) (t +ℤ q) (o .row) (record { not-below = subst (λ (z : ℤ). (t -ℤ q) ≤ℤ z) (o .is) (h .0); below = subst (λ (z : ℤ). z <ℤ (t +ℤ q)) (o .is) (h .1) })
+    row-stays l (t -ℤ q) (t +ℤ q) (o .row) (record {
+      not-below = subst (λ (z : ℤ). (t -ℤ q) ≤ℤ z) (o .is) (h .0);
+      below = subst (λ (z : ℤ). z <ℤ (t +ℤ q))
+          (o .is) (h .1);
+    })
 
 -- and one of more than a pixel has one wherever it is
 broad-row : (l t w : ℤ) → leZ w (pos 64) ≡ false → gone l (t -ℤ quotZ w (pos 2)) (t +ℤ quotZ w (pos 2)) ≡ false
 broad-row l t w h =
     let q = quotZ w (pos 2) in
-    row-stays l (t -ℤ q) (t +ℤ q) _ (pixel-row (t -ℤ q) (t +ℤ q) (omega (arith, signed, h, one-zero w, sub-law (t +ℤ q) (t -ℤ q), sub-law t q, add-law t q, quot-up w 2, quot-dn w 2)))
+    row-stays l (t -ℤ q) (t +ℤ q) _ (pixel-row (t -ℤ q) (t +ℤ q)
+    (omega (arith, signed, h, one-zero w, sub-law (t +ℤ q) (t -ℤ q), sub-law t q, add-law t q, quot-up w 2, quot-dn w 2)))
 
 wide-row : (l p w : ℤ) → ltZ w (pos 96) ≡ false → gone l p (p +ℤ w) ≡ false
 wide-row l p w h = row-stays l p (p +ℤ w) _ (pixel-row p (p +ℤ w) (omega (arith, signed, h, sub-law (p +ℤ w) p, add-law p w)))
@@ -82,7 +100,8 @@ wide-is start l w h = rw h
 pub stem-kept : (start l w : ℤ) → pos 1 <ℤ w → stemGone start l w ≡ false
 stem-kept start l w g = by (ltZ w (pos 96)) refl (leZ w (pos 64)) refl
   where
-    thin : ltZ w (pos 96) ≡ true → stemGone start l w ≡ gone l (thinCentre (centreOf start l) w -ℤ quotZ w (pos 2)) (thinCentre (centreOf start l) w +ℤ quotZ w (pos 2))
+    thin : ltZ w (pos 96) ≡ true → stemGone start l w ≡ gone l (thinCentre (centreOf start l) w -ℤ quotZ w (pos 2))
+        (thinCentre (centreOf start l) w +ℤ quotZ w (pos 2))
     thin h = by₂ (gone l) refl (first-thin start l w h) (second-thin start l w h)
 
     by : (t : Bool) → ltZ w (pos 96) ≡ t → (u : Bool) → leZ w (pos 64) ≡ u → stemGone start l w ≡ false

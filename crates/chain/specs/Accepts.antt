@@ -13,13 +13,13 @@ use Rattle.axis.specs.declared.kinds.Link.{Link}
 use Rattle.axis.specs.Accepted.{Below}
 use Rattle.axis.specs.Limits.{mostUnits, mostPassed}
 use Rattle.axis.specs.Refusals.{inside, within}
-use Rattle.placing.specs.declared.adjust.LinkDir.{LinkDir}
-use Rattle.placing.specs.Placing.{bothBelow}
-use Rattle.fitting.specs.Fitting.{alignLinkedEdge, alignSerifEdge, adjustLink, latinRemainingBounds}
-use Rattle.blues.specs.Zones.{alignEdgesToBlues}
-use Rattle.stem_cjk.specs.Cjk.{hintNormalStemCjk}
+use Rattle.place.specs.declared.adjust.LinkDir.{LinkDir}
+use Rattle.place.specs.Placing.{bothBelow}
+use Rattle.place.specs.Fitting.{alignLinkedEdge, alignSerifEdge, adjustLink, latinRemainingBounds}
+use Rattle.zones.specs.Call.{alignEdgesToBlues}
+use Rattle.stems_cjk.specs.Hint.{hintNormalStemCjk}
 use Rattle.stems.specs.Stems.{alignStemEdges}
-use Rattle.joined.specs.Joined.{zonesHold, alignBluesAndStems}
+use Rattle.zones_stems.specs.Joined.{zonesHold, alignBluesAndStems}
 use Rattle.lowercase_m.specs.M.{countHolds, hintLowercaseM}
 use Rattle.gaps.specs.Gaps.{lostGaps}
 

@@ -23,42 +23,54 @@ use Rattle.axis.specs.Ring.{times}
 use Rattle.axis.specs.Segment.{segmentAt}
 use Rattle.axis.proofs.Acceptance.{below-none, nexts-below}
 use Rattle.axis.proofs.Accepting.{edges-within, segments-are-within}
-use Rattle.linking_rounds.specs.Rounds.{linked}
-use Rattle.linking.specs.declared.link.Linked.{Linked}
-use Rattle.linking.specs.Linking.{thresholdsOf, linkingTests, beside, linkSegmentsCjk}
-use Rattle.linking.proofs.Calls.{accepted}
-use Rattle.linking.proofs.Handed as LinkingHanded
-use Rattle.linking.proofs.Outcomes.{only-linked}
-use Rattle.joining.specs.declared.rules.Rules.{Rules}
-use Rattle.joining.specs.Joining.{lastOf, edgeOf, State, group, shown}
-use Rattle.joining.proofs.Good.{Good, members-below}
-use Rattle.joining.proofs.Members.{times-head, last-in}
-use Rattle.joining.proofs.Steps.{of-len, of-edge}
-use Rattle.properties.proofs.Kept.{properties-kept}
-use Rattle.building.specs.declared.build.Built.{Built}
-use Rattle.building.specs.declared.numbers.Thresholds.{Thresholds}
-use Rattle.building.specs.Building.{isCjk, rulesOf, lastState, builtSegments, builtEdges}
-use Rattle.building.proofs.Handed as BuildingHanded
-use Rattle.building.proofs.Handing.{ready, built-rows}
-use Rattle.building.proofs.Joins.{last-good}
+use Rattle.link.specs.Rounds.{linked}
+use Rattle.link.specs.declared.linked.Linked.{Linked}
+use Rattle.link.specs.Linking.{thresholdsOf, linkingTests, beside, linkSegmentsCjk}
+use Rattle.link.proofs.Calls.{accepted}
+use Rattle.link.proofs.Handed as LinkingHanded
+use Rattle.link.proofs.Determined.{only-linked}
+use Rattle.build_join.specs.declared.rules.Rules.{Rules}
+use Rattle.build_join.specs.Joining.{lastOf, edgeOf, State, group, shown}
+use Rattle.build_join.proofs.Good.{Good, members-below}
+use Rattle.build_join.proofs.Members.{times-head, last-in}
+use Rattle.build_join.proofs.Steps.{of-len, of-edge}
+use Rattle.build_properties.proofs.Kept.{properties-kept}
+use Rattle.build.specs.declared.built.Built.{Built}
+use Rattle.build.specs.declared.numbers.Thresholds.{Thresholds}
+use Rattle.build.specs.Building.{isCjk, rulesOf, lastState, builtSegments, builtEdges}
+use Rattle.build.proofs.Handed as BuildingHanded
+use Rattle.build.proofs.Handing.{ready, built-rows}
+use Rattle.build.proofs.Joins.{last-good}
 use Rattle.words.specs.Field.{choiceOf, dimensionOf, directionOf, groupOf}
 use Rattle.words.specs.Word.{joined}
 use Rattle.words.specs.Edge.{edgeSize, tableSize, edgeWordsAt}
-use Rattle.words.specs.Segment.{posPlace, deltaPlace, minPlace, maxPlace, heightPlace, firstPlace, lastPlace, segmentsIn, flatSegments, segmentWords, segmentsOver}
+use Rattle.words.specs.Segment.{
+  posPlace,
+  deltaPlace,
+  minPlace,
+  maxPlace,
+  heightPlace,
+  firstPlace,
+  lastPlace,
+  segmentsIn,
+  flatSegments,
+  segmentWords,
+  segmentsOver,
+}
 use Rattle.words.proofs.Edges.{edge-lengths}
 use Rattle.words.proofs.Places.{joined-at, edge-read}
 use Rattle.words.proofs.Tables.{joined-length}
 use Rattle.words.proofs.Typed.{flat-typed}
 use Rattle.words.proofs.Writing.{written-front}
-use Rattle.shape.specs.Shape.{isIn, direction, edgesShown}
-use Rattle.lent.specs.Lent.{choices, edgesOf}
-use Rattle.edges_in.proofs.Wholes.{edges-len}
-use Rattle.segments_in.proofs.Wholes.{segments-len}
-use Rattle.building_in.proofs.Back as Back
-use Rattle.flat_segments.specs.Link.{linkingLinked, LinkingLent}
-use Rattle.flat_segments.specs.Build as Build
-use Rattle.flat_segments.proofs.Kept.{computed-same}
-use Rattle.flat_segments.proofs.Room.{room-kept}
+use Rattle.words_shape.specs.Shape.{isIn, direction, edgesShown}
+use Rattle.words_call.specs.Lent.{choices, edgesOf}
+use Rattle.words_edge.proofs.Wholes.{edges-len}
+use Rattle.words_segment.proofs.Wholes.{segments-len}
+use Rattle.build_words.proofs.Back as Back
+use Rattle.link_words.specs.Lent.{linkingLinked, LinkingLent}
+use Rattle.build_words.specs.Lent as Build
+use Rattle.build_words.proofs.Kept.{computed-same}
+use Rattle.build_words.proofs.Room.{room-kept}
 use Rattle.chain_words.specs.Left.{SegmentsLeft, RoomLeft}
 use Rattle.chain_words.proofs.Shown.{EdgeFits, SegmentFits, edges-are-shown}
 use Rattle.chain_words.proofs.Edges.{few-below, fitted-word}
@@ -119,7 +131,14 @@ module _ (ws : List ℤ) (major upem scale : ℤ) {now : List ℤ} (l : LinkingL
 group-typed : (t : Segments) (scale : ℤ) (g : List ℕ) → ((x : ℕ) → 0 < times x g → x < 65536) → Typed t → 0 < length g → TypedEdge (edgeOf t scale g)
 group-typed t scale [] b T h = absurd (omega arith)
 group-typed t scale (m ∷ ms) b T h =
-    record { fpos = T .segment m .pos; link = below-none 65536; serif = below-none 65536; first = b m (times-head m ms); last = b (lastOf m ms) (last-in (m ∷ ms) h) }
+    record {
+      fpos = T .segment m .pos;
+      link = below-none 65536;
+      serif = below-none 65536;
+      first = b m (times-head m ms);
+      last = b (lastOf m ms)
+          (last-in (m ∷ ms) h);
+    }
 
 module _ (ws room : List ℤ) (dim major grp ttb scale : ℤ) (by : Thresholds) (count : ℤ) {now edges : List ℤ} {n : ℤ}
     (l : Build.BuiltLent ws room dim major grp ttb scale by count 0 (now, (edges, n))) where
@@ -175,10 +194,12 @@ module _ (ws room : List ℤ) (dim major grp ttb scale : ℤ) (by : Thresholds) 
         serif = few-below (built .segments .len) _ few (x .serif);
         first = subst (λ (k : ℕ). k < 65536) (sym (ap up (same firstPlace refl))) (f .first);
         last = subst (λ (k : ℕ). k < 65536) (sym (ap up (same lastPlace refl))) (f .last);
-        edge = subst (Below 65536) (sym (ap (λ (b : Built). segmentAt (b .segments) i .edge) out)) (few-below (s .count) _ (omega (arith, G .room)) (row .edge));
+        edge =
+            subst (Below 65536) (sym (ap (λ (b : Built). segmentAt (b .segments) i .edge) out)) (few-below (s .count) _ (omega (arith, G .room)) (row .edge));
         next =
             few-below (built .segments .len) _ few
-            (nexts-below (built .segments) i (N .few) (BuildingHanded.nexts-handed-on t old (groupOf grp) (choiceOf ttb) scale by (built-done .answered)) (omega (arith, q, long)));
+            (nexts-below (built .segments) i (N .few) (BuildingHanded.nexts-handed-on t old (groupOf grp) (choiceOf ttb) scale by (built-done .answered))
+            (omega (arith, q, long)));
       }
 
   -- `khs_compute_edges`: its segments
@@ -207,7 +228,8 @@ module _ (ws room : List ℤ) (dim major grp ttb scale : ℤ) (by : Thresholds) 
       let g = K .edge k (omega (arith, u, c)) in
       let e = of-edge t rules s (j .full) (j .axis) (j .next) refl k in
       let T = group-typed t (rules .scale) (group s k)
-      (λ (x : ℕ) (p : 0 < times x (group s k)). omega (arith, members-below t rules (not (rules .cjk)) s (t .len) k (W .few) G u x p, W .few)) (flat-typed ws) (G .used k u) in
+      (λ (x : ℕ) (p : 0 < times x (group s k)). omega (arith, members-below t rules (not (rules .cjk)) s (t .len) k (W .few) G u x p, W .few)) (flat-typed ws)
+      (G .used k u) in
       let w = A .edge k h in
       let few : axis .len ≤ 65536 = omega (arith, A .few) in
       let opos = w .opos in

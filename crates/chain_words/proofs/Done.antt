@@ -10,21 +10,21 @@ use Rattle.axis.specs.declared.kinds.Dimension.{Dimension}
 use Rattle.axis.specs.declared.kinds.Direction.the-variants as Directions
 use Rattle.axis.specs.declared.edge.Axis.{Axis}
 use Rattle.axis.specs.Edge.{edgeAt}
-use Rattle.blues.specs.Zones.{alignEdgesToBlues}
-use Rattle.blues.proofs.Changed as Blues
-use Rattle.stems.specs.declared.pass.Stems.{Stems}
+use Rattle.zones.specs.Call.{alignEdgesToBlues}
+use Rattle.zones.proofs.Changed as Blues
+use Rattle.stems.specs.declared.outcome.Stems.{Stems}
 use Rattle.stems.proofs.Changed as Stems
 use Rattle.stems.proofs.Done.{none-passed-over}
-use Rattle.joined.proofs.Changed as Joined
-use Rattle.joined.proofs.Rows as Rows
+use Rattle.zones_stems.proofs.Changed as Joined
+use Rattle.zones_stems.proofs.Rows as Rows
 use Rattle.words.specs.Field.{choiceOf, dimensionOf, groupOf, ruleOf}
 use Rattle.words.specs.Edge.{edgesIn, flatAxis}
-use Rattle.shape.specs.Shape.{choice}
-use Rattle.lent.specs.Lent.{bothIn, choices, namedAnchor}
-use Rattle.edges_in.proofs.Reading.{flags-in}
-use Rattle.edges_in.proofs.Wholes.{shown-whole, len-in, axis-long}
-use Rattle.flat_stems.specs.Stems.{stemsAligned, StemsLent}
-use Rattle.flat_joined.specs.Joined.{joinedAligned, JoinedLent}
+use Rattle.words_shape.specs.Shape.{choice}
+use Rattle.words_call.specs.Lent.{bothIn, choices, namedAnchor}
+use Rattle.words_edge.proofs.Reading.{flags-in}
+use Rattle.words_edge.proofs.Wholes.{shown-whole, len-in, axis-long}
+use Rattle.stems_words.specs.Lent.{stemsAligned, StemsLent}
+use Rattle.zones_stems_words.specs.Lent.{joinedAligned, JoinedLent}
 use Rattle.chain_words.specs.Left.{EdgesLeft, EdgeDone}
 use Rattle.chain_words.proofs.Edges.{read-on, flat-dim, flat-major, call-done, as-many}
 use Rattle.chain_words.proofs.Fitted.{stems-left, joined-left}
@@ -34,11 +34,13 @@ count-back : (n : ℕ) → pos n ≡ pos 0 → n ≡ 0
 count-back n e = cc
 
 -- words that are read as an axis whose edge is done
-word-done : (ws now : List ℤ) (d : Dimension) (axis : Axis) (i : ℕ) → EdgesLeft ws now axis → edgesIn ws ≤ 128 → i < edgesIn ws → flatAxis now d Directions.None ≡ axis
+word-done : (ws now : List ℤ) (d : Dimension) (axis : Axis) (i : ℕ) → EdgesLeft ws now axis → edgesIn ws ≤ 128 → i < edgesIn ws
+    → flatAxis now d Directions.None ≡ axis
     → edgeAt axis i .flags .done ≡ true → EdgeDone now i
 word-done ws now d axis i l few h read done =
     let m = as-many l in
-    sym (ap (λ f. f .done) (flags-in now d i (shown-whole now (l .shown) (omega (arith, m))) (omega (arith, m)))) ∙ ap (λ (x : Axis). edgeAt x i .flags .done) read ∙ done
+    sym (ap (λ f. f .done) (flags-in now d i (shown-whole now (l .shown) (omega (arith, m))) (omega (arith, m))))
+    ∙ ap (λ (x : Axis). edgeAt x i .flags .done) read ∙ done
 
 -- `khs_align_stem_edges`
 pub all-done : (ws : List ℤ) (dim group adjust ttb anchor rule : ℤ) (standards : List ℤ) (count found : ℤ) {now : List ℤ} {a : ℤ}
@@ -52,7 +54,8 @@ all-done ws dim group adjust ttb anchor rule standards count found {now} {a} l i
     let none = count-back (stemsAligned ws dim group adjust ttb anchor rule standards .count) (sym (ap (λ (p : List ℤ × (ℤ × ℤ)). p .1 .0) (c .held))) in
     word-done ws now d (stemsAligned ws dim group adjust ttb anchor rule standards .axis) i left (c .whole .few) h
     (read-on d Directions.None left (only .dim ∙ flat-dim ws d Directions.None) (only .major ∙ flat-major ws d Directions.None))
-    (none-passed-over A (groupOf group) (choiceOf adjust) (choiceOf ttb) (namedAnchor anchor) (ruleOf rule) standards (omega (arith, len-in ws d, axis-long ws d, c .whole .few)) (c .answered) none i
+    (none-passed-over A (groupOf group) (choiceOf adjust) (choiceOf ttb) (namedAnchor anchor) (ruleOf rule) standards
+    (omega (arith, len-in ws d, axis-long ws d, c .whole .few)) (c .answered) none i
     (omega (arith, h, len-in ws d)))
 
 -- `khs_align_blues_and_stems`
@@ -73,5 +76,6 @@ joined-all-done ws dim group adjust ttb rule standards count found {now} {a} l i
     word-done ws now d (joinedAligned ws dim group adjust ttb rule standards .axis) i left (c .whole .few) h
     (read-on d Directions.None left (only .dim ∙ flat-dim ws d Directions.None) (only .major ∙ flat-major ws d Directions.None))
     (ap (λ (s : Stems). edgeAt (s .axis) i .flags .done) row
-    ∙ none-passed-over (z .axis) (groupOf group) (choiceOf adjust) (choiceOf ttb) (z .anchor) (ruleOf rule) standards long (ap (λ (s : Stems). s .answer) (sym row) ∙ c .answered)
+    ∙ none-passed-over (z .axis) (groupOf group) (choiceOf adjust) (choiceOf ttb) (z .anchor) (ruleOf rule) standards long
+    (ap (λ (s : Stems). s .answer) (sym row) ∙ c .answered)
     (ap (λ (s : Stems). s .count) (sym row) ∙ none) i (omega (arith, h, zones .len, len-in ws d)))

@@ -31,15 +31,15 @@ use Rattle.words.specs.Edge.{edgeSize, edgesIn, edgeFrom, edgeInRun, axisRun, f
 use Rattle.words.proofs.Edges.{edge-lengths}
 use Rattle.words.proofs.Places.{joined-at}
 use Rattle.words.proofs.Tables.{firsts-length, joined-length}
-use Rattle.shape.specs.Shape.{edgesShown}
-use Rattle.lent.specs.Lent.{Lent, edgesFront}
-use Rattle.lent.proofs.Kept.{passed}
-use Rattle.lent.proofs.Whole.{edges-long}
-use Rattle.edges_in.specs.Whole.{Whole, axisIn}
-use Rattle.edges_in.proofs.Wholes.{shown-whole, len-in, axis-long, edge-in}
-use Rattle.words_record.proofs.Layouts.{edgeCodec}
-use Rattle.words_record.proofs.Wholes.{over}
-use Rattle.building_in.proofs.Back.{past-end as behind-all, axis-back}
+use Rattle.words_shape.specs.Shape.{edgesShown}
+use Rattle.words_call.specs.Lent.{Lent, edgesFront}
+use Rattle.words_call.proofs.Kept.{passed}
+use Rattle.words_call.proofs.Whole.{edges-long}
+use Rattle.words_edge.specs.Whole.{Whole, axisIn}
+use Rattle.words_edge.proofs.Wholes.{shown-whole, len-in, axis-long, edge-in}
+use Rattle.words.proofs.Layouts.{edgeCodec}
+use Rattle.words.proofs.Wholes.{over}
+use Rattle.build_words.proofs.Back.{past-end as behind-all, axis-back}
 use Rattle.chain_words.specs.Left.{EdgesLeft}
 use Rattle.chain_words.proofs.Answers.{both}
 use Rattle.chain_words.proofs.Shown.{Word, EdgeFits, edges-are-shown}
@@ -53,7 +53,13 @@ pub record Fits (n : ℕ) (axis : Axis) : Type 0 where
   pub empty : (i : ℕ) → n ≤ i → edgeAt axis i ≡ emptyEdge
 
 -- the axis of words on another major direction
-other-major : (ws : List ℤ) (d : Dimension) (m : Direction) → flatAxis ws d m ≡ record { dim = d; «major_dir» = m; edges = axisIn ws d .edges; len = axisIn ws d .len }
+other-major : (ws : List ℤ) (d : Dimension) (m : Direction) → flatAxis ws d m ≡ record {
+  dim =
+      d;
+  «major_dir» = m;
+  edges = axisIn ws d .edges;
+  len = axisIn ws d .len;
+}
 unfolding flatAxis axisRun
 other-major ws d m = refl
 
@@ -66,11 +72,14 @@ module _ (n : ℕ) (axis : Axis) (few : n ≤ mostEdges) (f : Fits n axis) where
   words-long = joined-length (edgeWordsAt axis) edgeSize (edge-lengths axis) n
 
   pub words-shown : edgesShown words ≡ true
-  words-shown = edges-are-shown words n (edgeAt axis) words-long (f .edge) (λ (i j : ℕ) (h : i < n) (b : j < edgeSize). joined-at (edgeWordsAt axis) edgeSize (edge-lengths axis) n i j h b)
+  words-shown =
+      edges-are-shown words n (edgeAt axis) words-long (f .edge)
+      (λ (i j : ℕ) (h : i < n) (b : j < edgeSize). joined-at (edgeWordsAt axis) edgeSize (edge-lengths axis) n i j h b)
 
   pub words-read : flatAxis words (axis .dim) (axis .«major_dir») ≡ axis
   words-read =
-      let back = axis-back axis n few (λ (i : ℕ) (h : i < n). f .edge i h .typed) (f .whole) (λ (i : ℕ) (h : n ≤ i) (b : i < mostEdges). f .empty i h) (axis .dim) in
+      let back = axis-back axis n few (λ (i : ℕ) (h : i < n). f .edge i h .typed) (f .whole) (λ (i : ℕ) (h : n ≤ i) (b : i < mostEdges). f .empty i h)
+      (axis .dim) in
       other-major words (axis .dim) (axis .«major_dir»)
       ∙ (λ k. record { dim = axis .dim; «major_dir» = axis .«major_dir»; edges = back k .edges; len = back k .len })
       ∙ ap (λ (m : ℕ). record { dim = axis .dim; «major_dir» = axis .«major_dir»; edges = axis .edges; len = m }) (sym (f .len))
@@ -91,7 +100,8 @@ edges-left ws axis w f =
     }
 
 -- what is left, read on the dimension and the major direction of the axis
-pub read-on : {ws now : List ℤ} {axis : Axis} (d : Dimension) (m : Direction) → EdgesLeft ws now axis → axis .dim ≡ d → axis .«major_dir» ≡ m → flatAxis now d m ≡ axis
+pub read-on : {ws now : List ℤ} {axis : Axis} (d : Dimension) (m : Direction) → EdgesLeft ws now axis → axis .dim ≡ d → axis .«major_dir» ≡ m
+    → flatAxis now d m ≡ axis
 read-on {ws} {now} d m l p q = (λ k. flatAxis now (sym p k) (sym q k)) ∙ l .read
 
 -- as many edges
@@ -126,7 +136,8 @@ from-typed ws at = record { fpos = short-of _; link = link-of _; serif = link-of
 -- and stays so
 only-typed : (x : Extent) (a b : Edge) → Only x a b → TypedEdge a → TypedEdge b
 only-typed nothing a b p t = subst TypedEdge (sym (p .rest)) t
-only-typed (position ms) a b p t = subst TypedEdge (sym (p .rest)) (record { fpos = t .fpos; link = t .link; serif = t .serif; first = t .first; last = t .last })
+only-typed (position ms) a b p t =
+    subst TypedEdge (sym (p .rest)) (record { fpos = t .fpos; link = t .link; serif = t .serif; first = t .first; last = t .last })
 only-typed (place ms) a b p t = subst TypedEdge (sym (p .rest)) (record { fpos = t .fpos; link = t .link; serif = t .serif; first = t .first; last = t .last })
 only-typed (zone ms) a b p t = subst TypedEdge (sym (p .rest)) (record { fpos = t .fpos; link = t .link; serif = t .serif; first = t .first; last = t .last })
 
@@ -162,7 +173,9 @@ only-fits ws d extent m new w most only none within =
           let p = e .pos in
           let o = e .opos in
           record {
-            typed = only-typed (extent i) (edgeAt (axisIn ws d) i) (edgeAt new i) (only .edges .edge i) (subst TypedEdge (sym (edge-in ws d i w h)) (from-typed ws (edgeSize * i)));
+            typed =
+                only-typed (extent i) (edgeAt (axisIn ws d) i) (edgeAt new i) (only .edges .edge i)
+                (subst TypedEdge (sym (edge-in ws d i w h)) (from-typed ws (edgeSize * i)));
             opos = omega (arith, o);
             pos = omega (arith, p);
             fitted = fitted-word (edgeAt new i .blue) (e .blue);
@@ -179,7 +192,8 @@ pub record Done {A : Type 0} (ws : List ℤ) (others : Bool) (answer : ℕ) (new
   pub answered : answer ≡ 0
   pub held : now ≡ new
 
-pub call-done : {A : Type 0} (ws : List ℤ) (others : Bool) {answer : ℕ} {new old now : A} → Lent (edgesFront ws others) answer new old 0 now → Done ws others answer new now
+pub call-done : {A : Type 0} (ws : List ℤ) (others : Bool) {answer : ℕ} {new old now : A} → Lent (edgesFront ws others) answer new old 0 now
+    → Done ws others answer new now
 unfolding edgesFront
 call-done ws others {answer} l =
     let p = passed (edgesFront ws others) answer (l .number) in

@@ -1,4 +1,5 @@
--- Where the calls that place one edge or a CJK stem can bring a position, with answer 0: within the reach that every sum fits 32 bits in. And which edges they name.
+-- Where the calls that place one edge or a CJK stem can bring a position, with answer 0: within the reach that every sum fits 32 bits in. And which edges they
+-- name.
 use mathlib.Core.Path.{_≡_, refl, sym, subst}
 use mathlib.Core.Bool.{Bool}
 use mathlib.Core.List.{List}
@@ -22,19 +23,19 @@ use Rattle.axis.specs.Accepted.{Below, AxisWithin}
 use Rattle.axis.specs.Edge.{edgeAt, putEdge}
 use Rattle.axis.specs.Limits.{mostPos, mostPassed}
 use Rattle.axis.proofs.Acceptance.{within-between, axis-within}
-use Rattle.placing.specs.declared.adjust.LinkDir.{LinkDir}
-use Rattle.placing.specs.Placing.{linkedPos, linkedEdge, serifPos, serifEdge, isFar, hasPassed, neighbour, heldTo, boundBy, adjusted}
-use Rattle.placing.specs.Steps.{mostReach, InReach}
-use Rattle.placing.proofs.Neighbours.{neighbour-below}
-use Rattle.placing.proofs.Reach.{below-first, below-second, in-reach, width-range}
-use Rattle.zone.proofs.Kept.{within-more, put-within}
-use Rattle.cjk_numbers.specs.declared.stem.Stem.{Stem}
-use Rattle.cjk_numbers.specs.Cjk.{stemOf, placedStem, hintedStem}
-use Rattle.cjk_numbers.proofs.Moves.{stem-pos-range, stem-width-range}
-use Rattle.fitting.specs.declared.place.Fitted.{Fitted}
-use Rattle.fitting.specs.Fitting.{linkedTests, serifTests, adjustTests, fitted, alignLinkedEdge, alignSerifEdge, adjustLink}
-use Rattle.stem_cjk.specs.declared.hint.StemCjk.{StemCjk}
-use Rattle.stem_cjk.specs.Cjk.{hinted, stemTests, hintNormalStemCjk}
+use Rattle.place.specs.declared.adjust.LinkDir.{LinkDir}
+use Rattle.place.specs.Placing.{linkedPos, linkedEdge, serifPos, serifEdge, isFar, hasPassed, neighbour, heldTo, boundBy, adjusted}
+use Rattle.place.specs.Steps.{mostReach, InReach}
+use Rattle.place.proofs.Neighbours.{neighbour-below}
+use Rattle.place.proofs.Reach.{below-first, below-second, in-reach, width-range}
+use Rattle.zones.proofs.Kept.{within-more, put-within}
+use Rattle.stems_cjk.specs.declared.stem.Stem.{Stem}
+use Rattle.stems_cjk.specs.Cjk.{stemOf, placedStem, hintedStem}
+use Rattle.stems_cjk.proofs.Moves.{stem-pos-range, stem-width-range}
+use Rattle.place.specs.declared.place.Fitted.{Fitted}
+use Rattle.place.specs.Fitting.{linkedTests, serifTests, adjustTests, fitted, alignLinkedEdge, alignSerifEdge, adjustLink}
+use Rattle.stems_cjk.specs.declared.outcome.StemCjk.{StemCjk}
+use Rattle.stems_cjk.specs.Hint.{hinted, stemTests, hintNormalStemCjk}
 
 -- ---- the linked edge
 module _ (axis : Axis) (rule : WidthRule) (xs : List ℤ) (base stem : ℕ) (e : alignLinkedEdge axis rule xs base stem .answer ≡ 0) where
@@ -118,7 +119,8 @@ module _ (axis : Axis) (w : AxisWithin mostPos axis) where
   unfolding boundBy
   bound-within h i dir Links.None a b = w
   bound-within h i dir (Links.To k) a b =
-      either-way (AxisWithin mostPos) (hasPassed dir (edgeAt axis i .pos) (edgeAt axis k .pos)) _ axis (held-within h i k (edgeAt axis i .link) a (b .at k refl)) w
+      either-way (AxisWithin mostPos) (hasPassed dir (edgeAt axis i .pos) (edgeAt axis k .pos)) _ axis
+      (held-within h i k (edgeAt axis i .link) a (b .at k refl)) w
 
   adjusted-within : (i : ℕ) (dir : LinkDir) → i < axis .len → AxisWithin mostPos (adjusted axis i dir)
   unfolding adjusted
@@ -140,7 +142,8 @@ module _ (axis : Axis) (i : ℕ) (dir : LinkDir) (ttb : Bool) (e : adjustLink ax
   unfolding adjustLink
   adjust-within =
       let t = adjust-hold in
-      subst (λ (f : Fitted). AxisWithin mostPos (f .axis)) (sym (worked (fitted axis) (fitted (adjusted axis i dir) 0) (refusal (adjustTests axis i ttb)) adjust-none))
+      subst (λ (f : Fitted). AxisWithin mostPos (f .axis))
+      (sym (worked (fitted axis) (fitted (adjusted axis i dir) 0) (refusal (adjustTests axis i ttb)) adjust-none))
       (adjusted-within axis (axis-within axis (t .0) (t .1 .1 .0) (t .1 .1 .1 .1 .0)) i dir adjust-named)
 
 -- ---- the CJK stem
@@ -158,7 +161,8 @@ module _ (axis : Axis) (w : AxisWithin mostReach axis) where
       → AxisWithin mostReach (hintedStem axis i j s)
   unfolding hintedStem
   hinted-within i j s a b h g =
-      either-way (AxisWithin mostReach) (ltZ (edgeAt axis i .opos) (edgeAt axis j .opos)) _ _ (stem-within i j (s .pos) (s .width) a b h g) (stem-within j i (s .pos) (s .width) b a h g)
+      either-way (AxisWithin mostReach) (ltZ (edgeAt axis i .opos) (edgeAt axis j .opos)) _ _ (stem-within i j (s .pos) (s .width) a b h g)
+      (stem-within j i (s .pos) (s .width) b a h g)
 
 module _ (axis : Axis) (adjust : Bool) (rule : WidthRule) (xs : List ℤ) (i j : ℕ) (d : ℤ) (e : hintNormalStemCjk axis adjust rule xs i j d .answer ≡ 0) where
   abbrev stem : Stem
@@ -190,4 +194,5 @@ module _ (axis : Axis) (adjust : Bool) (rule : WidthRule) (xs : List ℤ) (i j :
       let p = stem-pos-range (axis .dim) adjust rule xs (edgeAt axis i) (edgeAt axis j) d a b (within-between mostPassed d (t .1 .1 .1 .1 .1 .0)) in
       let z = stem-width-range (axis .dim) adjust rule xs (edgeAt axis i) (edgeAt axis j) d a b in
       subst (λ (r : StemCjk). AxisWithin mostReach (r .axis)) (sym (worked (hinted axis (pos 0)) stemWork (refusal (stemTests axis rule xs i j d)) cjk-none))
-      (hinted-within axis (within-more mostPos mostReach axis (omega arith) w) i j stem first-named second-named (omega (arith, p)) (omega (arith, p, z, add-law (stem .pos) (stem .width))))
+      (hinted-within axis (within-more mostPos mostReach axis (omega arith) w) i j stem first-named second-named (omega (arith, p))
+      (omega (arith, p, z, add-law (stem .pos) (stem .width))))

@@ -29,14 +29,14 @@ use Rattle.words.proofs.RoundTrip.{link-back, flags-back}
 use Rattle.words.proofs.Segments.{segment-lengths}
 use Rattle.words.proofs.Tables.{firsts-length, joined-length}
 use Rattle.words.proofs.Typed.{flat-typed}
-use Rattle.shape.specs.Shape.{segmentsShown}
-use Rattle.lent.specs.Lent.{Lent, segmentsFront}
-use Rattle.lent.proofs.Kept.{passed}
-use Rattle.segments_in.specs.Whole.{Whole}
-use Rattle.segments_in.proofs.Wholes.{shown-whole, segments-len, segment-in}
-use Rattle.words_record.proofs.Layouts.{segmentCodec}
-use Rattle.words_record.proofs.Wholes.{over, joined-whole}
-use Rattle.building_in.proofs.Back.{past-end as behind-all}
+use Rattle.words_shape.specs.Shape.{segmentsShown}
+use Rattle.words_call.specs.Lent.{Lent, segmentsFront}
+use Rattle.words_call.proofs.Kept.{passed}
+use Rattle.words_segment.specs.Whole.{Whole}
+use Rattle.words_segment.proofs.Wholes.{shown-whole, segments-len, segment-in}
+use Rattle.words.proofs.Layouts.{segmentCodec}
+use Rattle.words.proofs.Wholes.{over, joined-whole}
+use Rattle.build_words.proofs.Back.{past-end as behind-all}
 use Rattle.chain_words.specs.Left.{SegmentsLeft}
 use Rattle.chain_words.proofs.Shown.{SegmentFits, segments-are-shown}
 use Rattle.chain_words.proofs.Edges.{short-of, link-of}
@@ -126,7 +126,8 @@ module _ (n : ℕ) (t : Segments) (few : n ≤ mostSegments) (f : Fits n t) wher
   words-read : (i : ℕ) → i < n → segmentAt (flatSegments words) i ≡ segmentAt t i
   words-read i h =
       segment-read words i (omega (arith, count)) (omega (arith, count))
-      ∙ segment-moved words (segmentWordsAt t i) (segmentSize * i) (λ (k : ℕ) (l : k < segmentSize). word-is i k h l) ∙ segment-back (segmentAt t i) (f .segment i h)
+      ∙ segment-moved words (segmentWordsAt t i) (segmentSize * i) (λ (k : ℕ) (l : k < segmentSize). word-is i k h l)
+      ∙ segment-back (segmentAt t i) (f .segment i h)
 
 -- words of segments are those of their table
 pub words-joined : (ws : List ℤ) → Whole ws → ws ≡ joined (segmentWordsAt (flatSegments ws)) (segmentsIn ws)
@@ -156,7 +157,8 @@ past-end ws i h =
     let n = min (segmentsIn ws) mostSegments in
     behind-all (firsts (segmentInRun ws 0) n) emptySegment (mostSegments - n) i (omega (arith, firsts-length (segmentInRun ws 0) n))
 
-pub whole-table : {ws now : List ℤ} {t : Segments} → SegmentsLeft ws now t → length (t .segments) ≡ mostSegments → ((i : ℕ) → t .len ≤ i → segmentAt t i ≡ emptySegment)
+pub whole-table : {ws now : List ℤ} {t : Segments} → SegmentsLeft ws now t → length (t .segments) ≡ mostSegments
+    → ((i : ℕ) → t .len ≤ i → segmentAt t i ≡ emptySegment)
     → flatSegments now ≡ t
 whole-table {ws} {now} {t} l places empty =
     let n = sym (segments-len now) ∙ l .count in
@@ -188,10 +190,12 @@ from-fits ws at n w =
       next = link-of _;
     }
 
-pub read-fits : (ws : List ℤ) → segmentsIn ws ≤ mostSegments → SegmentsWithin (flatSegments ws) → (i : ℕ) → i < segmentsIn ws → SegmentFits (segmentAt (flatSegments ws) i)
+pub read-fits : (ws : List ℤ) → segmentsIn ws ≤ mostSegments → SegmentsWithin (flatSegments ws) → (i : ℕ) → i < segmentsIn ws
+    → SegmentFits (segmentAt (flatSegments ws) i)
 read-fits ws few w i h =
     let e = segment-read ws i h few in
-    subst SegmentFits (sym e) (from-fits ws (segmentSize * i) (flatSegments ws .len) (subst (SegmentWithin (flatSegments ws .len)) e (w .segment i (omega (arith, segments-len ws)))))
+    subst SegmentFits (sym e) (from-fits ws (segmentSize * i) (flatSegments ws .len)
+    (subst (SegmentWithin (flatSegments ws .len)) e (w .segment i (omega (arith, segments-len ws)))))
 
 -- ---- a call
 -- with answer 0: the words were shown, the call's own answer is 0, and the table stands over the words
@@ -201,7 +205,8 @@ pub record Done {A : Type 0} (ws : List ℤ) (answer : ℕ) (new now : A) : Type
   pub answered : answer ≡ 0
   pub held : now ≡ new
 
-pub call-done : {A : Type 0} (ws : List ℤ) (room others : Bool) {answer : ℕ} {new old now : A} → Lent (segmentsFront ws room others) answer new old 0 now → Done ws answer new now
+pub call-done : {A : Type 0} (ws : List ℤ) (room others : Bool) {answer : ℕ} {new old now : A} → Lent (segmentsFront ws room others) answer new old 0 now
+    → Done ws answer new now
 unfolding segmentsFront
 call-done ws room others {answer} l =
     let p = passed (segmentsFront ws room others) answer (l .number) in

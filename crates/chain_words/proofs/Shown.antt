@@ -26,13 +26,34 @@ use Rattle.words.specs.Field.{linkWord, directionWord, presentWord, fittedWord,
 use Rattle.words.specs.Word.{wordAt}
 use Rattle.words.specs.Edge.{edgeSize, edgesIn, edgeWords}
 use Rattle.words.specs.Segment.{segmentSize, segmentsIn, segmentWords}
-use Rattle.shape.specs.declared.field.Place.the-variants.{At}
-use Rattle.shape.specs.declared.field.Range.{Range}
-use Rattle.shape.specs.declared.element.Record.the-variants as Records
-use Rattle.shape.specs.declared.element.Element.{Element}
-use Rattle.shape.specs.declared.element.Element.the-variants as Elements
-use Rattle.shape.specs.Shape.{isIn, word, short, index, link, choice, direction, flags, mark, noRange, andThen, fields, rangesOf, blueShown, edge, element, elements, isRun, edgesShown, segmentsShown}
-use Rattle.shape.proofs.Shapes.{in-range, field-on}
+use Rattle.words_shape.specs.declared.field.Place.the-variants.{At}
+use Rattle.words_shape.specs.declared.field.Range.{Range}
+use Rattle.words_shape.specs.declared.element.Record.the-variants as Records
+use Rattle.words_shape.specs.declared.element.Element.{Element}
+use Rattle.words_shape.specs.declared.element.Element.the-variants as Elements
+use Rattle.words_shape.specs.Shape.{
+  isIn,
+  word,
+  short,
+  index,
+  link,
+  choice,
+  direction,
+  flags,
+  mark,
+  noRange,
+  andThen,
+  fields,
+  rangesOf,
+  blueShown,
+  edge,
+  element,
+  elements,
+  isRun,
+  edgesShown,
+  segmentsShown,
+}
+use Rattle.words_shape.proofs.Shapes.{in-range, field-on}
 
 -- ---- fields
 -- a number of 32 bits
@@ -84,7 +105,9 @@ weight-most false n = omega arith
 
 flags-in : (f : Flags) → isIn flags (flagsWord f) ≡ true
 unfolding flagsWord
-flags-in f = in-range flags (flagsWord f) (omega arith) (omega (arith, weight-most (f .round) 1, weight-most (f .serif) 2, weight-most (f .done) 4, weight-most (f .neutral) 8))
+flags-in f =
+    in-range flags (flagsWord f) (omega arith)
+    (omega (arith, weight-most (f .round) 1, weight-most (f .serif) 2, weight-most (f .done) 4, weight-most (f .neutral) 8))
 
 -- ---- records
 -- an edge and a segment whose numbers are of their types
@@ -168,7 +191,8 @@ fields-there (r ∷ rs) ws at l h =
     let e : at + 1 + length rs ≡ at + suc (length rs) = omega arith in
     let one = field-on r ws at (omega arith) (rw z at (h 0 (omega arith))) in
     ap (λ p. andThen p (fields rs ws)) one
-    ∙ fields-there rs ws (at + 1) (omega arith) (λ (k : ℕ) (b : k < length rs). let q : at + suc k ≡ at + 1 + k = omega arith in rw q at (h (suc k) (omega arith)))
+    ∙ fields-there rs ws (at + 1) (omega arith)
+    (λ (k : ℕ) (b : k < length rs). let q : at + suc k ≡ at + 1 + k = omega arith in rw q at (h (suc k) (omega arith)))
     ∙ ap At e
 
 -- elements of k words each, one behind the other, are a run
@@ -200,7 +224,8 @@ edges-are-shown ws n e l fit at =
     rw c (run-there Elements.Edge edgeSize ws n l one)
   where
     fields-at : (i : ℕ) → i < n → fields (rangesOf Records.Edge) ws (edgeSize * i) ≡ At (edgeSize * i + edgeSize)
-    fields-at i h = fields-there (rangesOf Records.Edge) ws (edgeSize * i) (omega (arith, l)) (λ (k : ℕ) (b : k < edgeSize). rw (at i k h b) (edge-in (e i) (fit i h) k b))
+    fields-at i h =
+        fields-there (rangesOf Records.Edge) ws (edgeSize * i) (omega (arith, l)) (λ (k : ℕ) (b : k < edgeSize). rw (at i k h b) (edge-in (e i) (fit i h) k b))
 
     one : (i : ℕ) → i < n → element Elements.Edge ws (edgeSize * i) ≡ At (edgeSize * i + edgeSize)
     one i h = rw (fields-at i h, at i 5 h (omega arith), at i 6 h (omega arith), blue-in (e i))
@@ -213,4 +238,5 @@ segments-are-shown ws n s l fit at =
     let c : segmentsIn ws ≡ n = omega (arith, l) in
     rw c
     (run-there Elements.Segment segmentSize ws n l (λ (i : ℕ) (h : i < n).
-    fields-there (rangesOf Records.Segment) ws (segmentSize * i) (omega (arith, l)) (λ (k : ℕ) (b : k < segmentSize). rw (at i k h b) (segment-in (s i) (fit i h) k b))))
+    fields-there (rangesOf Records.Segment) ws (segmentSize * i) (omega (arith, l))
+    (λ (k : ℕ) (b : k < segmentSize). rw (at i k h b) (segment-in (s i) (fit i h) k b))))

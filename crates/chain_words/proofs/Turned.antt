@@ -15,23 +15,23 @@ use Rattle.axis.specs.Handed.{TypedEdge, TypedAxis, Typed}
 use Rattle.axis.specs.Limits.{mostEdges, mostSegments}
 use Rattle.axis.specs.Segment.{segmentAt}
 use Rattle.axis.proofs.Accepting.{edges-within, segments-are-within}
-use Rattle.turning.specs.declared.turn.Turned.{Turned}
-use Rattle.turning.specs.Turning.{turnedIndex, turnedAxis, turnedSegments, beside, turnOver}
-use Rattle.turning.proofs.Calls.{Taken, taken}
-use Rattle.turning.proofs.Outcomes.{accepted, when-accepted, twice}
-use Rattle.turning.proofs.Places.{turned-edge-at, behind-edges, turned-edges-length, turned-segment-at, behind-segments, turned-segments-length}
-use Rattle.turning.proofs.Twice as Twice
+use Rattle.turn.specs.declared.turn.Turned.{Turned}
+use Rattle.turn.specs.Turning.{turnedIndex, turnedAxis, turnedSegments, beside, turnOver}
+use Rattle.turn.proofs.Calls.{Taken, taken}
+use Rattle.turn.proofs.Determined.{accepted, when-accepted, twice}
+use Rattle.turn.proofs.Places.{turned-edge-at, behind-edges, turned-edges-length, turned-segment-at, behind-segments, turned-segments-length}
+use Rattle.turn.proofs.Twice as Twice
 use Rattle.words.specs.Word.{joined}
 use Rattle.words.specs.Edge.{edgeSize, edgesIn, edgeWordsAt, edgesOver}
 use Rattle.words.specs.Segment.{segmentSize, segmentsIn, flatSegments, segmentWordsAt, segmentsOver}
 use Rattle.words.proofs.Typed.{axis-typed, flat-typed}
-use Rattle.lent.specs.Lent.{edgesOf}
-use Rattle.lent.proofs.Kept.{passed}
-use Rattle.lent.proofs.Whole.{edges-long, segments-long}
-use Rattle.edges_in.proofs.Wholes as EdgesIn
-use Rattle.segments_in.proofs.Wholes as SegmentsIn
-use Rattle.flat_turning.specs.Turn.{turnFront, turned, turnedWords, TurnedLent}
-use Rattle.flat_turning.proofs.Lending.{Shown, all-shown}
+use Rattle.words_call.specs.Lent.{edgesOf}
+use Rattle.words_call.proofs.Kept.{passed}
+use Rattle.words_call.proofs.Whole.{edges-long, segments-long}
+use Rattle.words_edge.proofs.Wholes as EdgesIn
+use Rattle.words_segment.proofs.Wholes as SegmentsIn
+use Rattle.turn_words.specs.Lent.{turnFront, turned, turnedWords, TurnedLent}
+use Rattle.turn_words.proofs.Lending.{Shown, all-shown}
 use Rattle.chain_words.specs.Left.{EdgesLeft, SegmentsLeft}
 use Rattle.chain_words.proofs.Shown.{EdgeFits, SegmentFits}
 use Rattle.chain_words.proofs.Answers.{both, lent-done}
@@ -116,7 +116,9 @@ module _ (ws es : List ℤ) (s : Shown ws es) (e : turned ws es .answer ≡ 0) w
         serif = f .serif;
         first = f .first;
         last = f .last;
-        edge = Edges.few-below (axis .len) _ few (Twice.turned-below (axis .len) (segmentAt table i .edge) (Twice.edge-below axis table whole-axis whole-table is-taken i (omega (arith, n))));
+        edge =
+            Edges.few-below (axis .len) _ few (Twice.turned-below (axis .len) (segmentAt table i .edge)
+            (Twice.edge-below axis table whole-axis whole-table is-taken i (omega (arith, n))));
         next = f .next;
       })
 
@@ -138,7 +140,8 @@ module _ (ws es : List ℤ) (s : Shown ws es) (e : turned ws es .answer ≡ 0) w
   pub segments-read : flatSegments (segmentsOver ws (turned ws es .segments)) ≡ turned ws es .segments
   unfolding turnedSegments
   segments-read =
-      Segments.whole-table segments-left (ap (λ (x : Turned). length (x .segments .segments)) outcome ∙ turned-segments-length (axis .len) table segments-room ∙ whole-table .places)
+      Segments.whole-table segments-left (ap (λ (x : Turned). length (x .segments .segments)) outcome ∙ turned-segments-length (axis .len) table segments-room
+      ∙ whole-table .places)
       (λ (i : ℕ) (h : turned ws es .segments .len ≤ i).
       let n : turned ws es .segments .len ≡ table .len = ap (λ (x : Turned). x .segments .len) outcome in
       ap (λ (x : Turned). segmentAt (x .segments) i) outcome ∙ behind-segments (axis .len) table segments-room i (omega (arith, h, n))
@@ -147,7 +150,8 @@ module _ (ws es : List ℤ) (s : Shown ws es) (e : turned ws es .answer ≡ 0) w
   pub edges-read : edgesOf (edgesOver es (turned ws es .axis)) ≡ turned ws es .axis
   unfolding turnedAxis
   edges-read =
-      Edges.read-on _ _ edges-left (ap (λ (x : Turned). x .axis .dim) outcome ∙ Edges.flat-dim es _ _) (ap (λ (x : Turned). x .axis .«major_dir») outcome ∙ Edges.flat-major es _ _)
+      Edges.read-on _ _ edges-left (ap (λ (x : Turned). x .axis .dim) outcome ∙ Edges.flat-dim es _ _)
+      (ap (λ (x : Turned). x .axis .«major_dir») outcome ∙ Edges.flat-major es _ _)
 
 -- ---- the call
 module _ (ws es : List ℤ) {now edges : List ℤ} (l : TurnedLent ws es 0 (now, edges)) where
@@ -173,7 +177,8 @@ module _ (ws es : List ℤ) {now edges : List ℤ} (l : TurnedLent ws es 0 (now,
   -- what it leaves it accepts again
   again : turned now edges ≡ beside (edgesOf es) (flatSegments ws) 0
   again =
-      (λ k. turnOver ((ap edgesOf edges-held ∙ edges-read ws es was-shown (done .1)) k) ((ap flatSegments segments-held ∙ segments-read ws es was-shown (done .1)) k))
+      (λ k. turnOver ((ap edgesOf edges-held ∙ edges-read ws es was-shown (done .1)) k)
+      ((ap flatSegments segments-held ∙ segments-read ws es was-shown (done .1)) k))
       ∙ twice (edgesOf es) (flatSegments ws) (axis-typed es _ _) (flat-typed ws) (done .1)
 
   many : segmentsIn now ≡ segmentsIn ws
@@ -192,7 +197,8 @@ module _ (ws es : List ℤ) {now edges : List ℤ} (l : TurnedLent ws es 0 (now,
       no-refusal (turnFront now edges) (
         both (eq-eqb (length now % segmentSize) 0 (omega (arith, ls))) (eq-eqb (length edges % edgeSize) 0 (omega (arith, le))),
         (
-          both (le-leb (segmentsIn now) mostSegments (omega (arith, many, was-shown .few-segments))) (le-leb (edgesIn edges) mostEdges (omega (arith, many-edges, was-shown .few-edges))),
+          both (le-leb (segmentsIn now) mostSegments (omega (arith, many, was-shown .few-segments)))
+              (le-leb (edgesIn edges) mostEdges (omega (arith, many-edges, was-shown .few-edges))),
           (both s e, refl),
         ),
       )
@@ -201,14 +207,17 @@ module _ (ws es : List ℤ) {now edges : List ℤ} (l : TurnedLent ws es 0 (now,
   pub turned-twice : {r : ℕ} {now′ edges′ : List ℤ} → TurnedLent now edges r (now′, edges′) → (r ≡ 0) × ((now′ ≡ ws) × (edges′ ≡ es))
   turned-twice {r} {now′} {edges′} m =
       let d = lent-done m again-shown (ap (λ (x : Turned). x .answer) again) in
-      let held : _≡_ {A = List ℤ × List ℤ} (now′, edges′) (segmentsOver now (flatSegments ws), edgesOver edges (edgesOf es)) = d .1 ∙ ap (turnedWords now edges) again in
+      let held : _≡_ {A = List ℤ × List ℤ} (now′, edges′) (segmentsOver now (flatSegments ws), edgesOver edges (edgesOf es)) = d .1
+      ∙ ap (turnedWords now edges) again in
       let w = SegmentsIn.shown-whole ws (was-shown .segments-shown) (was-shown .few-segments) in
       let v = EdgesIn.shown-whole es (was-shown .edges-shown) (was-shown .few-edges) in
       let w′ = SegmentsIn.shown-whole now (turned-segments-left .shown) (omega (arith, many, was-shown .few-segments)) in
       let v′ = EdgesIn.shown-whole edges (turned-edges-left .shown) (omega (arith, many-edges, was-shown .few-edges)) in (
         d .0,
         (
-          ap (λ (p : List ℤ × List ℤ). p .0) held ∙ Segments.segments-over now (flatSegments ws) w′ ∙ ap (joined (segmentWordsAt (flatSegments ws))) many ∙ sym (Segments.words-joined ws w),
-          ap (λ (p : List ℤ × List ℤ). p .1) held ∙ Edges.edges-over edges (edgesOf es) v′ ∙ ap (joined (edgeWordsAt (edgesOf es))) many-edges ∙ sym (EdgesIn.words-joined es _ v),
+          ap (λ (p : List ℤ × List ℤ). p .0) held ∙ Segments.segments-over now (flatSegments ws) w′ ∙ ap (joined (segmentWordsAt (flatSegments ws))) many
+              ∙ sym (Segments.words-joined ws w),
+          ap (λ (p : List ℤ × List ℤ). p .1) held ∙ Edges.edges-over edges (edgesOf es) v′ ∙ ap (joined (edgeWordsAt (edgesOf es))) many-edges
+              ∙ sym (EdgesIn.words-joined es _ v),
         ),
       )

@@ -13,8 +13,8 @@ use Rattle.words.specs.Word.{wordAt}
 use Rattle.words.specs.Field.{flagsOf}
 use Rattle.words.specs.Edge.{edgeSize, flagsPlace, wordOfEdge, flatAxis}
 use Rattle.words.specs.Segment.{flatSegments}
-use Rattle.shape.specs.Shape.{edgesShown, segmentsShown}
-use Rattle.lent.specs.Lent.{edgesOf}
+use Rattle.words_shape.specs.Shape.{edgesShown, segmentsShown}
+use Rattle.words_call.specs.Lent.{edgesOf}
 
 -- of a list of edges
 pub record EdgesLeft (before now : List ℤ) (axis : Axis) : Type 0 where

@@ -21,9 +21,24 @@ use Rattle.axis.specs.Refusals.{segmentIndices, segmentNext, segmentNumbers, se
 use Rattle.axis.specs.Ring.{walk}
 use Rattle.axis.specs.Segment.{emptySegment}
 use Rattle.axis.specs.Visits.{visits}
-use Rattle.outline.specs.Weak.{endsHold, coordinateHolds, coordinatesHold, contourOf}
-use Rattle.turning.specs.Indices.{segmentsEdges, edgesSegments}
-use Rattle.edge_points.specs.EdgePoints.{behind, Points, movedBy, movePoints, moveSegment, alongEdge, visitSegment, moveAll, isOn, onOne, segmentPoints, segmentsPoints, moverHolds, moversHold}
+use Rattle.weak.specs.Weak.{endsHold, coordinateHolds, coordinatesHold, contourOf}
+use Rattle.turn.specs.Indices.{segmentsEdges, edgesSegments}
+use Rattle.edge_points.specs.EdgePoints.{
+  behind,
+  Points,
+  movedBy,
+  movePoints,
+  moveSegment,
+  alongEdge,
+  visitSegment,
+  moveAll,
+  isOn,
+  onOne,
+  segmentPoints,
+  segmentsPoints,
+  moverHolds,
+  moversHold,
+}
 use Rattle.edge_points.specs.EdgePoints.{pointsTests}
 
 -- an edge not done that was at o and came to p, and one that is done
@@ -109,7 +124,8 @@ e-moved = refl
 -- an edge that is not done moves points where any does
 abbrev one-done : Bool → Points
 one-done alone =
-    moveAll true alone (axis (done 0 (pos 5) ∷ left 0 (pos 9) ∷ [])) (table (from 0 1 (To 0) ∷ from 1 2 (To 1) ∷ [])) (2 ∷ []) (points (pos 0 ∷ pos 0 ∷ pos 0 ∷ []) (0 ∷ 0 ∷ 0 ∷ []))
+    moveAll true alone (axis (done 0 (pos 5) ∷ left 0 (pos 9) ∷ [])) (table (from 0 1 (To 0) ∷ from 1 2 (To 1) ∷ [])) (2 ∷ [])
+    (points (pos 0 ∷ pos 0 ∷ pos 0 ∷ []) (0 ∷ 0 ∷ 0 ∷ []))
 
 f-alone : one-done true ≡ points (pos 5 ∷ pos 5 ∷ pos 0 ∷ []) (1 ∷ 1 ∷ 0 ∷ [])
 unfolding visits visitSegment alongEdge moveSegment movePoints movedBy walk behind contourOf
@@ -128,27 +144,37 @@ two = pos 0 ∷ pos 0 ∷ []
 
 -- first and last on two contours; the same without an edge
 g : answer true (done 0 (pos 0) ∷ []) (from 0 1 (To 0) ∷ []) two (0 ∷ 1 ∷ []) ≡ 3
-unfolding refusal linkHolds every edgeIndices edgesIndices segmentIndices segmentNext segmentsIndices segmentsNexts segmentEdge edgeSegments segmentsEdges edgesSegments endsHold contourOf isOn onOne segmentPoints segmentsPoints
+unfolding refusal linkHolds every edgeIndices edgesIndices segmentIndices segmentNext segmentsIndices segmentsNexts segmentEdge edgeSegments segmentsEdges
+    edgesSegments endsHold contourOf isOn onOne segmentPoints segmentsPoints
 g = refl
 
 g-edgeless : answer true (done 0 (pos 0) ∷ []) (from 0 1 None ∷ []) two (0 ∷ 1 ∷ []) ≡ 0
-unfolding refusal linkHolds blueHolds every edgeIndices edgeNumbers edgesIndices edgesNumbers segmentIndices segmentNext segmentNumbers segmentsIndices segmentsNexts segmentsNumbers segmentEdge edgeSegments segmentsEdges edgesSegments endsHold contourOf isOn onOne segmentPoints segmentsPoints coordinateHolds coordinatesHold moverHolds moversHold
+unfolding refusal linkHolds blueHolds every edgeIndices edgeNumbers edgesIndices edgesNumbers segmentIndices segmentNext segmentNumbers segmentsIndices
+    segmentsNexts segmentsNumbers segmentEdge edgeSegments segmentsEdges edgesSegments endsHold contourOf isOn onOne segmentPoints segmentsPoints
+    coordinateHolds coordinatesHold moverHolds moversHold
 g-edgeless = refl
 
 -- a point behind the last contour is on none, with the segment's edge not done too
 g-none : answer true (left 0 (pos 0) ∷ []) (from 1 1 (To 0) ∷ []) two (0 ∷ []) ≡ 3
-unfolding refusal linkHolds every edgeIndices edgesIndices segmentIndices segmentNext segmentsIndices segmentsNexts segmentEdge edgeSegments segmentsEdges edgesSegments endsHold contourOf isOn onOne segmentPoints segmentsPoints
+unfolding refusal linkHolds every edgeIndices edgesIndices segmentIndices segmentNext segmentsIndices segmentsNexts segmentEdge edgeSegments segmentsEdges
+    edgesSegments endsHold contourOf isOn onOne segmentPoints segmentsPoints
 g-none = refl
 
 -- a position that is no coordinate, of an edge that moves points and of one that does not
 h : answer true (done 0 (pos 65536) ∷ []) (from 0 1 (To 0) ∷ []) two (1 ∷ []) ≡ 4
-unfolding refusal linkHolds blueHolds every edgeIndices edgeNumbers edgesIndices edgesNumbers segmentIndices segmentNext segmentNumbers segmentsIndices segmentsNexts segmentsNumbers segmentEdge edgeSegments segmentsEdges edgesSegments endsHold contourOf isOn onOne segmentPoints segmentsPoints coordinateHolds coordinatesHold moverHolds moversHold
+unfolding refusal linkHolds blueHolds every edgeIndices edgeNumbers edgesIndices edgesNumbers segmentIndices segmentNext segmentNumbers segmentsIndices
+    segmentsNexts segmentsNumbers segmentEdge edgeSegments segmentsEdges edgesSegments endsHold contourOf isOn onOne segmentPoints segmentsPoints
+    coordinateHolds coordinatesHold moverHolds moversHold
 h = refl
 
 h-left : answer true (left 0 (pos 65536) ∷ []) (from 0 1 (To 0) ∷ []) two (1 ∷ []) ≡ 0
-unfolding refusal linkHolds blueHolds every edgeIndices edgeNumbers edgesIndices edgesNumbers segmentIndices segmentNext segmentNumbers segmentsIndices segmentsNexts segmentsNumbers segmentEdge edgeSegments segmentsEdges edgesSegments endsHold contourOf isOn onOne segmentPoints segmentsPoints coordinateHolds coordinatesHold moverHolds moversHold
+unfolding refusal linkHolds blueHolds every edgeIndices edgeNumbers edgesIndices edgesNumbers segmentIndices segmentNext segmentNumbers segmentsIndices
+    segmentsNexts segmentsNumbers segmentEdge edgeSegments segmentsEdges edgesSegments endsHold contourOf isOn onOne segmentPoints segmentsPoints
+    coordinateHolds coordinatesHold moverHolds moversHold
 h-left = refl
 
 h-all : answer false (left 0 (pos 65536) ∷ []) (from 0 1 (To 0) ∷ []) two (1 ∷ []) ≡ 4
-unfolding refusal linkHolds blueHolds every edgeIndices edgeNumbers edgesIndices edgesNumbers segmentIndices segmentNext segmentNumbers segmentsIndices segmentsNexts segmentsNumbers segmentEdge edgeSegments segmentsEdges edgesSegments endsHold contourOf isOn onOne segmentPoints segmentsPoints coordinateHolds coordinatesHold moverHolds moversHold
+unfolding refusal linkHolds blueHolds every edgeIndices edgeNumbers edgesIndices edgesNumbers segmentIndices segmentNext segmentNumbers segmentsIndices
+    segmentsNexts segmentsNumbers segmentEdge edgeSegments segmentsEdges edgesSegments endsHold contourOf isOn onOne segmentPoints segmentsPoints
+    coordinateHolds coordinatesHold moverHolds moversHold
 h-all = refl

@@ -20,10 +20,10 @@ use Rattle.axis.specs.Segment.{segmentAt}
 use Rattle.axis.specs.Ring.{walk}
 use Rattle.axis.specs.Visits.{visits}
 use Rattle.axis.specs.Refusals.{within, everySegment, segmentsInRange, edgesInRange}
-use Rattle.contours.specs.Limits.{mostPoints, mostCoordinate}
-use Rattle.contours.specs.Contour.{at, Contour}
-use Rattle.outline.specs.Weak.{endsHold, coordinatesHold, contourOf}
-use Rattle.turning.specs.Indices.{indexTests}
+use Rattle.weak_contour.specs.Limits.{mostPoints, mostCoordinate}
+use Rattle.weak_contour.specs.Contour.{at, Contour}
+use Rattle.weak.specs.Weak.{endsHold, coordinatesHold, contourOf}
+use Rattle.turn.specs.Indices.{indexTests}
 
 -- ---- the walk around a contour
 -- the point behind the point p around the contour k: behind the contour's last comes its first

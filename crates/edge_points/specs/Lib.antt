@@ -1,2 +1,3 @@
--- What the contracts of `edge_points` cite.
+-- From edges to points: the definition of the call, and what the steps of a segment's walk promise each other.
 pub mod EdgePoints
+pub mod Steps

@@ -1,1 +1,3 @@
-// Edge points, from a segment's edge to the points of the outline: the definitions.
+// From edges to points: definitions, and one segment: its contour found, and its points moved.
+pub mod contour;
+pub mod walk;

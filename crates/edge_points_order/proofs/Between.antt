@@ -1,4 +1,5 @@
--- Where an original comes to by two references whose currents do not fall: not beyond a reference on the other side of which it was, but for request #109's one unit.
+-- Where an original comes to by two references whose currents do not fall: not beyond a reference on the other side of which it was, but for request #109's one
+-- unit.
 use mathlib.Core.Path.{_≡_, _∙_, subst, sym}
 use mathlib.Core.Logic.{_⊎_, inl, inr, ⊎-elim}
 use Prim.Native.Nat.{_+_, _≤_, _<_}
@@ -7,11 +8,11 @@ use lib.IntN.{ℤ}
 use lib.Signed.{_≤ℤ_, _<ℤ_}
 use Rattle.signed.specs.Parts.{up, dn}
 use Rattle.signed.proofs.Signed.{signed, same, atmost, to-≡, lt-or-le}
-use Rattle.contours.specs.Contour.{interpolated}
-use Rattle.contours.specs.Steps.{Ordered}
-use Rattle.contours.proofs.Spans.{interpolated-low, interpolated-high}
-use Rattle.outline.specs.Faithful.{KeepsOrder}
-use Rattle.outline.proofs.Interpolated.{grows}
+use Rattle.weak_contour.specs.Contour.{interpolated}
+use Rattle.weak_contour.specs.Steps.{Ordered}
+use Rattle.weak_contour.proofs.Spans.{interpolated-low, interpolated-high}
+use Rattle.weak.specs.Faithful.{KeepsOrder}
+use Rattle.weak.proofs.Interpolated.{grows}
 
 module _ (v v1 u1 v2 u2 : ℤ) (h : Ordered v1 u1 v2 u2) (rise : u1 ≤ℤ u2) where
   -- where it comes to

@@ -24,15 +24,39 @@ use Rattle.axis.specs.Refusals.{segmentEdge}
 use Rattle.axis.specs.Segment.{segmentAt}
 use Rattle.axis.proofs.Acceptance.{link-below, within-between}
 use Rattle.axis.proofs.Tests.{every-at}
-use Rattle.turning.specs.Indices.{segmentsEdges}
+use Rattle.turn.specs.Indices.{segmentsEdges}
 use Rattle.gaps.specs.Gaps.{isDone}
-use Rattle.contours.specs.Contour.{at, isTouched}
-use Rattle.contours.specs.Limits.{mostPoints, mostCoordinate}
-use Rattle.contours.proofs.Searches.{is-touched, not-touched, unmarked}
-use Rattle.outline.specs.Weak.{endsHold, coordinateHolds, coordinatesHold, listTests, numberTests, weakTests, gentle, Outcome}
-use Rattle.outline.proofs.Refusals.{coordinates-of, number-steep}
-use Rattle.edge_points.specs.EdgePoints.{Points, movedBy, moves, moveAll, segmentPoints, segmentsPoints, moverHolds, moversHold, pointsTests, edgeAnswer, edgeResult}
-use Rattle.edge_points_order.specs.Order.{EdgesInOrder, EdgesApart, OnePosition, lastMover, Ready, PlacedBy, PlacedByEdges, Beside, Parted, Gained, PointsApart}
+use Rattle.weak_contour.specs.Contour.{at, isTouched}
+use Rattle.weak_contour.specs.Limits.{mostPoints, mostCoordinate}
+use Rattle.weak_contour.proofs.Searches.{is-touched, not-touched, unmarked}
+use Rattle.weak.specs.Weak.{endsHold, coordinateHolds, coordinatesHold, listTests, numberTests, weakTests, gentle, Outcome}
+use Rattle.weak.proofs.Refusals.{coordinates-of, number-steep}
+use Rattle.edge_points.specs.EdgePoints.{
+  Points,
+  movedBy,
+  moves,
+  moveAll,
+  segmentPoints,
+  segmentsPoints,
+  moverHolds,
+  moversHold,
+  pointsTests,
+  edgeAnswer,
+  edgeResult,
+}
+use Rattle.edge_points_order.specs.Order.{
+  EdgesInOrder,
+  EdgesApart,
+  OnePosition,
+  lastMover,
+  Ready,
+  PlacedBy,
+  PlacedByEdges,
+  Beside,
+  Parted,
+  Gained,
+  PointsApart,
+}
 use Rattle.edge_points_order.proofs.Edges.{apart-in-order}
 use Rattle.edge_points_order.proofs.Moved.{Came, SameSize, last-mover, mover-at, moved, moved-size}
 use Rattle.edge_points_order.proofs.Neighbours.{gained, points-apart, not-parted}
@@ -68,11 +92,14 @@ taken alone axis t s es e =
       few = leb-true (length (s .currents)) mostPoints (h .0);
       marks = eqb-true (length (s .touched)) (length (s .currents)) (h .1 .0);
       ends = p .0;
-      edges = λ j k l q. link-below (axis .len) (segmentAt t j .edge) (every-at _ j (min (t .len) mostSegments) (i .1 .1 .1 .1 .0) (below-min j (t .len) mostSegments few l)) .at k q;
+      edges =
+          λ j k l q. link-below (axis .len) (segmentAt t j .edge)
+          (every-at _ j (min (t .len) mostSegments) (i .1 .1 .1 .1 .0) (below-min j (t .len) mostSegments few l)) .at k q;
       walks = λ j l. every-at _ j (min (t .len) mostSegments) (p .1 .0) (below-min j (t .len) mostSegments few l);
       currents = p .1 .1 .1 .1 .0;
       positions = λ j k l q m.
-          held k (subst (λ (x : Link). moverHolds alone axis x ≡ true) q (every-at _ j (min (t .len) mostSegments) (p .1 .1 .1 .1 .1 .0) (below-min j (t .len) mostSegments few l))) m;
+          held k (subst (λ (x : Link). moverHolds alone axis x ≡ true) q
+          (every-at _ j (min (t .len) mostSegments) (p .1 .1 .1 .1 .1 .0) (below-min j (t .len) mostSegments few l))) m;
     }
   where
     below-min : (i n most : ℕ) → n ≤ most → i < n → i < min n most
@@ -93,7 +120,8 @@ unfolding movedBy
 comes-along true e v q = refl
 comes-along false e v q = same (omega (arith, signed))
 
-module _ (snap alone : Bool) (axis : Axis) (t : Segments) (o : List ℤ) (s : Points) (es : List ℕ) (ready : Ready snap alone axis t o s es) (yes : edgeAnswer alone axis t s es ≡ 0) where
+module _ (snap alone : Bool) (axis : Axis) (t : Segments) (o : List ℤ) (s : Points) (es : List ℕ) (ready : Ready snap alone axis t o s es)
+    (yes : edgeAnswer alone axis t s es ≡ 0) where
   -- what edge points leaves
   abbrev left : Points
   left = edgeResult snap alone axis t s es
@@ -137,7 +165,8 @@ module _ (snap alone : Bool) (axis : Axis) (t : Segments) (o : List ℤ) (s : Po
     where
       by : p < length (s .currents) → (l : Link) → lastMover alone axis t es p (t .len) ≡ l → Came snap axis s after p l
           → PlacedBy axis o (after .currents) p
-      by h Links.None q r = absurd (clash (isTouched (after .touched) p) (not-touched (after .touched) p (r .mark ∙ unmarked (s .touched) p (ready .untouched p))) m)
+      by h Links.None q r =
+          absurd (clash (isTouched (after .touched) p) (not-touched (after .touched) p (r .mark ∙ unmarked (s .touched) p (ready .untouched p))) m)
       by h (Links.To k) q r =
           let f = last-mover alone axis t es p k q in
           let g = mover-at alone axis t es p (f .segment) k (f .by) in
@@ -170,9 +199,11 @@ module _ (snap alone : Bool) (axis : Axis) (t : Segments) (o : List ℤ) (s : Po
   held : (p : ℕ) → natAbs (at (after .currents) p) ≤ mostCoordinate
   held p =
       ⊎-elim (λ (h : p < length (s .currents)). by h (lastMover alone axis t es p (t .len)) refl (came p h))
-      (λ (g : length (s .currents) ≤ p). let e = List·getD-eq-default (after .currents) (pos 0) {n = p} (omega (arith, size .currents)) in rw e (omega arith)) (lt-or-le p (length (s .currents)))
+      (λ (g : length (s .currents) ≤ p). let e = List·getD-eq-default (after .currents) (pos 0) {n = p} (omega (arith, size .currents)) in rw e (omega arith))
+      (lt-or-le p (length (s .currents)))
     where
-      by : p < length (s .currents) → (l : Link) → lastMover alone axis t es p (t .len) ≡ l → Came snap axis s after p l → natAbs (at (after .currents) p) ≤ mostCoordinate
+      by : p < length (s .currents) → (l : Link) → lastMover alone axis t es p (t .len) ≡ l → Came snap axis s after p l
+          → natAbs (at (after .currents) p) ≤ mostCoordinate
       by h Links.None q r = rw (r .current) (coordinates-of mostCoordinate (s .currents) (tests .currents) p)
       by h (Links.To k) q r =
           let f = last-mover alone axis t es p k q in
@@ -199,12 +230,15 @@ module _ (snap alone : Bool) (axis : Axis) (t : Segments) (o : List ℤ) (s : Po
             ),
           )
 
-      numbers : (b : Bool) → b ≡ not (gentle o (after .currents) (after .touched) es) → refusal (weakTests o (after .currents) (after .touched) es) ≡ cond b steep 0
+      numbers : (b : Bool) → b ≡ not (gentle o (after .currents) (after .touched) es)
+          → refusal (weakTests o (after .currents) (after .touched) es) ≡ cond b steep 0
       numbers b e =
           own-first (listTests o (after .currents) (after .touched) es) (numberTests o (after .currents) (after .touched) es) refl
-          ∙ worked (λ (k : ℕ). k) (refusal (numberTests o (after .currents) (after .touched) es)) (refusal (listTests o (after .currents) (after .touched) es)) lists
+          ∙ worked (λ (k : ℕ). k) (refusal (numberTests o (after .currents) (after .touched) es))
+          (refusal (listTests o (after .currents) (after .touched) es)) lists
           ∙ number-steep o (after .currents) (after .touched) es b
-          (subst (λ (l : List ℤ). coordinatesHold mostCoordinate l ≡ true) (ready .still) (tests .currents)) (all-within mostCoordinate (after .currents) held) e
+          (subst (λ (l : List ℤ). coordinatesHold mostCoordinate l ≡ true) (ready .still) (tests .currents))
+          (all-within mostCoordinate (after .currents) held) e
 
       by : (b : Bool) → gentle o (after .currents) (after .touched) es ≡ b
           → (refusal (weakTests o (after .currents) (after .touched) es) ≡ 0) ⊎ (refusal (weakTests o (after .currents) (after .touched) es) ≡ steep)
@@ -213,7 +247,8 @@ module _ (snap alone : Bool) (axis : Axis) (t : Segments) (o : List ℤ) (s : Po
 
   pub handed : (refusal (weakTests o (left .currents) (left .touched) es) ≡ 0) ⊎ (refusal (weakTests o (left .currents) (left .touched) es) ≡ steep)
   handed =
-      subst (λ (x : Points). (refusal (weakTests o (x .currents) (x .touched) es) ≡ 0) ⊎ (refusal (weakTests o (x .currents) (x .touched) es) ≡ steep)) (sym left-is) answers
+      subst (λ (x : Points). (refusal (weakTests o (x .currents) (x .touched) es) ≡ 0) ⊎ (refusal (weakTests o (x .currents) (x .touched) es) ≡ steep))
+      (sym left-is) answers
 
   -- and weak points behind it, where it answers 0, points in order, where edges are
   module _ (d : List ℤ) (outcome : Outcome o (left .currents) (left .touched) es 0 d) where

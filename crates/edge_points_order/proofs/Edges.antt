@@ -44,7 +44,8 @@ module _ (axis : Axis) (n : NoneTurned axis) where
 
 -- ---- by their order in the table, in which original positions do not fall
 -- of two done edges the one that was lower stands first
-stands-first : (axis : Axis) → DoneRise axis → (i j : ℕ) → i < axis .len → isDone axis i ≡ true → isDone axis j ≡ true → edgeAt axis i .opos <ℤ edgeAt axis j .opos → i < j
+stands-first : (axis : Axis) → DoneRise axis → (i j : ℕ) → i < axis .len → isDone axis i ≡ true → isDone axis j ≡ true
+    → edgeAt axis i .opos <ℤ edgeAt axis j .opos → i < j
 stands-first axis r i j x d f l =
     ⊎-elim (λ (o : i < j). o)
     (λ (o : j ≤ i).
@@ -59,7 +60,8 @@ pub neighbours-in-order : (axis : Axis) → DoneRise axis → NoneTurned axis �
 neighbours-in-order axis r n = record { at = λ i j x y d f l. rise-to axis n j i j (omega arith) (stands-first axis r i j x d f l) y d f }
 
 -- the guard finds no gap and no stem lost, at width 0, with or without links
-pub guarded-apart : (axis : Axis) → DoneRise axis → lostGaps axis (pos 0) false .answer ≡ 0 → lostGaps axis (pos 0) false .count ≡ 0 → lostGaps axis (pos 0) false .stems ≡ 0 → EdgesApart axis
+pub guarded-apart : (axis : Axis) → DoneRise axis → lostGaps axis (pos 0) false .answer ≡ 0 → lostGaps axis (pos 0) false .count ≡ 0
+    → lostGaps axis (pos 0) false .stems ≡ 0 → EdgesApart axis
 guarded-apart axis r e z s = record { at = λ i j x y d f l. order-kept axis r e z s i j (stands-first axis r i j x d f l) y d f .not-closed l }
 
 -- edges that are apart are in order

@@ -25,13 +25,27 @@ use Rattle.axis.specs.Ring.{times}
 use Rattle.axis.specs.Segment.{segmentAt}
 use Rattle.axis.specs.Visits.{visits}
 use Rattle.axis.proofs.Walks.{same?, times-nil, times-here, times-there}
-use Rattle.contours.specs.Contour.{at, Contour}
-use Rattle.contours.specs.Limits.{mostPoints}
-use Rattle.outline.specs.Weak.{endsHold, contourOf}
-use Rattle.outline.proofs.Contours.{contour-holds}
+use Rattle.weak_contour.specs.Contour.{at, Contour}
+use Rattle.weak_contour.specs.Limits.{mostPoints}
+use Rattle.weak.specs.Weak.{endsHold, contourOf}
+use Rattle.weak.proofs.Contours.{contour-holds}
 use Rattle.gaps.specs.Gaps.{orElse}
-use Rattle.edge_points.specs.EdgePoints.{walked, Points, movedBy, movePoint, movePoints, moves, moveSegment, alongEdge, visitSegment, moveAll, isOn, onOne, segmentPoints}
-use Rattle.edge_points_walk.proofs.Runs.{walk-once}
+use Rattle.edge_points.specs.EdgePoints.{
+  walked,
+  Points,
+  movedBy,
+  movePoint,
+  movePoints,
+  moves,
+  moveSegment,
+  alongEdge,
+  visitSegment,
+  moveAll,
+  isOn,
+  onOne,
+  segmentPoints,
+}
+use Rattle.edge_points.proofs.Runs.{walk-once}
 use Rattle.edge_points_order.specs.Order.{meets, moverOf, moverAt, lastMover}
 
 -- ---- what becomes of a point
@@ -76,13 +90,15 @@ module _ (snap : Bool) (e : Edge) where
       (same? p q)
 
   -- the first is moved, where it is not in the rest
-  list-first : (ps : List ℕ) (s : Points) (p : ℕ) → times p ps ≤ 0 → p < length (s .currents) → p < length (s .touched) → Goes snap e s (movePoints snap e ps (movePoint snap e p s)) p
+  list-first : (ps : List ℕ) (s : Points) (p : ℕ) → times p ps ≤ 0 → p < length (s .currents) → p < length (s .touched)
+      → Goes snap e s (movePoints snap e ps (movePoint snap e p s)) p
   list-first ps s p h a b =
       let r = list-out ps (movePoint snap e p s) p h in
       record { current = r .current ∙ getD-set-same (s .currents) p _ (pos 0) a; mark = r .mark ∙ getD-set-same (s .touched) p 1 0 b }
 
   -- one that is in it once is moved
-  list-in : (ps : List ℕ) (s : Points) (p : ℕ) → 0 < times p ps → times p ps ≤ 1 → p < length (s .currents) → p < length (s .touched) → Goes snap e s (movePoints snap e ps s) p
+  list-in : (ps : List ℕ) (s : Points) (p : ℕ) → 0 < times p ps → times p ps ≤ 1 → p < length (s .currents) → p < length (s .touched)
+      → Goes snap e s (movePoints snap e ps s) p
   unfolding movePoints
   list-in [] s p h l a b = absurd (omega (arith, times-nil p))
   list-in (q ∷ ps) s p h l a b =
@@ -112,7 +128,8 @@ module _ (snap alone : Bool) (axis : Axis) (es : List ℕ) where
           go true = list-size snap (edgeAt axis k) (walked c (g .first) (g .last)) s
           go false = record { currents = refl; marks = refl }
 
-  module _ (n : ℕ) (few : n ≤ mostPoints) (hold : endsHold 0 n es ≡ true) (s : Points) (p : ℕ) (inside : p < length (s .currents)) (marked : p < length (s .touched)) where
+  module _ (n : ℕ) (few : n ≤ mostPoints) (hold : endsHold 0 n es ≡ true) (s : Points) (p : ℕ) (inside : p < length (s .currents))
+      (marked : p < length (s .touched)) where
     -- on a contour that has its first point and its last
     on-contour : (g : Segment) (k : ℕ) (x : Option Contour) → contourOf 0 es (g .first) ≡ x → isOn x (g .last) ≡ true
         → Came snap axis s (moveSegment snap alone g (edgeAt axis k) x s) p (cond (moves alone (edgeAt axis k) && meets x g p) (Links.To k) Links.None)
@@ -123,7 +140,8 @@ module _ (snap alone : Bool) (axis : Axis) (es : List ℕ) where
         once : times p (walked c (g .first) (g .last)) ≤ 1
         once =
             let f = contour-holds 0 n (g .first) es c (omega arith) hold e in
-            walk-once c (g .first) (g .last) mostPoints p (f .low) (f .high) (leb-true (c .start) (g .last) (and-first _ _ h)) (ltb-true (g .last) (c .end) (and-second (leb (c .start) (g .last)) _ h))
+            walk-once c (g .first) (g .last) mostPoints p (f .low) (f .high) (leb-true (c .start) (g .last) (and-first _ _ h))
+            (ltb-true (g .last) (c .end) (and-second (leb (c .start) (g .last)) _ h))
             (omega (arith, f .points))
 
         by : (m b : Bool) → ltb 0 (times p (walked c (g .first) (g .last))) ≡ b
@@ -166,7 +184,8 @@ module _ (alone : Bool) (axis : Axis) (t : Segments) (es : List ℕ) (p : ℕ) w
   last-is zero k e = let z : _≡_ {A = ℕ} 0 1 = cc in absurd (omega arith)
   last-is (suc n) k e = go (moverAt alone axis t es p n) refl e (last-is n k)
     where
-      go : (l : Link) → moverAt alone axis t es p n ≡ l → orElse l (lastMover alone axis t es p n) ≡ Links.To k → (lastMover alone axis t es p n ≡ Links.To k → MovedBy n k) → MovedBy (suc n) k
+      go : (l : Link) → moverAt alone axis t es p n ≡ l → orElse l (lastMover alone axis t es p n) ≡ Links.To k
+          → (lastMover alone axis t es p n ≡ Links.To k → MovedBy n k) → MovedBy (suc n) k
       go Links.None q f rest = let r = rest f in record { segment = r .segment; below = omega (arith, r .below); by = r .by }
       go (Links.To j) q f rest = record { segment = n; below = omega arith; by = q ∙ f }
 
@@ -184,9 +203,11 @@ unfolding visits
 visits-last f zero i s = ap (f s) (omega arith)
 visits-last f (suc n) i s = visits-last f n (i + 1) (f s i) ∙ ap (f (visits f n (i + 1) (f s i))) (omega arith)
 
-module _ (snap alone : Bool) (axis : Axis) (t : Segments) (es : List ℕ) (s₀ : Points) (few : length (s₀ .currents) ≤ mostPoints) (marks : length (s₀ .touched) ≡ length (s₀ .currents))
+module _ (snap alone : Bool) (axis : Axis) (t : Segments) (es : List ℕ) (s₀ : Points) (few : length (s₀ .currents) ≤ mostPoints)
+    (marks : length (s₀ .touched) ≡ length (s₀ .currents))
     (hold : endsHold 0 (length (s₀ .currents)) es ≡ true) (walks : (i : ℕ) → i < t .len → segmentPoints es (segmentAt t i) (segmentAt t i .edge) ≡ true)
-    (once : snap ≡ false → (p i j : ℕ) → i < j → j < t .len → isLinked (moverAt alone axis t es p i) ≡ true → isLinked (moverAt alone axis t es p j) ≡ true → ⊥) where
+    (once : snap ≡ false → (p i j : ℕ) → i < j → j < t .len → isLinked (moverAt alone axis t es p i) ≡ true → isLinked (moverAt alone axis t es p j) ≡ true
+    → ⊥) where
   -- the points behind the first n segments
   abbrev after : ℕ → Points
   after n = visits (visitSegment snap alone axis t es) n 0 s₀
@@ -203,7 +224,8 @@ module _ (snap alone : Bool) (axis : Axis) (t : Segments) (es : List ℕ) (s₀ 
       subst (SameSize s₀) (sym (after-more n)) (record { currents = q .currents ∙ r .currents; marks = q .marks ∙ r .marks })
 
   -- one segment more: it leaves the point, or moves it, and then it snaps or is the first to move it
-  reached-more : (s s′ : Points) (p : ℕ) (m l : Link) → Came snap axis s₀ s p m → Came snap axis s s′ p l → (snap ≡ false → isLinked l ≡ true → m ≡ Links.None) → Came snap axis s₀ s′ p (orElse l m)
+  reached-more : (s s′ : Points) (p : ℕ) (m l : Link) → Came snap axis s₀ s p m → Came snap axis s s′ p l
+      → (snap ≡ false → isLinked l ≡ true → m ≡ Links.None) → Came snap axis s₀ s′ p (orElse l m)
   unfolding movedBy
   reached-more s s′ p Links.None Links.None r v h = record { current = v .current ∙ r .current; mark = v .mark ∙ r .mark }
   reached-more s s′ p (Links.To k) Links.None r v h = record { current = v .current ∙ r .current; mark = v .mark ∙ r .mark }
@@ -228,8 +250,10 @@ module _ (snap alone : Bool) (axis : Axis) (t : Segments) (es : List ℕ) (s₀ 
   reached p (suc n) a h =
       let q = after-size n in
       subst (λ (x : Points). Came snap axis s₀ x p (lastMover alone axis t es p (suc n))) (sym (after-more n))
-      (reached-more (after n) (visitSegment snap alone axis t es (after n) n) p (lastMover alone axis t es p n) (moverAt alone axis t es p n) (reached p n a (omega arith))
-      (along snap alone axis es (length (s₀ .currents)) few hold (after n) p (omega (arith, q .currents)) (omega (arith, q .marks)) (segmentAt t n) (segmentAt t n .edge) (walks n h)) (first-to p n h))
+      (reached-more (after n) (visitSegment snap alone axis t es (after n) n) p (lastMover alone axis t es p n) (moverAt alone axis t es p n)
+      (reached p n a (omega arith))
+      (along snap alone axis es (length (s₀ .currents)) few hold (after n) p (omega (arith, q .currents)) (omega (arith, q .marks)) (segmentAt t n)
+      (segmentAt t n .edge) (walks n h)) (first-to p n h))
 
   pub moved : (p : ℕ) → p < length (s₀ .currents) → Came snap axis s₀ (moveAll snap alone axis t es s₀) p (lastMover alone axis t es p (t .len))
   moved p h = reached p (t .len) h (omega arith)

@@ -13,20 +13,31 @@ use Rattle.signed.specs.Equality.{eqZ}
 use Rattle.signed.proofs.Signed.{signed, add-law, same, atmost, to-≡, is-<ℤ, lt-or-le, eqZ-true}
 use Rattle.axis.specs.declared.edge.Axis.{Axis}
 use Rattle.axis.proofs.Walks.{same?}
-use Rattle.contours.specs.Contour.{at, Contour, isTouched, References, refs, firstOf, secondOf, betweenAt, shiftedAt, weakAt}
-use Rattle.contours.specs.Steps.{Ordered}
-use Rattle.contours.proofs.Points.{weak-touched, weak-one, weak-two}
-use Rattle.contours.proofs.References.{refs-on}
-use Rattle.contours.proofs.Searches.{marked, unmarked, is-touched}
-use Rattle.outline.specs.Weak.{contourOf, onContour, alignedAt, Outcome}
-use Rattle.outline.specs.Steps.{Accepted}
-use Rattle.outline.specs.Faithful.{KeepsOrder}
-use Rattle.outline.proofs.Contours.{contour-holds}
-use Rattle.outline.proofs.Faithful.{demand-3}
-use Rattle.outline.proofs.Neighbours.{refs-ordered}
-use Rattle.outline.proofs.Outcomes.{result-at}
-use Rattle.outline.proofs.Refusals.{accepted}
-use Rattle.edge_points_order.specs.Order.{EdgesInOrder, EdgesApart, OnePosition, PlacedBy, PlacedByEdges, Beside, Parted, PointsInOrder, Gained, PointsApart}
+use Rattle.weak_contour.specs.Contour.{at, Contour, isTouched, References, refs, firstOf, secondOf, betweenAt, shiftedAt, weakAt}
+use Rattle.weak_contour.specs.Steps.{Ordered}
+use Rattle.weak_contour.proofs.Points.{weak-touched, weak-one, weak-two}
+use Rattle.weak_contour.proofs.References.{refs-on}
+use Rattle.weak_contour.proofs.Searches.{marked, unmarked, is-touched}
+use Rattle.weak.specs.Weak.{contourOf, onContour, alignedAt, Outcome}
+use Rattle.weak.specs.Steps.{Accepted}
+use Rattle.weak.specs.Faithful.{KeepsOrder}
+use Rattle.weak.proofs.Contours.{contour-holds}
+use Rattle.weak.proofs.Faithful.{demand-3}
+use Rattle.weak.proofs.Neighbours.{refs-ordered}
+use Rattle.weak.proofs.Determined.{result-at}
+use Rattle.weak.proofs.Refusals.{accepted}
+use Rattle.edge_points_order.specs.Order.{
+  EdgesInOrder,
+  EdgesApart,
+  OnePosition,
+  PlacedBy,
+  PlacedByEdges,
+  Beside,
+  Parted,
+  PointsInOrder,
+  Gained,
+  PointsApart,
+}
 use Rattle.edge_points_order.proofs.Between.{under-first, under-second, over-first, over-second}
 
 -- ---- references by their names
@@ -71,7 +82,8 @@ module _ (axis : Axis) (o c d : List ℤ) (t es : List ℕ) (order : EdgesInOrde
   -- one is a point of the outline
   inside : (p : ℕ) → isTouched t p ≡ true → p < length o
   inside p m =
-      ⊎-elim (λ l. l) (λ g. let z = List·getD-eq-default t 0 {n = p} (omega (arith, good .marks-length)) in absurd (omega (arith, marked t p m))) (lt-or-le p (length o))
+      ⊎-elim (λ l. l) (λ g. let z = List·getD-eq-default t 0 {n = p} (omega (arith, good .marks-length)) in absurd (omega (arith, marked t p m)))
+      (lt-or-le p (length o))
 
   -- it stays
   stays : (p : ℕ) → isTouched t p ≡ true → at d p ≡ at c p
@@ -92,9 +104,11 @@ module _ (axis : Axis) (o c d : List ℤ) (t es : List ℕ) (order : EdgesInOrde
   -- two references are, but for the exception
   refs-rise : (r : References) → isTouched t (r .before) ≡ true → isTouched t (r .behind) ≡ true → Parted o c r ⊎ (at c (firstOf o r) ≤ℤ at c (secondOf o r))
   unfolding firstOf secondOf
-  refs-rise r m n = by (ltZ (at o (r .behind)) (at o (r .before))) (ltZ (at o (r .before)) (at o (r .behind))) (ltZ (at c (r .behind)) (at c (r .before))) refl refl refl
+  refs-rise r m n =
+      by (ltZ (at o (r .behind)) (at o (r .before))) (ltZ (at o (r .before)) (at o (r .behind))) (ltZ (at c (r .behind)) (at c (r .before))) refl refl refl
     where
-      by : (x y z : Bool) → ltZ (at o (r .behind)) (at o (r .before)) ≡ x → ltZ (at o (r .before)) (at o (r .behind)) ≡ y → ltZ (at c (r .behind)) (at c (r .before)) ≡ z
+      by : (x y z : Bool) → ltZ (at o (r .behind)) (at o (r .before)) ≡ x → ltZ (at o (r .before)) (at o (r .behind)) ≡ y
+          → ltZ (at c (r .behind)) (at c (r .before)) ≡ z
           → Parted o c r ⊎ (at c (firstOf o r) ≤ℤ at c (secondOf o r))
       by true y z e f g = rw e (inr (currents-rise (r .behind) (r .before) n m (is-<ℤ _ _ e)))
       by false true z e f g = rw e (inr (currents-rise (r .before) (r .behind) m n (is-<ℤ _ _ f)))
@@ -112,7 +126,8 @@ module _ (axis : Axis) (o c d : List ℤ) (t es : List ℕ) (order : EdgesInOrde
 
     neighbour-touched : isTouched t p ≡ true
     neighbour-touched =
-        ⊎-elim (λ e. subst (λ (x : ℕ). isTouched t x ≡ true) (sym e) (refs-touched .0)) (λ e. subst (λ (x : ℕ). isTouched t x ≡ true) (sym e) (refs-touched .1)) (b .is)
+        ⊎-elim (λ e. subst (λ (x : ℕ). isTouched t x ≡ true) (sym e) (refs-touched .0))
+        (λ e. subst (λ (x : ℕ). isTouched t x ≡ true) (sym e) (refs-touched .1)) (b .is)
 
     -- where there is one, it is the neighbour, and the point is shifted as that was moved
     one : b .by .before ≡ b .by .behind → at d i ≡ at o i +ℤ (at c p -ℤ at o p)
@@ -138,25 +153,34 @@ module _ (axis : Axis) (o c d : List ℤ) (t es : List ℕ) (order : EdgesInOrde
 
     below : at o i <ℤ at o p → Parted o c (b .by) ⊎ KeepsOrder (at o i) (at o p) (at o first) (at o second) (at d i) (at d p)
     unfolding betweenAt
-    below l = ⊎-elim alone (λ n. ⊎-elim (λ k. inl k) (λ k. inr (led n k (named o (b .by) p (b .is)))) (refs-rise (b .by) (refs-touched .0) (refs-touched .1))) (same? (b .by .before) (b .by .behind))
+    below l =
+        ⊎-elim alone (λ n. ⊎-elim (λ k. inl k) (λ k. inr (led n k (named o (b .by) p (b .is)))) (refs-rise (b .by) (refs-touched .0) (refs-touched .1)))
+        (same? (b .by .before) (b .by .behind))
       where
         alone : b .by .before ≡ b .by .behind → Parted o c (b .by) ⊎ KeepsOrder (at o i) (at o p) (at o first) (at o second) (at d i) (at d p)
         alone e = inr (inl (rw (one e, stays p neighbour-touched) (atmost (omega (arith, signed)))))
 
-        led : (b .by .before ≡ b .by .behind → ⊥) → at c first ≤ℤ at c second → (p ≡ first) ⊎ (p ≡ second) → KeepsOrder (at o i) (at o p) (at o first) (at o second) (at d i) (at d p)
-        led n k (inl e) = inl (rw (two n, stays p neighbour-touched, e) (under-first (at o i) (at o first) (at c first) (at o second) (at c second) ordered k (rw e at l)))
-        led n k (inr e) = rw (two n, stays p neighbour-touched, e) (under-second (at o i) (at o first) (at c first) (at o second) (at c second) ordered k (rw e at l))
+        led : (b .by .before ≡ b .by .behind → ⊥) → at c first ≤ℤ at c second → (p ≡ first) ⊎ (p ≡ second)
+            → KeepsOrder (at o i) (at o p) (at o first) (at o second) (at d i) (at d p)
+        led n k (inl e) =
+            inl (rw (two n, stays p neighbour-touched, e) (under-first (at o i) (at o first) (at c first) (at o second) (at c second) ordered k (rw e at l)))
+        led n k (inr e) =
+            rw (two n, stays p neighbour-touched, e) (under-second (at o i) (at o first) (at c first) (at o second) (at c second) ordered k (rw e at l))
 
     above : at o p <ℤ at o i → Parted o c (b .by) ⊎ (at d p ≤ℤ at d i)
     unfolding betweenAt
-    above l = ⊎-elim alone (λ n. ⊎-elim (λ k. inl k) (λ k. inr (led n k (named o (b .by) p (b .is)))) (refs-rise (b .by) (refs-touched .0) (refs-touched .1))) (same? (b .by .before) (b .by .behind))
+    above l =
+        ⊎-elim alone (λ n. ⊎-elim (λ k. inl k) (λ k. inr (led n k (named o (b .by) p (b .is)))) (refs-rise (b .by) (refs-touched .0) (refs-touched .1)))
+        (same? (b .by .before) (b .by .behind))
       where
         alone : b .by .before ≡ b .by .behind → Parted o c (b .by) ⊎ (at d p ≤ℤ at d i)
         alone e = inr (rw (one e, stays p neighbour-touched) (atmost (omega (arith, signed))))
 
         led : (b .by .before ≡ b .by .behind → ⊥) → at c first ≤ℤ at c second → (p ≡ first) ⊎ (p ≡ second) → at d p ≤ℤ at d i
-        led n k (inl e) = rw (two n, stays p neighbour-touched, e) (over-first (at o i) (at o first) (at c first) (at o second) (at c second) ordered k (rw e at l))
-        led n k (inr e) = rw (two n, stays p neighbour-touched, e) (over-second (at o i) (at o first) (at c first) (at o second) (at c second) ordered k (rw e at l))
+        led n k (inl e) =
+            rw (two n, stays p neighbour-touched, e) (over-first (at o i) (at o first) (at c first) (at o second) (at c second) ordered k (rw e at l))
+        led n k (inr e) =
+            rw (two n, stays p neighbour-touched, e) (over-second (at o i) (at o first) (at c first) (at o second) (at c second) ordered k (rw e at l))
 
     -- where done edges of one original position are at one position, there is no such exception
     pub not-parted : OnePosition axis → Parted o c (b .by) → ⊥
@@ -191,5 +215,6 @@ module _ (axis : Axis) (o c d : List ℤ) (t es : List ℕ) (order : EdgesInOrde
       below = λ i p q b n l k.
           let f = touched-apart p q (neighbour-touched i p b) n k in
           ⊎-elim (λ e. inl e) (λ e. inr (⊎-elim (λ x. omega (arith, signed)) (λ x. one-more (at d i) (at d p) (at d q) (x .1) f) e)) (below i p b l);
-      above = λ i p q b n k l. let f = touched-apart q p n (neighbour-touched i p b) k in ⊎-elim (λ e. inl e) (λ x. inr (omega (arith, signed))) (above i p b l);
+      above =
+          λ i p q b n k l. let f = touched-apart q p n (neighbour-touched i p b) k in ⊎-elim (λ e. inl e) (λ x. inr (omega (arith, signed))) (above i p b l);
     }

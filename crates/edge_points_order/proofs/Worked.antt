@@ -22,8 +22,23 @@ use Rattle.axis.specs.Ring.{walk, times}
 use Rattle.axis.specs.Segment.{emptySegment}
 use Rattle.axis.specs.Visits.{visits}
 use Rattle.gaps.specs.Gaps.{isDone}
-use Rattle.contours.specs.Contour.{at, isTouched, firstTouched, lastTouched, touchedBefore, touchedBehind, references, firstOf, secondOf, interpolated, betweenAt, shiftedAt, followed, weakAt}
-use Rattle.outline.specs.Weak.{contourOf, onContour, alignedAt, listOf}
+use Rattle.weak_contour.specs.Contour.{
+  at,
+  isTouched,
+  firstTouched,
+  lastTouched,
+  touchedBefore,
+  touchedBehind,
+  references,
+  firstOf,
+  secondOf,
+  interpolated,
+  betweenAt,
+  shiftedAt,
+  followed,
+  weakAt,
+}
+use Rattle.weak.specs.Weak.{contourOf, onContour, alignedAt, listOf}
 use Rattle.edge_points.specs.EdgePoints.{behind, Points, movedBy, movePoints, moveSegment, alongEdge, visitSegment, moveAll}
 use Rattle.edge_points_order.specs.Order.{EdgesApart, meets, moverOf, moverAt, lastMover, Ready}
 
@@ -57,44 +72,59 @@ single i k = record {
 -- edge points, with snap, on one contour of these points; then where weak points puts them, by their originals
 abbrev moved : Bool → List Edge → List Segment → List ℤ → List ℕ → Points
 moved alone es ss c t =
-    moveAll true alone (record { dim = Dimensions.Vertical; «major_dir» = Directions.Up; edges = es; len = length es }) (record { segments = ss; len = length ss }) (2 ∷ [])
+    moveAll true alone (record { dim = Dimensions.Vertical; «major_dir» = Directions.Up; edges = es; len = length es })
+    (record { segments = ss; len = length ss }) (2 ∷ [])
     (record { currents = c; touched = t })
 
 abbrev ended : List ℤ → Points → List ℤ
 ended o s = listOf (alignedAt o (s .currents) (s .touched) (2 ∷ [])) 0 3
 
 -- in order: edges 0 to 0 and 61 to 64, and a point between them
-in-order : ended (pos 61 ∷ pos 0 ∷ pos 61 ∷ []) (moved true (done (pos 0) (pos 0) ∷ done (pos 61) (pos 64) ∷ []) (single 1 0 ∷ single 2 1 ∷ []) (pos 61 ∷ pos 0 ∷ pos 61 ∷ []) (0 ∷ 0 ∷ 0 ∷ []))
+in-order : ended (pos 61 ∷ pos 0 ∷ pos 61 ∷ [])
+    (moved true (done (pos 0) (pos 0) ∷ done (pos 61) (pos 64) ∷ []) (single 1 0 ∷ single 2 1 ∷ []) (pos 61 ∷ pos 0 ∷ pos 61 ∷ []) (0 ∷ 0 ∷ 0 ∷ []))
     ≡ pos 64 ∷ pos 0 ∷ pos 64 ∷ []
-unfolding visits visitSegment alongEdge moveSegment movePoints movedBy walk behind contourOf listOf alignedAt onContour weakAt followed references touchedBefore touchedBehind firstTouched lastTouched betweenAt firstOf secondOf interpolated
+unfolding visits visitSegment alongEdge moveSegment movePoints movedBy walk behind contourOf listOf alignedAt onContour weakAt followed references
+    touchedBefore touchedBehind firstTouched lastTouched betweenAt firstOf secondOf interpolated
 in-order = refl
 
 -- the exception: two edges of one original position that came to -30 and 0. The point with original 4 ends at -1, above the one of original 5 at -30
-parted : ended (pos 4 ∷ pos 5 ∷ pos 5 ∷ []) (moved true (done (pos 5) (negℤ (pos 30)) ∷ done (pos 5) (pos 0) ∷ []) (single 1 0 ∷ single 2 1 ∷ []) (pos 4 ∷ pos 5 ∷ pos 5 ∷ []) (0 ∷ 0 ∷ 0 ∷ []))
+parted : ended (pos 4 ∷ pos 5 ∷ pos 5 ∷ [])
+    (moved true (done (pos 5) (negℤ (pos 30)) ∷ done (pos 5) (pos 0) ∷ []) (single 1 0 ∷ single 2 1 ∷ []) (pos 4 ∷ pos 5 ∷ pos 5 ∷ []) (0 ∷ 0 ∷ 0 ∷ []))
     ≡ negℤ (pos 1) ∷ negℤ (pos 30) ∷ pos 0 ∷ []
-unfolding visits visitSegment alongEdge moveSegment movePoints movedBy walk behind contourOf listOf alignedAt onContour weakAt followed references touchedBefore touchedBehind firstTouched lastTouched betweenAt firstOf secondOf interpolated
+unfolding visits visitSegment alongEdge moveSegment movePoints movedBy walk behind contourOf listOf alignedAt onContour weakAt followed references
+    touchedBefore touchedBehind firstTouched lastTouched betweenAt firstOf secondOf interpolated
 parted = refl
 
 -- points of an edge that is not done are moved too: those with originals 3 and 4 are turned
-not-done : moved false (done (pos 3) (negℤ (pos 4)) ∷ left (pos 4) (negℤ (pos 17)) ∷ []) (single 0 0 ∷ single 1 1 ∷ []) (pos 3 ∷ pos 4 ∷ pos 4 ∷ []) (0 ∷ 0 ∷ 0 ∷ []) .currents
+not-done : moved false (done (pos 3) (negℤ (pos 4)) ∷ left (pos 4) (negℤ (pos 17)) ∷ []) (single 0 0 ∷ single 1 1 ∷ []) (pos 3 ∷ pos 4 ∷ pos 4 ∷ [])
+    (0 ∷ 0 ∷ 0 ∷ []) .currents
     ≡ negℤ (pos 4) ∷ negℤ (pos 17) ∷ pos 4 ∷ []
 unfolding visits visitSegment alongEdge moveSegment movePoints movedBy walk behind contourOf
 not-done = refl
 
 -- a point was touched before, at -56: the last point, of original -1, ends there, below the one of original -2 at -4
-touched-before : ended (negℤ (pos 2) ∷ negℤ (pos 1) ∷ negℤ (pos 1) ∷ []) (moved true (done (negℤ (pos 2)) (negℤ (pos 4)) ∷ []) (single 0 0 ∷ []) (negℤ (pos 2) ∷ negℤ (pos 56) ∷ negℤ (pos 1) ∷ []) (0 ∷ 1 ∷ 0 ∷ []))
+touched-before : ended (negℤ (pos 2) ∷ negℤ (pos 1) ∷ negℤ (pos 1) ∷ [])
+    (moved true (done (negℤ (pos 2)) (negℤ (pos 4)) ∷ []) (single 0 0 ∷ []) (negℤ (pos 2) ∷ negℤ (pos 56) ∷ negℤ (pos 1) ∷ []) (0 ∷ 1 ∷ 0 ∷ []))
     ≡ negℤ (pos 4) ∷ negℤ (pos 56) ∷ negℤ (pos 56) ∷ []
-unfolding visits visitSegment alongEdge moveSegment movePoints movedBy walk behind contourOf listOf alignedAt onContour weakAt followed references touchedBefore touchedBehind firstTouched lastTouched betweenAt firstOf secondOf interpolated
+unfolding visits visitSegment alongEdge moveSegment movePoints movedBy walk behind contourOf listOf alignedAt onContour weakAt followed references
+    touchedBefore touchedBehind firstTouched lastTouched betweenAt firstOf secondOf interpolated
 touched-before = refl
 
 -- a current was not its original: the point with original 27 stays at 375, above the one of original 28, which the others follow by 0
 not-still : ended (pos 28 ∷ pos 27 ∷ pos 28 ∷ []) (moved true (done (pos 28) (pos 28) ∷ []) (single 0 0 ∷ []) (pos 28 ∷ pos 375 ∷ pos 28 ∷ []) (0 ∷ 0 ∷ 0 ∷ []))
     ≡ pos 28 ∷ pos 375 ∷ pos 28 ∷ []
-unfolding visits visitSegment alongEdge moveSegment movePoints movedBy walk behind contourOf listOf alignedAt onContour weakAt followed references touchedBefore touchedBehind firstTouched lastTouched betweenAt shiftedAt firstOf secondOf interpolated
+unfolding visits visitSegment alongEdge moveSegment movePoints movedBy walk behind contourOf listOf alignedAt onContour weakAt followed references
+    touchedBefore touchedBehind firstTouched lastTouched betweenAt shiftedAt firstOf secondOf interpolated
 not-still = refl
 
 -- the edge that moves a point of two segments last: that of the later segment
-last-of-two : lastMover true (record { dim = Dimensions.Vertical; «major_dir» = Directions.Up; edges = done (pos 0) (pos 5) ∷ done (pos 0) (pos 9) ∷ []; len = 2 }) (record { segments = single 1 1 ∷ single 1 0 ∷ []; len = 2 }) (2 ∷ []) 1 2
+last-of-two : lastMover true (record {
+  dim = Dimensions.Vertical;
+  «major_dir» = Directions.Up;
+  edges = done (pos 0) (pos 5) ∷ done (pos 0) (pos 9)
+      ∷ [];
+  len = 2;
+}) (record { segments = single 1 1 ∷ single 1 0 ∷ []; len = 2 }) (2 ∷ []) 1 2
     ≡ To 0
 unfolding lastMover moverAt moverOf meets times walk behind contourOf
 last-of-two = refl
@@ -116,7 +146,8 @@ points = record { currents = originals; touched = 0 ∷ 0 ∷ 0 ∷ [] }
 apart : EdgesApart axis
 apart = record { at = two }
   where
-    two : (i j : ℕ) → i < 2 → j < 2 → isDone axis i ≡ true → isDone axis j ≡ true → edgeAt axis i .opos <ℤ edgeAt axis j .opos → edgeAt axis i .pos <ℤ edgeAt axis j .pos
+    two : (i j : ℕ) → i < 2 → j < 2 → isDone axis i ≡ true → isDone axis j ≡ true → edgeAt axis i .opos <ℤ edgeAt axis j .opos
+        → edgeAt axis i .pos <ℤ edgeAt axis j .pos
     two zero zero a b d e l = absurd (omega (arith, signed))
     two zero (suc zero) a b d e l = is-<ℤ (pos 0) (pos 64) refl
     two zero (suc (suc j)) a b d e l = absurd (omega arith)

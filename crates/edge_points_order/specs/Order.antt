@@ -20,9 +20,9 @@ use Rattle.axis.specs.Link.{isLinked}
 use Rattle.axis.specs.Segment.{segmentAt}
 use Rattle.axis.specs.Ring.{times}
 use Rattle.gaps.specs.Gaps.{isDone, IsPair, orElse}
-use Rattle.contours.specs.Contour.{at, Contour, isTouched, References, references, firstOf, secondOf}
-use Rattle.outline.specs.Weak.{contourOf}
-use Rattle.outline.specs.Faithful.{KeepsOrder, Demand3}
+use Rattle.weak_contour.specs.Contour.{at, Contour, isTouched, References, references, firstOf, secondOf}
+use Rattle.weak.specs.Weak.{contourOf}
+use Rattle.weak.specs.Faithful.{KeepsOrder, Demand3}
 use Rattle.edge_points.specs.EdgePoints.{walked, Points, moves}
 
 -- ---- edges

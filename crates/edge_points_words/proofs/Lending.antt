@@ -13,22 +13,22 @@ use Rattle.refusals.specs.Refusal.{refusal}
 use Rattle.refusals.proofs.Tests.{and-first, and-second, all-hold, answered-yes}
 use Rattle.axis.specs.Limits.{mostEdges, mostSegments}
 use Rattle.axis.proofs.Acceptance.{axis-within}
-use Rattle.contours.specs.Limits.{mostPoints, mostCoordinate}
-use Rattle.contours.specs.Contour.{at}
-use Rattle.outline.proofs.Refusals.{coordinates-of}
-use Rattle.turning.specs.Indices.{segmentsEdges}
+use Rattle.weak_contour.specs.Limits.{mostPoints, mostCoordinate}
+use Rattle.weak_contour.specs.Contour.{at}
+use Rattle.weak.proofs.Refusals.{coordinates-of}
+use Rattle.turn.specs.Indices.{segmentsEdges}
 use Rattle.words.specs.Edge.{edgesIn}
 use Rattle.words.specs.Field.{choiceOf}
 use Rattle.words.specs.Segment.{segmentsIn, flatSegments}
-use Rattle.shape.specs.Shape.{edgesShown, segmentsShown}
-use Rattle.lent.specs.Lent.{edgesOf}
-use Rattle.lent.proofs.Lents.{passed-first}
-use Rattle.edges_in.specs.Whole as E
-use Rattle.edges_in.proofs.Wholes.{shown-whole, edges-len}
-use Rattle.segments_in.specs.Whole as S
-use Rattle.segments_in.proofs.Wholes.{shown-whole as segments-whole}
+use Rattle.words_shape.specs.Shape.{edgesShown, segmentsShown}
+use Rattle.words_call.specs.Lent.{edgesOf}
+use Rattle.words_call.proofs.Lents.{passed-first}
+use Rattle.words_edge.specs.Whole as E
+use Rattle.words_edge.proofs.Wholes.{shown-whole, edges-len}
+use Rattle.words_segment.specs.Whole as S
+use Rattle.words_segment.proofs.Wholes.{shown-whole as segments-whole}
 use Rattle.edge_points.specs.EdgePoints.{Points, moveAll, pointsTests, edgeAnswer, edgeResult}
-use Rattle.edge_points_walk.specs.Steps.{reached, Reach}
+use Rattle.edge_points.specs.Steps.{reached, Reach}
 use Rattle.edge_points_words.specs.Align.{pointsFront, EdgePointsLent}
 use Rattle.edge_points_words.specs.Steps.{Accepted}
 
@@ -55,7 +55,8 @@ all-shown ws es snap alone c t e =
     }
 
 -- ---- behind them
-module _ (ws es : List ℤ) (snap alone : ℤ) (ends : List ℕ) (s : Points) {k : ℕ} (f : k ≡ refusal (pointsFront ws es snap alone (s .currents) (s .touched))) (none : k ≤ 0) where
+module _ (ws es : List ℤ) (snap alone : ℤ) (ends : List ℕ) (s : Points) {k : ℕ} (f : k ≡ refusal (pointsFront ws es snap alone (s .currents) (s .touched)))
+    (none : k ≤ 0) where
   pub shown : Shown ws es (s .currents) (s .touched)
   shown = let z : k ≡ 0 = omega arith in all-shown ws es snap alone (s .currents) (s .touched) (sym f ∙ z)
 
@@ -95,7 +96,8 @@ module _ (ws es : List ℤ) (snap alone : ℤ) (ends : List ℕ) (s : Points) {k
           omega (arith, natAbs-is (at (s .currents) j), n)
 
       -- and what it makes
-      pub moved : {c : Bool} (x : Points) → c ≡ choiceOf snap → x ≡ moveAll c b (edgesOf es) (flatSegments ws) ends s → EdgePointsLent ws es snap alone ends s 0 x
+      pub moved : {c : Bool} (x : Points) → c ≡ choiceOf snap → x ≡ moveAll c b (edgesOf es) (flatSegments ws) ends s
+          → EdgePointsLent ws es snap alone ends s 0 x
       unfolding edgeResult
       moved {c} x p m =
           let z : 0 ≡ r = omega arith in

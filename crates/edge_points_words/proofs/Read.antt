@@ -17,22 +17,22 @@ use Rattle.axis.specs.Refusals.{segmentEdge}
 use Rattle.axis.specs.Segment.{segmentAt}
 use Rattle.axis.proofs.Acceptance.{within-between, link-below}
 use Rattle.axis.proofs.Tests.{every-at}
-use Rattle.contours.specs.Limits.{mostCoordinate}
-use Rattle.contours.specs.Contour.{Contour}
-use Rattle.outline.specs.Weak.{endsHold, contourOf}
-use Rattle.outline.proofs.Contours.{contour-holds}
-use Rattle.turning.specs.Indices.{segmentsEdges}
+use Rattle.weak_contour.specs.Limits.{mostCoordinate}
+use Rattle.weak_contour.specs.Contour.{Contour}
+use Rattle.weak.specs.Weak.{endsHold, contourOf}
+use Rattle.weak.proofs.Contours.{contour-holds}
+use Rattle.turn.specs.Indices.{segmentsEdges}
 use Rattle.words.specs.Word.{wordAt}
 use Rattle.words.specs.Field.{indexOf}
 use Rattle.words.specs.Edge.{edgesIn}
 use Rattle.words.specs.Segment.{firstPlace, lastPlace, wordOfSegment, segmentsIn, segmentFrom, flatSegments}
-use Rattle.lent.specs.Lent.{edgesOf}
-use Rattle.edges_in.proofs.Wholes.{edges-len}
-use Rattle.segments_in.specs.Whole.{Whole}
-use Rattle.segments_in.proofs.Wholes.{segment-in}
-use Rattle.tables_test.proofs.Tables.{tested-segment}
+use Rattle.words_call.specs.Lent.{edgesOf}
+use Rattle.words_edge.proofs.Wholes.{edges-len}
+use Rattle.words_segment.specs.Whole.{Whole}
+use Rattle.words_segment.proofs.Wholes.{segment-in}
+use Rattle.words_tables_test.proofs.Tables.{tested-segment}
 use Rattle.edge_points.specs.EdgePoints.{moves, isOn, onOne, segmentPoints, segmentsPoints, moverHolds, moversHold}
-use Rattle.edge_points_walk.specs.Steps.{Mover}
+use Rattle.edge_points.specs.Steps.{Mover}
 use Rattle.edge_points_words.specs.Steps.{Accepted}
 
 -- ---- words
@@ -84,7 +84,8 @@ or-second : (m b : Bool) → m ≡ true → (not m || b) ≡ true → b ≡ true
 or-second true b e h = h
 or-second false b e h = absurd (clash false refl e)
 
-module _ (ws es : List ℤ) (alone : Bool) (n : ℕ) (ends : List ℕ) (a : Accepted ws es alone n ends) (i : ℕ) (h : i < segmentsIn ws) (k : ℕ) (e : segmentAt (flatSegments ws) i .edge ≡ Links.To k) where
+module _ (ws es : List ℤ) (alone : Bool) (n : ℕ) (ends : List ℕ) (a : Accepted ws es alone n ends) (i : ℕ) (h : i < segmentsIn ws) (k : ℕ)
+    (e : segmentAt (flatSegments ws) i .edge ≡ Links.To k) where
   -- its edge is one of the list
   pub named : k < edgesIn es
   named = edge-below ws i (a .segments) h (edgesIn es) k (a .to-edges) e

@@ -19,14 +19,14 @@ use Rattle.axis.specs.declared.segment.Segment.{Segment}
 use Rattle.axis.specs.declared.segment.Segments.{Segments}
 use Rattle.axis.specs.Edge.{edgeAt}
 use Rattle.axis.specs.Refusals.{within, segmentsInRange, edgesInRange}
-use Rattle.contours.specs.Limits.{mostPoints, mostCoordinate}
-use Rattle.outline.specs.Weak.{endsHold, coordinatesHold, contourOf}
-use Rattle.turning.specs.Indices.{segmentsEdges, indexTests}
-use Rattle.edges_in.specs.Whole.{reduced}
+use Rattle.weak_contour.specs.Limits.{mostPoints, mostCoordinate}
+use Rattle.weak.specs.Weak.{endsHold, coordinatesHold, contourOf}
+use Rattle.turn.specs.Indices.{segmentsEdges, indexTests}
+use Rattle.words_edge.specs.Whole.{reduced}
 use Rattle.edge_points.specs.EdgePoints.{Points, moves, isOn, onOne, segmentPoints, segmentsPoints, moverHolds, moversHold, pointsTests}
-use Rattle.edge_points_walk.specs.declared.contour.Stretch.{Stretch}
-use Rattle.edge_points_walk.specs.Steps.{stretchOf}
-use Rattle.edge_points_walk.proofs.Walks.{on-stretch}
+use Rattle.edge_points.specs.declared.contour.Stretch.{Stretch}
+use Rattle.edge_points.specs.Steps.{stretchOf}
+use Rattle.edge_points.proofs.Walks.{on-stretch}
 
 -- ---- first and last of a segment
 module _ (es : List ℕ) (g : Segment) where
@@ -38,7 +38,8 @@ module _ (es : List ℕ) (g : Segment) where
       → r ≡ (leb (c .start) last && ltb last (c .end)) → r ≡ segmentPoints es g (g .edge)
   unfolding segmentPoints onOne
   points-on k first last c r e p q f o =
-      o ∙ (λ x. leb (f x .start) (q x) && ltb (q x) (f x .end)) ∙ on-stretch (contourOf 0 es first) (g .last) ∙ ap (λ (x : ℕ). isOn (contourOf 0 es x) (g .last)) p
+      o ∙ (λ x. leb (f x .start) (q x) && ltb (q x) (f x .end)) ∙ on-stretch (contourOf 0 es first) (g .last)
+      ∙ ap (λ (x : ℕ). isOn (contourOf 0 es x) (g .last)) p
       ∙ sym (ap (segmentPoints es g) e)
 
 -- ---- the edge of a segment
@@ -57,7 +58,8 @@ module _ (alone : Bool) (axis : Axis) (l : Link) where
   unfolding moverHolds
   mover-still k e m = or-free _ _ m ∙ sym (ap (moverHolds alone axis) e)
 
-  pub mover-asked : (k : ℕ) (d : Edge) (r : Bool) → l ≡ Links.To k → d ≡ reduced (edgeAt axis k) → moves alone (edgeAt axis k) ≡ true → r ≡ within mostCoordinate (d .pos) → r ≡ moverHolds alone axis l
+  pub mover-asked : (k : ℕ) (d : Edge) (r : Bool) → l ≡ Links.To k → d ≡ reduced (edgeAt axis k) → moves alone (edgeAt axis k) ≡ true
+      → r ≡ within mostCoordinate (d .pos) → r ≡ moverHolds alone axis l
   unfolding moverHolds
   mover-asked k d r e q m t = t ∙ ap (λ (x : Edge). within mostCoordinate (x .pos)) q ∙ or-asked _ _ m ∙ sym (ap (moverHolds alone axis) e)
 

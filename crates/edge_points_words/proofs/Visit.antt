@@ -19,17 +19,17 @@ use Rattle.axis.specs.Edge.{edgeAt}
 use Rattle.axis.specs.Limits.{mostSegments}
 use Rattle.axis.specs.Ring.{times}
 use Rattle.axis.specs.Segment.{segmentAt}
-use Rattle.contours.specs.Limits.{mostPoints, mostDelta}
-use Rattle.contours.specs.Contour.{at, Contour}
-use Rattle.outline.specs.Weak.{contourOf}
+use Rattle.weak_contour.specs.Limits.{mostPoints, mostDelta}
+use Rattle.weak_contour.specs.Contour.{at, Contour}
+use Rattle.weak.specs.Weak.{contourOf}
 use Rattle.words.specs.Segment.{segmentsIn, flatSegments}
-use Rattle.lent.specs.Lent.{edgesOf}
-use Rattle.edges_in.specs.Whole.{reduced}
+use Rattle.words_call.specs.Lent.{edgesOf}
+use Rattle.words_edge.specs.Whole.{reduced}
 use Rattle.edge_points.specs.EdgePoints.{Points, movePoints, walked, moves, moveSegment, alongEdge, visitSegment}
-use Rattle.edge_points_walk.specs.declared.contour.Stretch.{Stretch}
-use Rattle.edge_points_walk.specs.Steps.{reached, mostReach, Reach, Mover, contourIn, stretchOf, Around}
-use Rattle.edge_points_walk.proofs.Moves.{moved-alike, currents-long, marks-long, grown}
-use Rattle.edge_points_walk.proofs.Runs.{walk-once}
+use Rattle.edge_points.specs.declared.contour.Stretch.{Stretch}
+use Rattle.edge_points.specs.Steps.{reached, mostReach, Reach, Mover, contourIn, stretchOf, Around}
+use Rattle.edge_points.proofs.Moves.{moved-alike, currents-long, marks-long, grown}
+use Rattle.edge_points.proofs.Runs.{walk-once}
 use Rattle.edge_points_words.specs.Steps.{Accepted}
 use Rattle.edge_points_words.proofs.Read.{OnContour, ends-on, is-mover}
 
@@ -63,7 +63,8 @@ module _ (snap alone : Bool) (axis : Axis) (t : Segments) (es : List ℕ) (s : P
 
 -- ---- as the code comes to it
 -- what is read of an edge is enough to tell whether it moves points, and to move them
-pub read-moves : (alone : Bool) (ws es : List ℤ) (i : ℕ) {k : ℕ} (d : Edge) (r : Bool) {v : Bool} → segmentAt (flatSegments ws) i .edge ≡ Links.To k → d ≡ reduced (edgeAt (edgesOf es) k)
+pub read-moves : (alone : Bool) (ws es : List ℤ) (i : ℕ) {k : ℕ} (d : Edge) (r : Bool) {v : Bool} → segmentAt (flatSegments ws) i .edge ≡ Links.To k
+    → d ≡ reduced (edgeAt (edgesOf es) k)
     → r ≡ moves alone d → r ≡ v → moves alone (edgeAt (edgesOf es) k) ≡ v
 read-moves alone ws es i d r e q p g = ap (moves alone) (sym q) ∙ sym p ∙ g
 
@@ -83,7 +84,8 @@ module _ (es : List ℕ) (n first last : ℕ) (o : OnContour es n first last) (f
   pub same-contour : contourIn k ≡ o .contour
   same-contour = ap contourIn found
 
-module _ (ws es : List ℤ) (alone : Bool) (n : ℕ) (ends : List ℕ) (a : Accepted ws es alone n ends) (i : ℕ) (h : i < segmentsIn ws) (k : ℕ) (e : segmentAt (flatSegments ws) i .edge ≡ Links.To k) where
+module _ (ws es : List ℤ) (alone : Bool) (n : ℕ) (ends : List ℕ) (a : Accepted ws es alone n ends) (i : ℕ) (h : i < segmentsIn ws) (k : ℕ)
+    (e : segmentAt (flatSegments ws) i .edge ≡ Links.To k) where
   abbrev g : Segment
   g = segmentAt (flatSegments ws) i
 
@@ -96,7 +98,9 @@ module _ (ws es : List ℤ) (alone : Bool) (n : ℕ) (ends : List ℕ) (a : Acce
 
     -- the contour is there to be walked
     pub segment-ready : Around c first last n
-    segment-ready = subst (λ (x : ℕ). Around c x last n) (sym p) (subst (λ (x : ℕ). Around c (g .first) x n) (sym q) (walk-ready ends n (g .first) (g .last) on (a .few) c at-first))
+    segment-ready =
+        subst (λ (x : ℕ). Around c x last n) (sym p)
+        (subst (λ (x : ℕ). Around c (g .first) x n) (sym q) (walk-ready ends n (g .first) (g .last) on (a .few) c at-first))
 
     -- the walk is the segment's visit
     pub segment-moved : (snap : Bool) (s x : Points) (d : Edge) → d ≡ reduced (edgeAt (edgesOf es) k) → moves alone (edgeAt (edgesOf es) k) ≡ true
@@ -116,7 +120,8 @@ pub record Grew (s s′ : Points) : Type 0 where
 grew-none : (s : Points) → Grew s s
 grew-none s = record { currents-size = refl; marks-size = refl; reach = λ b r j. omega (arith, r j) }
 
-grew-walk : (snap : Bool) (e : Edge) (k : Contour) (first last : ℕ) (s : Points) → Mover e → k .start ≤ first → first < k .end → k .start ≤ last → last < k .end → k .end ≤ mostPoints
+grew-walk : (snap : Bool) (e : Edge) (k : Contour) (first last : ℕ) (s : Points) → Mover e → k .start ≤ first → first < k .end → k .start ≤ last
+    → last < k .end → k .end ≤ mostPoints
     → Grew s (movePoints snap e (walked k first last) s)
 grew-walk snap e k first last s m a b c d f = record {
   currents-size = currents-long snap e (walked k first last) s;
@@ -132,16 +137,19 @@ grew-walk snap e k first last s m a b c d f = record {
 pub reach-most : (i : ℕ) (c : List ℤ) → i ≤ mostSegments → Reach (reached i) c → Reach mostReach c
 reach-most i c h r j = omega (arith, h, r j)
 
-pub visit-grew : (ws es : List ℤ) (alone : Bool) (n : ℕ) (ends : List ℕ) → Accepted ws es alone n ends → (i : ℕ) → i < segmentsIn ws → (snap : Bool) (s : Points)
+pub visit-grew : (ws es : List ℤ) (alone : Bool) (n : ℕ) (ends : List ℕ) → Accepted ws es alone n ends → (i : ℕ) → i < segmentsIn ws
+    → (snap : Bool) (s : Points)
     → Grew s (visitSegment snap alone (edgesOf es) (flatSegments ws) ends s i)
 visit-grew ws es alone n ends a i h snap s = by (segmentAt (flatSegments ws) i .edge) refl
   where
-    to : (k : ℕ) → segmentAt (flatSegments ws) i .edge ≡ Links.To k → (b : Bool) → moves alone (edgeAt (edgesOf es) k) ≡ b → Grew s (visitSegment snap alone (edgesOf es) (flatSegments ws) ends s i)
+    to : (k : ℕ) → segmentAt (flatSegments ws) i .edge ≡ Links.To k → (b : Bool) → moves alone (edgeAt (edgesOf es) k) ≡ b
+        → Grew s (visitSegment snap alone (edgesOf es) (flatSegments ws) ends s i)
     to k e false m = subst (Grew s) (visit-still snap alone (edgesOf es) (flatSegments ws) ends s i k e m) (grew-none s)
     to k e true m =
         let o = ends-on ws es alone n ends a i h k e in
         subst (Grew s) (visit-moves snap alone (edgesOf es) (flatSegments ws) ends s i k e (o .contour) (o .found) m)
-        (grew-walk snap (edgeAt (edgesOf es) k) (o .contour) _ _ s (is-mover ws es alone n ends a i h k e m) (o .from-low) (o .from-high) (o .to-low) (o .to-high) (omega (arith, o .inside, a .few)))
+        (grew-walk snap (edgeAt (edgesOf es) k) (o .contour) _ _ s (is-mover ws es alone n ends a i h k e m) (o .from-low) (o .from-high) (o .to-low)
+        (o .to-high) (omega (arith, o .inside, a .few)))
 
     by : (l : Link) → segmentAt (flatSegments ws) i .edge ≡ l → Grew s (visitSegment snap alone (edgesOf es) (flatSegments ws) ends s i)
     by Links.None e = subst (Grew s) (visit-none snap alone (edgesOf es) (flatSegments ws) ends s i e) (grew-none s)

@@ -8,12 +8,12 @@ use lib.ListN.{length}
 use lib.IntN.{ℤ}
 use Rattle.refusals.specs.Refusal.{Test}
 use Rattle.axis.specs.Limits.{mostEdges, mostSegments}
-use Rattle.contours.specs.Limits.{mostPoints}
+use Rattle.weak_contour.specs.Limits.{mostPoints}
 use Rattle.words.specs.Edge.{edgeSize, edgesIn}
 use Rattle.words.specs.Field.{choiceOf}
 use Rattle.words.specs.Segment.{segmentSize, segmentsIn, flatSegments}
-use Rattle.shape.specs.Shape.{choice, edgesShown, segmentsShown}
-use Rattle.lent.specs.Lent.{Lent, front, bothIn, edgesOf}
+use Rattle.words_shape.specs.Shape.{choice, edgesShown, segmentsShown}
+use Rattle.words_call.specs.Lent.{Lent, front, bothIn, edgesOf}
 use Rattle.edge_points.specs.EdgePoints.{Points, edgeAnswer, edgeResult}
 
 -- the tests in front: both tables are of whole records; there are not too many segments, edges and points, and as many marks as points; every word is one of its field, and a choice one of two

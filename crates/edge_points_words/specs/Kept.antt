@@ -14,8 +14,8 @@ use Rattle.axis.specs.declared.segment.Segments.{Segments}
 use Rattle.axis.specs.Edge.{edgeAt}
 use Rattle.axis.specs.Ring.{times}
 use Rattle.axis.specs.Segment.{segmentAt}
-use Rattle.contours.specs.Contour.{at, Contour}
-use Rattle.outline.specs.Weak.{contourOf}
+use Rattle.weak_contour.specs.Contour.{at, Contour}
+use Rattle.weak.specs.Weak.{contourOf}
 use Rattle.edge_points.specs.EdgePoints.{Points, walked, moves}
 
 -- the points from a segment's first to its last on a contour, where its edge e moves points

@@ -6,14 +6,14 @@ use Prim.Native.Nat.{ℕ, _≤_}
 use lib.IntN.{ℤ}
 use Rattle.axis.specs.Limits.{mostPos}
 use Rattle.axis.specs.Accepted.{AxisWithin}
-use Rattle.contours.specs.Limits.{mostPoints}
-use Rattle.outline.specs.Weak.{endsHold}
-use Rattle.turning.specs.Indices.{segmentsEdges}
+use Rattle.weak_contour.specs.Limits.{mostPoints}
+use Rattle.weak.specs.Weak.{endsHold}
+use Rattle.turn.specs.Indices.{segmentsEdges}
 use Rattle.words.specs.Edge.{edgesIn}
 use Rattle.words.specs.Segment.{flatSegments}
-use Rattle.lent.specs.Lent.{edgesOf}
-use Rattle.edges_in.specs.Whole as Edges
-use Rattle.segments_in.specs.Whole as Segments
+use Rattle.words_call.specs.Lent.{edgesOf}
+use Rattle.words_edge.specs.Whole as Edges
+use Rattle.words_segment.specs.Whole as Segments
 use Rattle.edge_points.specs.EdgePoints.{segmentsPoints, moversHold}
 
 -- both tables and the contour ends of n points are not refused

@@ -2,9 +2,9 @@
 use super::front::points_front;
 use super::pass::move_all;
 use super::test::points_refusal;
-use tables_test::hold::tables_hold;
 use words::field::choice_of;
-ghost use Rattle.edge_points_walk.specs.Steps.{points};
+use words_tables_test::hold::tables_hold;
+ghost use Rattle.edge_points.specs.Steps.{points};
 ghost use Rattle.edge_points_words.specs.Align.{EdgePointsLent};
 
 // Moves the points of every segment that has an edge to the edge's position, or where they are not snapped by as much as the edge was moved, and touches them; where `alone` says so, only

@@ -1,21 +1,21 @@
 // The tests of what is lent: lengths, counts, words and choices.
 use axis::accept::few_edges;
 use axis::accept::few_segments;
-use lent::shown::NOT_WORDS;
-use lent::shown::both;
-use lent::shown::both_in;
-use outline::limits::MOST_POINTS;
 use refusals::order::TOO_LONG;
-use shape::field::CHOICE;
-use tables_test::test::tables_shown;
+use weak::limits::MOST_POINTS;
 use words::edge::EDGE_WORDS;
 use words::segment::SEGMENT_WORDS;
+use words_call::shown::NOT_WORDS;
+use words_call::shown::both;
+use words_call::shown::both_in;
+use words_shape::field::CHOICE;
+use words_tables_test::test::tables_shown;
 ghost use mathlib.Core.Path.{_≡_};
 ghost use mathlib.Core.Bool.{true, _&&_};
 ghost use lib.Dec.{leb, eqb};
 ghost use Rattle.refusals.specs.Refusal.{refusal};
-ghost use Rattle.contours.specs.Limits.{mostPoints};
-ghost use Rattle.tables_test.specs.Held.{Held};
+ghost use Rattle.weak_contour.specs.Limits.{mostPoints};
+ghost use Rattle.words_tables_test.specs.Held.{Held};
 ghost use Rattle.edge_points_words.specs.Align.{pointsFront};
 
 // Whether so many points are not too many, and have as many marks.

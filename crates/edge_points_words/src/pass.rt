@@ -3,17 +3,17 @@ use super::segment::edge_of;
 use super::segment::first_of;
 use super::segment::last_of;
 use axis::kinds::Link;
-use edge_points_walk::walk::move_walk;
-use edges_in::edge::fit_in;
+use edge_points::walk::move_walk;
 use words::segment::SEGMENT_WORDS;
+use words_edge::edge::read_edge;
 ghost use mathlib.Core.Path.{_≡_};
 ghost use mathlib.Core.Bool.{not, _||_};
 ghost use Prim.Native.Nat.{_<_};
 ghost use lib.ListN.{length};
 ghost use Rattle.words.specs.Segment.{segmentsIn, flatSegments};
-ghost use Rattle.lent.specs.Lent.{edgesOf};
+ghost use Rattle.words_call.specs.Lent.{edgesOf};
 ghost use Rattle.edge_points.specs.EdgePoints.{visitSegment, moveAll};
-ghost use Rattle.edge_points_walk.specs.Steps.{reached, Reach, points};
+ghost use Rattle.edge_points.specs.Steps.{reached, Reach, points};
 ghost use Rattle.edge_points_words.specs.Steps.{Accepted};
 
 // Whether an edge moves points: any does, or it is done.
@@ -46,7 +46,7 @@ fn move_segment(
     let Link::To(k) = link else {
         return;
     };
-    let edge = fit_in(edges, k as usize);
+    let edge = read_edge(edges, k as usize);
     if !moves(edge.flags.done, alone) {
         return;
     }

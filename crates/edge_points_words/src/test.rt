@@ -5,35 +5,35 @@ use super::segment::first_of;
 use super::segment::last_of;
 use axis::accept::is_inside;
 use axis::kinds::Link;
-use edge_points_walk::contour::contour_of;
-use edge_points_walk::contour::is_on;
-use edges_in::edge::fit_in;
-use outline::accept::ends_hold;
-use outline::limits::MOST_COORDINATE;
-use outline::reach::coordinates_hold;
+use edge_points::contour::contour_of;
+use edge_points::contour::is_on;
 use refusals::order::BAD_INDEX;
 use refusals::order::OUT_OF_RANGE;
 use refusals::order::or_refused;
-use tables_test::test::edges_ranged;
-use tables_test::test::segments_ranged;
-use tables_test::test::tables_indexed;
+use weak::accept::ends_hold;
+use weak::limits::MOST_COORDINATE;
+use weak::reach::coordinates_hold;
 use words::segment::SEGMENT_WORDS;
+use words_edge::edge::read_edge;
+use words_tables_test::test::edges_ranged;
+use words_tables_test::test::segments_ranged;
+use words_tables_test::test::tables_indexed;
 ghost use mathlib.Core.Path.{_≡_};
 ghost use mathlib.Core.Bool.{true};
 ghost use Prim.Native.Nat.{_≤_, _<_};
 ghost use lib.ListN.{length};
 ghost use Rattle.refusals.specs.Refusal.{refusal};
 ghost use Rattle.axis.specs.Segment.{segmentAt};
-ghost use Rattle.contours.specs.Limits.{mostPoints};
-ghost use Rattle.turning.specs.Indices.{segmentsEdges};
+ghost use Rattle.weak_contour.specs.Limits.{mostPoints};
+ghost use Rattle.turn.specs.Indices.{segmentsEdges};
 ghost use Rattle.words.specs.Edge.{edgesIn};
 ghost use Rattle.words.specs.Segment.{segmentsIn, flatSegments};
-ghost use Rattle.lent.specs.Lent.{edgesOf};
-ghost use Rattle.edges_in.specs.Whole as Edges;
-ghost use Rattle.segments_in.specs.Whole as Segments;
-ghost use Rattle.tables_test.specs.Held.{Held};
+ghost use Rattle.words_call.specs.Lent.{edgesOf};
+ghost use Rattle.words_edge.specs.Whole as Edges;
+ghost use Rattle.words_segment.specs.Whole as Segments;
+ghost use Rattle.words_tables_test.specs.Held.{Held};
 ghost use Rattle.edge_points.specs.EdgePoints.{segmentPoints, segmentsPoints, moverHolds, moversHold, pointsTests};
-ghost use Rattle.edge_points_walk.specs.Steps.{points};
+ghost use Rattle.edge_points.specs.Steps.{points};
 
 // Whether first and last of segment i are on one contour, where it has an edge.
 fn segment_points(segments: &[i32], i: usize, ends: &[u16]) -> bool
@@ -73,7 +73,7 @@ fn mover_holds(segments: &[i32], i: usize, edges: &[i32], alone: bool) -> bool
     let Link::To(k) = link else {
         return true;
     };
-    let edge = fit_in(edges, k as usize);
+    let edge = read_edge(edges, k as usize);
     if !moves(edge.flags.done, alone) {
         return true;
     }

@@ -11,9 +11,24 @@ use Rattle.axis.specs.declared.kinds.Link.the-variants as Links
 use Rattle.axis.specs.Link.{linksTo}
 use Rattle.axis.specs.Refusals.{linkHolds, blueHolds, every, edgeIndices, edgeNumbers, edgesIndices, edgesNumbers}
 use Rattle.axis.specs.Visits.{visits}
-use Rattle.contours.specs.Contour.{firstTouched, lastTouched, touchedBefore, touchedBehind, references, firstOf as firstRef, secondOf as secondRef, shiftedAt, followed, weakAt, steepBetween, steepBy, steepFollowed, steepAt}
-use Rattle.outline.specs.Weak.{endsHold, coordinateHolds, coordinatesHold, contourOf, steepOn, gentleFrom, gentle, onContour, alignedAt, listOf, result}
-use Rattle.placing.specs.Placing.{serifPos, lowerBound, upperBound, hasPassed, neighbour, heldTo, boundBy, adjusted}
+use Rattle.weak_contour.specs.Contour.{
+  firstTouched,
+  lastTouched,
+  touchedBefore,
+  touchedBehind,
+  references,
+  firstOf as firstRef,
+  secondOf as secondRef,
+  shiftedAt,
+  followed,
+  weakAt,
+  steepBetween,
+  steepBy,
+  steepFollowed,
+  steepAt,
+}
+use Rattle.weak.specs.Weak.{endsHold, coordinateHolds, coordinatesHold, contourOf, steepOn, gentleFrom, gentle, onContour, alignedAt, listOf, result}
+use Rattle.place.specs.Placing.{serifPos, lowerBound, upperBound, hasPassed, neighbour, heldTo, boundBy, adjusted}
 use Rattle.gaps.specs.Gaps.{rowFrom, rows, gone, lostGap, lostStem, lost, lastOf, pairTo, ends, counted, firstOf, foundTo, lostGaps}
 use Rattle.remaining.specs.Plan.{halfFloor, spacedPos, betweenPos}
 use Rattle.remaining.specs.Remaining.{doneBefore, doneFrom, nearOf, byBounds, byAnchor, bySerif, planOf, stored, carriedOut, visit, passOf, alignRemainingEdges}
@@ -36,17 +51,23 @@ abbrev heights : Numbers
 heights = numbersOf (pos 1 ∷ pos 0 ∷ pos 0 ∷ pos 1 ∷ pos 0 ∷ pos 0 ∷ pos 0 ∷ pos 0 ∷ pos 0 ∷ [])
 
 -- two edges that stems passed over, below one that is done: they come above it, and the guard, asked behind them, tells two gaps lost and none not done
-guarded : toldWords (thenRemaining heights 2 Links.None (edge (pos 40) (pos 40) (pos 0) ++ (edge (pos 50) (pos 50) (pos 0) ++ edge (pos 60) (pos 60) (pos 4))) .told)
+guarded : toldWords (thenRemaining heights 2 Links.None (edge (pos 40) (pos 40) (pos 0) ++ (edge (pos 50) (pos 50) (pos 0) ++ edge (pos 60) (pos 60) (pos 4)))
+    .told)
     ≡ pos 2 ∷ pos 0 ∷ pos 0 ∷ pos 0 ∷ pos 1 ∷ pos 10 ∷ negℤ (pos 2) ∷ pos 2 ∷ pos 0 ∷ []
-unfolding written firsts joined table shortOf choiceOf linkOf directionOf markOf flagsOf blueOf dimensionOf groupOf ruleOf flagsWord edgeFrom axisRun flatAxis edgeWords edgesOver thenGuard isLeft
-    remainingWhere thenRemaining visits passOf visit carriedOut stored planOf bySerif byAnchor byBounds nearOf doneFrom doneBefore betweenPos spacedPos halfFloor serifPos alignRemainingEdges refusal
-    linkHolds blueHolds every edgeIndices edgeNumbers edgesIndices edgesNumbers lowerBound upperBound hasPassed neighbour heldTo boundBy adjusted pixFloor pixRound mulDiv roundedZ rounded
+unfolding written firsts joined table shortOf choiceOf linkOf directionOf markOf flagsOf blueOf dimensionOf groupOf ruleOf flagsWord edgeFrom axisRun flatAxis
+    edgeWords edgesOver thenGuard isLeft
+    remainingWhere thenRemaining visits passOf visit carriedOut stored planOf bySerif byAnchor byBounds nearOf doneFrom doneBefore betweenPos spacedPos
+    halfFloor serifPos alignRemainingEdges refusal
+    linkHolds blueHolds every edgeIndices edgeNumbers edgesIndices edgesNumbers lowerBound upperBound hasPassed neighbour heldTo boundBy adjusted pixFloor
+    pixRound mulDiv roundedZ rounded
     rowFrom rows gone lostGap lostStem lost lastOf pairTo ends counted firstOf foundTo linksTo lostGaps
 guarded = refl
 
 -- two contours of two points, one of each touched and moved: the others follow on both
-every-contour : thenWeak (pos 0 ∷ pos 10 ∷ pos 0 ∷ pos 10 ∷ []) (1 ∷ 3 ∷ []) (record { currents = pos 5 ∷ pos 10 ∷ pos 7 ∷ pos 10 ∷ []; touched = 1 ∷ 0 ∷ 1 ∷ 0 ∷ [] }) .points .currents
+every-contour : thenWeak (pos 0 ∷ pos 10 ∷ pos 0 ∷ pos 10 ∷ []) (1 ∷ 3 ∷ [])
+    (record { currents = pos 5 ∷ pos 10 ∷ pos 7 ∷ pos 10 ∷ []; touched = 1 ∷ 0 ∷ 1 ∷ 0 ∷ [] }) .points .currents
     ≡ pos 5 ∷ pos 15 ∷ pos 7 ∷ pos 17 ∷ []
-unfolding refusal endsHold coordinateHolds coordinatesHold contourOf references touchedBefore touchedBehind firstTouched lastTouched gentle gentleFrom steepOn steepAt steepFollowed steepBy steepBetween
+unfolding refusal endsHold coordinateHolds coordinatesHold contourOf references touchedBefore touchedBehind firstTouched lastTouched gentle gentleFrom steepOn
+    steepAt steepFollowed steepBy steepBetween
     firstRef secondRef tooSteep shiftedAt followed weakAt onContour alignedAt listOf result
 every-contour = refl

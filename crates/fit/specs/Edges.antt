@@ -12,14 +12,14 @@ use Rattle.axis.specs.declared.kinds.Link.the-variants as Links
 use Rattle.axis.specs.Link.{isLinked}
 use Rattle.lowercase_m.specs.declared.hint.Hinted.{Hinted}
 use Rattle.lowercase_m.specs.M.{hinted, hintLowercaseM}
-use Rattle.stems.specs.declared.pass.Stems.{Stems}
-use Rattle.joined.specs.Joined.{alignBluesAndStems}
+use Rattle.stems.specs.declared.outcome.Stems.{Stems}
+use Rattle.zones_stems.specs.Joined.{alignBluesAndStems}
 use Rattle.remaining.specs.Remaining.{Remaining, remaining, alignRemainingEdges}
 use Rattle.gaps.specs.declared.find.Gaps.{Gaps}
 use Rattle.gaps.specs.Gaps.{refusedBy, lostGaps}
 use Rattle.words.specs.Edge.{edgesIn, edgesOver}
-use Rattle.lent.specs.Lent.{edgesOf}
-use Rattle.edges_in.specs.Whole.{axisIn}
+use Rattle.words_call.specs.Lent.{edgesOf}
+use Rattle.words_edge.specs.Whole.{axisIn}
 use Rattle.fit.specs.declared.numbers.Numbers.{Numbers}
 use Rattle.fit.specs.declared.outcome.FittedEdges.{FittedEdges}
 use Rattle.fit.specs.Numbers.{isAsked}

@@ -12,18 +12,18 @@ use Rattle.axis.specs.declared.edge.Axis.{Axis}
 use Rattle.axis.specs.declared.segment.Segments.{Segments}
 use Rattle.axis.specs.Limits.{mostEdges, mostSegments, mostUnits}
 use Rattle.axis.specs.Refusals.{inside, segmentsShort, edgesShort, segmentsInRange, edgesInRange}
-use Rattle.contours.specs.Limits.{mostPoints, mostCoordinate}
-use Rattle.outline.specs.Weak.{endsHold, rangeTests}
-use Rattle.turning.specs.Indices.{indexTests}
-use Rattle.joined.specs.Joined.{zonesHold}
+use Rattle.weak_contour.specs.Limits.{mostPoints, mostCoordinate}
+use Rattle.weak.specs.Weak.{endsHold, rangeTests}
+use Rattle.turn.specs.Indices.{indexTests}
+use Rattle.zones_stems.specs.Joined.{zonesHold}
 use Rattle.edge_points.specs.EdgePoints.{Points, segmentsPoints}
 use Rattle.strong.specs.Strong.{listTests}
 use Rattle.words.specs.Field.{linkWord}
 use Rattle.words.specs.Edge.{edgeSize, edgesIn}
 use Rattle.words.specs.Segment.{segmentSize, segmentsIn, flatSegments}
-use Rattle.shape.specs.Shape.{edgesShown, segmentsShown}
-use Rattle.lent.specs.Lent.{Lent, front, edgesOf}
-use Rattle.edges_in.specs.Whole.{axisIn}
+use Rattle.words_shape.specs.Shape.{edgesShown, segmentsShown}
+use Rattle.words_call.specs.Lent.{Lent, front, edgesOf}
+use Rattle.words_edge.specs.Whole.{axisIn}
 use Rattle.fit.specs.declared.numbers.Numbers.{Numbers}
 use Rattle.fit.specs.declared.outcome.FittedEdges.{FittedEdges}
 use Rattle.fit.specs.Numbers.{numberSize, numbersOf, numbersShown}

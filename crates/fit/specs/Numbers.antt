@@ -9,8 +9,8 @@ use Rattle.axis.specs.declared.kinds.Dimension.the-variants.{Horizontal, Vertic
 use Rattle.lowercase_m.specs.M.{countHolds}
 use Rattle.words.specs.Word.{wordAt}
 use Rattle.words.specs.Field.{choiceOf, dimensionOf, groupOf, ruleOf}
-use Rattle.shape.specs.Shape.{choice}
-use Rattle.lent.specs.Lent.{bothIn, choices}
+use Rattle.words_shape.specs.Shape.{choice}
+use Rattle.words_call.specs.Lent.{bothIn, choices}
 use Rattle.fit.specs.declared.numbers.Numbers.{Numbers}
 
 -- how many words they are

@@ -4,11 +4,11 @@ use mathlib.Core.List.{List}
 use Prim.Native.Nat.{ℕ}
 use lib.IntN.{ℤ}
 use Rattle.refusals.specs.Refusal.{refusal, answered}
-use Rattle.outline.specs.Weak.{weakTests, result}
+use Rattle.weak.specs.Weak.{weakTests, result}
 use Rattle.edge_points.specs.EdgePoints.{Points, edgeAnswer, edgeResult}
 use Rattle.strong.specs.Strong.{Aligned, alignStrong}
 use Rattle.words.specs.Segment.{flatSegments}
-use Rattle.lent.specs.Lent.{edgesOf}
+use Rattle.words_call.specs.Lent.{edgesOf}
 use Rattle.fit.specs.declared.numbers.Numbers.{Numbers}
 
 -- an answer, and the points that are left

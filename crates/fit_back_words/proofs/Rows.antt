@@ -50,9 +50,11 @@ module _ (n : Numbers) (g : Given) (l : Fitted) where
       row-as : fitInRow n g l ≡ behindPoints l E (fitPoints n (g .segments) (E .words) (g .fonts) (g .originals) (g .weak) (g .ends) (l .points))
       unfolding fitInRow
       row-as =
-          ap (λ (k : ℕ). answered k (refusedFit l) (behindPoints l E (fitPoints n (g .segments) (E .words) (g .fonts) (g .originals) (g .weak) (g .ends) (l .points)))) (sym answer-is ∙ none)
+          ap (λ (k : ℕ). answered k (refusedFit l) (behindPoints l E
+          (fitPoints n (g .segments) (E .words) (g .fonts) (g .originals) (g .weak) (g .ends) (l .points)))) (sym answer-is ∙ none)
 
-      module _ {k : ℕ} {x : Points} (p : PointsBack (fitPoints n (g .segments) ws (g .fonts) (g .originals) (g .weak) (g .ends) (l .points)) k (l .points) x) where
+      module _ {k : ℕ} {x : Points} (p : PointsBack (fitPoints n (g .segments) ws (g .fonts) (g .originals) (g .weak) (g .ends) (l .points)) k (l .points)
+          x) where
         abbrev P : LeftPoints
         P = fitPoints n (g .segments) (E .words) (g .fonts) (g .originals) (g .weak) (g .ends) (l .points)
 
@@ -72,11 +74,15 @@ module _ (n : Numbers) (g : Given) (l : Fitted) where
         all-done {t} f q = record {
           answer = ap (λ (o : Outcome). o .answer) (sym row);
           left = λ z. absurd (omega (arith, z));
-          goes = λ _. (λ j. fitted (done .words j) ((p .goes zero-k ∙ ap (λ (d : LeftPoints). d .points) by-words) j) ((q ∙ ap toldWords (b .told)) j)) ∙ ap (λ (o : Outcome). o .left) (sym row);
+          goes =
+              λ _. (λ j. fitted (done .words j) ((p .goes zero-k ∙ ap (λ (d : LeftPoints). d .points) by-words) j) ((q ∙ ap toldWords (b .told)) j))
+              ∙ ap (λ (o : Outcome). o .left) (sym row);
         }
           where
             zero-k : k ≡ 0
             zero-k = omega (arith, f)
 
             row : fitInRow n g l ≡ record { answer = 0; left = fitted (E .words) (P .points) (toldWords (E .told)) }
-            row = row-as ∙ ap (λ (i : ℕ). answered i (refusedFit l) (record { answer = 0; left = fitted (E .words) (P .points) (toldWords (E .told)) })) (sym k-is ∙ zero-k)
+            row =
+                row-as ∙ ap (λ (i : ℕ). answered i (refusedFit l) (record { answer = 0; left = fitted (E .words) (P .points) (toldWords (E .told)) }))
+                (sym k-is ∙ zero-k)

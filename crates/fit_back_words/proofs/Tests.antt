@@ -12,14 +12,14 @@ use Rattle.refusals.proofs.Tests.{AllHold, all-hold, no-refusal}
 use Rattle.axis.specs.declared.edge.Axis.{Axis}
 use Rattle.axis.specs.Handed.{EdgesAccepted}
 use Rattle.axis.specs.Refusals.{edgesIndices, edgesNumbers}
-use Rattle.contours.specs.Limits.{mostPoints}
-use Rattle.outline.specs.Weak.{endsHold}
-use Rattle.turning.specs.Indices.{indexTests, segmentsEdges, edgesSegments}
-use Rattle.joined.specs.Joined.{joinedTests}
+use Rattle.weak_contour.specs.Limits.{mostPoints}
+use Rattle.weak.specs.Weak.{endsHold}
+use Rattle.turn.specs.Indices.{indexTests, segmentsEdges, edgesSegments}
+use Rattle.zones_stems.specs.Joined.{joinedTests}
 use Rattle.words.specs.Edge.{axisRun, flatAxis}
 use Rattle.words.specs.Segment.{flatSegments}
-use Rattle.lent.specs.Lent.{edgesOf}
-use Rattle.edges_in.specs.Whole as Edges
+use Rattle.words_call.specs.Lent.{edgesOf}
+use Rattle.words_edge.specs.Whole as Edges
 use Rattle.strong.specs.Strong.{listTests}
 use Rattle.fit.specs.declared.numbers.Numbers.{Numbers}
 use Rattle.fit.specs.Fit.{Given, Fitted, fitTests}
@@ -44,18 +44,26 @@ module _ (n : Numbers) (g : Given) (l : Fitted) (a : Accepted n g l) where
       let r = i .1 .1 .1 .1 .1 .1 .1 .1 .1 .1 in
       record {
         whole = a .edges;
-        tests = no-refusal (joinedTests _ (n .group) false (n .rule) (g .standards)) (i .1 .0, (refl, (t .0, (t .1 .1 .0, (i .1 .1 .1 .1 .1 .0, (r .0, refl))))));
+        tests =
+            no-refusal (joinedTests _ (n .group) false (n .rule) (g .standards)) (i .1 .0, (refl, (t .0, (t .1 .1 .0, (i .1 .1 .1 .1 .1 .0, (r .0, refl))))));
         least = t .1 .0;
       }
 
   same-count : length (g .originals) ≡ length (l .points .currents)
-  same-count = let k = lists-hold in eqb-true (length (g .originals)) (length (g .fonts)) (k .1 .0) ∙ sym (eqb-true (length (l .points .currents)) (length (g .fonts)) (k .1 .1 .0))
+  same-count =
+      let k = lists-hold in
+      eqb-true (length (g .originals)) (length (g .fonts)) (k .1 .0) ∙ sym (eqb-true (length (l .points .currents)) (length (g .fonts)) (k .1 .1 .0))
 
   pub few-points : length (l .points .currents) ≤ mostPoints
-  few-points = let k = lists-hold in omega (arith, leb-true (length (g .fonts)) mostPoints (k .0), eqb-true (length (l .points .currents)) (length (g .fonts)) (k .1 .1 .0))
+  few-points =
+      let k = lists-hold in
+      omega (arith, leb-true (length (g .fonts)) mostPoints (k .0), eqb-true (length (l .points .currents)) (length (g .fonts)) (k .1 .1 .0))
 
   pub same-marks : length (l .points .touched) ≡ length (l .points .currents)
-  same-marks = let k = lists-hold in eqb-true (length (l .points .touched)) (length (g .fonts)) (k .1 .1 .1 .0) ∙ sym (eqb-true (length (l .points .currents)) (length (g .fonts)) (k .1 .1 .0))
+  same-marks =
+      let k = lists-hold in
+      eqb-true (length (l .points .touched)) (length (g .fonts)) (k .1 .1 .1 .0)
+      ∙ sym (eqb-true (length (l .points .currents)) (length (g .fonts)) (k .1 .1 .0))
 
   -- the row of the points, by fitted edges
   pub points-ready : {ws : List ℤ} → Edges.Whole ws → EdgesAccepted (edgesOf ws) → Kin (edgesOf (l .edges)) (edgesOf ws)
@@ -65,7 +73,15 @@ module _ (n : Numbers) (g : Given) (l : Fitted) (a : Accepted n g l) where
       let r = i .1 .1 .1 .1 .1 .1 .1 in
       record {
         segments = a .segments;
-        strong = record { whole = w; edges = e; lists = a .lists; contours = ap (λ (m : ℕ). endsHold 0 m (g .ends)) (sym same-count) ∙ r .0; originals = r .1 .1 .1 .1 .0 };
+        strong =
+            record {
+              whole = w;
+              edges = e;
+              lists = a .lists;
+              contours = ap (λ (m : ℕ). endsHold 0 m (g .ends)) (sym same-count)
+                  ∙ r .0;
+              originals = r .1 .1 .1 .1 .0;
+            };
         indices =
             no-refusal (indexTests (edgesOf ws) (flatSegments (g .segments))) (
               i .0,
@@ -75,7 +91,11 @@ module _ (n : Numbers) (g : Given) (l : Fitted) (a : Accepted n g l) where
                   i .1 .1 .0,
                   (
                     i .1 .1 .1 .0,
-                    (ap (λ (m : ℕ). segmentsEdges m (flatSegments (g .segments))) (k .len) ∙ i .1 .1 .1 .1 .0, (e .indexed, (kin-segments k (flatSegments (g .segments) .len) ∙ i .1 .1 .1 .1 .1 .1 .0, refl))),
+                    (
+                      ap (λ (m : ℕ). segmentsEdges m (flatSegments (g .segments))) (k .len)
+                          ∙ i .1 .1 .1 .1 .0,
+                      (e .indexed, (kin-segments k (flatSegments (g .segments) .len) ∙ i .1 .1 .1 .1 .1 .1 .0, refl)),
+                    ),
                   ),
                 ),
               ),

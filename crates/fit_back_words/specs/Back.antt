@@ -7,8 +7,8 @@ use lib.IntN.{ℤ}
 use Rattle.refusals.specs.Refusal.{refusal}
 use Rattle.edge_points.specs.EdgePoints.{Points}
 use Rattle.strong.specs.Strong.{listTests}
-use Rattle.edges_in.specs.Whole as Edges
-use Rattle.segments_in.specs.Whole as Segments
+use Rattle.words_edge.specs.Whole as Edges
+use Rattle.words_segment.specs.Whole as Segments
 use Rattle.fit.specs.declared.numbers.Numbers.{Numbers}
 use Rattle.fit.specs.declared.outcome.FittedEdges.{FittedEdges}
 use Rattle.fit.specs.Edges.{Left}

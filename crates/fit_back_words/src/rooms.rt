@@ -3,8 +3,8 @@ use super::back::edges_back;
 use super::back::points_back;
 use super::tell::tell;
 use fit::numbers::Numbers;
-use remaining_lent::copied::copy;
-ghost use Rattle.edge_points_walk.specs.Steps.{points};
+use remaining_words::copied::copy;
+ghost use Rattle.edge_points.specs.Steps.{points};
 ghost use Rattle.fit.specs.Fit.{given, fitted};
 ghost use Rattle.fit_back_words.specs.Back.{Accepted, Rooms, FitsIn};
 

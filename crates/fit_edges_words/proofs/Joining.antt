@@ -17,24 +17,24 @@ use Rattle.axis.specs.Accepted.{Below, AxisWithin}
 use Rattle.axis.specs.Handed.{EdgesAccepted}
 use Rattle.axis.specs.Limits.{mostEdges, mostPos}
 use Rattle.axis.specs.Refusals.{edgesIndices, edgesNumbers}
-use Rattle.blues.specs.Zones.{bluesWhere}
-use Rattle.stems_plan.specs.declared.kinds.Mode.{Mode}
-use Rattle.stems.specs.declared.pass.Stems.{Stems}
+use Rattle.zones.specs.Call.{bluesWhere}
+use Rattle.stems.specs.declared.kinds.Mode.{Mode}
+use Rattle.stems.specs.declared.outcome.Stems.{Stems}
 use Rattle.stems.specs.Stems.{stems, stemsOf, modeOf}
-use Rattle.stems.specs.Steps.{SettledWithout}
+use Rattle.stems.specs.StepsPass.{SettledWithout}
 use Rattle.stems.proofs.Kept.{pass-keeps}
-use Rattle.joined.specs.Joined.{joinedTests, alignBluesAndStems}
-use Rattle.joined.proofs.Rows.{passes}
-use Rattle.joined.proofs.Changed as JoinedChanged
+use Rattle.zones_stems.specs.Joined.{joinedTests, alignBluesAndStems}
+use Rattle.zones_stems.proofs.Rows.{passes}
+use Rattle.zones_stems.proofs.Changed as JoinedChanged
 use Rattle.words.specs.Edge.{axisRun, flatAxis, edgesIn, edgesOver}
-use Rattle.lent.specs.Lent.{edgesOf}
-use Rattle.edges_in.specs.Whole.{Whole, axisIn}
-use Rattle.edges_in.proofs.Became.{as-many, axis-over}
-use Rattle.blues_in.specs.Blues.{ZonedWhere}
-use Rattle.stems_in.specs.declared.pass.Passed.{Passed}
-use Rattle.stems_in.specs.Stems.{StemsPassed}
-use Rattle.stems_in.proofs.Passes.{passed-few}
-use Rattle.flat_joined.proofs.Passing as Passing
+use Rattle.words_call.specs.Lent.{edgesOf}
+use Rattle.words_edge.specs.Whole.{Whole, axisIn}
+use Rattle.words_edge.proofs.Became.{as-many, axis-over}
+use Rattle.zones_words.specs.Blues.{ZonedWhere}
+use Rattle.stems_words.specs.declared.pass.Passed.{Passed}
+use Rattle.stems_words.specs.Stems.{StemsPassed}
+use Rattle.stems_words.proofs.Passes.{passed-few}
+use Rattle.zones_stems_words.proofs.Passing as Passing
 use Rattle.fit.specs.declared.numbers.Numbers.{Numbers}
 use Rattle.fit.specs.declared.outcome.FittedEdges.{FittedEdges}
 use Rattle.fit.specs.Edges.{stopped, stemsOn, thenM, fitEdges}
@@ -60,10 +60,12 @@ module _ (n : Numbers) (xs : List ℤ) {ws : List ℤ} (g : Begun n xs ws) where
   unfolding flatAxis axisRun
   call-is =
       passes A (n .group) (n .«stem_adjust») false (n .rule) xs
-      ∙ ap (λ (k : ℕ). answered k (stems 0 Links.None A) (stemsOf mode xs (bluesWhere A (n .group) (n .rule) xs .anchor) (bluesWhere A (n .group) (n .rule) xs .axis))) (g .tests)
+      ∙ ap (λ (k : ℕ). answered k (stems 0 Links.None A)
+      (stemsOf mode xs (bluesWhere A (n .group) (n .rule) xs .anchor) (bluesWhere A (n .group) (n .rule) xs .axis))) (g .tests)
 
   module _ {start : Link} {w1 : List ℤ} (z : ZonedWhere (n .dim) (n .group) (n .rule) xs start ws w1) where
-    pub stems-ready : (ruleHolds (n .rule) xs ≡ true) × (Whole w1 × AxisWithin mostPos (edgesOf w1) × Below (edgesIn w1) start × SettledWithout false (edgesIn w1) (edgesOf w1))
+    pub stems-ready : (ruleHolds (n .rule) xs ≡ true)
+        × (Whole w1 × AxisWithin mostPos (edgesOf w1) × Below (edgesIn w1) start × SettledWithout false (edgesIn w1) (edgesOf w1))
     stems-ready = Passing.stems-allowed ws (n .dim) (n .group) (n .«stem_adjust») false (n .rule) xs hold z
 
     module _ {p : Passed} {w2 : List ℤ} (b : StemsPassed mode xs start p w1 w2) where
@@ -78,7 +80,9 @@ module _ (n : Numbers) (xs : List ℤ) {ws : List ℤ} (g : Begun n xs ws) where
 
       kin : Kin (edgesOf ws) (edgesOf w2)
       unfolding flatAxis axisRun
-      kin = let k = subst (Kin A) (sym axis-is) (kin-only (JoinedChanged.changed A (n .group) (n .«stem_adjust») false (n .rule) xs refl .only)) in record { len = k .len; edge = k .edge }
+      kin =
+          let k = subst (Kin A) (sym axis-is) (kin-only (JoinedChanged.changed A (n .group) (n .«stem_adjust») false (n .rule) xs refl .only)) in
+          record { len = k .len; edge = k .edge }
 
       anchored : Below (edgesIn w2) (p .anchor)
       unfolding flatAxis axisRun

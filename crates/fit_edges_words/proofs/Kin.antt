@@ -17,7 +17,7 @@ use Rattle.axis.specs.Limits.{mostEdges, mostUnits, mostPos}
 use Rattle.axis.specs.Refusals.{within, linkHolds, blueHolds, every, edgeIndices, edgeNumbers, edgeSegments, edgesIndices, edgesNumbers}
 use Rattle.axis.proofs.Accepting.{every-holds}
 use Rattle.axis.proofs.Tests.{every-at}
-use Rattle.turning.specs.Indices.{edgesSegments}
+use Rattle.turn.specs.Indices.{edgesSegments}
 use Rattle.fit_edges_words.specs.Row.{posHolds, othersHold, positionsHold, Loose, KinEdge, Kin}
 
 -- ---- tests of every place
@@ -118,7 +118,8 @@ module _ {old new : Axis} (k : Kin old new) where
   other-kin i h =
       let e = k .edge i in
       let o : within mostUnits (edgeAt new i .opos) ≡ true = ap (within mostUnits) (e .opos) ∙ and-first _ _ h in
-      let z : blueHolds (edgeAt new i .blue) ≡ true = ⊎-elim (λ q. ap blueHolds q ∙ and-second (within mostUnits (edgeAt old i .opos)) _ h) (λ q. ap blueHolds q) (e .blue) in
+      let z : blueHolds (edgeAt new i .blue) ≡ true = ⊎-elim (λ q. ap blueHolds q ∙ and-second (within mostUnits (edgeAt old i .opos)) _ h)
+      (λ q. ap blueHolds q) (e .blue) in
       λ j. o j && z j
 
   pub loose-kin : Loose old → Loose new
@@ -127,7 +128,8 @@ module _ {old new : Axis} (k : Kin old new) where
     indexed = indices-kin ∙ l .indexed;
     others =
         every-holds _ (min (new .len) mostEdges)
-        (λ i h. other-kin i (every-at (λ (j : ℕ). othersHold (edgeAt old j)) i (min (old .len) mostEdges) (l .others) (omega (arith, h, ap (λ (n : ℕ). min n mostEdges) (k .len)))));
+        (λ i h. other-kin i (every-at (λ (j : ℕ). othersHold (edgeAt old j)) i (min (old .len) mostEdges) (l .others)
+        (omega (arith, h, ap (λ (n : ℕ). min n mostEdges) (k .len)))));
   }
 
 -- ---- edges accepted but for their positions

@@ -27,28 +27,43 @@ use Rattle.remaining.proofs.Changed as RemainingChanged
 use Rattle.gaps.specs.declared.find.Gaps.{Gaps}
 use Rattle.gaps.specs.Gaps.{gapsTests, refusedBy, foundTo, foundIn, lostGaps}
 use Rattle.words.specs.Edge.{edgesIn, edgesOver}
-use Rattle.lent.specs.Lent.{edgesOf}
-use Rattle.edges_in.specs.Whole.{Whole, Became}
-use Rattle.edges_in.proofs.Wholes.{edges-len}
-use Rattle.edges_in.proofs.Became.{as-many, axis-over, became-over}
-use Rattle.lowercase_m_in.specs.M.{aligning}
-use Rattle.remaining_words.specs.Words.{ReadyPass, Passed, passing}
+use Rattle.words_call.specs.Lent.{edgesOf}
+use Rattle.words_edge.specs.Whole.{Whole, Became}
+use Rattle.words_edge.proofs.Wholes.{edges-len}
+use Rattle.words_edge.proofs.Became.{as-many, axis-over, became-over}
+use Rattle.lowercase_m_words.specs.M.{aligning}
+use Rattle.remaining_pass_words.specs.Words.{ReadyPass, Passed, passing}
 use Rattle.fit.specs.declared.numbers.Numbers.{Numbers}
 use Rattle.fit.specs.declared.outcome.FittedEdges.{FittedEdges}
 use Rattle.fit.specs.Numbers.{isHorizontal, isAsked}
-use Rattle.fit.specs.Edges.{Left, refusedEdges, stopped, behindGuard, thenGuard, isLeft, remainingWhere, behindRemaining, thenRemaining, hintedWhere, behindM, thenM}
-use Rattle.flat_gaps.proofs.Search.{few-found}
+use Rattle.fit.specs.Edges.{
+  Left,
+  refusedEdges,
+  stopped,
+  behindGuard,
+  thenGuard,
+  isLeft,
+  remainingWhere,
+  behindRemaining,
+  thenRemaining,
+  hintedWhere,
+  behindM,
+  thenM,
+}
+use Rattle.gaps_words.proofs.Search.{few-found}
 use Rattle.fit_edges_words.specs.Row.{positionsHold, Loose, Kin, Ready, Accepted, FewTold, Gone, Went}
 use Rattle.fit_edges_words.proofs.Kin.{kin-stays, then-kin, kin-only, loose-kin, loose-numbers, loose-accepted}
 
 -- ---- rows
 -- one that stops tells its refusal
-pub went-stopped : {d : Left} {r : FittedEdges} {ws ws′ : List ℤ} (k : ℕ) → d ≡ stopped ws k → r ≡ refusedEdges k → 0 < k → length ws′ ≡ length ws → Went d r ws ws′
+pub went-stopped : {d : Left} {r : FittedEdges} {ws ws′ : List ℤ} (k : ℕ) → d ≡ stopped ws k → r ≡ refusedEdges k → 0 < k → length ws′ ≡ length ws
+    → Went d r ws ws′
 went-stopped k e q h l =
     record { told = q ∙ ap (λ (d : Left). d .told) (sym e); long = l; goes = λ z. absurd (omega (arith, sym z ∙ ap (λ (r : FittedEdges). r .answer) q, h)) }
 
 -- one that is another on the words that a step has left
-pub went-on : {d d′ : Left} {r : FittedEdges} {ws w1 w2 : List ℤ} → d ≡ d′ → length w1 ≡ length ws → Kin (edgesOf ws) (edgesOf w1) → Went d′ r w1 w2 → Went d r ws w2
+pub went-on : {d d′ : Left} {r : FittedEdges} {ws w1 w2 : List ℤ} → d ≡ d′ → length w1 ≡ length ws → Kin (edgesOf ws) (edgesOf w1) → Went d′ r w1 w2
+    → Went d r ws w2
 went-on {d} {d′} {r} {ws} {w1} {w2} e l k g = record {
   told = g .told ∙ ap (λ (x : Left). x .told) (sym e);
   long = g .long ∙ l;
@@ -63,7 +78,8 @@ again ws w = sym (axis-over ws ws Horizontal w w refl refl)
 
 -- ---- the guard
 module _ (n : Numbers) (count : ℕ) (anchor : Link) (ws : List ℤ) where
-  guard-as : {k : ℕ} → refusal (gapsTests (edgesOf ws) (n .least)) ≡ k → thenGuard n count anchor ws ≡ behindGuard count anchor ws (answered k refusedBy (foundIn (n .least) (n .linked) (edgesOf ws)))
+  guard-as : {k : ℕ} → refusal (gapsTests (edgesOf ws) (n .least)) ≡ k
+      → thenGuard n count anchor ws ≡ behindGuard count anchor ws (answered k refusedBy (foundIn (n .least) (n .linked) (edgesOf ws)))
   unfolding thenGuard lostGaps
   guard-as q = ap (λ (k : ℕ). behindGuard count anchor ws (answered k refusedBy (foundIn (n .least) (n .linked) (edgesOf ws)))) q
 
@@ -73,7 +89,8 @@ module _ (n : Numbers) (count : ℕ) (anchor : Link) (ws : List ℤ) where
       let l = g .loose in
       λ j. cond (l .short j) (cond (g .least j) (cond (l .indexed j) (cond ((loose-numbers l ∙ f) j) 0 outOfRange) badIndex) badParameter) tooLong
 
-  pub guard-stops : {r : FittedEdges} → Ready n count anchor ws → positionsHold (edgesOf ws) ≡ false → r ≡ refusedEdges outOfRange → Went (thenGuard n count anchor ws) r ws ws
+  pub guard-stops : {r : FittedEdges} → Ready n count anchor ws → positionsHold (edgesOf ws) ≡ false → r ≡ refusedEdges outOfRange
+      → Went (thenGuard n count anchor ws) r ws ws
   guard-stops g f q = went-stopped outOfRange (guard-as (guard-refuses g f)) q (omega arith) refl
 
   pub guard-ready : Accepted n count ws → Whole ws × AxisWithin mostPos (edgesOf ws)
@@ -81,7 +98,8 @@ module _ (n : Numbers) (count : ℕ) (anchor : Link) (ws : List ℤ) where
 
   guard-accepts : Accepted n count ws → refusal (gapsTests (edgesOf ws) (n .least)) ≡ 0
   unfolding refusal
-  guard-accepts a = let t = a .edges in λ j. cond (t .short j) (cond (a .least j) (cond (t .indexed j) (cond (t .in-range j) 0 outOfRange) badIndex) badParameter) tooLong
+  guard-accepts a =
+      let t = a .edges in λ j. cond (t .short j) (cond (a .least j) (cond (t .indexed j) (cond (t .in-range j) 0 outOfRange) badIndex) badParameter) tooLong
 
   pub guard-goes : Accepted n count ws → {g : Gaps} → g ≡ foundIn (n .least) (n .linked) (edgesOf ws)
       → Went (thenGuard n count anchor ws) (record { answer = 0; count = count; anchor = anchor; gaps = g }) ws ws
@@ -102,7 +120,9 @@ module _ (n : Numbers) (count : ℕ) (anchor : Link) (ws : List ℤ) where
       few-of x = FewTold (record { answer = 0; count = count; anchor = anchor; gaps = x })
 
       told-few : few-of (foundIn (n .least) (n .linked) (edgesOf ws))
-      told-few = let f = few-found (n .least) (n .linked) (edgesOf ws) (edges-within (edgesOf ws) (a .edges)) in record { passed = a .few; gaps = f .gaps; stems = f .stems; undone = f .undone }
+      told-few =
+          let f = few-found (n .least) (n .linked) (edgesOf ws) (edges-within (edgesOf ws) (a .edges)) in
+          record { passed = a .few; gaps = f .gaps; stems = f .stems; undone = f .undone }
 
   pub ready-accepted : Ready n count anchor ws → positionsHold (edgesOf ws) ≡ true → Accepted n count ws
   ready-accepted g t = record { whole = g .whole; edges = loose-accepted (g .loose) t; few = g .few; least = g .least }
@@ -119,14 +139,16 @@ module _ (n : Numbers) (count : ℕ) (anchor : Link) {ws : List ℤ} (g : Ready 
       ap (λ (b : Bool). behindRemaining n count ws (cond b (alignRemainingEdges A (n .group) count anchor) (remaining anchor A 0))) f
       ∙ ap (thenGuard n count anchor) (again ws (g .whole))
 
-  pub remaining-passed : {r : FittedEdges} → isLeft count anchor ≡ false → Went (thenGuard n count anchor ws) r ws ws → Went (thenRemaining n count anchor ws) r ws ws
+  pub remaining-passed : {r : FittedEdges} → isLeft count anchor ≡ false → Went (thenGuard n count anchor ws) r ws ws
+      → Went (thenRemaining n count anchor ws) r ws ws
   remaining-passed f w = went-on (remaining-by f) refl (kin-stays A) w
 
   module _ (left : isLeft count anchor ≡ true) where
     abbrev S : State
     S = remainingOf A (n .group) count anchor
 
-    remaining-as : {k : ℕ} → refusal (remainingTests A (n .group) count anchor) ≡ k → thenRemaining n count anchor ws ≡ behindRemaining n count ws (answered k (remaining Links.None A) (outcome S))
+    remaining-as : {k : ℕ} → refusal (remainingTests A (n .group) count anchor) ≡ k
+        → thenRemaining n count anchor ws ≡ behindRemaining n count ws (answered k (remaining Links.None A) (outcome S))
     unfolding thenRemaining remainingWhere alignRemainingEdges
     remaining-as q =
         (λ j. behindRemaining n count ws (cond (left j) (alignRemainingEdges A (n .group) count anchor) (remaining anchor A 0)))
@@ -135,11 +157,13 @@ module _ (n : Numbers) (count : ℕ) (anchor : Link) {ws : List ℤ} (g : Ready 
     named : linkHolds (A .len) anchor ≡ true
     named = ap (λ (m : ℕ). linkHolds m anchor) (edges-len ws) ∙ link-holds (edgesIn ws) anchor (g .anchored)
 
-    tests-are : {p b : Bool} → positionsHold A ≡ p → S .past .beyond ≡ b → refusal (remainingTests A (n .group) count anchor) ≡ cond p (cond (not b) 0 steep) outOfRange
+    tests-are : {p b : Bool} → positionsHold A ≡ p → S .past .beyond ≡ b
+        → refusal (remainingTests A (n .group) count anchor) ≡ cond p (cond (not b) 0 steep) outOfRange
     unfolding refusal
     tests-are p b =
         let l = g .loose in
-        λ j. cond (l .short j) (cond (l .indexed j) (cond (named j) (cond ((loose-numbers l ∙ p) j) (cond (not (b j)) 0 steep) outOfRange) badIndex) badIndex) tooLong
+        λ j. cond (l .short j) (cond (l .indexed j) (cond (named j) (cond ((loose-numbers l ∙ p) j) (cond (not (b j)) 0 steep) outOfRange) badIndex) badIndex)
+        tooLong
 
     pub remaining-stops : {r : FittedEdges} → positionsHold A ≡ false → r ≡ refusedEdges outOfRange → Went (thenRemaining n count anchor ws) r ws ws
     remaining-stops f q = went-stopped outOfRange (remaining-as (tests-are f refl)) q (omega arith) refl
@@ -175,7 +199,8 @@ module _ (n : Numbers) (count : ℕ) (anchor : Link) {ws : List ℤ} (g : Ready 
             subst (Kin A) (ap (λ (k : ℕ). answered k (remaining Links.None A) (outcome S) .axis) none ∙ sym axis-is)
             (kin-only (RemainingChanged.changed A (n .group) count anchor refl .only))
 
-        pub remaining-goes : {r : FittedEdges} {w2 : List ℤ} → Went (thenGuard n count (past .anchor) w1) r w1 w2 → Went (thenRemaining n count anchor ws) r ws w2
+        pub remaining-goes : {r : FittedEdges} {w2 : List ℤ} → Went (thenGuard n count (past .anchor) w1) r w1 w2
+            → Went (thenRemaining n count anchor ws) r ws w2
         remaining-goes w = went-on same (p .long) kin w
 
 -- ---- the m rule
@@ -190,7 +215,8 @@ module _ (n : Numbers) (count : ℕ) (anchor : Link) {ws : List ℤ} (g : Ready 
       ap (λ (b : Bool). behindM n count anchor ws (cond b (hintLowercaseM B (n .group)) (hinted B 0))) f
       ∙ ap (thenRemaining n count anchor) (again ws (g .whole))
 
-  pub m-passed : {r : FittedEdges} {w2 : List ℤ} → isAsked n (edgesIn ws) ≡ false → Went (thenRemaining n count anchor ws) r ws w2 → Went (thenM n count anchor ws) r ws w2
+  pub m-passed : {r : FittedEdges} {w2 : List ℤ} → isAsked n (edgesIn ws) ≡ false → Went (thenRemaining n count anchor ws) r ws w2
+      → Went (thenM n count anchor ws) r ws w2
   m-passed f w = went-on (m-by f) refl (kin-stays B) w
 
   module _ (asked : isAsked n (edgesIn ws) ≡ true) where

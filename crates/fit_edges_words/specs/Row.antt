@@ -16,11 +16,11 @@ use Rattle.axis.specs.Edge.{edgeAt}
 use Rattle.axis.specs.Handed.{EdgesAccepted}
 use Rattle.axis.specs.Limits.{mostEdges, mostPos, mostUnits}
 use Rattle.axis.specs.Refusals.{inside, within, blueHolds, everyEdge, edgesIndexed, edgesShort}
-use Rattle.joined.specs.Joined.{joinedTests}
+use Rattle.zones_stems.specs.Joined.{joinedTests}
 use Rattle.words.specs.Edge.{edgesIn, edgesOver}
-use Rattle.lent.specs.Lent.{edgesOf}
-use Rattle.edges_in.specs.Whole.{Whole, axisIn}
-use Rattle.stems_in.specs.declared.pass.Passed.{Passed}
+use Rattle.words_call.specs.Lent.{edgesOf}
+use Rattle.words_edge.specs.Whole.{Whole, axisIn}
+use Rattle.stems_words.specs.declared.pass.Passed.{Passed}
 use Rattle.fit.specs.declared.numbers.Numbers.{Numbers}
 use Rattle.fit.specs.declared.outcome.FittedEdges.{FittedEdges}
 use Rattle.fit.specs.Edges.{Left, stemsOn}

@@ -1,9 +1,9 @@
 // Blue zones and then stems, on edges that are not refused.
-use blues_in::pass::where_zoned_in;
 use fit::numbers::Numbers;
-use stems_in::pass::Passed;
-use stems_in::pass::stems_in;
-use stems_plan::kinds::Mode;
+use stems::kinds::Mode;
+use stems_words::pass::Passed;
+use stems_words::pass::stems_in;
+use zones_words::pass::where_zoned_in;
 ghost use Rattle.fit_edges_words.specs.Row.{Begun, Joined};
 
 // Puts edges on their blue zones, then aligns all stems beside the anchor that these left.

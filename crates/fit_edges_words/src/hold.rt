@@ -4,13 +4,13 @@ use axis::limits::LEAST_POS;
 use axis::limits::MOST_POS;
 use words::edge::EDGE_WORDS;
 use words::edge::POS_PLACE;
-use words::word::word_in;
+use words::word::read_word;
 ghost use mathlib.Core.Path.{_≡_};
 ghost use Prim.Native.Nat.{_<_};
 ghost use Rattle.axis.specs.Edge.{edgeAt};
 ghost use Rattle.words.specs.Edge.{edgesIn};
-ghost use Rattle.lent.specs.Lent.{edgesOf};
-ghost use Rattle.edges_in.specs.Whole.{Whole};
+ghost use Rattle.words_call.specs.Lent.{edgesOf};
+ghost use Rattle.words_edge.specs.Whole.{Whole};
 ghost use Rattle.fit_edges_words.specs.Row.{posHolds, positionsHold};
 
 // Whether the position of edge i is accepted.
@@ -19,7 +19,7 @@ fn pos_holds(words: &[i32], i: usize) -> bool
     ensures { λ r. ⌜ r ≡ posHolds (edgeAt (edgesOf (now (words .entry))) i) ⌝ }
 {
     is_inside(
-        word_in(words, EDGE_WORDS * i + POS_PLACE),
+        read_word(words, EDGE_WORDS * i + POS_PLACE),
         LEAST_POS,
         MOST_POS,
     )

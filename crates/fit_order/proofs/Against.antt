@@ -1,4 +1,5 @@
--- Where a strong point comes to against an edge, on edges whose font positions and positions do not fall: behind the edge by its font position it does not end in front of it, and in front of it
+-- Where a strong point comes to against an edge, on edges whose font positions and positions do not fall: behind the edge by its font position it does not end
+-- in front of it, and in front of it
 -- not behind it.
 use mathlib.Core.Path.{_≡_, refl, sym, _∙_}
 use mathlib.Core.Bool.{Bool, true, false, cond}
@@ -140,7 +141,15 @@ module _ (axis : Axis) (rise : Rising axis) (short : Shorts axis) where
             let o = edgeAt axis last .opos in
             let x = edgeAt axis last .pos in
             to-≤ℤ _ z
-            (omega (arith, of-≡ z _ (high-is p q), add-law x (v -ℤ o), sub-law v o, of-≤ℤ o v (above (is-≤ℤ _ u q)), of-≤ℤ _ x (rise .pos k last (omega arith) (omega arith))))
+            (omega (
+              arith,
+              of-≡ z _ (high-is p q),
+              add-law x (v -ℤ o),
+              sub-law v o,
+              of-≤ℤ o v (above (is-≤ℤ _ u q)),
+              of-≤ℤ _ x
+                  (rise .pos k last (omega arith) (omega arith)),
+            ))
         by false false p q = inner-over u z (found axis u) (around axis u (lies-inside axis u p q)) (sym (place-inside axis u v some p q) ∙ e) k h l
 
     -- one in front of it, whose original is not above the first edge's where it is at or below that, ends at the edge or in front of it
@@ -151,7 +160,15 @@ module _ (axis : Axis) (rise : Rising axis) (short : Shorts axis) where
         by true t p q =
             let o = edgeAt axis 0 .opos in
             let x = edgeAt axis 0 .pos in
-            to-≤ℤ z _ (omega (arith, of-≡ z _ (low-is p), add-law x (v -ℤ o), sub-law v o, of-≤ℤ v o (below (is-≤ℤ u _ p)), of-≤ℤ x _ (rise .pos 0 k (omega arith) h)))
+            to-≤ℤ z _ (omega (
+              arith,
+              of-≡ z _ (low-is p),
+              add-law x (v -ℤ o),
+              sub-law v o,
+              of-≤ℤ v o (below (is-≤ℤ u _ p)),
+              of-≤ℤ x _
+                  (rise .pos 0 k (omega arith) h),
+            ))
         by false true p q =
             absurd (omega (arith, of-<ℤ u _ l, of-≤ℤ _ u (is-≤ℤ (fposAt axis last) u q), of-≤ℤ _ _ (rise .fpos k last (omega arith) (omega arith))))
         by false false p q = inner-under u z (found axis u) (around axis u (lies-inside axis u p q)) (sym (place-inside axis u v some p q) ∙ e) k h l

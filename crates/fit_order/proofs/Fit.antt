@@ -1,4 +1,5 @@
--- The theorem: where all edges are in order and originals and original positions are scaled by one scale, the touched points behind edge points and strong points are in order; so they are
+-- The theorem: where all edges are in order and originals and original positions are scaled by one scale, the touched points behind edge points and strong
+-- points are in order; so they are
 -- behind the calls on points in a row, and behind the one call.
 use mathlib.Core.Path.{_≡_, refl, sym, ap, subst, _∙_}
 use mathlib.Core.Bool.{Bool, true}
@@ -25,18 +26,18 @@ use Rattle.axis.specs.declared.segment.Segments.{Segments}
 use Rattle.axis.specs.Handed.{Short}
 use Rattle.axis.specs.Limits.{mostEdges}
 use Rattle.axis.specs.Refusals.{inside}
-use Rattle.contours.specs.Contour.{at, Contour, isTouched}
-use Rattle.contours.proofs.Points.{weak-touched}
-use Rattle.contours.proofs.Searches.{marked}
-use Rattle.outline.specs.Weak.{contourOf, onContour, alignedAt, weakTests, result}
-use Rattle.outline.proofs.Outcomes.{result-at}
-use Rattle.outline.proofs.Refusals.{accepted}
+use Rattle.weak_contour.specs.Contour.{at, Contour, isTouched}
+use Rattle.weak_contour.proofs.Points.{weak-touched}
+use Rattle.weak_contour.proofs.Searches.{marked}
+use Rattle.weak.specs.Weak.{contourOf, onContour, alignedAt, weakTests, result}
+use Rattle.weak.proofs.Determined.{result-at}
+use Rattle.weak.proofs.Refusals.{accepted}
 use Rattle.edge_points.specs.EdgePoints.{Points, moveAll, pointsTests, edgeAnswer, edgeResult}
 use Rattle.words.specs.Edge.{edgeFrom, edgeSize, flatAxis, axisRun}
 use Rattle.words.specs.Field.{shortOf}
 use Rattle.words.specs.Segment.{flatSegments}
 use Rattle.words.proofs.Places.{edge-read}
-use Rattle.lent.specs.Lent.{edgesOf}
+use Rattle.words_call.specs.Lent.{edgesOf}
 use Rattle.strong.specs.Strong.{Aligned, alignedAll, refusedBy, alignStrong, strongTests}
 use Rattle.strong.specs.Steps.{Rising, Shorts}
 use Rattle.fit.specs.declared.numbers.Numbers.{Numbers}
@@ -48,8 +49,10 @@ use Rattle.fit_order.proofs.Scales.{all-rise}
 use Rattle.fit_order.proofs.Placed.{OnEdge, ByRule, Stood, two, on-edges, stood-or-put}
 
 -- ---- edge points, and strong points behind them
--- font positions and positions of all edges, done or not, do not fall in the table; by one scale that is so of edges in order by original positions too (`all-rise`)
-module _ (scale : ℤ) (snap alone : Bool) (axis : Axis) (t : Segments) (f o : List ℤ) (s : Points) (w es : List ℕ) (rise : Rising axis) (short : Shorts axis) (scaled : Scaled scale axis f o)
+-- font positions and positions of all edges, done or not, do not fall in the table; by one scale that is so of edges in order by original positions too
+-- (`all-rise`)
+module _ (scale : ℤ) (snap alone : Bool) (axis : Axis) (t : Segments) (f o : List ℤ) (s : Points) (w es : List ℕ) (rise : Rising axis) (short : Shorts axis)
+    (scaled : Scaled scale axis f o)
     (before : Before snap alone axis t o s es) (yes : edgeAnswer alone axis t s es ≡ 0) where
   -- the points moved, and every point at its place
   abbrev pub moved : Points
@@ -71,14 +74,17 @@ module _ (scale : ℤ) (snap alone : Bool) (axis : Axis) (t : Segments) (f o : L
     where
       by : (p : ℕ) → Stood (moved .currents) (aligned .currents) (moved .touched) p ⊎ ByRule axis f o (aligned .currents) p
           → OnEdge axis o (aligned .currents) p ⊎ ByRule axis f o (aligned .currents) p
-      by p (inl r) = let e = on-edges snap alone axis t o s es before yes p (r .mark) in inl (record { edge = e .edge; there = e .there; was = e .was; is = r .is ∙ e .is })
+      by p (inl r) =
+          let e = on-edges snap alone axis t o s es before yes p (r .mark) in
+          inl (record { edge = e .edge; there = e .there; was = e .was; is = r .is ∙ e .is })
       by p (inr r) = inr r
 
       way : (p : ℕ) → isTouched (aligned .touched) p ≡ true → OnEdge axis o (aligned .currents) p ⊎ ByRule axis f o (aligned .currents) p
       way p m = by p (stood-or-put axis f o (moved .currents) (moved .touched) w p m)
 
   -- so they are behind the two calls, whatever the second answers
-  pub strong-in-order : let m = edgeResult snap alone axis t s es in let a = alignStrong axis f o (m .currents) (m .touched) w in TouchedInOrder o (a .currents) (a .touched)
+  pub strong-in-order : let m =
+      edgeResult snap alone axis t s es in let a = alignStrong axis f o (m .currents) (m .touched) w in TouchedInOrder o (a .currents) (a .touched)
   unfolding edgeResult alignStrong
   strong-in-order =
       subst (λ (m : Points). let a = alignStrong axis f o (m .currents) (m .touched) w in TouchedInOrder o (a .currents) (a .touched))
@@ -98,7 +104,8 @@ module _ (o c : List ℤ) (t es : List ℕ) (yes : refusal (weakTests o c t es) 
       inside-it : p < length c
       inside-it =
           let a = accepted o c t es yes in
-          ⊎-elim (λ l. l) (λ (g : length c ≤ p). let z = List·getD-eq-default t 0 {n = p} (omega (arith, a .marks-length, a .currents-length)) in absurd (omega (arith, marked t p m)))
+          ⊎-elim (λ l. l) (λ (g : length c ≤ p). let z = List·getD-eq-default t 0 {n = p} (omega (arith, a .marks-length, a .currents-length)) in absurd
+          (omega (arith, marked t p m)))
           (lt-or-le p (length c))
 
       by : (k : Option Contour) → contourOf 0 es p ≡ k → alignedAt o c t es p ≡ at c p
@@ -160,7 +167,8 @@ module _ (n : Numbers) (ss ws f o : List ℤ) (w es : List ℕ) (s : Points) whe
       let behind = thenStrong ws f o w es edged in
       let edges = none-refused (halted s) behind (λ (r : LeftPoints). r .answer) (λ j. refl) (edgeAnswer (n .alone) A T s es) z in
       let first = worked (halted s) behind (edgeAnswer (n .alone) A T s es) edges in
-      let placed = none-refused (halted edged) (thenWeak o es strung) (λ (r : LeftPoints). r .answer) (λ j. refl) (strong .answer) (ap (λ (r : LeftPoints). r .answer) (sym first) ∙ z) in
+      let placed = none-refused (halted edged) (thenWeak o es strung) (λ (r : LeftPoints). r .answer) (λ j. refl) (strong .answer)
+      (ap (λ (r : LeftPoints). r .answer) (sym first) ∙ z) in
       let all = first ∙ worked (halted edged) (thenWeak o es strung) (strong .answer) placed in
       record { edges = edges; weak = ap (λ (r : LeftPoints). r .answer) (sym all) ∙ z; points = ap (λ (r : LeftPoints). r .points) all }
 
@@ -171,7 +179,8 @@ module _ (n : Numbers) (ss ws f o : List ℤ) (w es : List ℕ) (s : Points) whe
       let r = row z in
       let short = edges-short ws (few-edges (n .alone) A T s es (r .edges)) in
       subst (λ (x : Points). TouchedInOrder o (x .currents) (x .touched)) (sym (r .points))
-      (weak-in-order o (strong .currents) (strong .touched) es (r .weak) (strong-in-order scale (n .snap) (n .alone) A T f o s w es rise short scaled before (r .edges)))
+      (weak-in-order o (strong .currents) (strong .touched) es (r .weak)
+      (strong-in-order scale (n .snap) (n .alone) A T f o s w es rise short scaled before (r .edges)))
 
 -- ---- the one call
 module _ (n : Numbers) (g : Given) (l : Fitted) where
@@ -194,9 +203,11 @@ module _ (n : Numbers) (g : Given) (l : Fitted) where
       let k = refusal (fitTests n g l) in
       let tests = none-refused (refusedFit l) (fitInRow n g l) (λ (r : Outcome). r .answer) (λ j. refl) k z in
       let first = worked (refusedFit l) (fitInRow n g l) k tests in
-      let edges = none-refused (refusedFit l) (behindPoints l e points) (λ (r : Outcome). r .answer) (λ j. refl) (e .told .answer) (ap (λ (r : Outcome). r .answer) (sym first) ∙ z) in
+      let edges = none-refused (refusedFit l) (behindPoints l e points) (λ (r : Outcome). r .answer) (λ j. refl) (e .told .answer)
+      (ap (λ (r : Outcome). r .answer) (sym first) ∙ z) in
       let second = first ∙ worked (refusedFit l) (behindPoints l e points) (e .told .answer) edges in
-      let last = none-refused (refusedFit l) done (λ (r : Outcome). r .answer) (λ j. refl) (points .answer) (ap (λ (r : Outcome). r .answer) (sym second) ∙ z) in
+      let last = none-refused (refusedFit l) done (λ (r : Outcome). r .answer) (λ j. refl) (points .answer)
+      (ap (λ (r : Outcome). r .answer) (sym second) ∙ z) in
       record { answer = last; left = ap (λ (r : Outcome). r .left) (second ∙ worked (refusedFit l) done (points .answer) last) }
 
   -- where it answers 0, and the edges that it leaves are all in order, so are the touched points
@@ -217,4 +228,5 @@ module _ (n : Numbers) (g : Given) (l : Fitted) where
   pub fit-by-originals : (scale : ℤ) → let r = fitAxis n g l in let A = edgesOf (r .left .edges) in
       AllInOrder A → Scaled scale A (g .fonts) (g .originals) → Before (n .snap) (n .alone) A (flatSegments (g .segments)) (g .originals) (l .points) (g .ends)
       → r .answer ≡ 0 → TouchedInOrder (g .originals) (r .left .points .currents) (r .left .points .touched)
-  fit-by-originals scale order scaled before z = fit-in-order scale (all-rise scale (edgesOf (fitAxis n g l .left .edges)) (g .fonts) (g .originals) scaled order) scaled before z
+  fit-by-originals scale order scaled before z =
+      fit-in-order scale (all-rise scale (edgesOf (fitAxis n g l .left .edges)) (g .fonts) (g .originals) scaled order) scaled before z

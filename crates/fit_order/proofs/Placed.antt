@@ -1,4 +1,5 @@
--- The touched points behind edge points and strong points: one was where an edge was and is where that is, or is where strong points puts it; and any two of them are in order.
+-- The touched points behind edge points and strong points: one was where an edge was and is where that is, or is where strong points puts it; and any two of
+-- them are in order.
 use mathlib.Core.Path.{_≡_, refl, sym, ap, _∙_}
 use mathlib.Core.Bool.{Bool, true, false, _||_}
 use mathlib.Core.List.{List, append-nil}
@@ -18,8 +19,8 @@ use Rattle.axis.specs.declared.segment.Segments.{Segments}
 use Rattle.axis.specs.Edge.{edgeAt}
 use Rattle.fixed.specs.Point.{mulFix}
 use Rattle.fixed.proofs.Rounding.{mul-grows}
-use Rattle.contours.specs.Contour.{at, isTouched}
-use Rattle.contours.proofs.Searches.{is-touched, not-touched, marked, unmarked}
+use Rattle.weak_contour.specs.Contour.{at, isTouched}
+use Rattle.weak_contour.proofs.Searches.{is-touched, not-touched, marked, unmarked}
 use Rattle.edge_points.specs.EdgePoints.{Points, movedBy, moveAll, edgeAnswer}
 use Rattle.edge_points_order.specs.Order.{lastMover}
 use Rattle.edge_points_order.proofs.Chain.{Taken, taken, comes-along}
@@ -32,7 +33,7 @@ use Rattle.strong.specs.declared.place.Place.the-variants.{Stays, At, Beyond}
 use Rattle.strong.specs.Strong.{fposAt, placeOf, strongAt, currentAfter, markAfter, Aligned, alignedAll}
 use Rattle.strong.specs.Steps.{Rising, Shorts}
 use Rattle.strong.proofs.Order.{scaled-order}
-use Rattle.strong.proofs.Outcomes.{stays, placed}
+use Rattle.strong.proofs.Determined.{stays, placed}
 use Rattle.fit_order.specs.Order.{Scaled, Before}
 use Rattle.fit_order.proofs.Scales.{not-negative, lower}
 use Rattle.fit_order.proofs.Against.{over-edge, under-edge}
@@ -51,7 +52,8 @@ pub record ByRule (axis : Axis) (f o c : List ℤ) (p : ℕ) : Type 0 where
   pub is : placeOf axis (at f p) (at o p) ≡ At (at c p)
 
 -- ---- two touched points
-module _ (scale : ℤ) (axis : Axis) (f o c : List ℤ) (rise : Rising axis) (short : Shorts axis) (scaled : Scaled scale axis f o) (p q : ℕ) (l : at o p <ℤ at o q) where
+module _ (scale : ℤ) (axis : Axis) (f o c : List ℤ) (rise : Rising axis) (short : Shorts axis) (scaled : Scaled scale axis f o) (p q : ℕ)
+    (l : at o p <ℤ at o q) where
   -- by numbers: what is scaled from u is lower than what is scaled from u′
   fonts : (u u′ : ℤ) → at o p ≡ mulFix u scale → at o q ≡ mulFix u′ scale → u <ℤ u′
   fonts u u′ a b = lower u u′ scale (not-negative scale (scaled .positive)) (rw (a, b) at l)
@@ -98,7 +100,8 @@ module _ (scale : ℤ) (axis : Axis) (f o c : List ℤ) (rise : Rising axis) (sh
       let v = scaled .points p (a .there) in
       let w = scaled .points q (b .there) in
       let m = of-<ℤ _ _ (fonts (at f p) (at f q) v w) in
-      scaled-order axis rise short (at f p) (at o p) (at f q) (at o q) (at c p) (at c q) (to-≤ℤ _ _ (omega arith)) (to-≤ℤ _ _ (omega (arith, of-<ℤ _ _ l))) (a .is) (b .is) scale
+      scaled-order axis rise short (at f p) (at o p) (at f q) (at o q) (at c p) (at c q) (to-≤ℤ _ _ (omega arith)) (to-≤ℤ _ _ (omega (arith, of-<ℤ _ _ l)))
+      (a .is) (b .is) scale
       (not-negative scale (scaled .positive)) v w (scaled .edges)
 
   -- whichever they are
@@ -109,7 +112,8 @@ module _ (scale : ℤ) (axis : Axis) (f o c : List ℤ) (rise : Rising axis) (sh
   two (inr a) (inr b) = rule-rule a b
 
 -- ---- behind edge points
-module _ (snap alone : Bool) (axis : Axis) (t : Segments) (o : List ℤ) (s : Points) (es : List ℕ) (before : Before snap alone axis t o s es) (yes : edgeAnswer alone axis t s es ≡ 0) where
+module _ (snap alone : Bool) (axis : Axis) (t : Segments) (o : List ℤ) (s : Points) (es : List ℕ) (before : Before snap alone axis t o s es)
+    (yes : edgeAnswer alone axis t s es ≡ 0) where
   -- the points moved
   abbrev after : Points
   after = moveAll snap alone axis t es s
@@ -132,7 +136,8 @@ module _ (snap alone : Bool) (axis : Axis) (t : Segments) (o : List ℤ) (s : Po
   on-edges p m =
       ⊎-elim
       (λ (h : p < length (s .currents)).
-      by h (lastMover alone axis t es p (t .len)) refl (moved snap alone axis t es s (tests .few) (tests .marks) (tests .ends) (tests .walks) (before .once) p h))
+      by h (lastMover alone axis t es p (t .len)) refl
+      (moved snap alone axis t es s (tests .few) (tests .marks) (tests .ends) (tests .walks) (before .once) p h))
       (λ (g : length (s .currents) ≤ p). absurd (clash _ (none g) m)) (lt-or-le p (length (s .currents)))
     where
       -- behind the last point there is none
@@ -142,7 +147,8 @@ module _ (snap alone : Bool) (axis : Axis) (t : Segments) (o : List ℤ) (s : Po
           not-touched (after .touched) p (List·getD-eq-default (after .touched) 0 {n = p} (omega (arith, size .marks, tests .marks)))
 
       by : p < length (s .currents) → (l : Link) → lastMover alone axis t es p (t .len) ≡ l → Came snap axis s after p l → OnEdge axis o (after .currents) p
-      by h Links.None q r = absurd (clash (isTouched (after .touched) p) (not-touched (after .touched) p (r .mark ∙ unmarked (s .touched) p (before .untouched p))) m)
+      by h Links.None q r =
+          absurd (clash (isTouched (after .touched) p) (not-touched (after .touched) p (r .mark ∙ unmarked (s .touched) p (before .untouched p))) m)
       by h (Links.To k) q r =
           let f = last-mover alone axis t es p k q in
           let g = mover-at alone axis t es p (f .segment) k (f .by) in
@@ -188,7 +194,8 @@ module _ (axis : Axis) (f o c : List ℤ) (t w : List ℕ) where
 
   -- one that is touched behind them stood, or is put
   pub stood-or-put : (p : ℕ) → isTouched (new .touched) p ≡ true → Stood c (new .currents) t p ⊎ ByRule axis f o (new .currents) p
-  stood-or-put p m = ⊎-elim (λ (h : p < length f). by h (leaves-or-puts (at c p) (getD t p 0) (place p))) (λ (h : length f ≤ p). absurd (none h)) (lt-or-le p (length f))
+  stood-or-put p m =
+      ⊎-elim (λ (h : p < length f). by h (leaves-or-puts (at c p) (getD t p 0) (place p))) (λ (h : length f ≤ p). absurd (none h)) (lt-or-le p (length f))
     where
       current : p < length f → at (new .currents) p ≡ currentAfter (at c p) (place p)
       current h = first-at (λ i. currentAfter (at c i) (place i)) (length f) p (pos 0) h

@@ -28,13 +28,45 @@ use Rattle.axis.specs.Segment.{emptySegment}
 use Rattle.axis.specs.Visits.{visits}
 use Rattle.fixed.specs.Point.{rounded, roundedZ, mulFix, divFix}
 use Rattle.fixed.specs.Divide.{tooSteep}
-use Rattle.contours.specs.Contour.{at, isTouched}
-use Rattle.outline.specs.Weak.{endsHold, coordinateHolds, coordinatesHold, contourOf}
-use Rattle.turning.specs.Indices.{segmentsEdges, edgesSegments}
-use Rattle.edge_points.specs.EdgePoints.{behind, Points, movedBy, movePoints, moveSegment, alongEdge, visitSegment, moveAll, isOn, onOne, segmentPoints, segmentsPoints, moverHolds, moversHold, edgeAnswer, edgeResult}
+use Rattle.weak_contour.specs.Contour.{at, isTouched}
+use Rattle.weak.specs.Weak.{endsHold, coordinateHolds, coordinatesHold, contourOf}
+use Rattle.turn.specs.Indices.{segmentsEdges, edgesSegments}
+use Rattle.edge_points.specs.EdgePoints.{
+  behind,
+  Points,
+  movedBy,
+  movePoints,
+  moveSegment,
+  alongEdge,
+  visitSegment,
+  moveAll,
+  isOn,
+  onOne,
+  segmentPoints,
+  segmentsPoints,
+  moverHolds,
+  moversHold,
+  edgeAnswer,
+  edgeResult,
+}
 use Rattle.edge_points_order.specs.Order.{meets, moverOf, moverAt, lastMover}
 use Rattle.words.specs.Word.{firsts}
-use Rattle.strong.specs.Strong.{fposAt, oneByOne, byHalving, found, movedWith, between, onOrBefore, placeOf, strongAt, currentAfter, markAfter, Aligned, alignedAll, alignStrong}
+use Rattle.strong.specs.Strong.{
+  fposAt,
+  oneByOne,
+  byHalving,
+  found,
+  movedWith,
+  between,
+  onOrBefore,
+  placeOf,
+  strongAt,
+  currentAfter,
+  markAfter,
+  Aligned,
+  alignedAll,
+  alignStrong,
+}
 use Rattle.strong.specs.Steps.{Shorts}
 use Rattle.fit_order.specs.Order.{AllInOrder, Scaled, Before, TouchedInOrder}
 use Rattle.fit_order.proofs.Scales.{all-rise}
@@ -91,12 +123,15 @@ abbrev originals : List ℤ
 originals = pos 0 ∷ pos 25 ∷ pos 50 ∷ []
 
 in-order : ended pair both fonts originals ≡ record { answer = 0; currents = pos 0 ∷ pos 32 ∷ pos 64 ∷ []; touched = 1 ∷ 1 ∷ 1 ∷ [] }
-unfolding visits visitSegment alongEdge moveSegment movePoints movedBy walk behind contourOf firsts strongAt currentAfter markAfter placeOf found oneByOne byHalving onOrBefore between movedWith tooSteep mulFix divFix roundedZ rounded
+unfolding visits visitSegment alongEdge moveSegment movePoints movedBy walk behind contourOf firsts strongAt currentAfter markAfter placeOf found oneByOne
+    byHalving onOrBefore between movedWith tooSteep mulFix divFix roundedZ rounded
 in-order = refl
 
 -- ---- equal originals
--- by the scale 1/4 the font positions 11 and 10 have one original, 3: the first point ends at 35 and the second at 32, so that the premise of the theorem has to be strict
-equal-originals : ended (edge (pos 0) (pos 0) (pos 0) ∷ edge (pos 20) (pos 5) (pos 64) ∷ []) [] (pos 11 ∷ pos 10 ∷ pos 20 ∷ []) (pos 3 ∷ pos 3 ∷ pos 5 ∷ []) .currents
+-- by the scale 1/4 the font positions 11 and 10 have one original, 3: the first point ends at 35 and the second at 32, so that the premise of the theorem has
+-- to be strict
+equal-originals : ended (edge (pos 0) (pos 0) (pos 0) ∷ edge (pos 20) (pos 5) (pos 64) ∷ []) [] (pos 11 ∷ pos 10 ∷ pos 20 ∷ []) (pos 3 ∷ pos 3 ∷ pos 5 ∷ [])
+    .currents
     ≡ pos 35 ∷ pos 32 ∷ pos 64 ∷ []
 unfolding visits firsts strongAt currentAfter markAfter placeOf found oneByOne byHalving onOrBefore between movedWith tooSteep mulFix divFix roundedZ rounded
 equal-originals = refl
@@ -108,7 +143,8 @@ one-original = refl
 -- ---- without a hypothesis
 -- two edges of one original position, 10, came to 9 and 5: the point on it ends at 9, and the one of original 11 at 7
 two-positions :
-    ended (edge (pos 0) (pos 0) (pos 0) ∷ edge (pos 10) (pos 10) (pos 9) ∷ edge (pos 10) (pos 10) (pos 5) ∷ edge (pos 20) (pos 20) (pos 20) ∷ []) [] (pos 10 ∷ pos 11 ∷ pos 20 ∷ [])
+    ended (edge (pos 0) (pos 0) (pos 0) ∷ edge (pos 10) (pos 10) (pos 9) ∷ edge (pos 10) (pos 10) (pos 5) ∷ edge (pos 20) (pos 20) (pos 20) ∷ []) []
+    (pos 10 ∷ pos 11 ∷ pos 20 ∷ [])
     (pos 10 ∷ pos 11 ∷ pos 20 ∷ []) .currents
     ≡ pos 9 ∷ pos 7 ∷ pos 20 ∷ []
 unfolding visits firsts strongAt currentAfter markAfter placeOf found oneByOne byHalving onOrBefore between movedWith tooSteep mulFix divFix roundedZ rounded
@@ -134,7 +170,8 @@ all-in-order = record { fonts = rise; apart = apart; level = level }
     rise (suc zero) (suc (suc j)) h l = absurd (omega arith)
     rise (suc (suc i)) (suc j) h l = absurd (omega arith)
 
-    apart : (i j : ℕ) → i < 2 → j < 2 → edgeAt (axisOf pair) i .opos <ℤ edgeAt (axisOf pair) j .opos → edgeAt (axisOf pair) i .pos ≤ℤ edgeAt (axisOf pair) j .pos
+    apart : (i j : ℕ) → i < 2 → j < 2 → edgeAt (axisOf pair) i .opos <ℤ edgeAt (axisOf pair) j .opos
+        → edgeAt (axisOf pair) i .pos ≤ℤ edgeAt (axisOf pair) j .pos
     apart zero zero a b l = is-≤ℤ (pos 0) (pos 0) refl
     apart zero (suc zero) a b l = is-≤ℤ (pos 0) (pos 64) refl
     apart (suc zero) zero a b l = absurd (omega (arith, signed))
@@ -197,7 +234,9 @@ before snap = record { untouched = untouched; on-edge = on-edge; still = λ _. r
 
 -- so the theorem is of it too: edge points answers 0, and with snap and without, behind it and strong points the touched points are in order
 answers : edgeAnswer false (axisOf pair) (tableOf both) points (2 ∷ []) ≡ 0
-unfolding edgeAnswer refusal linkHolds blueHolds every edgeIndices edgeNumbers edgesIndices edgesNumbers segmentIndices segmentNext segmentNumbers segmentsIndices segmentsNexts segmentsNumbers segmentEdge edgeSegments segmentsEdges edgesSegments endsHold contourOf isOn onOne segmentPoints segmentsPoints coordinateHolds coordinatesHold moverHolds moversHold
+unfolding edgeAnswer refusal linkHolds blueHolds every edgeIndices edgeNumbers edgesIndices edgesNumbers segmentIndices segmentNext segmentNumbers
+    segmentsIndices segmentsNexts segmentsNumbers segmentEdge edgeSegments segmentsEdges edgesSegments endsHold contourOf isOn onOne segmentPoints
+    segmentsPoints coordinateHolds coordinatesHold moverHolds moversHold
 answers = refl
 
 short : Shorts (axisOf pair)

@@ -13,7 +13,7 @@ use Rattle.axis.specs.declared.segment.Segments.{Segments}
 use Rattle.axis.specs.Edge.{edgeAt}
 use Rattle.axis.specs.Link.{isLinked}
 use Rattle.fixed.specs.Point.{mulFix}
-use Rattle.contours.specs.Contour.{at, isTouched}
+use Rattle.weak_contour.specs.Contour.{at, isTouched}
 use Rattle.edge_points.specs.EdgePoints.{Points}
 use Rattle.edge_points_order.specs.Order.{moverAt, lastMover}
 use Rattle.strong.specs.Strong.{fposAt}

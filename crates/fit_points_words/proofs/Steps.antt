@@ -15,22 +15,22 @@ use Rattle.axis.specs.declared.edge.Axis.{Axis}
 use Rattle.axis.specs.declared.segment.Segments.{Segments}
 use Rattle.axis.specs.Refusals.{edgesShort, edgesIndexed, edgesInRange, segmentsInRange}
 use Rattle.axis.proofs.Accepting.{edges-within}
-use Rattle.contours.specs.Limits.{mostPoints, mostCoordinate}
-use Rattle.contours.specs.Contour.{at}
-use Rattle.outline.specs.Weak.{endsHold, coordinatesHold, listTests as outlineLists, weakTests, result, rangeTests, Outcome}
-use Rattle.outline.proofs.Refusals.{coordinates-of}
-use Rattle.turning.specs.Indices.{indexTests, segmentsEdges}
+use Rattle.weak_contour.specs.Limits.{mostPoints, mostCoordinate}
+use Rattle.weak_contour.specs.Contour.{at}
+use Rattle.weak.specs.Weak.{endsHold, coordinatesHold, listTests as outlineLists, weakTests, result, rangeTests, Outcome}
+use Rattle.weak.proofs.Refusals.{coordinates-of}
+use Rattle.turn.specs.Indices.{indexTests, segmentsEdges}
 use Rattle.edge_points.specs.EdgePoints.{Points, moveAll, segmentsPoints, moversHold, pointsTests, edgeAnswer, edgeResult}
-use Rattle.edge_points_walk.specs.Steps.{points, reached, Reach}
+use Rattle.edge_points.specs.Steps.{points, reached, Reach}
 use Rattle.edge_points_words.specs.Steps.{Accepted}
 use Rattle.strong.specs.Strong.{Aligned, listTests, allPlaced, strongTests, alignedAll, refusedBy, alignStrong}
 use Rattle.strong_words.specs.Strong.{Placeable, PlacedEach}
 use Rattle.words.specs.Edge.{edgesIn}
 use Rattle.words.specs.Segment.{flatSegments}
-use Rattle.lent.specs.Lent.{edgesOf}
-use Rattle.edges_in.specs.Whole as E
-use Rattle.edges_in.proofs.Wholes.{edges-len}
-use Rattle.segments_in.specs.Whole as S
+use Rattle.words_call.specs.Lent.{edgesOf}
+use Rattle.words_edge.specs.Whole as E
+use Rattle.words_edge.proofs.Wholes.{edges-len}
+use Rattle.words_segment.specs.Whole as S
 use Rattle.fit.specs.declared.numbers.Numbers.{Numbers}
 use Rattle.fit.specs.Points.{LeftPoints, halted, thenWeak, behindStrong, thenStrong, fitPoints}
 use Rattle.fit_points_words.specs.Row.{Ready, ReadyStrong, WentPoints}
@@ -49,7 +49,8 @@ module _ (ws f o : List ℤ) (w es : List ℕ) (s : Points) (g : ReadyStrong ws 
 
   -- the tests that hold already
   abbrev held : List Test
-  held = edgesShort A ∷ (listTests f o (s .currents) (s .touched) w ++ (edgesIndexed A ∷ edgesInRange A ∷ outOfRange unless coordinatesHold mostCoordinate o ∷ []))
+  held =
+      edgesShort A ∷ (listTests f o (s .currents) (s .touched) w ++ (edgesIndexed A ∷ edgesInRange A ∷ outOfRange unless coordinatesHold mostCoordinate o ∷ []))
 
   none-held : refusal held ≡ 0
   none-held =
@@ -88,12 +89,14 @@ module _ (ws f o : List ℤ) (w es : List ℕ) (s : Points) (g : ReadyStrong ws 
         eqb-true (length (s .currents)) (length f) (l .1 .1 .0),
       )
 
-  module _ {b : Bool} (e : b ≡ coordinatesHold mostCoordinate (s .currents)) (t : b ≡ true) {p : Bool} {c : List ℤ} {m : List ℕ} (d : PlacedEach ws f o (s .currents) (s .touched) w p c m) where
+  module _ {b : Bool} (e : b ≡ coordinatesHold mostCoordinate (s .currents)) (t : b ≡ true) {p : Bool} {c : List ℤ} {m : List ℕ}
+      (d : PlacedEach ws f o (s .currents) (s .touched) w p c m) where
     pub strong-steep : {x : Points} → p ≡ false → WentPoints (thenStrong ws f o w es s) steep x
     strong-steep q = stops (strong-as (tests-are (sym e ∙ t) (sym (d .told) ∙ q))) (λ z. omega (arith, z))
 
     -- as many points and marks are left, which is what weak points need
-    pub weak-ready : length c ≡ length (s .currents) → length m ≡ length (s .touched) → (refusal (outlineLists o c m es) ≡ 0) × (coordinatesHold mostCoordinate o ≡ true)
+    pub weak-ready : length c ≡ length (s .currents) → length m ≡ length (s .touched)
+        → (refusal (outlineLists o c m es) ≡ 0) × (coordinatesHold mostCoordinate o ≡ true)
     weak-ready h q =
         let l = lists-hold in
         let long = eqb-true (length o) (length f) (l .1 .0) in
@@ -101,7 +104,10 @@ module _ (ws f o : List ℤ) (w es : List ℕ) (s : Points) (g : ReadyStrong ws 
         let marked = eqb-true (length (s .touched)) (length f) (l .1 .1 .1 .0) ∙ sym long in (
           no-refusal (outlineLists o c m es) (
             ap (λ (n : ℕ). leb n mostPoints) long ∙ l .0,
-            (eq-eqb (length c) (length o) (h ∙ counted), (eq-eqb (length m) (length o) (q ∙ marked), (ap (λ (n : ℕ). endsHold 0 n es) (sym counted) ∙ g .contours, refl))),
+            (
+              eq-eqb (length c) (length o) (h ∙ counted),
+              (eq-eqb (length m) (length o) (q ∙ marked), (ap (λ (n : ℕ). endsHold 0 n es) (sym counted) ∙ g .contours, refl)),
+            ),
           ),
           g .originals,
         )
@@ -190,7 +196,8 @@ module _ (n : Numbers) (ss ws f o : List ℤ) (w es : List ℕ) (s : Points) (g 
 
   points-are : {m : Bool} → moversHold (n .alone) B T ≡ m → edgeAnswer (n .alone) B T s es ≡ cond m 0 outOfRange
   unfolding edgeAnswer refusal
-  points-are m = own-first heldPoints (outOfRange unless moversHold (n .alone) B T ∷ []) refl ∙ (λ j. answered (none-points j) (λ (k : ℕ). k) (cond (m j) 0 outOfRange))
+  points-are m =
+      own-first heldPoints (outOfRange unless moversHold (n .alone) B T ∷ []) refl ∙ (λ j. answered (none-points j) (λ (k : ℕ). k) (cond (m j) 0 outOfRange))
 
   points-as : {k : ℕ} → edgeAnswer (n .alone) B T s es ≡ k
       → fitPoints n ss ws f o w es s ≡ answered k (halted s) (thenStrong ws f o w es (answered k (λ _. s) (moveAll (n .snap) (n .alone) B T es s)))
@@ -225,8 +232,16 @@ module _ (n : Numbers) (ss ws f o : List ℤ) (w es : List ℕ) (s : Points) (g 
         edges = g .strong .edges;
         lists =
             let l = marks-hold in
-            no-refusal (listTests f o (x .currents) (x .touched) w)
-            (l .0, (l .1 .0, (ap (λ (k : ℕ). eqb k (length f)) c ∙ l .1 .1 .0, (ap (λ (k : ℕ). eqb k (length f)) t ∙ l .1 .1 .1 .0, (l .1 .1 .1 .1 .0, refl)))));
+            no-refusal (listTests f o (x .currents) (x .touched) w) (
+              l .0,
+              (
+                l .1 .0,
+                (
+                  ap (λ (k : ℕ). eqb k (length f)) c ∙ l .1 .1 .0,
+                  (ap (λ (k : ℕ). eqb k (length f)) t ∙ l .1 .1 .1 .0, (l .1 .1 .1 .1 .0, refl)),
+                ),
+              ),
+            );
         contours = ap (λ (k : ℕ). endsHold 0 k es) c ∙ g .strong .contours;
         originals = g .strong .originals;
       }

@@ -9,15 +9,15 @@ use lib.IntN.{ℤ}
 use Rattle.refusals.specs.Refusal.{refusal}
 use Rattle.axis.specs.Handed.{EdgesAccepted}
 use Rattle.axis.specs.Refusals.{segmentsNumbers}
-use Rattle.contours.specs.Limits.{mostCoordinate}
-use Rattle.outline.specs.Weak.{endsHold, coordinatesHold}
-use Rattle.turning.specs.Indices.{indexTests}
+use Rattle.weak_contour.specs.Limits.{mostCoordinate}
+use Rattle.weak.specs.Weak.{endsHold, coordinatesHold}
+use Rattle.turn.specs.Indices.{indexTests}
 use Rattle.edge_points.specs.EdgePoints.{Points, segmentsPoints}
 use Rattle.strong.specs.Strong.{listTests}
 use Rattle.words.specs.Segment.{flatSegments}
-use Rattle.lent.specs.Lent.{edgesOf}
-use Rattle.edges_in.specs.Whole as Edges
-use Rattle.segments_in.specs.Whole as Segments
+use Rattle.words_call.specs.Lent.{edgesOf}
+use Rattle.words_edge.specs.Whole as Edges
+use Rattle.words_segment.specs.Whole as Segments
 use Rattle.fit.specs.Points.{LeftPoints}
 
 -- ---- what a step may use

@@ -2,14 +2,14 @@
 use edge_points_words::pass::move_all;
 use edge_points_words::test::movers_hold;
 use fit::numbers::Numbers;
-use outline::accept::currents_refusal;
-use outline::limits::MOST_COORDINATE;
-use outline::reach::coordinates_hold;
-use outline::weak::align_unrefused;
 use refusals::order::OUT_OF_RANGE;
 use refusals::order::TOO_STEEP;
 use strong_words::place::place_each;
-ghost use Rattle.edge_points_walk.specs.Steps.{points};
+use weak::accept::currents_refusal;
+use weak::limits::MOST_COORDINATE;
+use weak::reach::coordinates_hold;
+use weak::weak::align_unrefused;
+ghost use Rattle.edge_points.specs.Steps.{points};
 ghost use Rattle.fit.specs.Points.{thenStrong, fitPoints};
 ghost use Rattle.fit_points_words.specs.Row.{Ready, ReadyStrong, WentPoints};
 

@@ -13,14 +13,14 @@ use Rattle.refusals.proofs.Tests.{and-first, and-second, all-hold, answered-no,
 use Rattle.axis.specs.Limits.{mostEdges, mostSegments}
 use Rattle.words.specs.Edge.{edgeSize, edgesIn}
 use Rattle.words.specs.Segment.{segmentSize, segmentsIn}
-use Rattle.shape.specs.Shape.{edgesShown, segmentsShown}
+use Rattle.words_shape.specs.Shape.{edgesShown, segmentsShown}
 use Rattle.strong.specs.Strong.{listTests}
-use Rattle.lent.specs.Lent.{refusedOr}
-use Rattle.lent.proofs.Lents.{refused-before, passed-first}
-use Rattle.edges_in.specs.Whole as E
-use Rattle.edges_in.proofs.Wholes.{shown-whole}
-use Rattle.segments_in.specs.Whole as S
-use Rattle.segments_in.proofs.Wholes.{shown-whole as segments-whole}
+use Rattle.words_call.specs.Lent.{refusedOr}
+use Rattle.words_call.proofs.Lents.{refused-before, passed-first}
+use Rattle.words_edge.specs.Whole as E
+use Rattle.words_edge.proofs.Wholes.{shown-whole}
+use Rattle.words_segment.specs.Whole as S
+use Rattle.words_segment.proofs.Wholes.{shown-whole as segments-whole}
 use Rattle.fit.specs.declared.numbers.Numbers.{Numbers}
 use Rattle.fit.specs.Numbers.{numbersOf, numberSize}
 use Rattle.fit.specs.Fit.{Given, Fitted, Outcome, toldSize, fitFront, fitTests, refusedFit, fitInRow, fitAxis, FitLent}
@@ -50,7 +50,9 @@ module _ (ns : List ℤ) (g : Given) (l : Fitted) {k : ℕ} (f : k ≡ refusal (
         let words = and-first (segmentsShown (g .segments) && edgesShown (l .edges)) _ (h .1 .1 .0) in
         let few = leb-true (edgesIn (l .edges)) mostEdges (and-second (leb (segmentsIn (g .segments)) mostSegments) _ tables) in
         record {
-          segments = segments-whole (g .segments) (and-first (segmentsShown (g .segments)) _ words) (leb-true (segmentsIn (g .segments)) mostSegments (and-first _ _ tables));
+          segments =
+              segments-whole (g .segments) (and-first (segmentsShown (g .segments)) _ words)
+              (leb-true (segmentsIn (g .segments)) mostSegments (and-first _ _ tables));
           edges = shown-whole (l .edges) (and-second (segmentsShown (g .segments)) _ words) few;
           few = few;
           lists = eqb-true _ 0 (and-second (leb (segmentsIn (g .segments)) mostSegments && leb (edgesIn (l .edges)) mostEdges) _ (h .1 .0));
@@ -65,7 +67,9 @@ module _ (ns : List ℤ) (g : Given) (l : Fitted) {k : ℕ} (f : k ≡ refusal (
       pub test-refuses : 0 < r → FitLent ns g l r l
       unfolding fitAxis
       test-refuses h = record {
-        number = passed-first _ f none (ap (λ (o : Outcome). o .answer) (answered-no r (refusal (fitTests (numbersOf ns) g l)) (refusedFit l) (fitInRow (numbersOf ns) g l) refuses-as h));
+        number =
+            passed-first _ f none (ap (λ (o : Outcome). o .answer)
+            (answered-no r (refusal (fitTests (numbersOf ns) g l)) (refusedFit l) (fitInRow (numbersOf ns) g l) refuses-as h));
         held = rw (ne-eqb r 0 (λ z. omega arith));
       }
 

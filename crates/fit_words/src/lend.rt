@@ -1,10 +1,10 @@
 // The public call: what the Rust's `hint_edges`, `align_edge_points`, `align_strong_points` and `align_weak_points` do in a row, with the guard behind the first.
 use super::rooms::fit_accepted;
 use fit::numbers::numbers_of;
-use fit_test::front::fit_front;
-use fit_test::refuse::axis_refusal;
-use tables_test::hold::tables_hold;
-ghost use Rattle.edge_points_walk.specs.Steps.{points};
+use fit_test_words::front::fit_front;
+use fit_test_words::refuse::axis_refusal;
+use words_tables_test::hold::tables_hold;
+ghost use Rattle.edge_points.specs.Steps.{points};
 ghost use Rattle.fit.specs.Fit.{given, fitted, FitLent};
 
 // Fits the edges of an axis and moves its points by them, and tells what became of the edges. The answer is 0, or the number of the refusal, 255, 1, 2, 3, 4 or 8, one of a step on the way too,

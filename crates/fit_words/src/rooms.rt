@@ -1,13 +1,13 @@
 // The rooms for copies of what is changed: small ones where a glyph is small, since every place is cleared first.
 use fit::numbers::Numbers;
 use fit_back_words::rooms::fit_in_rooms;
-use outline::limits::MOST_POINTS;
+use weak::limits::MOST_POINTS;
 use words::edge::TABLE_WORDS;
 ghost use mathlib.Core.Path.{_≡_};
 ghost use mathlib.Core.Bool.{true, _&&_};
 ghost use Prim.Native.Nat.{_≤_};
 ghost use lib.ListN.{length};
-ghost use Rattle.edge_points_walk.specs.Steps.{points};
+ghost use Rattle.edge_points.specs.Steps.{points};
 ghost use Rattle.fit.specs.Fit.{given, fitted};
 ghost use Rattle.fit_back_words.specs.Back.{Accepted, FitsIn};
 ghost use Rattle.fit_words.specs.Rooms.{Small};

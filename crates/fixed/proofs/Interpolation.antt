@@ -1,5 +1,7 @@
--- Demand 3's arithmetic at request #109's range: q is the fixed quotient of c by s and r the fixed product of d and q. How far s·r is from d·c, how far r may be
--- outside of 0 and c, that r grows with d, and when q is too steep. First over magnitudes, each law at a range at least as wide as it is needed, then for signed numbers.
+-- Demand 3's arithmetic at request #109's range: q is the fixed quotient of c by s and r the fixed product of d and q. How far s·r is from d·c, how far r may
+-- be
+-- outside of 0 and c, that r grows with d, and when q is too steep. First over magnitudes, each law at a range at least as wide as it is needed, then for
+-- signed numbers.
 use mathlib.Core.Path.{_≡_, ap}
 use mathlib.Core.Bool.{true, false}
 use mathlib.Core.Logic.{⊎-elim}
@@ -247,7 +249,8 @@ pub record Fitting (d c s : ℤ) : Type 0 where
   pub product : SFits w32 (mulFix d (divFix c s))
 
 -- 0 ≤ d < s ≤ 131,070, |c| ≤ 131,070, and not too steep
-pub fitting : (d c s : ℤ) → dn d ≤ up d → up d + dn s < up s + dn d → up s ≤ dn s + mostDelta → Between mostDelta mostDelta c → tooSteep c s ≡ false → Fitting d c s
+pub fitting : (d c s : ℤ) → dn d ≤ up d → up d + dn s < up s + dn d → up s ≤ dn s + mostDelta → Between mostDelta mostDelta c → tooSteep c s ≡ false
+    → Fitting d c s
 unfolding tooSteep
 fitting (pos d) c (pos s) h k l b e =
     let f = along-line (pos d) c (pos s) h k l in

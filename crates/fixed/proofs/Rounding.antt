@@ -31,12 +31,14 @@ rounded-law n d h = record {
 
 -- it is no more than what is divided
 pub rounded-at-most : (n d : ℕ) → 0 < d → rounded n d ≤ n
-rounded-at-most n d h = ⊎-elim (λ l. absurd (omega (arith, rounded-law n d h .not-above, mul-le-mul-right d l, mul-le-mul-left n h))) (λ l. l) (lt-or-le n (rounded n d))
+rounded-at-most n d h =
+    ⊎-elim (λ l. absurd (omega (arith, rounded-law n d h .not-above, mul-le-mul-right d l, mul-le-mul-left n h))) (λ l. l) (lt-or-le n (rounded n d))
 
 -- it grows with what is divided
 pub rounded-grows : (m n d : ℕ) → 0 < d → m ≤ n → rounded m d ≤ rounded n d
 rounded-grows m n d h l =
-    ⊎-elim (λ k. absurd (omega (arith, rounded-law m d h .not-above, rounded-law n d h .not-below, mul-le-mul-right d k))) (λ k. k) (lt-or-le (rounded n d) (rounded m d))
+    ⊎-elim (λ k. absurd (omega (arith, rounded-law m d h .not-above, rounded-law n d h .not-below, mul-le-mul-right d k))) (λ k. k)
+    (lt-or-le (rounded n d) (rounded m d))
 
 -- 0 by anything is 0
 pub rounded-zero : (d : ℕ) → 0 < d → rounded 0 d ≡ 0

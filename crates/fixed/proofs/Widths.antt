@@ -14,7 +14,24 @@ use lib.Seq.{drop-cons}
 use lib.IntN.{ℤ, pos, negsuc, negℤ, natAbs, _-ℤ_}
 use lib.Signed.{ltZ, leZ, _≤ℤ_, _<ℤ_}
 use Rattle.signed.specs.Parts.{up, dn}
-use Rattle.signed.proofs.Signed.{signed, _also_, natAbs-is, one-zero, sub-law, up-neg, dn-neg, is-≤ℤ, is-<ℤ, to-≤ℤ, to-≡, to-lt-true, to-lt-false, to-le-true, to-le-false, lt-or-le}
+use Rattle.signed.proofs.Signed.{
+  signed,
+  _also_,
+  natAbs-is,
+  one-zero,
+  sub-law,
+  up-neg,
+  dn-neg,
+  is-≤ℤ,
+  is-<ℤ,
+  to-≤ℤ,
+  to-≡,
+  to-lt-true,
+  to-lt-false,
+  to-le-true,
+  to-le-false,
+  lt-or-le,
+}
 use Rattle.fixed.specs.Width.{mostStandards, mostStandard, mostAway, onePixel, risesFrom, standardsHold, ruleHolds, Standards}
 use Rattle.fixed.specs.Width.{away, noBetter, isNearest, standardThat, nearest, Nearest, withSign, settled, snapped, lifted, fittedWidth, Fitted}
 use Rattle.fixed.specs.declared.width.WidthRule.{WidthRule}
@@ -119,7 +136,8 @@ module _ (b : ℤ) (xs : List ℤ) (i : ℕ) (inside : i < length xs) where
   pub rises-too-large : mostStandard + dn (at xs i) < up (at xs i) → risesFrom b (drop i xs) ≡ false
   rises-too-large h = rw (step, to-le-false (at xs i) (pos mostStandard) (omega arith), and-false)
 
-  pub rises-on : up b + dn (at xs i) < up (at xs i) + dn b → up (at xs i) ≤ mostStandard + dn (at xs i) → risesFrom b (drop i xs) ≡ risesFrom (at xs i) (drop (i + 1) xs)
+  pub rises-on : up b + dn (at xs i) < up (at xs i) + dn b → up (at xs i) ≤ mostStandard + dn (at xs i)
+      → risesFrom b (drop i xs) ≡ risesFrom (at xs i) (drop (i + 1) xs)
   rises-on h l = rw (step, to-lt-true b (at xs i) h, to-le-true (at xs i) (pos mostStandard) (omega arith))
 
 pub rises-end : (b : ℤ) (xs : List ℤ) (i : ℕ) → length xs ≤ i → risesFrom b (drop i xs) ≡ true
@@ -154,14 +172,17 @@ is-last i k h b = omega arith
 pub nearest-new : (i : ℕ) (xs : List ℤ) (m place : ℕ) → NearestOf i xs m place → away m (at xs i) < away m (at xs place) → NearestOf (i + 1) xs m i
 nearest-new i xs m place n l = record {
   inside = omega arith;
-  none-nearer = λ k h. ⊎-elim (λ b. omega (arith, n .none-nearer k b)) (λ b. subst (λ (j : ℕ). away m (at xs i) ≤ away m (at xs j)) (is-last i k h b) (omega arith)) (lt-or-le k i);
+  none-nearer =
+      λ k h. ⊎-elim (λ b. omega (arith, n .none-nearer k b)) (λ b. subst (λ (j : ℕ). away m (at xs i) ≤ away m (at xs j)) (is-last i k h b) (omega arith))
+      (lt-or-le k i);
   smaller-on-a-tie =
       λ k h e. ⊎-elim (λ b. absurd (omega (arith, n .none-nearer k b)))
       (λ b. subst (λ (j : ℕ). at xs i ≤ℤ at xs j) (is-last i k h b) (to-≤ℤ (at xs i) (at xs i) (omega arith))) (lt-or-le k i);
 }
 
 -- one standard more, no nearer: it is larger, since the list rises
-pub nearest-old : (i : ℕ) (xs : List ℤ) (m place : ℕ) → Standards xs → i < length xs → NearestOf i xs m place → away m (at xs place) ≤ away m (at xs i) → NearestOf (i + 1) xs m place
+pub nearest-old : (i : ℕ) (xs : List ℤ) (m place : ℕ) → Standards xs → i < length xs → NearestOf i xs m place → away m (at xs place) ≤ away m (at xs i)
+    → NearestOf (i + 1) xs m place
 nearest-old i xs m place s h n l = record {
   inside = omega (arith, n .inside);
   none-nearer = λ k b. ⊎-elim (n .none-nearer k) (λ a. subst (λ (j : ℕ). away m (at xs place) ≤ away m (at xs j)) (is-last i k b a) l) (lt-or-le k i);
@@ -233,7 +254,8 @@ unfolding standardThat
 standard-that p [] s h = absurd (omega (arith, h .inside))
 standard-that p (x ∷ xs) s h = by (standard-that p xs s) (p x) refl (h .place) (h .inside) (h .there)
   where
-    by : (Passes p xs s → Passes p xs (standardThat p xs)) → (b : Bool) → p x ≡ b → (i : ℕ) → i < length (x ∷ xs) → at (x ∷ xs) i ≡ s → Passes p (x ∷ xs) (cond b x (standardThat p xs))
+    by : (Passes p xs s → Passes p xs (standardThat p xs)) → (b : Bool) → p x ≡ b → (i : ℕ) → i < length (x ∷ xs) → at (x ∷ xs) i ≡ s
+        → Passes p (x ∷ xs) (cond b x (standardThat p xs))
     by again true e i l q = record { place = 0; inside = omega arith; there = refl; passes = e }
     by again false e zero l q = never (sym e ∙ ap p q ∙ h .passes)
     by again false e (suc i) l q =

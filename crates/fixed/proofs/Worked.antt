@@ -1,24 +1,12 @@
 -- Values of the definitions, worked out by hand from document 01 at negatives, halves and limits: one table, one statement.
 use mathlib.Core.Path.{_≡_, refl}
 use mathlib.Core.List.{List, [], _∷_, map}
-use Prim.Native.Nat.{ℕ}
-use lib.IntN.{ℤ, pos, negℤ}
+use lib.IntN.{pos}
+use Rattle.signed.specs.Table.{Row, _is_, minus}
 use Rattle.fixed.specs.Point.{rounded, roundedZ, mulFix, divFix, derived}
 use Rattle.fixed.specs.Pixel.{pixFloor, pixRound}
 use Rattle.fixed.specs.Width.{noBetter, isNearest, standardThat, nearest, withSign, settled, snapped, lifted, fittedWidth}
 use Rattle.fixed.specs.declared.width.WidthRule.the-variants.{Keep, Snap}
-
--- what a definition gives, and what it should
-pub record Row : Type 0 where
-  pub gives : ℤ
-  pub value : ℤ
-
-infix 3 _is_
-abbrev _is_ : ℤ → ℤ → Row
-g is v = record { gives = g; value = v }
-
-abbrev minus : ℕ → ℤ
-minus n = negℤ (pos n)
 
 unfoldable pub rows : List Row
 rows =

@@ -1,8 +1,8 @@
 -- Values worked out by hand: halves go away from zero, whatever the three signs are; and the largest that remaining edges ask for.
 use mathlib.Core.Path.{_≡_, refl}
 use mathlib.Core.List.{[], _∷_, map}
-use Prim.Native.Nat.{ℕ}
-use lib.IntN.{ℤ, pos, negℤ}
+use lib.IntN.{ℤ, pos}
+use Rattle.signed.specs.Table.{minus}
 use Rattle.fixed.specs.Point.{rounded, roundedZ}
 use Rattle.fixed_ratio.specs.Ratio.{mulDiv}
 
@@ -11,9 +11,6 @@ record Row : Type 0 where
   a : ℤ
   b : ℤ
   c : ℤ
-
-abbrev minus : ℕ → ℤ
-minus n = negℤ (pos n)
 
 abbrev row : ℤ → ℤ → ℤ → Row
 row a b c = record { a = a; b = b; c = c }
@@ -29,7 +26,8 @@ nearest = refl
 
 halves-away :
     map ratioOf
-    (row (pos 1) (pos 1) (pos 2) ∷ row (pos 1) (minus 1) (pos 2) ∷ row (minus 1) (minus 1) (pos 2) ∷ row (pos 1) (pos 1) (minus 2) ∷ row (minus 1) (minus 3) (minus 2) ∷ row (pos 0) (minus 3) (minus 2)
+    (row (pos 1) (pos 1) (pos 2) ∷ row (pos 1) (minus 1) (pos 2) ∷ row (minus 1) (minus 1) (pos 2) ∷ row (pos 1) (pos 1) (minus 2)
+    ∷ row (minus 1) (minus 3) (minus 2) ∷ row (pos 0) (minus 3) (minus 2)
     ∷ [])
     ≡ pos 1 ∷ minus 1 ∷ pos 1 ∷ minus 1 ∷ minus 2 ∷ pos 0 ∷ []
 unfolding mulDiv roundedZ rounded

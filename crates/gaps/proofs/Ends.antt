@@ -14,7 +14,23 @@ use Rattle.axis.specs.declared.kinds.Link.{Link}
 use Rattle.axis.specs.declared.kinds.Link.the-variants as Links
 use Rattle.axis.specs.declared.edge.Axis.{Axis}
 use Rattle.axis.proofs.Tests.{and-false}
-use Rattle.gaps.specs.Gaps.{counts, IsPair, isStem, widthBefore, isGone, lostGap, lostStem, lost, lastOf, before, pairFrom, kindFrom, pairTo, ends, LostPair}
+use Rattle.gaps.specs.Gaps.{
+  counts,
+  IsPair,
+  isStem,
+  widthBefore,
+  isGone,
+  lostGap,
+  lostStem,
+  lost,
+  lastOf,
+  before,
+  pairFrom,
+  kindFrom,
+  pairTo,
+  ends,
+  LostPair,
+}
 use Rattle.gaps.proofs.Lasts.{last-is, is-last}
 use Rattle.gaps.proofs.Losing.{gone-is, is-gone}
 

@@ -76,7 +76,8 @@ unfolding counted firstOf
 counted-first p zero = refl
 counted-first p (suc n) = by (p n) (firstOf p n) (counted-first p n)
   where
-    by : (t : Bool) (l : Link) → ltb 0 (counted p n) ≡ isLinked l → ltb 0 (cond t (counted p n + 1) (counted p n)) ≡ isLinked (orElse l (cond t (Links.To n) Links.None))
+    by : (t : Bool) (l : Link) → ltb 0 (counted p n) ≡ isLinked l
+        → ltb 0 (cond t (counted p n + 1) (counted p n)) ≡ isLinked (orElse l (cond t (Links.To n) Links.None))
     by true Links.None h = lt-ltb 0 (counted p n + 1) (omega arith)
     by true (Links.To k) h = lt-ltb 0 (counted p n + 1) (omega arith)
     by false Links.None h = h
@@ -112,11 +113,13 @@ first-is p (suc n) = by (p n) refl (firstOf p n) (first-is p n)
     by : (t : Bool) → p n ≡ t → (l : Link) → First p n l → First p (suc n) (orElse l (cond t (Links.To n) Links.None))
     by t q (Links.To j) f = record {
       none = λ e. absurd (no-link e);
-      some = λ (k : ℕ) (e : Links.To j ≡ Links.To k). let g = f .some k e in record { below = omega (arith, g .below); passes = g .passes; earlier = g .earlier };
+      some =
+          λ (k : ℕ) (e : Links.To j ≡ Links.To k). let g = f .some k e in record { below = omega (arith, g .below); passes = g .passes; earlier = g .earlier };
     }
     by true q Links.None f = record {
       none = λ e. absurd (no-link e);
-      some = λ (k : ℕ) (e : Links.To n ≡ Links.To k). let w : n ≡ k = cc in rw (sym w) (record { below = omega arith; passes = q; earlier = f .none refl .fails });
+      some =
+          λ (k : ℕ) (e : Links.To n ≡ Links.To k). let w : n ≡ k = cc in rw (sym w) (record { below = omega arith; passes = q; earlier = f .none refl .fails });
     }
     by false q Links.None f = record {
       none = λ e. record { fails = one-more (f .none refl) q };

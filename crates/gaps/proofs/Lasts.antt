@@ -45,7 +45,9 @@ module _ (p : ℕ → Bool) where
       by : (t : Bool) → p n ≡ t → Last n (lastOf p n) → Last (suc n) (cond t (Links.To n) (lastOf p n))
       by true q b = record {
         none = λ e. absurd (no-link e);
-        some = λ (i : ℕ) (e : Links.To n ≡ Links.To i). let w : n ≡ i = cc in rw (sym w) (record { order = omega arith; passes = q; between = λ k g h. absurd (omega arith) });
+        some =
+            λ (i : ℕ) (e : Links.To n ≡ Links.To i). let w : n ≡ i = cc in rw (sym w)
+            (record { order = omega arith; passes = q; between = λ k g h. absurd (omega arith) });
       }
       by false q b = record {
         none = λ e k h. ⊎-elim (λ (w : k ≡ n). rw w q) (λ (g : k < n). b .none e k g) (eq-or-lt-of-le (omega arith));

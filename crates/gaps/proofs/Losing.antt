@@ -63,7 +63,8 @@ module _ (before p q : ℤ) where
         where
           by : (t : Bool) → ltZ q p ≡ t → gone before p q ≡ true
           by true t = sym (turned t)
-          by false t = sym (opened t (to-lt-true (pos 0) before (omega (arith, signed, h .1)))) ∙ sym (none-is p q) ∙ eqZ-yes (rows p q) (pos 0) (row-none p q (h .0))
+          by false t =
+              sym (opened t (to-lt-true (pos 0) before (omega (arith, signed, h .1)))) ∙ sym (none-is p q) ∙ eqZ-yes (rows p q) (pos 0) (row-none p q (h .0))
 
 -- a pair of no width at one place is not gone
 pub self-kept : (p : ℤ) → gone (pos 0) p p ≡ false
@@ -80,7 +81,8 @@ module _ (before p q : ℤ) (k : gone before p q ≡ false) where
 
   pub kept-row : pos 0 <ℤ before → RowBetween p q (rowFrom p)
   kept-row o =
-      some-row p q (opened before p q (let h = kept-order in to-lt-false q p (omega (arith, signed, h))) (to-lt-true (pos 0) before (omega (arith, signed, o))) ∙ k)
+      some-row p q (opened before p q (let h = kept-order in to-lt-false q p (omega (arith, signed, h)))
+      (to-lt-true (pos 0) before (omega (arith, signed, o))) ∙ k)
 
 -- and one with a row is not gone
 pub row-stays : (before p q k : ℤ) → RowBetween p q k → gone before p q ≡ false

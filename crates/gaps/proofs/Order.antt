@@ -16,11 +16,30 @@ use Rattle.axis.specs.declared.edge.Axis.{Axis}
 use Rattle.axis.specs.declared.edge.Edge.{Edge}
 use Rattle.axis.specs.Changes.{Extent, nothing, position, place, zone, taking, OnlyAxis}
 use Rattle.axis.specs.Edge.{edgeAt}
-use Rattle.gaps.specs.Gaps.{rowFrom, RowBetween, isDone, askedFor, counts, IsPair, isStem, widthBefore, isGone, lostGap, lostStem, before, lostGaps, HasRow, EdgesRise, DoneRise, SameOpos, KeepsOrder}
+use Rattle.gaps.specs.Gaps.{
+  rowFrom,
+  RowBetween,
+  isDone,
+  askedFor,
+  counts,
+  IsPair,
+  isStem,
+  widthBefore,
+  isGone,
+  lostGap,
+  lostStem,
+  before,
+  lostGaps,
+  HasRow,
+  EdgesRise,
+  DoneRise,
+  SameOpos,
+  KeepsOrder,
+}
 use Rattle.gaps.proofs.Ends.{starts-pair}
 use Rattle.gaps.proofs.Lasts.{Last, last-is}
 use Rattle.gaps.proofs.Losing.{kept-order, kept-row}
-use Rattle.gaps.proofs.Outcomes.{no-gap-lost, no-stem-lost}
+use Rattle.gaps.proofs.Determined.{no-gap-lost, no-stem-lost}
 
 -- ---- two edges, by their widths
 at-most-width : (x y : ℤ) → x ≤ℤ y → pos 0 ≤ℤ (y -ℤ x)
@@ -34,9 +53,14 @@ orders-on : (axis : Axis) (i k j : ℕ) → KeepsOrder axis i k → KeepsOrder a
 orders-on axis i k j a b =
     let x = a .not-turned in
     let y = b .not-turned in
-    record { not-turned = omega (arith, signed); not-closed = λ (h : edgeAt axis i .opos <ℤ edgeAt axis j .opos). by h (ltZ (edgeAt axis i .opos) (edgeAt axis k .opos)) refl }
+    record {
+      not-turned = omega (arith, signed);
+      not-closed = λ (h : edgeAt axis i .opos <ℤ edgeAt axis j .opos). by h
+          (ltZ (edgeAt axis i .opos) (edgeAt axis k .opos)) refl;
+    }
   where
-    by : edgeAt axis i .opos <ℤ edgeAt axis j .opos → (t : Bool) → ltZ (edgeAt axis i .opos) (edgeAt axis k .opos) ≡ t → edgeAt axis i .pos <ℤ edgeAt axis j .pos
+    by : edgeAt axis i .opos <ℤ edgeAt axis j .opos → (t : Bool) → ltZ (edgeAt axis i .opos) (edgeAt axis k .opos) ≡ t
+        → edgeAt axis i .pos <ℤ edgeAt axis j .pos
     by h true e = let x = a .not-closed (is-<ℤ _ _ e) in let y = b .not-turned in omega (arith, signed)
     by h false e = let x = a .not-turned in let y = b .not-closed (omega (arith, signed)) in omega (arith, signed)
 
@@ -53,7 +77,8 @@ rise-kept old new s r = record {
 
 -- no pass changes them
 pub pass-keeps : (extent : ℕ → Extent) (old new : Axis) → OnlyAxis extent old new → SameOpos old new
-pass-keeps extent old new c = record { len = c .len; at = λ i h. ap (λ (e : Edge). e .opos) (c .edges .edge i .rest) ∙ kept (extent i) (edgeAt old i) (edgeAt new i) }
+pass-keeps extent old new c =
+    record { len = c .len; at = λ i h. ap (λ (e : Edge). e .opos) (c .edges .edge i .rest) ∙ kept (extent i) (edgeAt old i) (edgeAt new i) }
   where
     kept : (x : Extent) (e f : Edge) → taking x e f .opos ≡ e .opos
     kept nothing e f = refl
@@ -71,16 +96,19 @@ not-gone s w false a b h = refl
 not-gone true w true a b h = b
 not-gone false w true a b h = let q : (w && true) ≡ true = ap (λ (x : Bool). x && true) (h refl) in absurd (clash _ a q)
 
-module _ (axis : Axis) (least : ℤ) (linked : Bool) (e : lostGaps axis least linked .answer ≡ 0) (z : lostGaps axis least linked .count ≡ 0) (s : lostGaps axis least linked .stems ≡ 0) where
+module _ (axis : Axis) (least : ℤ) (linked : Bool) (e : lostGaps axis least linked .answer ≡ 0) (z : lostGaps axis least linked .count ≡ 0)
+    (s : lostGaps axis least linked .stems ≡ 0) where
   -- a pair that was wide enough, or is a stem, is not gone
   pair-stays : (i j : ℕ) → IsPair linked axis i j → (isStem axis i j ≡ false → least ≤ℤ widthBefore axis i j) → isGone axis i j ≡ false
   unfolding lostGap lostStem
   pair-stays i j p h =
-      not-gone (isStem axis i j) (leZ least (widthBefore axis i j)) (isGone axis i j) (no-gap-lost axis least linked e z i j p) (no-stem-lost axis least linked e s i j p)
+      not-gone (isStem axis i j) (leZ least (widthBefore axis i j)) (isGone axis i j) (no-gap-lost axis least linked e z i j p)
+      (no-stem-lost axis least linked e s i j p)
       (λ n. let w = h n in to-le-true least (widthBefore axis i j) (omega (arith, signed, w)))
 
   -- every gap at least so wide, and every stem, that was above 0 wide has a pixel row
-  pub rows-kept : (i j : ℕ) → IsPair linked axis i j → (isStem axis i j ≡ false → least ≤ℤ widthBefore axis i j) → pos 0 <ℤ widthBefore axis i j → HasRow axis i j
+  pub rows-kept : (i j : ℕ) → IsPair linked axis i j → (isStem axis i j ≡ false → least ≤ℤ widthBefore axis i j) → pos 0 <ℤ widthBefore axis i j
+      → HasRow axis i j
   rows-kept i j p h o = record { row = rowFrom (edgeAt axis i .pos); between = kept-row _ _ _ (pair-stays i j p h) o }
 
 module _ (axis : Axis) (linked : Bool) (r : DoneRise axis) (e : lostGaps axis (pos 0) linked .answer ≡ 0) (z : lostGaps axis (pos 0) linked .count ≡ 0)
@@ -90,11 +118,17 @@ module _ (axis : Axis) (linked : Bool) (r : DoneRise axis) (e : lostGaps axis (p
 
   -- of a pair
   pair-keeps : (i j : ℕ) → IsPair linked axis i j → KeepsOrder axis i j
-  pair-keeps i j g = record { not-turned = kept-order _ _ _ stays; not-closed = λ (h : edgeAt axis i .opos <ℤ edgeAt axis j .opos). apart (kept-row _ _ _ stays (below-width _ _ h)) }
+  pair-keeps i j g =
+      record {
+        not-turned = kept-order _ _ _ stays;
+        not-closed = λ (h : edgeAt axis i .opos <ℤ edgeAt axis j .opos). apart
+            (kept-row _ _ _ stays (below-width _ _ h));
+      }
     where
       stays : isGone axis i j ≡ false
       stays =
-          pair-stays axis (pos 0) linked e z s i j g (λ n. at-most-width _ _ (r .at i j (g .order) (g .below) (counts-done i (g .first)) (counts-done j (g .second))))
+          pair-stays axis (pos 0) linked e z s i j g
+          (λ n. at-most-width _ _ (r .at i j (g .order) (g .below) (counts-done i (g .first)) (counts-done j (g .second))))
 
       apart : RowBetween (edgeAt axis i .pos) (edgeAt axis j .pos) (rowFrom (edgeAt axis i .pos)) → edgeAt axis i .pos <ℤ edgeAt axis j .pos
       apart b = let x = b .not-below in let y = b .below in omega (arith, signed, x, y)
@@ -125,6 +159,7 @@ module _ (axis : Axis) (linked : Bool) (r : DoneRise axis) (e : lostGaps axis (p
   counts-kept i j = keeps-to j i j (omega arith)
 
 -- with links not asked for, of two done edges
-pub order-kept : (axis : Axis) → DoneRise axis → lostGaps axis (pos 0) false .answer ≡ 0 → lostGaps axis (pos 0) false .count ≡ 0 → lostGaps axis (pos 0) false .stems ≡ 0
+pub order-kept : (axis : Axis) → DoneRise axis → lostGaps axis (pos 0) false .answer ≡ 0 → lostGaps axis (pos 0) false .count ≡ 0
+    → lostGaps axis (pos 0) false .stems ≡ 0
     → (i j : ℕ) → i < j → j < axis .len → isDone axis i ≡ true → isDone axis j ≡ true → KeepsOrder axis i j
 order-kept axis r e z s = counts-kept axis false r e z s

@@ -49,7 +49,9 @@ module _ (p q : ℤ) where
       by true h true e =
           let z = first-rises p q (omega (arith, signed, h)) in
           eqZ-yes (rowFrom q -ℤ rowFrom p) (pos 0) (same (omega (arith, signed, e, z, sub-law (rowFrom q) (rowFrom p))))
-      by true h false e = eqZ-no (rowFrom q -ℤ rowFrom p) (pos 0) (λ (z : (rowFrom q -ℤ rowFrom p) ≡ pos 0). let w = z in omega (arith, signed, e, w, sub-law (rowFrom q) (rowFrom p)))
+      by true h false e =
+          eqZ-no (rowFrom q -ℤ rowFrom p) (pos 0) (λ (z : (rowFrom q -ℤ rowFrom p) ≡ pos 0). let w = z in omega
+          (arith, signed, e, w, sub-law (rowFrom q) (rowFrom p)))
       by false h true e = eqZ-yes (pos 0) (pos 0) refl
       by false h false e = let z = first-rises q p (omega (arith, signed, h)) in absurd (omega (arith, signed, e, z))
 
@@ -70,4 +72,6 @@ module _ (p q : ℤ) where
 -- a pixel of 64 units always has a row
 pub pixel-row : (p q : ℤ) → pos 64 ≤ℤ (q -ℤ p) → RowBetween p q (rowFrom p)
 unfolding rowFrom
-pixel-row p q h = some-row p q (to-le-false (rowFrom q) (rowFrom p) (omega (arith, signed, h, sub-law q p, shr-law (p +ℤ pos 31) 64 tt, shr-law (q +ℤ pos 31) 64 tt, add-law p (pos 31), add-law q (pos 31))))
+pixel-row p q h =
+    some-row p q (to-le-false (rowFrom q) (rowFrom p)
+    (omega (arith, signed, h, sub-law q p, shr-law (p +ℤ pos 31) 64 tt, shr-law (q +ℤ pos 31) 64 tt, add-law p (pos 31), add-law q (pos 31))))

@@ -20,7 +20,32 @@ use Rattle.axis.specs.Link.{isLinked, indexOr}
 use Rattle.axis.proofs.Tests.{and-false}
 use Rattle.gaps.specs.declared.pair.Pair.{Pair}
 use Rattle.gaps.specs.declared.find.Gaps.{Gaps}
-use Rattle.gaps.specs.Gaps.{isDone, notDone, askedFor, counts, isStem, widthBefore, gone, isGone, lostGap, lostStem, lost, lastOf, before, pairFrom, kindFrom, pairTo, ends, counted, orElse, firstOf, pairAt, foundTo, foundIn, refusedBy}
+use Rattle.gaps.specs.Gaps.{
+  isDone,
+  notDone,
+  askedFor,
+  counts,
+  isStem,
+  widthBefore,
+  gone,
+  isGone,
+  lostGap,
+  lostStem,
+  lost,
+  lastOf,
+  before,
+  pairFrom,
+  kindFrom,
+  pairTo,
+  ends,
+  counted,
+  orElse,
+  firstOf,
+  pairAt,
+  foundTo,
+  foundIn,
+  refusedBy,
+}
 use Rattle.gaps.specs.Steps.{Placed, Few, pairOf, stemOf, goneOf, namedOf, moreUndone, morePairs, withPair}
 use Rattle.gaps.proofs.Lasts.{last-skip, last-step, last-is}
 use Rattle.gaps.proofs.Losing.{self-kept}
@@ -36,7 +61,14 @@ module _ (least : ℤ) (found : Gaps) (i : ℕ) (e : Edge) (j : ℕ) (f : Edge) 
   module _ (g : goneOf e f ≡ true) (p : Pair) (q : p ≡ namedOf (found .pair) (pairOf i e j f)) where
     -- it is a stem
     pub adds-stem : stemOf i e j f ≡ true
-        → record { answer = found .answer; count = found .count; pair = p; stems = found .stems + 1; «not_done» = found .«not_done» } ≡ withPair least found i e j f
+        → record {
+          answer =
+              found .answer;
+          count = found .count;
+          pair = p;
+          stems = found .stems + 1;
+          «not_done» = found .«not_done»;
+        } ≡ withPair least found i e j f
     adds-stem s =
         (λ x. record { answer = found .answer; count = found .count; pair = q x; stems = found .stems + 1; «not_done» = found .«not_done» })
         ∙ sym (cond-true (goneOf e f) _ _ g ∙ cond-true (stemOf i e j f) _ _ s)
@@ -45,13 +77,22 @@ module _ (least : ℤ) (found : Gaps) (i : ℕ) (e : Edge) (j : ℕ) (f : Edge) 
     module _ (s : stemOf i e j f ≡ false) where
       pub adds-narrow : ltZ (f .opos -ℤ e .opos) least ≡ true → found ≡ withPair least found i e j f
       adds-narrow n =
-          sym (cond-true (goneOf e f) _ _ g ∙ cond-false (stemOf i e j f) _ _ s ∙ cond-false (leZ least (f .opos -ℤ e .opos)) _ _ (turned-lt (f .opos -ℤ e .opos) least ∙ ap not n))
+          sym (cond-true (goneOf e f) _ _ g ∙ cond-false (stemOf i e j f) _ _ s
+          ∙ cond-false (leZ least (f .opos -ℤ e .opos)) _ _ (turned-lt (f .opos -ℤ e .opos) least ∙ ap not n))
 
       pub adds-gap : ltZ (f .opos -ℤ e .opos) least ≡ false
-          → record { answer = found .answer; count = found .count + 1; pair = p; stems = found .stems; «not_done» = found .«not_done» } ≡ withPair least found i e j f
+          → record {
+            answer =
+                found .answer;
+            count = found .count + 1;
+            pair = p;
+            stems = found .stems;
+            «not_done» = found .«not_done»;
+          } ≡ withPair least found i e j f
       adds-gap n =
           (λ x. record { answer = found .answer; count = found .count + 1; pair = q x; stems = found .stems; «not_done» = found .«not_done» })
-          ∙ sym (cond-true (goneOf e f) _ _ g ∙ cond-false (stemOf i e j f) _ _ s ∙ cond-true (leZ least (f .opos -ℤ e .opos)) _ _ (turned-lt (f .opos -ℤ e .opos) least ∙ ap not n))
+          ∙ sym (cond-true (goneOf e f) _ _ g ∙ cond-false (stemOf i e j f) _ _ s
+          ∙ cond-true (leZ least (f .opos -ℤ e .opos)) _ _ (turned-lt (f .opos -ℤ e .opos) least ∙ ap not n))
 
 -- ---- one edge more
 -- an edge is no width behind itself, so that the pair from it to itself is not gone
@@ -106,14 +147,23 @@ module _ (least : ℤ) (linked : Bool) (axis : Axis) (i : ℕ) where
   sameBut d = record { answer = 0; count = counted gaps i; pair = pairAt linked axis (firstOf either i); stems = counted stems i; «not_done» = d }
 
   none-lost : (d : Bool) → moreBy false false false d ≡ sameBut (cond d (counted (notDone axis) i + 1) (counted (notDone axis) i))
-  none-lost d = ap (λ (l : Link). record { answer = 0; count = counted gaps i; pair = pairAt linked axis l; stems = counted stems i; «not_done» = cond d (counted (notDone axis) i + 1) (counted (notDone axis) i) }) (or-none (firstOf either i))
+  none-lost d =
+      ap (λ (l : Link). record {
+        answer = 0;
+        count = counted gaps i;
+        pair = pairAt linked axis l;
+        stems = counted stems i;
+        «not_done» = cond d
+            (counted (notDone axis) i + 1) (counted (notDone axis) i);
+      }) (or-none (firstOf either i))
 
   -- an edge that does not count ends nothing
   ends-none : (kind : ℕ → ℕ → Bool) → counts linked axis i ≡ false → ends linked axis kind i ≡ false
   unfolding ends
   ends-none kind h = rw h
 
-  uncounted : counts linked axis i ≡ false → foundTo least linked axis (i + 1) ≡ sameBut (cond (notDone axis i) (counted (notDone axis) i + 1) (counted (notDone axis) i))
+  uncounted : counts linked axis i ≡ false → foundTo least linked axis (i + 1)
+      ≡ sameBut (cond (notDone axis i) (counted (notDone axis) i + 1) (counted (notDone axis) i))
   uncounted h =
       found-more
       ∙ (λ x. moreBy (ends-none (lostGap least axis) h x) (ends-none (lostStem axis) h x) (ends-none (lost least axis) h x) (notDone axis i))
@@ -148,9 +198,11 @@ module _ (least : ℤ) (linked : Bool) (axis : Axis) (i : ℕ) where
   more-is : i < axis .len → (p : Pair) → pairTo linked axis i ≡ p → (g s w : Bool)
       → moreBy (not s && (w && g)) (s && g) ((not s && (w && g)) || (s && g)) false ≡ morePairs g s w (sameBut (counted (notDone axis) i)) p
   more-is h p e true true w =
-      ap (λ (x : Pair). record { answer = 0; count = counted gaps i; pair = x; stems = counted stems i + 1; «not_done» = counted (notDone axis) i }) (named-more h p e)
+      ap (λ (x : Pair). record { answer = 0; count = counted gaps i; pair = x; stems = counted stems i + 1; «not_done» = counted (notDone axis) i })
+      (named-more h p e)
   more-is h p e true false true =
-      ap (λ (x : Pair). record { answer = 0; count = counted gaps i + 1; pair = x; stems = counted stems i; «not_done» = counted (notDone axis) i }) (named-more h p e)
+      ap (λ (x : Pair). record { answer = 0; count = counted gaps i + 1; pair = x; stems = counted stems i; «not_done» = counted (notDone axis) i })
+      (named-more h p e)
   more-is h p e true false false = none-lost false
   more-is h p e false true w = none-lost false
   more-is h p e false false true = none-lost false
@@ -166,7 +218,8 @@ module _ (least : ℤ) (linked : Bool) (axis : Axis) (i : ℕ) where
         → foundTo least linked axis (i + 1) ≡ moreBy (kindFrom (lostGap least axis) i l) (kindFrom (lostStem axis) i l) (kindFrom (lost least axis) i l) false
     ends-kinds l q =
         found-more
-        ∙ (λ x. moreBy (ends-kind (lostGap least axis) l q x) (ends-kind (lostStem axis) l q x) (ends-kind (lost least axis) l q x) (not (and-second (askedFor linked (edgeAt axis i .link)) (isDone axis i) c x)))
+        ∙ (λ x. moreBy (ends-kind (lostGap least axis) l q x) (ends-kind (lostStem axis) l q x) (ends-kind (lost least axis) l q x)
+        (not (and-second (askedFor linked (edgeAt axis i .link)) (isDone axis i) c x)))
 
     step-at : (l : Link) → before linked axis i ≡ l
         → foundTo least linked axis (i + 1) ≡ withPair least (foundTo least linked axis i) (indexOr i l) (edgeAt axis (indexOr i l)) i (edgeAt axis i)
@@ -235,7 +288,12 @@ module _ (least : ℤ) (linked : Bool) (axis : Axis) where
         pub search-skips : t ≡ false → Searched least linked axis (i + 1) last found
         search-skips q =
             let c = counts-is ∙ q in
-            record { reached = omega arith; last-is = s .last-is ∙ sym (last-skip (counts linked axis) i c); found-is = s .found-is ∙ sym (found-skip least linked axis i d c) }
+            record {
+              reached = omega arith;
+              last-is = s .last-is ∙ sym (last-skip (counts linked axis) i c);
+              found-is = s .found-is
+                  ∙ sym (found-skip least linked axis i d c);
+            }
 
         -- and one that counts adds its pair
         pub search-steps : t ≡ true → (k : ℕ) (new : Gaps) → k ≡ indexOr i last → new ≡ withPair least found k (edgeAt axis k) i (edgeAt axis i)

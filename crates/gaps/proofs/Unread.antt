@@ -19,7 +19,30 @@ use Rattle.axis.specs.Mark.{Blind}
 use Rattle.axis.specs.Refusals.{inside}
 use Rattle.axis.proofs.Alike.{AlikeAxis, at-alike, alike-len, indices-alike, numbers-alike, answered-alike, blind}
 use Rattle.gaps.specs.declared.find.Gaps.{Gaps}
-use Rattle.gaps.specs.Gaps.{isDone, notDone, askedFor, counts, gone, lostGap, lostStem, lost, lastOf, before, pairFrom, kindFrom, pairTo, ends, counted, orElse, firstOf, pairAt, foundTo, foundIn, refusedBy, lostGaps}
+use Rattle.gaps.specs.Gaps.{
+  isDone,
+  notDone,
+  askedFor,
+  counts,
+  gone,
+  lostGap,
+  lostStem,
+  lost,
+  lastOf,
+  before,
+  pairFrom,
+  kindFrom,
+  pairTo,
+  ends,
+  counted,
+  orElse,
+  firstOf,
+  pairAt,
+  foundTo,
+  foundIn,
+  refusedBy,
+  lostGaps,
+}
 use Rattle.gaps.proofs.Firsts.{First, first-is}
 use Rattle.gaps.proofs.Lasts.{Last, last-is}
 
@@ -107,7 +130,8 @@ module _ (least : ℤ) (linked : Bool) (a b : Axis) (s : SameRead a b) where
       let stems = ends-same (lostStem a) (lostStem b) stem-same in
       let either = ends-same (lost least a) (lost least b) lost-same in
       let first = first-is (ends linked a (lost least a)) (a .len) in
-      let named = at-same (firstOf (ends linked a (lost least a)) (a .len)) first ∙ ap (pairAt linked b) (first-same (ends linked a (lost least a)) (ends linked b (lost least b)) (a .len) either) in
+      let named = at-same (firstOf (ends linked a (lost least a)) (a .len)) first
+      ∙ ap (pairAt linked b) (first-same (ends linked a (lost least a)) (ends linked b (lost least b)) (a .len) either) in
       (λ k. record {
         answer = 0;
         count = counted-same _ _ (a .len) gaps k;

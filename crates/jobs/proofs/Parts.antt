@@ -23,7 +23,8 @@ use Rattle.axis.proofs.edge.Edge.Laws as T′
 use Rattle.lowercase_m_list.proofs.Arrays.{Edges, arr, field-val}
 
 -- what an array says of its edges, it says of their tuples in a field
-field-each : (xs : List Edge) (us : List Val) → shadow (each Edge (T.the-row .own) xs us) → shadow (each (T.the-field .row .Denot) (T.the-field .row .own) (map (T.the-field .into) xs) us)
+field-each : (xs : List Edge) (us : List Val) → shadow (each Edge (T.the-row .own) xs us)
+    → shadow (each (T.the-field .row .Denot) (T.the-field .row .own) (map (T.the-field .into) xs) us)
 field-each [] [] s = s
 field-each [] (u ∷ us) s = s
 field-each (x ∷ xs) [] s = s
@@ -42,13 +43,16 @@ module _ {M : Type 1} (𝓤 : URA M) (H : Heap 𝓤) (A : Atoms 𝓤) (W : Given
   abbrev behind : List Edge → ℕ → ℕ
   behind xs o = place (mem T.the-row .size) o (length xs)
 
-  pub row-apart : (xs ys : List Edge) (b o : ℕ) → ent 𝓤 (sem 𝓤 H A (edges (xs ++ ys) b o)) (sep 𝓤 (sem 𝓤 H A (edges xs b o)) (sem 𝓤 H A (edges ys b (behind xs o))))
+  pub row-apart : (xs ys : List Edge) (b o : ℕ) → ent 𝓤 (sem 𝓤 H A (edges (xs ++ ys) b o))
+      (sep 𝓤 (sem 𝓤 H A (edges xs b o)) (sem 𝓤 H A (edges ys b (behind xs o))))
   row-apart [] ys b o = qed W (‵ (edges ys b o) ∷ []) ∵ nothing ! $ done !
   row-apart (x ∷ xs) ys b o =
       qed W (‵ (edges (x ∷ xs ++ ys) b o) ∷ []) ∵ fsplit ! $ move ! (1 ∷ []) $
-      use1 W (‵ (edges xs b (o + mem T.the-row .size)) ⊛ ‵ (edges ys b (behind (x ∷ xs) o))) (row-apart xs ys b (o + mem T.the-row .size)) $ split ! $ move ! (2 ∷ 0 ∷ []) $ fjoin ! $ done !
+      use1 W (‵ (edges xs b (o + mem T.the-row .size)) ⊛ ‵ (edges ys b (behind (x ∷ xs) o))) (row-apart xs ys b (o + mem T.the-row .size)) $ split ! $ move !
+      (2 ∷ 0 ∷ []) $ fjoin ! $ done !
 
-  pub row-whole : (xs ys : List Edge) (b o : ℕ) → ent 𝓤 (sep 𝓤 (sem 𝓤 H A (edges xs b o)) (sem 𝓤 H A (edges ys b (behind xs o)))) (sem 𝓤 H A (edges (xs ++ ys) b o))
+  pub row-whole : (xs ys : List Edge) (b o : ℕ) → ent 𝓤 (sep 𝓤 (sem 𝓤 H A (edges xs b o)) (sem 𝓤 H A (edges ys b (behind xs o))))
+      (sem 𝓤 H A (edges (xs ++ ys) b o))
   row-whole [] ys b o = qed W (‵ (edges [] b o) ∷ ‵ (edges ys b o) ∷ []) ∵ drop ! $ done !
   row-whole (x ∷ xs) ys b o =
       qed W (‵ (edges (x ∷ xs) b o) ∷ ‵ (edges ys b (behind (x ∷ xs) o)) ∷ []) ∵ fsplit ! $ move ! (1 ∷ 2 ∷ []) $

@@ -3,21 +3,21 @@ use super::first::MOST_LENT;
 use axis::accept::least;
 use axis::limits::MOST_EDGES;
 use axis::limits::MOST_SEGMENTS;
-use lines::limits::MOST_NUMBERS;
-use shape::element::Element;
-use shape::element::skip_elements;
-use shape::field::BYTE;
-use shape::field::CHOICE;
-use shape::field::DIRECTION;
-use shape::field::INDEX;
-use shape::field::LINK;
-use shape::field::Place;
-use shape::field::Range;
-use shape::field::SHORT;
-use shape::field::WORD;
-use shape::field::skip_field;
+use tool_lines::limits::MOST_NUMBERS;
 use words::word::count_at;
 use words::word::count_word;
+use words_shape::element::Element;
+use words_shape::element::skip_elements;
+use words_shape::field::BYTE;
+use words_shape::field::CHOICE;
+use words_shape::field::DIRECTION;
+use words_shape::field::INDEX;
+use words_shape::field::LINK;
+use words_shape::field::Place;
+use words_shape::field::Range;
+use words_shape::field::SHORT;
+use words_shape::field::WORD;
+use words_shape::field::skip_field;
 
 // Segments or edges that a job can count, more than a call accepts.
 const MOST_COUNTED: usize = 65535;
@@ -146,7 +146,7 @@ fn skip_item(words: &[i32], at: usize, item: u64) -> Place {
         ),
         9 => skip_list(words, at, Element::Segment, MOST_COUNTED, MOST_SEGMENTS),
         10 => skip_list(words, at, Element::Edge, MOST_COUNTED, MOST_EDGES),
-        11 => skip_list(words, at, Element::LentEdge, MOST_LENT, MOST_LENT),
+        11 => skip_list(words, at, Element::Edge, MOST_LENT, MOST_LENT),
         12 => skip_field(words, at, CURSOR),
         13 => skip_list(
             words,

@@ -5,7 +5,7 @@ use axis::accept::least;
 use axis::limits::MOST_EDGES;
 use axis::limits::MOST_SEGMENTS;
 use khsaemudol::khs_align_edge_points;
-use lines::limits::MOST_NUMBERS;
+use tool_lines::limits::MOST_NUMBERS;
 use tool_lists::list::nth_list;
 use tool_lists::list::part;
 use tool_lists::list::put;

@@ -3,7 +3,7 @@ use super::rooms::EDGES_ROOM;
 use axis::accept::least;
 use axis::limits::MOST_EDGES;
 use khsaemudol::khs_align_strong_points;
-use lines::limits::MOST_NUMBERS;
+use tool_lines::limits::MOST_NUMBERS;
 use tool_lists::list::nth_list;
 use tool_lists::list::part;
 use tool_lists::list::put;

@@ -8,7 +8,7 @@ use fit::numbers::NUMBER_WORDS;
 use fit::numbers::numbers_shown;
 use fit::outcome::TOLD_WORDS;
 use khsaemudol::khs_fit_axis;
-use lines::limits::MOST_NUMBERS;
+use tool_lines::limits::MOST_NUMBERS;
 use tool_lists::list::nth_list;
 use tool_lists::list::part;
 use tool_lists::list::put;

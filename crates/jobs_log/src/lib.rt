@@ -1,9 +1,9 @@
 // Jobs of frames, calls 25 and 26: from the words of their jobs to those of their answers. A tool, for comparisons: proved safe.
 use axis::accept::least;
-use frames::limits::MOST_COUNTED;
 use khsaemudol::khs_read_frame;
 use khsaemudol::khs_write_frame;
-use lines::limits::MOST_NUMBERS;
+use log_frame::limits::MOST_COUNTED;
+use tool_lines::limits::MOST_NUMBERS;
 use tool_lists::list::nth_list;
 use tool_lists::list::put;
 use tool_lists::list::put_list;

@@ -1,6 +1,6 @@
 // Catalogues, call 17: from the words of its job to those of its answer.
 use khsaemudol::khs_align_catalogue;
-use lines::limits::MOST_NUMBERS;
+use tool_lines::limits::MOST_NUMBERS;
 use tool_lists::list::nth_list;
 use tool_lists::list::put;
 use tool_lists::list::put_list;

@@ -1,7 +1,7 @@
 // One point dragged, call 20: from the words of its job to those of its answer.
 use khsaemudol::khs_drag_point;
-use lines::limits::MOST_NUMBERS;
 use middle::bits::bits_of;
+use tool_lines::limits::MOST_NUMBERS;
 use tool_lists::list::last_word;
 use tool_lists::list::nth_list;
 use tool_lists::list::put;

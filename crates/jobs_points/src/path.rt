@@ -2,9 +2,9 @@
 use super::float::float_word;
 use khsaemudol::khs_path;
 use khsaemudol::khs_path_step;
-use lines::limits::MOST_NUMBERS;
 use middle::bits::bits_of;
 use middle::bits::signed_of;
+use tool_lines::limits::MOST_NUMBERS;
 use tool_lists::list::last_word;
 use tool_lists::list::nth_list;
 use tool_lists::list::put;

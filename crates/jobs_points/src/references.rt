@@ -1,7 +1,7 @@
 // Remembered references, calls 18 and 19: from the words of their jobs to those of their answers.
 use khsaemudol::khs_align_with_references;
 use khsaemudol::khs_remember_references;
-use lines::limits::MOST_NUMBERS;
+use tool_lines::limits::MOST_NUMBERS;
 use tool_lists::list::nth_list;
 use tool_lists::list::put;
 use tool_lists::list::put_list;

@@ -1,7 +1,7 @@
 // What the display shows, call 132: from the words of its job to those of its answer.
 use khsaemudol::khs_count_shown;
-use lines::limits::MOST_NUMBERS;
 use middle::bits::signed_of;
+use tool_lines::limits::MOST_NUMBERS;
 use tool_lists::list::last_word;
 use tool_lists::list::nth_list;
 use tool_lists::list::put;

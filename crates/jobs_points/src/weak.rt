@@ -1,6 +1,6 @@
 // Weak points, call 3: from the words of its job to those of its answer.
 use khsaemudol::khs_align_weak_points;
-use lines::limits::MOST_NUMBERS;
+use tool_lines::limits::MOST_NUMBERS;
 use tool_lists::list::nth_list;
 use tool_lists::list::put;
 use tool_lists::list::put_list;
@@ -8,7 +8,7 @@ use tool_lists::number::read_bytes;
 use tool_lists::number::read_indices;
 ghost use Prim.Native.Nat.{_≤_};
 ghost use lib.ListN.{length};
-ghost use Rattle.lines.specs.Limits.{mostNumbers};
+ghost use Rattle.tool_lines.specs.Limits.{mostNumbers};
 ghost use Rattle.tool_lists.specs.Limits.{longest};
 
 // Aligns the outline that four lists give.

@@ -1,16 +1,16 @@
 // The calls on a table by value, in place of the library's functions.
-use values::edges::ask_adjust;
-use values::edges::ask_blues;
-use values::edges::ask_blues_and_stems;
-use values::edges::ask_bounds;
-use values::edges::ask_linked_edge;
-use values::edges::ask_lowercase_m;
-use values::edges::ask_serif_edge;
-use values::edges::ask_stem;
-use values::edges::ask_stems;
-use values::segments::ask_build;
-use values::segments::ask_link;
-use values::segments::ask_turn;
+use tool_values::edges::ask_adjust;
+use tool_values::edges::ask_blues;
+use tool_values::edges::ask_blues_and_stems;
+use tool_values::edges::ask_bounds;
+use tool_values::edges::ask_linked_edge;
+use tool_values::edges::ask_lowercase_m;
+use tool_values::edges::ask_serif_edge;
+use tool_values::edges::ask_stem;
+use tool_values::edges::ask_stems;
+use tool_values::segments::ask_build;
+use tool_values::segments::ask_link;
+use tool_values::segments::ask_turn;
 
 // The answer of a call on a table by value, whose other words are the rest, and what it hands back beside: a delta or a count first, else an index; edges that are built
 // or turned over.

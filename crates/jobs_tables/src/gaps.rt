@@ -4,7 +4,7 @@ use axis::limits::MOST_EDGES;
 use khsaemudol::khs_lost_gaps;
 use tool_lists::list::part;
 use tool_lists::list::put;
-use values::guard::ask_guard;
+use tool_values::guard::ask_guard;
 use words::edge::EDGE_WORDS;
 use words::word::count_at;
 use words::word::word_at;

@@ -4,14 +4,14 @@ mod step;
 use label_fit::glyph::Glyph;
 use label_print::print::text;
 use libc::STDIN_FILENO;
-use lines::limits::MOST_WORDS;
-use lines::line::Line;
-use lines::line::feed;
-use lines::line::words_of;
 use step::step;
+use tool_lines::limits::MOST_WORDS;
+use tool_lines::line::Line;
+use tool_lines::line::feed;
+use tool_lines::line::words_of;
 ghost use Prim.Native.Nat.{_≤_};
 ghost use lib.ListN.{length};
-ghost use Rattle.lines.specs.Limits.{mostWords};
+ghost use Rattle.tool_lines.specs.Limits.{mostWords};
 
 // The line with one byte more. A line that is not of words, as a title, is copied from the byte on that is no digit.
 fn take(words: &mut [i32], line: Line, byte: u8) -> Line

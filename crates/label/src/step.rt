@@ -9,10 +9,10 @@ use label_points::path::path;
 use label_points::points::strong;
 use label_points::points::weak;
 use label_print::print::text;
-use lines::limits::MOST_WORDS;
+use tool_lines::limits::MOST_WORDS;
 use words::word::word_at;
 ghost use Prim.Native.Nat.{_≤_};
-ghost use Rattle.lines.specs.Limits.{mostWords};
+ghost use Rattle.tool_lines.specs.Limits.{mostWords};
 
 // The glyph after a step that fits its edges or its points, or that hands out its path.
 fn fit(words: &[i32], glyph: Glyph) -> Glyph {

@@ -9,7 +9,7 @@ use label_print::edges::changes;
 use label_print::print::refused;
 use label_print::print::show;
 use label_print::print::text;
-use lines::limits::MOST_WORDS;
+use tool_lines::limits::MOST_WORDS;
 use words::edge::TABLE_WORDS;
 use words::segment::LINK_PLACE;
 use words::segment::SEGMENT_WORDS;

@@ -17,14 +17,14 @@ use label_fit::glyph::words_of;
 use label_fit::glyph::zoned_of;
 use label_fit::topo::segments;
 use label_print::print::text;
-use lines::limits::MOST_NUMBERS;
+use tool_lines::limits::MOST_NUMBERS;
 use tool_lists::list::list_at;
 use tool_lists::list::part;
 use tool_lists::list::put;
 use words::segment::SEGMENT_WORDS;
 ghost use Prim.Native.Nat.{_≤_};
 ghost use lib.ListN.{length};
-ghost use Rattle.lines.specs.Limits.{mostNumbers};
+ghost use Rattle.tool_lines.specs.Limits.{mostNumbers};
 
 // Fits what is lent of an axis of a glyph, whose edges have their zones and whose points are at their originals.
 fn ask(

@@ -1,6 +1,6 @@
 -- Room for the steps of a path, as in `src/path.rt`.
 use Prim.Native.Nat.{ℕ, _*_}
-use Rattle.lines.specs.Limits.{mostNumbers}
+use Rattle.tool_lines.specs.Limits.{mostNumbers}
 
 -- Steps that the longest lists of a job can make.
 abbrev pub mostSteps : ℕ

@@ -12,7 +12,7 @@ use label_print::print::place;
 use label_print::print::refused;
 use label_print::print::show;
 use label_print::print::text;
-use lines::limits::MOST_NUMBERS;
+use tool_lines::limits::MOST_NUMBERS;
 use tool_lists::list::nth_list;
 use tool_lists::number::read_bytes;
 use tool_lists::number::read_indices;

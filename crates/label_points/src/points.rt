@@ -17,7 +17,7 @@ use label_fit::topo::segments;
 use label_one::once::once;
 use label_print::print::refused;
 use label_print::print::show;
-use lines::limits::MOST_NUMBERS;
+use tool_lines::limits::MOST_NUMBERS;
 use tool_lists::list::nth_list;
 use tool_lists::list::put;
 use tool_lists::number::read_bytes;
@@ -27,7 +27,7 @@ use words::segment::SEGMENT_WORDS;
 use words::word::count_word;
 ghost use Prim.Native.Nat.{_≤_};
 ghost use lib.ListN.{length};
-ghost use Rattle.lines.specs.Limits.{mostNumbers};
+ghost use Rattle.tool_lines.specs.Limits.{mostNumbers};
 
 // 1 where a mark says that a point is touched.
 fn one_of(mark: u8) -> usize

@@ -13,14 +13,17 @@ use Rattle.log_reply.proofs.Lengths.{reply-short}
 use Rattle.log_blocks.specs.Printed.{Appends}
 
 -- a text at the beginning of the part stands behind the first bytes
-front-put : (out : List ℕ) (size k : ℕ) (text rest : List ℕ) → size ≤ length out → take (size + length text) (putMid size k out (text ++ rest)) ≡ take size out ++ text
+front-put : (out : List ℕ) (size k : ℕ) (text rest : List ℕ) → size ≤ length out
+    → take (size + length text) (putMid size k out (text ++ rest)) ≡ take size out ++ text
 front-put out size k text rest h =
     let behind = (text ++ rest) ++ postOf size k out in
     ap (λ (n : ℕ). take (n + length text) (take size out ++ behind)) (omega (arith, length-take-le size out h))
     ∙ take-append-add (take size out) behind (length text)
-    ∙ ap (λ (x : List ℕ). take size out ++ x) (ap (take (length text)) (append-assoc text rest (postOf size k out)) ∙ take-append-seam text (rest ++ postOf size k out))
+    ∙ ap (λ (x : List ℕ). take size out ++ x)
+    (ap (take (length text)) (append-assoc text rest (postOf size k out)) ∙ take-append-seam text (rest ++ postOf size k out))
 
-module _ (line : List ℕ) (ended : Bool) (out : List ℕ) (size : ℕ) (room : size + mostReply ≤ length out) {r : ℕ} {part : List ℕ} (w : Replies line ended (midOf size (length out - size) out) r part) where
+module _ (line : List ℕ) (ended : Bool) (out : List ℕ) (size : ℕ) (room : size + mostReply ≤ length out) {r : ℕ} {part : List ℕ}
+    (w : Replies line ended (midOf size (length out - size) out) r part) where
   there : mostReply ≤ length (midOf size (length out - size) out)
   there = omega (arith, mid-len size (length out) out (omega arith))
 
@@ -30,7 +33,8 @@ module _ (line : List ℕ) (ended : Bool) (out : List ℕ) (size : ℕ) (room : 
   part-is : part ≡ reply line ended ++ drop (length (reply line ended)) (midOf size (length out - size) out)
   part-is =
       w .leaves
-      ∙ ap (λ (b : Bool). cond b (reply line ended ++ drop (length (reply line ended)) (midOf size (length out - size) out)) (midOf size (length out - size) out))
+      ∙ ap (λ (b : Bool). cond b (reply line ended ++ drop (length (reply line ended)) (midOf size (length out - size) out))
+      (midOf size (length out - size) out))
       (le-leb mostReply (length (midOf size (length out - size) out)) there)
 
   pub appended-fits : size + r ≤ length out

@@ -6,7 +6,7 @@ use Prim.Native.Nat.{ℕ, _+_, _-_, _≤_, _<_}
 use native.Mathlib.Omega.{arith}
 use lib.ListN.{length, take, drop, drop-of-length-le}
 use lib.Seq.{length-take-le}
-use Rattle.frames.specs.Limits.{mostDigits}
+use Rattle.log_frame.specs.Limits.{mostDigits}
 use Rattle.log_lines.specs.Lines.{Line, lastLine, linesFrom, heldOf, heldLines}
 use Rattle.log_lines.specs.Cutting.{Took}
 use Rattle.log_lines.specs.declared.cutter.Taken.{Taken}
@@ -22,26 +22,34 @@ replies-held n h [] = refl
 replies-held n h (l ∷ ls) = λ i. reply-held (l .bytes) (l .ended) n h i ++ replies-held n h ls i
 
 -- ---- what a call of the cutter says of the replies
-module _ (block : List ℕ) (from : ℕ) (l : List ℕ) (count : ℕ) (r : Taken) (d : List ℕ) (k : Took block from l count r d) (big : mostDigits < length l) (more : List ℕ) where
+module _ (block : List ℕ) (from : ℕ) (l : List ℕ) (count : ℕ) (r : Taken) (d : List ℕ) (k : Took block from l count r d) (big : mostDigits < length l)
+    (more : List ℕ) where
   left-are :
       replies (linesFrom (take count l) (drop from block ++ more))
-      ≡ replies (cond (r .ended) (record { bytes = take (r .count) d; ended = true } ∷ heldLines (length l) [] (drop (r .at) block ++ more)) (heldLines (length l) (take (r .count) d) more))
-  left-are = sym (replies-held (length l) big (linesFrom (take count l) (drop from block ++ more))) ∙ ap replies (call-lines block from l count r d k more (omega arith))
+      ≡ replies (cond (r .ended) (record { bytes = take (r .count) d; ended = true } ∷ heldLines (length l) [] (drop (r .at) block ++ more))
+      (heldLines (length l) (take (r .count) d) more))
+  left-are =
+      sym (replies-held (length l) big (linesFrom (take count l) (drop from block ++ more)))
+      ∙ ap replies (call-lines block from l count r d k more (omega arith))
 
   -- no line has ended
-  replies-on : r .ended ≡ false → replies (linesFrom (take count l) (drop from block ++ more)) ≡ replies (linesFrom (take (r .count) d) (drop (r .at) block ++ more))
+  replies-on : r .ended ≡ false → replies (linesFrom (take count l) (drop from block ++ more))
+      ≡ replies (linesFrom (take (r .count) d) (drop (r .at) block ++ more))
   replies-on e =
       left-are
-      ∙ ap (λ (b : Bool). replies (cond b (record { bytes = take (r .count) d; ended = true } ∷ heldLines (length l) [] (drop (r .at) block ++ more)) (heldLines (length l) (take (r .count) d) more))) e
+      ∙ ap (λ (b : Bool). replies (cond b (record { bytes = take (r .count) d; ended = true } ∷ heldLines (length l) [] (drop (r .at) block ++ more))
+      (heldLines (length l) (take (r .count) d) more))) e
       ∙ replies-held (length l) big (linesFrom (take (r .count) d) more)
       ∙ ap (λ (x : List ℕ). replies (linesFrom (take (r .count) d) (x ++ more))) (sym (drop-of-length-le block (at-end block from l count r d k e)))
 
   -- one has
-  replies-ended : r .ended ≡ true → replies (linesFrom (take count l) (drop from block ++ more)) ≡ reply (take (r .count) d) true ++ replies (linesFrom [] (drop (r .at) block ++ more))
+  replies-ended : r .ended ≡ true → replies (linesFrom (take count l) (drop from block ++ more))
+      ≡ reply (take (r .count) d) true ++ replies (linesFrom [] (drop (r .at) block ++ more))
   unfolding replies
   replies-ended e =
       left-are
-      ∙ ap (λ (b : Bool). replies (cond b (record { bytes = take (r .count) d; ended = true } ∷ heldLines (length l) [] (drop (r .at) block ++ more)) (heldLines (length l) (take (r .count) d) more))) e
+      ∙ ap (λ (b : Bool). replies (cond b (record { bytes = take (r .count) d; ended = true } ∷ heldLines (length l) [] (drop (r .at) block ++ more))
+      (heldLines (length l) (take (r .count) d) more))) e
       ∙ ap (λ (x : List ℕ). reply (take (r .count) d) true ++ x) (replies-held (length l) big (linesFrom [] (drop (r .at) block ++ more)))
 
 -- ---- the loop
@@ -53,14 +61,16 @@ pub record Onward (block : List ℕ) (from : ℕ) (l₀ : List ℕ) (count : ℕ
   pub few : held ≤ length l
   pub low : from ≤ at
   pub begun : 0 < size → from < at
-  pub gives : (more : List ℕ) → replies (linesFrom (take count l₀) (drop from block ++ more)) ≡ take size out ++ replies (linesFrom (take held l) (drop at block ++ more))
+  pub gives : (more : List ℕ) → replies (linesFrom (take count l₀) (drop from block ++ more))
+      ≡ take size out ++ replies (linesFrom (take held l) (drop at block ++ more))
 
 -- nothing yet
 pub onward-none : (block : List ℕ) (from : ℕ) (l : List ℕ) (count : ℕ) (out : List ℕ) → count ≤ length l → Onward block from l count out l out from count 0
 onward-none block from l count out h =
     record { list-kept = refl; out-kept = refl; in-list = omega arith; few = h; low = omega arith; begun = λ z. absurd (omega arith); gives = λ more. refl }
 
-module _ (block : List ℕ) (from : ℕ) (l₀ : List ℕ) (count : ℕ) (out₀ l out : List ℕ) (at held size : ℕ) (o : Onward block from l₀ count out₀ l out at held size) where
+module _ (block : List ℕ) (from : ℕ) (l₀ : List ℕ) (count : ℕ) (out₀ l out : List ℕ) (at held size : ℕ)
+    (o : Onward block from l₀ count out₀ l out at held size) where
   module _ (big : mostDigits < length l₀) (inside : at < length block) (r : Taken) (d : List ℕ) (k : Took block at l held r d) where
     -- no line has ended
     pub onward-held : r .ended ≡ false → Onward block from l₀ count out₀ d out (r .at) (r .count) size
@@ -75,7 +85,8 @@ module _ (block : List ℕ) (from : ℕ) (l₀ : List ℕ) (count : ℕ) (out₀
     }
 
     -- one has
-    pub onward-ended : r .ended ≡ true → (s : ℕ) (left : List ℕ) → length left ≡ length out → Appends (reply (take (r .count) d) true) out size s left → Onward block from l₀ count out₀ d left (r .at) 0 s
+    pub onward-ended : r .ended ≡ true → (s : ℕ) (left : List ℕ) → length left ≡ length out → Appends (reply (take (r .count) d) true) out size s left
+        → Onward block from l₀ count out₀ d left (r .at) 0 s
     onward-ended e s left kept a = record {
       list-kept = length-kept block at l held r d k ∙ o .list-kept;
       out-kept = kept ∙ o .out-kept;
@@ -113,7 +124,8 @@ last-reply [] h = absurd (omega arith)
 last-reply (b ∷ bs) h = append-nil (reply (b ∷ bs) false)
 
 pub rest-some :
-    (l : List ℕ) (count : ℕ) (out : List ℕ) (r : ℕ) (left : List ℕ) → (count ≡ 0 → ⊥) → count ≤ length l → length left ≡ length out → Appends (reply (take count l) false) out 0 r left
+    (l : List ℕ) (count : ℕ) (out : List ℕ) (r : ℕ) (left : List ℕ) → (count ≡ 0 → ⊥) → count ≤ length l → length left ≡ length out
+    → Appends (reply (take count l) false) out 0 r left
     → Rests l count r left
 unfolding linesFrom
 rest-some l count out r left h few kept a = record {

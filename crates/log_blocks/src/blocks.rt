@@ -1,11 +1,11 @@
 // The replies to the lines that end in a block. Of a line that has begun the beginning is held, one byte more than a frame can have, so that a longer line is known.
-use frames::limits::MOST_DIGITS;
+use log_frame::limits::MOST_DIGITS;
 use log_lines::cutter::take_line;
 use log_reply::reply::MOST_REPLY;
 use log_reply::reply::reply_to;
 ghost use Prim.Native.Nat.{_+_, _<_, _≤_};
 ghost use lib.ListN.{length};
-ghost use Rattle.frames.specs.Limits.{mostDigits};
+ghost use Rattle.log_frame.specs.Limits.{mostDigits};
 ghost use Rattle.log_reply.specs.Reply.{reply, mostReply};
 ghost use Rattle.log_blocks.specs.Printed.{Appends, Refits, Rests};
 

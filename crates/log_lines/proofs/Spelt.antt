@@ -30,7 +30,8 @@ from-spelt begun (b ∷ bs) = go (eqb b lineFeed) refl (from-spelt [] bs) (from-
   where
     go : (t : Bool) → eqb b lineFeed ≡ t → speltAll (linesFrom [] bs) ≡ bs → speltAll (linesFrom (begun ++ b ∷ []) bs) ≡ (begun ++ b ∷ []) ++ bs
         → speltAll (cond t (record { bytes = begun; ended = true } ∷ linesFrom [] bs) (linesFrom (begun ++ b ∷ []) bs)) ≡ begun ++ b ∷ bs
-    go true e p q = ap (λ (x : List ℕ). (begun ++ lineFeed ∷ []) ++ x) p ∙ append-snoc begun lineFeed bs ∙ ap (λ (x : ℕ). begun ++ x ∷ bs) (sym (eqb-true b lineFeed e))
+    go true e p q =
+        ap (λ (x : List ℕ). (begun ++ lineFeed ∷ []) ++ x) p ∙ append-snoc begun lineFeed bs ∙ ap (λ (x : ℕ). begun ++ x ∷ bs) (sym (eqb-true b lineFeed e))
     go false e p q = q ∙ append-snoc begun b bs
 
 -- the lines are the stream
@@ -61,7 +62,8 @@ unfolding linesFrom noneFeeds feeds
 from-none begun [] h = last-none begun h
 from-none begun (b ∷ bs) h = go (eqb b lineFeed) refl (from-none [] bs refl) (from-none (begun ++ b ∷ []) bs)
   where
-    go : (t : Bool) → eqb b lineFeed ≡ t → noneFeeds (linesFrom [] bs) ≡ true → (feeds (begun ++ b ∷ []) ≡ false → noneFeeds (linesFrom (begun ++ b ∷ []) bs) ≡ true)
+    go : (t : Bool) → eqb b lineFeed ≡ t → noneFeeds (linesFrom [] bs) ≡ true
+        → (feeds (begun ++ b ∷ []) ≡ false → noneFeeds (linesFrom (begun ++ b ∷ []) bs) ≡ true)
         → noneFeeds (cond t (record { bytes = begun; ended = true } ∷ linesFrom [] bs) (linesFrom (begun ++ b ∷ []) bs)) ≡ true
     go true e p q = rw h p
     go false e p q = q (feeds-snoc begun b h e)

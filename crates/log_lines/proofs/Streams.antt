@@ -49,7 +49,8 @@ lines-feed begun [] more h = absurd (let z : _≡_ {A = ℕ} 0 1 = cc in omega a
 lines-feed begun (b ∷ bs) more h = go (eqb b lineFeed) h (lines-feed (begun ++ b ∷ []) bs more)
   where
     go : (t : Bool) → cond t true (feeds bs) ≡ true
-        → (feeds bs ≡ true → linesFrom (begun ++ b ∷ []) (bs ++ more) ≡ record { bytes = (begun ++ b ∷ []) ++ piece bs; ended = true } ∷ linesFrom [] (drop (length (piece bs) + 1) bs ++ more))
+        → (feeds bs ≡ true → linesFrom (begun ++ b ∷ []) (bs ++ more)
+        ≡ record { bytes = (begun ++ b ∷ []) ++ piece bs; ended = true } ∷ linesFrom [] (drop (length (piece bs) + 1) bs ++ more))
         → cond t (record { bytes = begun; ended = true } ∷ linesFrom [] (bs ++ more)) (linesFrom (begun ++ b ∷ []) (bs ++ more))
         ≡ record { bytes = begun ++ cond t [] (b ∷ piece bs); ended = true } ∷ linesFrom [] (drop (length (cond t [] (b ∷ piece bs)) + 1) (b ∷ bs) ++ more)
     go true k on = rw (append-nil begun)
@@ -60,8 +61,10 @@ unfolding linesFrom feeds piece
 lines-on begun [] more h = rw (append-nil begun)
 lines-on begun (b ∷ bs) more h = go (eqb b lineFeed) h (lines-on (begun ++ b ∷ []) bs more)
   where
-    go : (t : Bool) → cond t true (feeds bs) ≡ false → (feeds bs ≡ false → linesFrom (begun ++ b ∷ []) (bs ++ more) ≡ linesFrom ((begun ++ b ∷ []) ++ piece bs) more)
-        → cond t (record { bytes = begun; ended = true } ∷ linesFrom [] (bs ++ more)) (linesFrom (begun ++ b ∷ []) (bs ++ more)) ≡ linesFrom (begun ++ cond t [] (b ∷ piece bs)) more
+    go : (t : Bool) → cond t true (feeds bs) ≡ false
+        → (feeds bs ≡ false → linesFrom (begun ++ b ∷ []) (bs ++ more) ≡ linesFrom ((begun ++ b ∷ []) ++ piece bs) more)
+        → cond t (record { bytes = begun; ended = true } ∷ linesFrom [] (bs ++ more)) (linesFrom (begun ++ b ∷ []) (bs ++ more))
+        ≡ linesFrom (begun ++ cond t [] (b ∷ piece bs)) more
     go true k on = absurd (let z : _≡_ {A = ℕ} 0 1 = cc in omega arith)
     go false k on = on k ∙ rw (append-snoc begun b (piece bs))
 
@@ -111,19 +114,23 @@ module _ (block : List ℕ) (from : ℕ) (l : List ℕ) (count : ℕ) (r : Taken
     where
       go : (b : Bool) → r .ended ≡ b → from < r .at
       go false e = omega (arith, at-end e)
-      go true e = let p : r .at ≡ from + length (piece bytes) + 1 = k .behind ∙ ap (λ (b : Bool). from + length (piece bytes) + cond b 1 0) (sym (k .ended) ∙ e) in omega (arith, p)
+      go true e =
+          let p : r .at ≡ from + length (piece bytes) + 1 = k .behind ∙ ap (λ (b : Bool). from + length (piece bytes) + cond b 1 0) (sym (k .ended) ∙ e) in
+          omega (arith, p)
 
   -- the lines that are left: the line that has ended and those behind it, or those of a line of which more is held
   pub call-lines :
       (more : List ℕ) → 0 < length l
       → heldLines (length l) (take count l) (bytes ++ more)
-      ≡ cond (r .ended) (record { bytes = take (r .count) d; ended = true } ∷ heldLines (length l) [] (drop (r .at) block ++ more)) (heldLines (length l) (take (r .count) d) more)
+      ≡ cond (r .ended) (record { bytes = take (r .count) d; ended = true } ∷ heldLines (length l) [] (drop (r .at) block ++ more))
+      (heldLines (length l) (take (r .count) d) more)
   unfolding heldWith
   call-lines more h = go (feeds bytes) refl
     where
       go : (t : Bool) → feeds bytes ≡ t
           → heldLines (length l) (take count l) (bytes ++ more)
-          ≡ cond (r .ended) (record { bytes = take (r .count) d; ended = true } ∷ heldLines (length l) [] (drop (r .at) block ++ more)) (heldLines (length l) (take (r .count) d) more)
+          ≡ cond (r .ended) (record { bytes = take (r .count) d; ended = true } ∷ heldLines (length l) [] (drop (r .at) block ++ more))
+          (heldLines (length l) (take (r .count) d) more)
       go true e =
           let q : r .at ≡ from + (length (piece bytes) + 1) = k .behind ∙ rw e (omega arith) in
           ap (map (heldOf (length l))) (lines-feed (take count l) bytes more e)
@@ -138,13 +145,16 @@ module _ (block : List ℕ) (from : ℕ) (l : List ℕ) (count : ℕ) (r : Taken
 -- follow, and holds `count` bytes in the list l
 pub data Calls : List ℕ → ℕ → List ℕ → ℕ → List (List ℕ) → List Line → Type 0 where
   -- a line ends: the next begins
-  feed : {l : List ℕ} {count : ℕ} {block : List ℕ} {from : ℕ} {blocks : List (List ℕ)} {ls : List Line} {r : Taken} {d : List ℕ} → Took block from l count r d → r .ended ≡ true
+  feed : {l : List ℕ} {count : ℕ} {block : List ℕ} {from : ℕ} {blocks : List (List ℕ)} {ls : List Line} {r : Taken} {d : List ℕ} → Took block from l count r d
+      → r .ended ≡ true
       → Calls d 0 block (r .at) blocks ls → Calls l count block from blocks (record { bytes = take (r .count) d; ended = true } ∷ ls)
   -- the block ends: the next follows
-  next : {l : List ℕ} {count : ℕ} {block : List ℕ} {from : ℕ} {b : List ℕ} {blocks : List (List ℕ)} {ls : List Line} {r : Taken} {d : List ℕ} → Took block from l count r d → r .ended ≡ false
+  next : {l : List ℕ} {count : ℕ} {block : List ℕ} {from : ℕ} {b : List ℕ} {blocks : List (List ℕ)} {ls : List Line} {r : Taken} {d : List ℕ}
+      → Took block from l count r d → r .ended ≡ false
       → Calls d (r .count) b 0 blocks ls → Calls l count block from (b ∷ blocks) ls
   -- the stream ends
-  last : {l : List ℕ} {count : ℕ} {block : List ℕ} {from : ℕ} {r : Taken} {d : List ℕ} → Took block from l count r d → r .ended ≡ false → Calls l count block from [] (lastLine (take (r .count) d))
+  last : {l : List ℕ} {count : ℕ} {block : List ℕ} {from : ℕ} {r : Taken} {d : List ℕ} → Took block from l count r d → r .ended ≡ false
+      → Calls l count block from [] (lastLine (take (r .count) d))
 
 -- the last line, of which no more than the list is held
 last-held : (n : ℕ) (begun : List ℕ) → length begun ≤ n → heldLines n begun [] ≡ lastLine begun

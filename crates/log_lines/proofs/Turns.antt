@@ -62,7 +62,8 @@ module _ (l : List ℕ) (c : ℕ) (bs : List ℕ) (h : c ≤ length l) (e : held
 
 -- ---- how a call ends
 -- at a line feed
-pub at-feed : (l : List ℕ) (at c b : ℕ) (bs : List ℕ) → c ≤ length l → b ≡ lineFeed → Cut (b ∷ bs) at (take c l) l (record { at = at + 1; count = c; ended = true }) l
+pub at-feed : (l : List ℕ) (at c b : ℕ) (bs : List ℕ) → c ≤ length l → b ≡ lineFeed
+    → Cut (b ∷ bs) at (take c l) l (record { at = at + 1; count = c; ended = true }) l
 at-feed l at c b bs h e =
     let k = held-same l c (b ∷ bs) h (piece-feed b bs e) in
     record {
@@ -80,7 +81,8 @@ at-end l at c h =
 
 -- ---- one byte
 -- where there is no room for it
-pub byte-full : (l : List ℕ) (at c b : ℕ) (bs : List ℕ) (r : Taken) (d : List ℕ) → length l ≤ c → (b ≡ lineFeed → ⊥) → Cut bs (at + 1) (take c l) l r d → Cut (b ∷ bs) at (take c l) l r d
+pub byte-full : (l : List ℕ) (at c b : ℕ) (bs : List ℕ) (r : Taken) (d : List ℕ) → length l ≤ c → (b ≡ lineFeed → ⊥) → Cut bs (at + 1) (take c l) l r d
+    → Cut (b ∷ bs) at (take c l) l r d
 byte-full l at c b bs r d h e k = record {
   ended = k .ended ∙ sym (feeds-on b bs e);
   behind = rw (feeds-on b bs e, piece-on b bs e) (k .behind ∙ omega arith);
@@ -117,7 +119,8 @@ clipped l count c e = go (leb count (length l)) refl
 module _ (block : List ℕ) (from : ℕ) (l₀ : List ℕ) (count : ℕ) where
   -- before the first byte
   pub left-all : (c : ℕ) → c ≡ min count (length l₀) → Left block from l₀ count l₀ from c
-  left-all c e = record { within = omega arith; kept = refl; gives = λ r d k. subst (λ (x : List ℕ). Cut (drop from block) from x l₀ r d) (clipped l₀ count c e) k }
+  left-all c e =
+      record { within = omega arith; kept = refl; gives = λ r d k. subst (λ (x : List ℕ). Cut (drop from block) from x l₀ r d) (clipped l₀ count c e) k }
 
   module _ (l : List ℕ) (at c : ℕ) (v : Left block from l₀ count l at c) where
     -- the byte at a place
@@ -129,7 +132,9 @@ module _ (block : List ℕ) (from : ℕ) (l₀ : List ℕ) (count : ℕ) where
     left-full h e full = record {
       within = v .within;
       kept = v .kept;
-      gives = λ r d k. v .gives r d (subst (λ (bs : List ℕ). Cut bs at (take c l) l r d) (sym (byte h)) (byte-full l at c (getD block at 0) (drop (at + 1) block) r d full e k));
+      gives =
+          λ r d k. v .gives r d (subst (λ (bs : List ℕ). Cut bs at (take c l) l r d) (sym (byte h))
+          (byte-full l at c (getD block at 0) (drop (at + 1) block) r d full e k));
     }
 
     -- a turn for which there is
@@ -137,13 +142,19 @@ module _ (block : List ℕ) (from : ℕ) (l₀ : List ℕ) (count : ℕ) where
     left-more h e room = record {
       within = simp length-set (omega arith);
       kept = length-set l c (getD block at 0) ∙ v .kept;
-      gives = λ r d k. v .gives r d (subst (λ (bs : List ℕ). Cut bs at (take c l) l r d) (sym (byte h)) (byte-more l at c (getD block at 0) (drop (at + 1) block) r d room e k));
+      gives =
+          λ r d k. v .gives r d (subst (λ (bs : List ℕ). Cut bs at (take c l) l r d) (sym (byte h))
+          (byte-more l at c (getD block at 0) (drop (at + 1) block) r d room e k));
     }
 
     -- the line feed
     pub left-feed : at < length block → getD block at 0 ≡ lineFeed → Took block from l₀ count (record { at = at + 1; count = c; ended = true }) l
-    left-feed h e = v .gives _ l (subst (λ (bs : List ℕ). Cut bs at (take c l) l (record { at = at + 1; count = c; ended = true }) l) (sym (byte h)) (at-feed l at c (getD block at 0) (drop (at + 1) block) (v .within) e))
+    left-feed h e =
+        v .gives _ l (subst (λ (bs : List ℕ). Cut bs at (take c l) l (record { at = at + 1; count = c; ended = true }) l) (sym (byte h))
+        (at-feed l at c (getD block at 0) (drop (at + 1) block) (v .within) e))
 
     -- the block's end
     pub left-end : length block ≤ at → Took block from l₀ count (record { at = at; count = c; ended = false }) l
-    left-end h = v .gives _ l (subst (λ (bs : List ℕ). Cut bs at (take c l) l (record { at = at; count = c; ended = false }) l) (sym (drop-of-length-le block h)) (at-end l at c (v .within)))
+    left-end h =
+        v .gives _ l (subst (λ (bs : List ℕ). Cut bs at (take c l) l (record { at = at; count = c; ended = false }) l) (sym (drop-of-length-le block h))
+        (at-end l at c (v .within)))

@@ -17,13 +17,13 @@ use Rattle.signed.proofs.Bits.{read-low, read-high}
 use Rattle.refusals.specs.Refusal.{refusal, badIndex}
 use Rattle.words.specs.Word.{firsts}
 use Rattle.words.proofs.Tables.{firsts-length}
-use Rattle.contours.specs.Limits.{mostPoints, mostCoordinate}
-use Rattle.contours.specs.Contour.{at}
-use Rattle.outline.specs.Weak.{endsHold, coordinateHolds, coordinatesHold, gentle, weakTests}
-use Rattle.outline.proofs.Steepness.{calm-gentle}
-use Rattle.frame_digits.specs.Digits.{numberOf}
-use Rattle.frame_digits.proofs.Lines.{byte-small}
-use Rattle.frames.specs.Frame.{frameIn, pointsIn, originalIn, currentIn, markIn}
+use Rattle.weak_contour.specs.Limits.{mostPoints, mostCoordinate}
+use Rattle.weak_contour.specs.Contour.{at}
+use Rattle.weak.specs.Weak.{endsHold, coordinateHolds, coordinatesHold, gentle, weakTests}
+use Rattle.weak.proofs.Steepness.{calm-gentle}
+use Rattle.log_digits.specs.Digits.{numberOf}
+use Rattle.log_digits.proofs.Lines.{byte-small}
+use Rattle.log_frame.specs.Frame.{frameIn, pointsIn, originalIn, currentIn, markIn}
 
 -- ---- one number
 -- what two signed bytes hold
@@ -98,8 +98,10 @@ module _ (line : List ℕ) where
         le-leb (length (frameIn line .originals)) mostPoints few,
         eq-eqb (length (frameIn line .currents)) (length (frameIn line .originals)) as-many,
         eq-eqb (length (frameIn line .marks)) (length (frameIn line .originals)) as-marks,
-        all-hold mostCoordinate (frameIn line .originals) (λ i. omega (arith, originals-small i, natAbs-is (at (frameIn line .originals) i), one-zero (at (frameIn line .originals) i))),
-        all-hold mostCoordinate (frameIn line .currents) (λ i. omega (arith, currents-small i, natAbs-is (at (frameIn line .currents) i), one-zero (at (frameIn line .currents) i))),
+        all-hold mostCoordinate (frameIn line .originals)
+            (λ i. omega (arith, originals-small i, natAbs-is (at (frameIn line .originals) i), one-zero (at (frameIn line .originals) i))),
+        all-hold mostCoordinate (frameIn line .currents)
+            (λ i. omega (arith, currents-small i, natAbs-is (at (frameIn line .currents) i), one-zero (at (frameIn line .currents) i))),
         gentle-frame,
       )
 

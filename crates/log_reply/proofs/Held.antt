@@ -8,10 +8,10 @@ use borrow.Author.Tests.{leb-true, leb-false, ne-eqb}
 use lib.Dec.{leb, eqb}
 use lib.ListN.{length, take, length-take}
 use lib.Seq.{take-all}
-use Rattle.frame_digits.specs.Digits.{allDigits, digitsFor, byteAt}
-use Rattle.frame_digits.proofs.Lines.{byte-small}
-use Rattle.frames.specs.Limits.{frameSize, mostDigits}
-use Rattle.frames.specs.Frame.{kindByte, goodLine, pointsIn, contoursIn}
+use Rattle.log_digits.specs.Digits.{allDigits, digitsFor, byteAt}
+use Rattle.log_digits.proofs.Lines.{byte-small}
+use Rattle.log_frame.specs.Limits.{frameSize, mostDigits}
+use Rattle.log_frame.specs.Frame.{kindByte, goodLine, pointsIn, contoursIn}
 use Rattle.log_reply.specs.Reply.{lineBytes, reply}
 
 and-false : (x : Bool) → (x && false) ≡ false

@@ -7,12 +7,12 @@ use native.Mathlib.Omega.{arith}
 use lib.ListN.{length, length-append}
 use lib.IntN.{ℤ}
 use Rattle.refusals.specs.Refusal.{refusal, answered}
-use Rattle.outline.specs.Weak.{weakTests, alignedAt, listOf, result}
+use Rattle.weak.specs.Weak.{weakTests, alignedAt, listOf, result}
 use Rattle.words.proofs.Tables.{firsts-length}
-use Rattle.frame_digits.specs.Digits.{digitsOf, digitsFor}
-use Rattle.frame_digits.proofs.Lines.{digits-length, byte-small}
-use Rattle.frames.specs.Frame.{goodLine, frameIn, currentIn, pointsIn}
-use Rattle.frames.specs.Read.{notFrame}
+use Rattle.log_digits.specs.Digits.{digitsOf, digitsFor}
+use Rattle.log_digits.proofs.Lines.{digits-length, byte-small}
+use Rattle.log_frame.specs.Frame.{goodLine, frameIn, currentIn, pointsIn}
+use Rattle.log_frame.specs.Read.{notFrame}
 use Rattle.log_lines.specs.Lines.{lineFeed}
 use Rattle.log_text.specs.Answer.{refusedBytes, doneBytes, doneSize, mostResults, jobBytes}
 use Rattle.log_text.proofs.Results.{done-length}

@@ -9,11 +9,11 @@ use lib.Seq.{take-at}
 use Rattle.refusals.specs.Refusal.{refusal, answered}
 use Rattle.words.specs.Word.{firsts}
 use Rattle.words.proofs.Tables.{firsts-length}
-use Rattle.frame_digits.proofs.Lines.{byte-small}
-use Rattle.frames.specs.Limits.{mostCounted}
-use Rattle.frames.specs.Frame.{Frame, goodLine, frameIn, pointsIn, contoursIn, originalIn, currentIn, markIn, endIn}
-use Rattle.frames.specs.Read.{notFrame, areRooms, readTests, readBy, frameRead, over, overRooms, roomsRead, ReadsFrame}
-use Rattle.frames.specs.declared.read.ReadFrame.{ReadFrame}
+use Rattle.log_digits.proofs.Lines.{byte-small}
+use Rattle.log_frame.specs.Limits.{mostCounted}
+use Rattle.log_frame.specs.Frame.{Frame, goodLine, frameIn, pointsIn, contoursIn, originalIn, currentIn, markIn, endIn}
+use Rattle.log_frame.specs.Read.{notFrame, areRooms, readTests, readBy, frameRead, over, overRooms, roomsRead, ReadsFrame}
+use Rattle.log_frame.specs.declared.read.ReadFrame.{ReadFrame}
 use Rattle.log_text.specs.Answer.{refusedBytes, jobBytes}
 use Rattle.log_reply.specs.Reply.{frameAnswer, lineBytes}
 
@@ -42,7 +42,9 @@ tested line rooms h = rw (h .originals, h .currents, h .marks, h .ends)
 module _ (line : List ℕ) {rooms : Frame} {r : ReadFrame} {left : Frame} (w : ReadsFrame line rooms r left) (h : Rooms rooms) where
   handed : (g : Bool) → goodLine line ≡ g → r ≡ answered (cond g 0 notFrame) (λ k. readBy k 0 0) (readBy 0 (pointsIn line) (contoursIn line))
   unfolding frameRead
-  handed g e = w .handed ∙ ap (λ (k : ℕ). answered k (λ j. readBy j 0 0) (readBy 0 (pointsIn line) (contoursIn line))) (tested line rooms h ∙ ap (λ (b : Bool). cond b 0 notFrame) e)
+  handed g e =
+      w .handed ∙ ap (λ (k : ℕ). answered k (λ j. readBy j 0 0) (readBy 0 (pointsIn line) (contoursIn line)))
+      (tested line rooms h ∙ ap (λ (b : Bool). cond b 0 notFrame) e)
 
   -- a refusal is that of the line
   pub read-bad : 0 < r .answer → refusedBytes (r .answer) ≡ lineBytes line true
@@ -78,7 +80,8 @@ module _ (line : List ℕ) {rooms : Frame} {r : ReadFrame} {left : Frame} (w : R
     -- and its frame stands in the rooms
     leaves : left ≡ overRooms (frameIn line) rooms
     unfolding roomsRead
-    leaves = w .leaves ∙ ap (λ (j : ℕ). answered j (λ _. rooms) (overRooms (frameIn line) rooms)) (tested line rooms h ∙ ap (λ (b : Bool). cond b 0 notFrame) good)
+    leaves =
+        w .leaves ∙ ap (λ (j : ℕ). answered j (λ _. rooms) (overRooms (frameIn line) rooms)) (tested line rooms h ∙ ap (λ (b : Bool). cond b 0 notFrame) good)
 
     first : {A : Type 0} (f : ℕ → A) (n : ℕ) (room : List A) → n < 256 → length room ≡ mostCounted → length (over (firsts f n) room) ≡ mostCounted
     first f n room few e = over-length (firsts f n) room (omega (arith, firsts-length f n, e)) ∙ e
@@ -86,14 +89,16 @@ module _ (line : List ℕ) {rooms : Frame} {r : ReadFrame} {left : Frame} (w : R
     pub rooms-kept : Rooms left
     unfolding frameIn overRooms
     rooms-kept = record {
-      originals = ap (λ (f : Frame). length (f .originals)) leaves ∙ first (originalIn line) (pointsIn line) (rooms .originals) (byte-small line 1) (h .originals);
+      originals =
+          ap (λ (f : Frame). length (f .originals)) leaves ∙ first (originalIn line) (pointsIn line) (rooms .originals) (byte-small line 1) (h .originals);
       currents = ap (λ (f : Frame). length (f .currents)) leaves ∙ first (currentIn line) (pointsIn line) (rooms .currents) (byte-small line 1) (h .currents);
       marks = ap (λ (f : Frame). length (f .marks)) leaves ∙ first (markIn line) (pointsIn line) (rooms .marks) (byte-small line 1) (h .marks);
       ends = ap (λ (f : Frame). length (f .ends)) leaves ∙ first (endIn line) (contoursIn line) (rooms .ends) (byte-small line 2) (h .ends);
     }
 
     -- so that the job in the rooms is the line's
-    pub read-good : jobBytes (take (r .points) (left .originals)) (take (r .points) (left .currents)) (take (r .points) (left .marks)) (take (r .contours) (left .ends)) ≡ lineBytes line true
+    pub read-good : jobBytes (take (r .points) (left .originals)) (take (r .points) (left .currents)) (take (r .points) (left .marks))
+        (take (r .contours) (left .ends)) ≡ lineBytes line true
     unfolding lineBytes frameIn overRooms
     read-good =
         (λ i. jobBytes (take (points-read i) (leaves i .originals)) (take (points-read i) (leaves i .currents)) (take (points-read i) (leaves i .marks))

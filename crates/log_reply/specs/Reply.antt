@@ -5,9 +5,9 @@ use mathlib.Core.List.{List, [], _∷_, _++_}
 use Prim.Native.Nat.{ℕ, _+_}
 use lib.Dec.{leb}
 use lib.ListN.{length, drop}
-use Rattle.frame_digits.specs.Digits.{digitsOf, digitsFor}
-use Rattle.frames.specs.Frame.{Frame, goodLine, frameIn}
-use Rattle.frames.specs.Read.{notFrame}
+use Rattle.log_digits.specs.Digits.{digitsOf, digitsFor}
+use Rattle.log_frame.specs.Frame.{Frame, goodLine, frameIn}
+use Rattle.log_frame.specs.Read.{notFrame}
 use Rattle.log_lines.specs.Lines.{lineFeed}
 use Rattle.log_text.specs.Answer.{refusedBytes, doneSize, mostResults, jobBytes}
 

@@ -1,14 +1,14 @@
 // The reply to one line of a log: one line of digits.
-use frames::limits::MOST_COUNTED;
-use frames::limits::NOT_FRAME;
-use frames::read::read_frame;
+use log_frame::limits::MOST_COUNTED;
+use log_frame::limits::NOT_FRAME;
+use log_frame::read::read_frame;
 use log_lines::cutter::LINE_FEED;
 use log_text::answer::answer_job;
 use log_text::text::put_refusal;
 ghost use Prim.Native.Nat.{_≤_};
 ghost use mathlib.Core.Bool.{true};
 ghost use lib.ListN.{length};
-ghost use Rattle.frame_digits.specs.Digits.{digitsFor};
+ghost use Rattle.log_digits.specs.Digits.{digitsFor};
 ghost use Rattle.log_text.specs.Answer.{doneSize, mostResults, Puts};
 ghost use Rattle.log_reply.specs.Reply.{lineBytes, Replies};
 

@@ -14,11 +14,11 @@ use Rattle.signed.specs.Range.{Between}
 use Rattle.signed.proofs.Signed.{between-plain}
 use Rattle.refusals.specs.Refusal.{refusal}
 use Rattle.refusals.proofs.Answers.{worked}
-use Rattle.contours.specs.Contour.{at}
-use Rattle.contours.specs.Limits.{mostResult}
-use Rattle.outline.specs.Weak.{weakTests, result}
-use Rattle.outline.proofs.Bounds.{within}
-use Rattle.outline.proofs.Outcomes.{result-length}
+use Rattle.weak_contour.specs.Contour.{at}
+use Rattle.weak_contour.specs.Limits.{mostResult}
+use Rattle.weak.specs.Weak.{weakTests, result}
+use Rattle.weak.proofs.Bounds.{within}
+use Rattle.weak.proofs.Determined.{result-length}
 use Rattle.log_text.specs.Answer.{refusedBytes, threeBytes, resultOf, resultsIn, resultsBytes, resultBytes, doneBytes, jobBytes}
 
 -- ---- one number

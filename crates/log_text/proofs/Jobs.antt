@@ -5,7 +5,7 @@ use Prim.Native.Nat.{ℕ, _≤_, _<_}
 use lib.IntN.{ℤ}
 use Rattle.refusals.specs.Refusal.{refusal}
 use Rattle.refusals.proofs.Tests.{answered-no, answered-yes}
-use Rattle.outline.specs.Weak.{weakTests, result, Outcome}
+use Rattle.weak.specs.Weak.{weakTests, result, Outcome}
 use Rattle.log_text.specs.Answer.{refusedBytes, doneBytes, jobBytes, Puts}
 
 -- bytes that are the same are written the same
@@ -22,4 +22,5 @@ module _ (o c : List ℤ) (t es : List ℕ) {k : ℕ} {d : List ℤ} (w : Outcom
   pub done-put : k ≤ 0 → Puts (doneBytes d) text r left → Puts (jobBytes o c t es) text r left
   unfolding jobBytes
   done-put h p =
-      puts-same (answered-yes k (refusal (weakTests o c t es)) refusedBytes (doneBytes (result o c t es)) (doneBytes d) (w .answer) h (λ i. doneBytes (w .currents i))) p
+      puts-same (answered-yes k (refusal (weakTests o c t es)) refusedBytes (doneBytes (result o c t es)) (doneBytes d) (w .answer) h
+      (λ i. doneBytes (w .currents i))) p

@@ -7,8 +7,8 @@ use native.Mathlib.Omega.{arith}
 use lib.ListN.{length, getD, take, length-take}
 use lib.Seq.{take-suc, take-all}
 use lib.IntN.{ℤ, pos}
-use Rattle.frame_digits.specs.Digits.{digitsFor, written}
-use Rattle.frame_digits.proofs.Writing.{written-none, written-length, written-more}
+use Rattle.log_digits.specs.Digits.{digitsFor, written}
+use Rattle.log_digits.proofs.Writing.{written-none, written-length, written-more}
 use Rattle.log_text.specs.Answer.{doneByte, doneSize, resultBytes, resultsBytes, doneBytes, Puts}
 use Rattle.log_text.proofs.Putting.{two-written}
 
@@ -46,13 +46,15 @@ told-none zs text = record { within = omega arith; kept = refl; so-far = written
 
 -- one result more
 pub told-more :
-    (zs : List ℤ) {text₀ text text′ : List ℕ} (i : ℕ) (z : ℤ) → digitsFor (doneSize (length zs)) ≤ length text₀ → Told zs text₀ text i → i < length zs → z ≡ getD zs i (pos 0)
+    (zs : List ℤ) {text₀ text text′ : List ℕ} (i : ℕ) (z : ℤ) → digitsFor (doneSize (length zs)) ≤ length text₀ → Told zs text₀ text i → i < length zs
+    → z ≡ getD zs i (pos 0)
     → text′ ≡ written text (2 + 3 * i) (resultBytes z) → Told zs text₀ text′ (i + 1)
 told-more zs {text₀} {text} {text′} i z room t h p q = record {
   within = omega arith;
   kept = ap length q ∙ written-length text (resultBytes z) (2 + 3 * i) (omega (arith, result-length z, t .kept)) ∙ t .kept;
   so-far =
-      q ∙ (λ j. written (t .so-far j) (place j) (resultBytes z)) ∙ written-more text₀ (resultsBytes (take i zs)) (resultBytes z) 2 (omega (arith, so-long, result-length z))
+      q ∙ (λ j. written (t .so-far j) (place j) (resultBytes z)) ∙ written-more text₀ (resultsBytes (take i zs)) (resultBytes z) 2
+      (omega (arith, so-long, result-length z))
       ∙ ap (written text₀ 2) more;
 }
   where

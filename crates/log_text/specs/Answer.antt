@@ -9,8 +9,8 @@ use lib.IntN.{ℤ, pos, negsuc}
 use mir.Syntax.{w32}
 use mir.Val.{ofZ}
 use Rattle.refusals.specs.Refusal.{refusal, answered}
-use Rattle.outline.specs.Weak.{weakTests, result}
-use Rattle.frame_digits.specs.Digits.{written}
+use Rattle.weak.specs.Weak.{weakTests, result}
+use Rattle.log_digits.specs.Digits.{written}
 
 -- ---- a refusal
 -- the first byte of a refusal, 82

@@ -1,10 +1,10 @@
 // A job of a log, answered.
 use super::text::put_refusal;
 use super::text::put_results;
-use outline::weak::align_weak_points;
+use weak::weak::align_weak_points;
 ghost use Prim.Native.Nat.{_≤_};
 ghost use lib.ListN.{length};
-ghost use Rattle.frame_digits.specs.Digits.{digitsFor};
+ghost use Rattle.log_digits.specs.Digits.{digitsFor};
 ghost use Rattle.log_text.specs.Answer.{jobBytes, doneSize, mostResults, Puts};
 
 // Aligns the weak points of a job and writes its answer, and hands back how many bytes that is.

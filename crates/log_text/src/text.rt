@@ -1,10 +1,10 @@
 // The digits of an answer: a refusal, and the results.
-use frame_digits::bytes::put_byte;
+use log_digits::bytes::put_byte;
 use middle::bits::bits_of;
 ghost use mathlib.Core.Path.{_≡_};
 ghost use Prim.Native.Nat.{_+_, _≤_};
 ghost use lib.ListN.{length};
-ghost use Rattle.frame_digits.specs.Digits.{digitsFor, written};
+ghost use Rattle.log_digits.specs.Digits.{digitsFor, written};
 ghost use Rattle.log_text.specs.Answer.{refusedBytes, resultBytes, doneBytes, doneSize, mostResults, Puts};
 
 // The first byte of an answer: results follow, and a refusal follows.

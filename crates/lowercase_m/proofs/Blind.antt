@@ -13,7 +13,20 @@ use Rattle.axis.specs.declared.edge.Axis.{Axis}
 use Rattle.axis.specs.Edge.{edgeAt}
 use Rattle.axis.specs.Limits.{mostEdges}
 use Rattle.axis.specs.Mark.{Blind}
-use Rattle.axis.proofs.Alike.{Alike, AlikeAxis, placed-alike, fixed-alike, at-alike, put-alike, alike-len, cond-alike, indices-alike, numbers-alike, answered-alike, blind}
+use Rattle.axis.proofs.Alike.{
+  Alike,
+  AlikeAxis,
+  placed-alike,
+  fixed-alike,
+  at-alike,
+  put-alike,
+  alike-len,
+  cond-alike,
+  indices-alike,
+  numbers-alike,
+  answered-alike,
+  blind,
+}
 use Rattle.lowercase_m.specs.declared.stems.Stems.{Stems}
 use Rattle.lowercase_m.specs.M.{delta, stemsOf, moveDone, moveOnly, moveLink, moveSerifs, moveStem, aligned, countHolds, mTests}
 use Rattle.lowercase_m.specs.M.{hinted, hintLowercaseM, withoutMarks}
@@ -46,7 +59,8 @@ module _ (a b : Axis) (alike : AlikeAxis a b) where
   unfolding moveStem
   stem-alike i d =
       let now = done-alike a b i d alike in
-      subst (λ (l : Link). AlikeAxis (moveSerifs (moveLink (moveDone a i d) (edgeAt a i .link) d) d) (moveSerifs (moveLink (moveDone b i d) l d) d)) (ap (λ (e : Edge). e .link) (at i .same))
+      subst (λ (l : Link). AlikeAxis (moveSerifs (moveLink (moveDone a i d) (edgeAt a i .link) d) d) (moveSerifs (moveLink (moveDone b i d) l d) d))
+      (ap (λ (e : Edge). e .link) (at i .same))
       (serifs-alike _ _ d (link-alike _ _ (edgeAt a i .link) d now))
 
   -- ---- the rule

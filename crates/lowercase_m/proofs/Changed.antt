@@ -1,4 +1,5 @@
--- What the call changes: position and done of the third stem and of the edge that it is linked to, the positions of the serifs of twelve edges, each then marked as moved by the
+-- What the call changes: position and done of the third stem and of the edge that it is linked to, the positions of the serifs of twelve edges, each then
+-- marked as moved by the
 -- rule, and nothing else; a refusal nothing.
 use mathlib.Core.Path.{_≡_, refl, sym, ap, subst, _∙_}
 use mathlib.Core.Bool.{Bool, true, cond, _&&_, _||_}
@@ -22,7 +23,20 @@ use Rattle.axis.specs.Mark.{among}
 use Rattle.axis.specs.Changes.{Extent, nothing, position, place, Only, OnlyAxis, Changes}
 use Rattle.axis.proofs.Only.{or-true, position-place, placed-only, fixed-only, same-axis, also-put, call-changes}
 use Rattle.lowercase_m.specs.declared.hint.Hinted.{Hinted}
-use Rattle.lowercase_m.specs.M.{stemsOf, appliesTo, moveDone, moveOnly, moveLink, moveSerifs, moveStem, aligned, mTests, hinted, hintLowercaseM, HintsLowercaseM}
+use Rattle.lowercase_m.specs.M.{
+  stemsOf,
+  appliesTo,
+  moveDone,
+  moveOnly,
+  moveLink,
+  moveSerifs,
+  moveStem,
+  aligned,
+  mTests,
+  hinted,
+  hintLowercaseM,
+  HintsLowercaseM,
+}
 use Rattle.lowercase_m.specs.M.{isStem, isSerif, mExtent}
 
 -- ---- the extent
@@ -54,11 +68,13 @@ module _ (axis : Axis) where
   -- ---- the moves
   done : (now : Axis) (i : ℕ) (d : ℤ) → isStem (axis .edges) (axis .len) i ≡ true → Kept now → Kept (moveDone now i d)
   unfolding moveDone among
-  done now i d e h = also-put _ axis now i _ h (stem-extent (axis .edges) (axis .len) i _ _ e (fixed-only marks (edgeAt now i) (edgeAt now i .pos -ℤ d) LowercaseM refl))
+  done now i d e h =
+      also-put _ axis now i _ h (stem-extent (axis .edges) (axis .len) i _ _ e (fixed-only marks (edgeAt now i) (edgeAt now i .pos -ℤ d) LowercaseM refl))
 
   only : (now : Axis) (i : ℕ) (d : ℤ) → isSerif (axis .len) i ≡ true → Kept now → Kept (moveOnly now i d)
   unfolding moveOnly among
-  only now i d e h = also-put _ axis now i _ h (serif-extent (axis .edges) (axis .len) i _ _ e (placed-only marks (edgeAt now i) (edgeAt now i .pos -ℤ d) LowercaseM refl))
+  only now i d e h =
+      also-put _ axis now i _ h (serif-extent (axis .edges) (axis .len) i _ _ e (placed-only marks (edgeAt now i) (edgeAt now i .pos -ℤ d) LowercaseM refl))
 
   link : (now : Axis) (l : Link) (d : ℤ) → edgeAt axis third .link ≡ l → Kept now → Kept (moveLink now l d)
   unfolding moveLink
@@ -71,7 +87,8 @@ module _ (axis : Axis) where
       cond-cases Kept (eqb (now .len) 12) _ now
       (λ (e : eqb (now .len) 12 ≡ true).
       let twelve : eqb (axis .len) 12 ≡ true = ap (λ (n : ℕ). eqb n 12) (sym (h .len)) ∙ e in
-      only (moveOnly now 8 d) 11 d (ap (λ (t : Bool). t && (eqb 11 8 || eqb 11 11)) twelve) (only now 8 d (ap (λ (t : Bool). t && (eqb 8 8 || eqb 8 11)) twelve) h))
+      only (moveOnly now 8 d) 11 d (ap (λ (t : Bool). t && (eqb 11 8 || eqb 11 11)) twelve)
+      (only now 8 d (ap (λ (t : Bool). t && (eqb 8 8 || eqb 8 11)) twelve) h))
       (λ _. h)
 
   stem : (d : ℤ) → Kept (moveStem axis third d)
@@ -91,5 +108,6 @@ module _ (axis : Axis) where
   changed group p =
       let Small = OnlyAxis (mExtent (axis .edges) (axis .len)) in
       subst (λ (r : Hinted). Changes Small (r .answer) axis (r .axis)) (sym p)
-      (call-changes Small (refusal (mTests axis)) axis (hinted axis) (hinted (aligned group axis (stemsOf (axis .len))) 0) (λ (r : Hinted). r .answer) (λ (r : Hinted). r .axis)
+      (call-changes Small (refusal (mTests axis)) axis (hinted axis) (hinted (aligned group axis (stemsOf (axis .len))) 0) (λ (r : Hinted). r .answer)
+      (λ (r : Hinted). r .axis)
       (λ (k : ℕ). refl) (same-axis _ axis) refl (λ _. rule group))

@@ -26,7 +26,22 @@ use Rattle.axis.specs.Limits.{mostEdges}
 use Rattle.axis.specs.Ring.{times}
 use Rattle.axis.proofs.Accepting.{edges-within}
 use Rattle.lowercase_m.specs.declared.hint.Hinted.{Hinted}
-use Rattle.lowercase_m.specs.M.{stemsOf, delta, mostDelta, appliesTo, moveDone, moveOnly, moveLink, moveSerifs, moveStem, aligned, countHolds, mTests, hinted, hintLowercaseM}
+use Rattle.lowercase_m.specs.M.{
+  stemsOf,
+  delta,
+  mostDelta,
+  appliesTo,
+  moveDone,
+  moveOnly,
+  moveLink,
+  moveSerifs,
+  moveStem,
+  aligned,
+  countHolds,
+  mTests,
+  hinted,
+  hintLowercaseM,
+}
 use Rattle.lowercase_m.specs.Steps.{unmoved, twiceMoved}
 use Rattle.lowercase_m.proofs.Places.{stems-hold}
 
@@ -132,7 +147,8 @@ module _ (n : ℕ) (d : ℤ) (g : Between mostDelta mostDelta d) where
     edge = λ k l. edge-more (reach (times k (i ∷ []))) (reach (times k (n ∷ i ∷ []))) n (edgeAt axis k) (omega (arith, more k n (i ∷ []))) (h .edge k l);
   }
 
-  by-link : (axis : Axis) (i : ℕ) (l : Link) → n ≤ mostEdges → (n ≡ 12 → i ≡ 9) → Below n l → Moved n (i ∷ []) axis → AxisWithin twiceMoved (moveSerifs (moveLink axis l d) d)
+  by-link : (axis : Axis) (i : ℕ) (l : Link) → n ≤ mostEdges → (n ≡ 12 → i ≡ 9) → Below n l → Moved n (i ∷ []) axis
+      → AxisWithin twiceMoved (moveSerifs (moveLink axis l d) d)
   unfolding moveLink
   by-link axis i Links.None m nine b h = serifs axis i n m nine (unlinked axis i h)
   by-link axis i (Links.To k) m nine b h = serifs (moveDone axis k d) i k m nine (done-moved (i ∷ []) axis k (b .at k refl) h)
@@ -142,26 +158,31 @@ start : (axis : Axis) → AxisWithin unmoved axis → Moved (axis .len) [] axis
 unfolding times
 start axis h = record { len = refl; edge = λ k q. edge-more unmoved (reach 0) (axis .len) (edgeAt axis k) (omega arith) (h .edge k q) }
 
-stem-within : (axis : Axis) (i : ℕ) (d : ℤ) → AxisWithin unmoved axis → i < axis .len → (axis .len ≡ 12 → i ≡ 9) → Between mostDelta mostDelta d → AxisWithin twiceMoved (moveStem axis i d)
+stem-within : (axis : Axis) (i : ℕ) (d : ℤ) → AxisWithin unmoved axis → i < axis .len → (axis .len ≡ 12 → i ≡ 9) → Between mostDelta mostDelta d
+    → AxisWithin twiceMoved (moveStem axis i d)
 unfolding moveStem
 stem-within axis i d h q nine g =
-    by-link (axis .len) d g (moveDone axis i d) i (edgeAt axis i .link) (h .few) nine (h .edge i q .link) (done-moved (axis .len) d g [] axis i q (start axis h))
+    by-link (axis .len) d g (moveDone axis i d) i (edgeAt axis i .link) (h .few) nine (h .edge i q .link)
+    (done-moved (axis .len) d g [] axis i q (start axis h))
 
-delta-within : (p1 p2 p3 : ℤ) → Between unmoved unmoved p1 → Between unmoved unmoved p2 → Between unmoved unmoved p3 → Between mostDelta mostDelta (delta p1 p2 p3)
+delta-within : (p1 p2 p3 : ℤ) → Between unmoved unmoved p1 → Between unmoved unmoved p2 → Between unmoved unmoved p3
+    → Between mostDelta mostDelta (delta p1 p2 p3)
 delta-within p1 p2 p3 a b c = omega (arith, signed, sub-law p3 ((p2 *ℤ pos 2) -ℤ p1), sub-law (p2 *ℤ pos 2) p1, mul-up p2 2, mul-dn p2 2)
 
 -- of twelve edges the third stem is edge 9
 third-is : (n : ℕ) → n ≡ 12 → stemsOf n .third ≡ 9
 third-is n e = rw e
 
-aligned-within : (axis : Axis) (group : Group) → AxisWithin unmoved axis → countHolds (axis .len) ≡ true → AxisWithin twiceMoved (aligned group axis (stemsOf (axis .len)))
+aligned-within : (axis : Axis) (group : Group) → AxisWithin unmoved axis → countHolds (axis .len) ≡ true
+    → AxisWithin twiceMoved (aligned group axis (stemsOf (axis .len)))
 unfolding aligned
 aligned-within axis group h c =
     let s = stemsOf (axis .len) in
     let S = stems-hold axis (h .few) c in
     let p : (i : ℕ) → i < axis .len → Between unmoved unmoved (edgeAt axis i .pos) = λ i q. h .edge i q .pos in
     either-way (AxisWithin twiceMoved) (appliesTo group axis s) _ axis
-    (stem-within axis (s .third) _ h (S .third-below) (third-is (axis .len)) (delta-within _ _ _ (p _ (S .first-below)) (p _ (S .second-below)) (p _ (S .third-below))))
+    (stem-within axis (s .third) _ h (S .third-below) (third-is (axis .len))
+    (delta-within _ _ _ (p _ (S .first-below)) (p _ (S .second-below)) (p _ (S .third-below))))
     (record { few = h .few; edge = λ k q. edge-more unmoved twiceMoved (axis .len) (edgeAt axis k) (omega arith) (h .edge k q) })
 
 -- ---- the call

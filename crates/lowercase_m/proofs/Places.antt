@@ -80,9 +80,13 @@ pub stems-hold : (axis : Axis) → axis .len ≤ mostEdges → countHolds (axis 
 stems-hold axis few h = by-count (eqb (axis .len) 6) refl
   where
     by-count : (six : Bool) → eqb (axis .len) 6 ≡ six → StemsOf axis (stemsOf (axis .len))
-    by-count true e = let n = eqb-true (axis .len) 6 e in rw e (record { few = few; first-below = omega arith; second-below = omega arith; third-below = omega arith })
-    by-count false e = let n = eqb-true (axis .len) 12 (rw e at h) in rw e (record { few = few; first-below = omega arith; second-below = omega arith; third-below = omega arith })
+    by-count true e =
+        let n = eqb-true (axis .len) 6 e in rw e (record { few = few; first-below = omega arith; second-below = omega arith; third-below = omega arith })
+    by-count false e =
+        let n = eqb-true (axis .len) 12 (rw e at h) in
+        rw e (record { few = few; first-below = omega arith; second-below = omega arith; third-below = omega arith })
 
 -- the stems of an axis are places of the table
 pub in-table : (axis : Axis) (s : Stems) → StemsOf axis s → InTable s
-in-table axis s h = record { first = omega (arith, h .few, h .first-below); second = omega (arith, h .few, h .second-below); third = omega (arith, h .few, h .third-below) }
+in-table axis s h =
+    record { first = omega (arith, h .few, h .first-below); second = omega (arith, h .few, h .second-below); third = omega (arith, h .few, h .third-below) }

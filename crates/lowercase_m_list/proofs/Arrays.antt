@@ -59,7 +59,8 @@ pub tells : (n : ℕ) (xs : List Edge) (vs : List Val) → Is (Edges n) xs vs �
 tells = array-tells T.the-row vals (LL.tells T.the-type T′.the-laws)
 
 -- ---- n edges that are a field of a struct: each stands there as the tuple of its fields
-each-field : (xs : List Edge) (us : List Val) → shadow (each (T.the-field .row .Denot) (T.the-field .row .own) (map (T.the-field .into) xs) us) → shadow (each Edge (T.the-row .own) xs us)
+each-field : (xs : List Edge) (us : List Val) → shadow (each (T.the-field .row .Denot) (T.the-field .row .own) (map (T.the-field .into) xs) us)
+    → shadow (each Edge (T.the-row .own) xs us)
 each-field [] [] s = s
 each-field [] (u ∷ us) s = s
 each-field (x ∷ xs) [] s = s
@@ -73,9 +74,12 @@ vals-field (x ∷ xs) = ap (λ (us : List Val). LL.val T.the-type T′.the-laws 
 pub field-val : (xs : List Edge) → arrayVal (map (T′.the-field-laws .val) (map (T.the-field .into) xs)) ≡ only (arr xs)
 field-val xs = ap arrayVal (vals-field xs)
 
-pub of-field : (n : ℕ) (xs : List Edge) → Is (Array (T.the-field .row) n) (map (T.the-field .into) xs) (arrayVal (map (T′.the-field-laws .val) (map (T.the-field .into) xs)) ∷ [])
+pub of-field : (n : ℕ) (xs : List Edge) → Is (Array (T.the-field .row) n) (map (T.the-field .into) xs)
+    (arrayVal (map (T′.the-field-laws .val) (map (T.the-field .into) xs)) ∷ [])
     → Is (Edges n) xs (arr xs)
-of-field n xs p = subst (λ (v : Val). Is (Edges n) xs (v ∷ [])) (field-val xs) (p .0, ((p .1 .0 .0, sym (length-map xs (T.the-field .into)) ∙ p .1 .0 .1), each-field xs (p .0) (p .1 .1)))
+of-field n xs p =
+    subst (λ (v : Val). Is (Edges n) xs (v ∷ [])) (field-val xs)
+    (p .0, ((p .1 .0 .0, sym (length-map xs (T.the-field .into)) ∙ p .1 .0 .1), each-field xs (p .0) (p .1 .1)))
 
 module _ {M : Type 1} (𝓤 : URA M) (H : Heap 𝓤) (A : Atoms 𝓤) (W : Given 𝓤 H A) (n : ℕ) where
   pub typed : (xs : List Edge) (v : Val) → Is (Edges n) xs (v ∷ []) → Holds (hasTy (array n) v) × WT v
@@ -85,10 +89,12 @@ module _ {M : Type 1} (𝓤 : URA M) (H : Heap 𝓤) (A : Atoms 𝓤) (W : Given
   makes = array-makes 𝓤 H A W T.the-row (LL.makes T.the-type T′.the-plain 𝓤 H A) n
 
   -- a local array, as a row
-  pub as-row : (xs : List Edge) (b : ℕ) → Is (Edges n) xs (arr xs) → ent 𝓤 (sem 𝓤 H A (fat fullShare (array n) b 0 (only (arr xs)))) (sem 𝓤 H A (row T.the-row fullShare xs b 0))
+  pub as-row : (xs : List Edge) (b : ℕ) → Is (Edges n) xs (arr xs)
+      → ent 𝓤 (sem 𝓤 H A (fat fullShare (array n) b 0 (only (arr xs)))) (sem 𝓤 H A (row T.the-row fullShare xs b 0))
   unfolding partOf
   as-row xs b g =
-      qed W (‵ (fat fullShare (array n) b 0 (only (arr xs))) ∷ []) ∵ use1 W (‵ (cellAt fullShare (Edges n .mir) (arr xs) b 0)) (W .laws .at-raw fullShare (array n) b 0 (only (arr xs))) $
+      qed W (‵ (fat fullShare (array n) b 0 (only (arr xs))) ∷ []) ∵ use1 W (‵ (cellAt fullShare (Edges n .mir) (arr xs) b 0))
+      (W .laws .at-raw fullShare (array n) b 0 (only (arr xs))) $
       owned ! (Edges n) (Is (Edges n)) makes xs (arr xs) g $ move ! (1 ∷ 0 ∷ []) $ fjoin ! $
       fpack ! (List Val) (λ vs. fsep (cellAt fullShare (Edges n .mir) vs b 0) (Edges n .own xs vs)) (arr xs) $
       use1 W (‵ (arr-parts (shares T.the-row) n .part fullShare xs b 0)) (array-apart 𝓤 H A W T.the-row fullShare tt n xs b 0) $ fsplit ! $ drop ! $ done !

@@ -16,10 +16,12 @@ use Rattle.lowercase_m_list.specs.M.{axisOf, hinted, withoutMarks, hintL
 without : (l : List Edge) → unmarkedAxis (axisOf l) ≡ axisOf (map unmarked l)
 without l = ap (axisWith (map unmarked l)) (sym (length-map l unmarked))
 
-same : (group : Group) (l m : List Edge) → map unmarked l ≡ map unmarked m → withoutMarks (hintLowercaseMList l group) ≡ withoutMarks (hintLowercaseMList m group)
+same : (group : Group) (l m : List Edge) → map unmarked l ≡ map unmarked m
+    → withoutMarks (hintLowercaseMList l group) ≡ withoutMarks (hintLowercaseMList m group)
 unfolding hintLowercaseMList
 same group l m e =
-    ap (λ (h : Hinted). hinted (h .axis .edges) (h .answer)) (Table.marks-unread group .whatever (axisOf l) (axisOf m) (without l ∙ ap axisOf e ∙ sym (without m)))
+    ap (λ (h : Hinted). hinted (h .axis .edges) (h .answer))
+    (Table.marks-unread group .whatever (axisOf l) (axisOf m) (without l ∙ ap axisOf e ∙ sym (without m)))
 
 pub marks-unread : (group : Group) → BlindList (λ (l : List Edge). hintLowercaseMList l group)
 marks-unread group = record {

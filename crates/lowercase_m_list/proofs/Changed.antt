@@ -1,4 +1,5 @@
--- What the call changes: position and done of the third stem and of the edge that it is linked to, the positions of the serifs of twelve edges, each then marked as moved by the
+-- What the call changes: position and done of the third stem and of the edge that it is linked to, the positions of the serifs of twelve edges, each then
+-- marked as moved by the
 -- rule, and nothing else; a refusal nothing.
 use mathlib.Core.Path.{refl, sym, ap, subst}
 use mathlib.Core.List.{List}
@@ -12,7 +13,8 @@ use Rattle.lowercase_m.specs.M.{hintLowercaseM, mExtent}
 use Rattle.lowercase_m.proofs.Changed.{changed as axis-changed}
 use Rattle.lowercase_m_list.specs.M.{axisOf, hintLowercaseMList, HintsLowercaseMList}
 
-by-rule : (l : List Edge) (group : Group) → Changes (OnlyEdges (mExtent l (length l))) (hintLowercaseMList l group .answer) l (hintLowercaseMList l group .edges)
+by-rule : (l : List Edge) (group : Group) → Changes (OnlyEdges (mExtent l (length l))) (hintLowercaseMList l group .answer) l
+    (hintLowercaseMList l group .edges)
 unfolding hintLowercaseMList
 by-rule l group =
     let h = axis-changed (axisOf l) group {r = hintLowercaseM (axisOf l) group} refl in

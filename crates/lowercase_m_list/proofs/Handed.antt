@@ -19,7 +19,8 @@ module _ (l : List Edge) (group : Group) where
   list-count = changed (axisOf l) group {r = hintLowercaseM (axisOf l) group} refl .only .len
 
   -- with answer 0 every position of the list is within 9 · 2²⁴, and original positions, zones, links and serifs are as they are in accepted edges
-  pub handed-within : hintLowercaseMList l group .answer ≡ 0 → (i : ℕ) → i < length l → EdgeWithin twiceMoved (length l) (getD (hintLowercaseMList l group .edges) i emptyEdge)
+  pub handed-within : hintLowercaseMList l group .answer ≡ 0 → (i : ℕ) → i < length l
+      → EdgeWithin twiceMoved (length l) (getD (hintLowercaseMList l group .edges) i emptyEdge)
   unfolding hintLowercaseMList
   handed-within e i q =
       let w = Table.handed-within (axisOf l) group e .edge i (omega (arith, list-count)) in

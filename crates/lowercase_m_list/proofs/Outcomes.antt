@@ -25,14 +25,17 @@ abbrev withCount : Hinted → ℕ → Table
 withCount h k = record { answer = h .answer; count = k; edges = h .axis .edges }
 
 -- a refusal puts nothing back
-pub refused : (h : Hinted) (edges : List Edge) (len : ℕ) (group : Group) → h ≡ hintLowercaseM (axisWith edges len) group → 0 < h .answer → withCount h 0 ≡ hintTable edges len group
+pub refused : (h : Hinted) (edges : List Edge) (len : ℕ) (group : Group) → h ≡ hintLowercaseM (axisWith edges len) group → 0 < h .answer
+    → withCount h 0 ≡ hintTable edges len group
 unfolding hintTable
 refused h edges len group e p = ap (withCount h) (answered-no (h .answer) (h .answer) (λ (k : ℕ). 0) len refl p) ∙ ap (λ (g : Hinted). tableOf g len) e
 
 -- otherwise all edges are put back
-pub accepted : (h : Hinted) (edges : List Edge) (len : ℕ) (group : Group) → h ≡ hintLowercaseM (axisWith edges len) group → h .answer ≤ 0 → withCount h len ≡ hintTable edges len group
+pub accepted : (h : Hinted) (edges : List Edge) (len : ℕ) (group : Group) → h ≡ hintLowercaseM (axisWith edges len) group → h .answer ≤ 0
+    → withCount h len ≡ hintTable edges len group
 unfolding hintTable
-accepted h edges len group e p = ap (withCount h) (answered-yes (h .answer) (h .answer) (λ (k : ℕ). 0) len len refl p refl) ∙ ap (λ (g : Hinted). tableOf g len) e
+accepted h edges len group e p =
+    ap (withCount h) (answered-yes (h .answer) (h .answer) (λ (k : ℕ). 0) len len refl p refl) ∙ ap (λ (g : Hinted). tableOf g len) e
 
 -- ---- the table that is loaded
 first-empty : (m k : ℕ) → m ≤ k → replicate m emptyEdge ≡ take m (replicate k emptyEdge)
@@ -78,14 +81,17 @@ few-back edges len group = at-most (hintLowercaseM (axisWith edges len) group .a
 -- ---- the outcome
 -- what is put back of a table that holds the list, and the rule on the list
 put-back : (k : ℕ) (l : List Edge) (table list moved after : Axis) → list .edges ≡ l → (k ≡ 0 → take (length l) (moved .edges) ≡ after .edges)
-    → copied (answered (answered k (hinted table) (hinted moved 0) .answer) (λ (j : ℕ). 0) (length l)) (answered k (hinted table) (hinted moved 0) .axis .edges) l
+    → copied (answered (answered k (hinted table) (hinted moved 0) .answer) (λ (j : ℕ). 0) (length l))
+    (answered k (hinted table) (hinted moved 0) .axis .edges) l
     ≡ answered k (hinted list) (hinted after 0) .axis .edges
 unfolding copied
-put-back zero l table list moved after e h = ap (λ (rest : List Edge). take (length l) (moved .edges) ++ rest) (drop-length l) ∙ append-nil (take (length l) (moved .edges)) ∙ h refl
+put-back zero l table list moved after e h =
+    ap (λ (rest : List Edge). take (length l) (moved .edges) ++ rest) (drop-length l) ∙ append-nil (take (length l) (moved .edges)) ∙ h refl
 put-back (suc k) l table list moved after e h = sym e
 
 back : (l : List Edge) (group : Group)
-    → copied (answered (hintLowercaseM (tableAxis l) group .answer) (λ (j : ℕ). 0) (length l)) (hintLowercaseM (tableAxis l) group .axis .edges) l ≡ hintLowercaseM (axisOf l) group .axis .edges
+    → copied (answered (hintLowercaseM (tableAxis l) group .answer) (λ (j : ℕ). 0) (length l)) (hintLowercaseM (tableAxis l) group .axis .edges) l
+    ≡ hintLowercaseM (axisOf l) group .axis .edges
 unfolding hintLowercaseM
 back l group =
     let s = stemsOf (length l) in
@@ -95,7 +101,8 @@ back l group =
 
 -- the table form on what is loaded is the promise, where its edges are put back
 pub outcome : (l : List Edge) (group : Group) (t : Table) {m : List Edge}
-    → t ≡ hintTable (copied (min (length l) mostEdges) l emptyTable) (length l) group → m ≡ copied (t .count) (t .edges) l → HintsLowercaseMList l group (t .answer) m
+    → t ≡ hintTable (copied (min (length l) mostEdges) l emptyTable) (length l) group → m ≡ copied (t .count) (t .edges) l
+    → HintsLowercaseMList l group (t .answer) m
 unfolding hintTable hintLowercaseMList
 outcome l group t p e =
     let q : t ≡ tableOf (hintLowercaseM (tableAxis l) group) (length l) = p ∙ ap (λ (es : List Edge). hintTable es (length l) group) (loaded l) in

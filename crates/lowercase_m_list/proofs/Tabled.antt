@@ -61,7 +61,8 @@ take-set f (suc n) (e ∷ l) zero = refl
 take-set f (suc n) (e ∷ l) (suc i) = ap (λ (rest : List Edge). e ∷ rest) (take-set f n l i)
 
 cut-put : (f : Edge → Edge) (n : ℕ) (axis : Axis) (i : ℕ) → cut n (putEdge axis i (f (edgeAt axis i))) ≡ putEdge (cut n axis) i (f (edgeAt (cut n axis) i))
-cut-put f n axis i = ap (λ (es : List Edge). record { dim = axis .dim; «major_dir» = axis .«major_dir»; edges = es; len = axis .len }) (take-set f n (axis .edges) i)
+cut-put f n axis i =
+    ap (λ (es : List Edge). record { dim = axis .dim; «major_dir» = axis .«major_dir»; edges = es; len = axis .len }) (take-set f n (axis .edges) i)
 
 -- ---- the moves
 cut-done : (n : ℕ) (axis : Axis) (i : ℕ) (d : ℤ) → cut n (moveDone axis i d) ≡ moveDone (cut n axis) i d
@@ -97,7 +98,8 @@ module _ (l : List Edge) (few : length l ≤ mostEdges) where
       let n = length l in
       let t = tableAxis l in
       cut-serifs n (moveLink (moveDone t i d) (edgeAt t i .link) d) d
-      ∙ ap (λ (a : Axis). moveSerifs a d) (cut-link n (moveDone t i d) (edgeAt t i .link) d ∙ (λ j. moveLink ((cut-done n t i d ∙ ap (λ (a : Axis). moveDone a i d) first) j) (place i j .link) d))
+      ∙ ap (λ (a : Axis). moveSerifs a d) (cut-link n (moveDone t i d) (edgeAt t i .link) d
+      ∙ (λ j. moveLink ((cut-done n t i d ∙ ap (λ (a : Axis). moveDone a i d) first) j) (place i j .link) d))
 
   -- ---- the rule
   pub aligned-same : (group : Group) (s : Stems) → take (length l) (aligned group (tableAxis l) s .edges) ≡ aligned group (axisOf l) s .edges
@@ -113,7 +115,8 @@ module _ (l : List Edge) (few : length l ≤ mostEdges) where
       (moveStem a (s .third) (delta (place (s .first) j .pos) (place (s .second) j .pos) (place (s .third) j .pos))) a))
 
   -- ---- the tests
-  tests-same : refusal (badParameter unless countHolds (length l) ∷ badIndex unless edgesIndices (tableAxis l) ∷ outOfRange unless edgesNumbers (tableAxis l) ∷ [])
+  tests-same : refusal (badParameter unless countHolds (length l) ∷ badIndex unless edgesIndices (tableAxis l) ∷ outOfRange unless edgesNumbers (tableAxis l)
+      ∷ [])
       ≡ refusal (badParameter unless countHolds (length l) ∷ badIndex unless edgesIndices (axisOf l) ∷ outOfRange unless edgesNumbers (axisOf l) ∷ [])
   unfolding edgesIndices edgesNumbers
   tests-same = λ j.
@@ -128,7 +131,9 @@ unfolding refusal
 refusal-same l = go (leb (length l) mostEdges) refl
   where
     go : (b : Bool) → leb (length l) mostEdges ≡ b
-        → cond b (refusal (badParameter unless countHolds (length l) ∷ badIndex unless edgesIndices (tableAxis l) ∷ outOfRange unless edgesNumbers (tableAxis l) ∷ [])) 1
-        ≡ cond b (refusal (badParameter unless countHolds (length l) ∷ badIndex unless edgesIndices (axisOf l) ∷ outOfRange unless edgesNumbers (axisOf l) ∷ [])) 1
+        → cond b (refusal (badParameter unless countHolds (length l) ∷ badIndex unless edgesIndices (tableAxis l)
+        ∷ outOfRange unless edgesNumbers (tableAxis l) ∷ [])) 1
+        ≡ cond b (refusal (badParameter unless countHolds (length l) ∷ badIndex unless edgesIndices (axisOf l) ∷ outOfRange unless edgesNumbers (axisOf l)
+        ∷ [])) 1
     go true e = tests-same l (leb-true (length l) mostEdges e)
     go false e = refl

@@ -75,10 +75,12 @@ worked =
     ∷ same Default (six None (far 65536)) 4
     -- a move by nothing marks the stem; the serifs are marked, and are not done
     ∷ row Default (six None (by Stem (edge 207 256 None))) 0 (six None (moved 207 256))
-    ∷ row Default (twelve (far 207) (by Blue (edge 190 260 None)) (edge 230 300 None)) 0 (twelve (moved 207 256) (by LowercaseM (edge 190 246 None)) (by LowercaseM (edge 230 286 None)))
+    ∷ row Default (twelve (far 207) (by Blue (edge 190 260 None)) (edge 230 300 None)) 0
+    (twelve (moved 207 256) (by LowercaseM (edge 190 246 None)) (by LowercaseM (edge 230 286 None)))
     -- the edge that the third stem is linked to moves with it, is done, and is marked too, whatever it was; a stem that is linked to itself moves twice
     ∷ row Default (behind (edge 207 270 (To 5)) (by Stem (edge 260 330 None))) 0 (behind (finished (by LowercaseM (edge 207 256 (To 5)))) (moved 260 316))
-    ∷ row Default (behind (edge 207 270 (To 4)) (by Stem (edge 260 330 None))) 0 (behind (finished (by LowercaseM (edge 207 242 (To 4)))) (by Stem (edge 260 330 None)))
+    ∷ row Default (behind (edge 207 270 (To 4)) (by Stem (edge 260 330 None))) 0
+    (behind (finished (by LowercaseM (edge 207 242 (To 4)))) (by Stem (edge 260 330 None)))
     -- marks are kept where the rule does not apply, and by a refusal
     ∷ same Default (twelve (far 208) (by Blue (edge 190 260 None)) (by Stem (edge 230 300 None))) 0
     ∷ same Default (six (To 6) (by Stem (far 207))) 3
@@ -90,6 +92,7 @@ All [] = Unit {0}
 All (r ∷ rs) = (hintLowercaseMList (r .list) (r .group) ≡ r .value) × All rs
 
 pub all-worked : All worked
-unfolding hintLowercaseMList M.hintLowercaseM M.aligned M.applies M.groupHolds M.linkedOn M.moveStem M.moveSerifs M.moveLink M.moveDone M.moveOnly linksTo refusal R.edgesIndices
+unfolding hintLowercaseMList M.hintLowercaseM M.aligned M.applies M.groupHolds M.linkedOn M.moveStem M.moveSerifs M.moveLink M.moveDone M.moveOnly linksTo
+    refusal R.edgesIndices
     R.edgesNumbers R.edgeIndices R.edgeNumbers R.linkHolds R.blueHolds R.every
 all-worked = (refl, (refl, (refl, (refl, (refl, (refl, (refl, (refl, (refl, (refl, (refl, (refl, (refl, (refl, (refl, tt)))))))))))))))

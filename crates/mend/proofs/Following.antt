@@ -49,7 +49,8 @@ module _ (own : ℕ → Bool) (next : ℕ → ℕ) (n first last : ℕ) where
     stops = rw (ne-eqb ix last e) (both (ltb (next ix) n) _ (lt-ltb (next ix) n (c .below)) (c .stops));
     size = rw (ne-eqb ix last e) (ap suc (c .size));
     own-met = rw (ne-eqb ix last e)
-        (λ (i : ℕ) (h : 0 < times i (ix ∷ walk next last left (next ix))). ⊎-elim (λ (q : i ≡ ix). ap own q ∙ o) (λ (q : 0 < times i (walk next last left (next ix))). c .own-met i q) (met i ix _ h));
+        (λ (i : ℕ) (h : 0 < times i (ix ∷ walk next last left (next ix))). ⊎-elim (λ (q : i ≡ ix). ap own q ∙ o)
+        (λ (q : 0 < times i (walk next last left (next ix))). c .own-met i q) (met i ix _ h));
     closed = c .closed;
   }
 
@@ -112,7 +113,8 @@ module _ (own : ℕ → Bool) (next : ℕ → ℕ) (n first last : ℕ) where
   closes-at ix b o e c =
       both (ltb ix n) _ (lt-ltb ix n b) (both (own ix) _ o (rw (eq-eqb ix last e) (both (eqb 0 0) _ (eq-eqb 0 0 refl) (eq-eqb (next ix) first c))))
 
-  pub closes-on : (ix left : ℕ) → ix < n → own ix ≡ true → (ix ≡ last → ⊥) → closes own next n first last left (next ix) ≡ true → closes own next n first last (suc left) ix ≡ true
+  pub closes-on : (ix left : ℕ) → ix < n → own ix ≡ true → (ix ≡ last → ⊥) → closes own next n first last left (next ix) ≡ true
+      → closes own next n first last (suc left) ix ≡ true
   unfolding closes
   closes-on ix left b o e h = both (ltb ix n) _ (lt-ltb ix n b) (both (own ix) _ o (rw (ne-eqb ix last e) h))
 
@@ -128,10 +130,12 @@ module _ (own : ℕ → Bool) (next : ℕ → ℕ) (n first last : ℕ) where
       subst (λ (k : ℕ). closes own next n first last (suc k) ix ≡ true) (sym l) (closes-at ix b own-ix q (ap next q ∙ c)))
       (λ (q : ix ≡ last → ⊥).
       let p = walk-passes next n last fuel ix q e in
-      let own-ix : own ix ≡ true = o ix (subst (λ (ms : List ℕ). 0 < times ix ms) (sym (p .step)) (omega (arith, times-here ix ix (walk next last fuel (next ix)) refl))) in
+      let own-ix : own ix ≡ true = o ix (subst (λ (ms : List ℕ). 0 < times ix ms) (sym (p .step))
+      (omega (arith, times-here ix ix (walk next last fuel (next ix)) refl))) in
       closes-on ix left b own-ix q
       (to-steps fuel left (next ix) (omega (arith, shorter next n last fuel ix p)) (p .on) (p .below)
-      (λ (i : ℕ) (h : 0 < times i (walk next last fuel (next ix))). o i (subst (λ (ms : List ℕ). 0 < times i ms) (sym (p .step)) (met-behind i ix (walk next last fuel (next ix)) h))) c))
+      (λ (i : ℕ) (h : 0 < times i (walk next last fuel (next ix))). o i
+      (subst (λ (ms : List ℕ). 0 < times i ms) (sym (p .step)) (met-behind i ix (walk next last fuel (next ix)) h))) c))
       (same? ix last)
 
   pub sound-steps : SoundRing own next n first last → closes own next n first last (count own n) first ≡ true
@@ -142,7 +146,9 @@ module _ (own : ℕ → Bool) (next : ℕ → ℕ) (n first last : ℕ) where
       below x p = met-below next n last mostSegments first x (s .starts) (s .stops) p
 
       size : length (visited next first last) ≡ count own n
-      size = sym (total-times n (visited next first last) below) ∙ total-same (λ (i : ℕ). times i (visited next first last)) (λ (i : ℕ). cond (own i) 1 0) n (s .visits)
+      size =
+          sym (total-times n (visited next first last) below) ∙ total-same (λ (i : ℕ). times i (visited next first last)) (λ (i : ℕ). cond (own i) 1 0) n
+          (s .visits)
 
       own-met : (i : ℕ) → 0 < times i (visited next first last) → own i ≡ true
       own-met i h = by (own i) (s .visits i (below i h))
@@ -152,7 +158,8 @@ module _ (own : ℕ → Bool) (next : ℕ → ℕ) (n first last : ℕ) where
           by false e = absurd (omega arith)
 
 -- ---- the same test
-pub closes-sound : (own : ℕ → Bool) (next : ℕ → ℕ) (n first last : ℕ) → n ≤ mostSegments → closes own next n first last (count own n) first ≡ soundRing own next n first last
+pub closes-sound : (own : ℕ → Bool) (next : ℕ → ℕ) (n first last : ℕ) → n ≤ mostSegments
+    → closes own next n first last (count own n) first ≡ soundRing own next n first last
 closes-sound own next n first last few =
     both-ways _ _
     (λ h. is-sound own next n first last (steps-sound own next n first last few h))

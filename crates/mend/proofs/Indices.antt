@@ -1,4 +1,5 @@
--- What is handed on passes document 01's index test, every index of both lists: link, serif, next and edge of segments, link, serif, first and last of edges. So `turn_over` takes it.
+-- What is handed on passes document 01's index test, every index of both lists: link, serif, next and edge of segments, link, serif, first and last of edges.
+-- So `turn_over` takes it.
 use mathlib.Core.Path.{_≡_}
 use mathlib.Core.Bool.{Bool, true, _&&_}
 use Prim.Native.Nat.{ℕ, _<_, min}
@@ -13,7 +14,7 @@ use Rattle.axis.specs.Refusals.{linkHolds, edgeIndices, edgesIndices, segmentIn
 use Rattle.axis.specs.Segment.{segmentAt}
 use Rattle.axis.proofs.Accepting.{every-holds, link-holds}
 use Rattle.axis.proofs.Sound.{last-inside}
-use Rattle.turning.specs.Indices.{segmentsEdges, edgesSegments}
+use Rattle.turn.specs.Indices.{segmentsEdges, edgesSegments}
 use Rattle.axis.specs.Ring.{isOf, ledTo}
 use Rattle.mend.proofs.Following.{both}
 use Rattle.mend.proofs.Twice.{Good}
@@ -39,7 +40,8 @@ module _ (axis : Axis) (t : Segments) (g : Good axis t) where
   unfolding edgesIndices edgeIndices
   edges-indexed =
       every-holds _ (min (axis .len) mostEdges)
-      (λ (k : ℕ) (l : k < min (axis .len) mostEdges). both (linkHolds (axis .len) (edgeAt axis k .link)) _ (g .edge-link k (omega arith)) (g .edge-serif k (omega arith)))
+      (λ (k : ℕ) (l : k < min (axis .len) mostEdges). both (linkHolds (axis .len) (edgeAt axis k .link)) _ (g .edge-link k (omega arith))
+      (g .edge-serif k (omega arith)))
 
   pub segments-of-edges : edgesSegments (t .len) axis ≡ true
   unfolding edgesSegments edgeSegments

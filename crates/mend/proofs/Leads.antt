@@ -43,8 +43,11 @@ module _ (edges : List ℕ) (n : ℕ) (broken : List Bool) (start next : List �
   }
 
   module _ (i : ℕ) {seen next′ : List ℕ} (l : LedFrom edges n broken start next (i + 1) seen next′) (inside : i < n) (few : n ≤ mostSegments) where
-    not-own : (k : ℕ) → (getD edges i 0 ≡ k → ⊥) → firstFrom (ownIn edges k) (n - i) i (getD start k 0) ≡ firstFrom (ownIn edges k) (n - (i + 1)) (i + 1) (getD start k 0)
-    not-own k h = step-down (ownIn edges k) n i (getD start k 0) inside ∙ ap (λ (b : Bool). cond b i (firstFrom (ownIn edges k) (n - (i + 1)) (i + 1) (getD start k 0))) (ne-eqb (getD edges i 0) k h)
+    not-own : (k : ℕ) → (getD edges i 0 ≡ k → ⊥) → firstFrom (ownIn edges k) (n - i) i (getD start k 0)
+        ≡ firstFrom (ownIn edges k) (n - (i + 1)) (i + 1) (getD start k 0)
+    not-own k h =
+        step-down (ownIn edges k) n i (getD start k 0) inside ∙ ap (λ (b : Bool). cond b i (firstFrom (ownIn edges k) (n - (i + 1)) (i + 1) (getD start k 0)))
+        (ne-eqb (getD edges i 0) k h)
 
     -- one that stays
     skip : ((k : ℕ) → getD edges i 0 ≡ k → k < mostEdges → getD broken k false ≡ true → ⊥) → LedFrom edges n broken start next i seen next′
@@ -52,7 +55,9 @@ module _ (edges : List ℕ) (n : ℕ) (broken : List Bool) (start next : List �
       seen-size = l .seen-size;
       next-size = l .next-size;
       last-seen = λ k h b. l .last-seen k h b ∙ sym (not-own k (λ (e : getD edges i 0 ≡ k). none k e h b));
-      anew = λ x k a b e h g. ⊎-elim (λ (q : i ≡ x). absurd (none k (ap (λ (j : ℕ). getD edges j 0) q ∙ e) h g)) (λ (q : i < x). l .anew x k (omega arith) b e h g) (eq-or-lt-of-le a);
+      anew =
+          λ x k a b e h g. ⊎-elim (λ (q : i ≡ x). absurd (none k (ap (λ (j : ℕ). getD edges j 0) q ∙ e) h g))
+          (λ (q : i < x). l .anew x k (omega arith) b e h g) (eq-or-lt-of-le a);
       left = λ x h. l .left x (omega arith);
       kept = l .kept;
     }
@@ -69,7 +74,8 @@ module _ (edges : List ℕ) (n : ℕ) (broken : List Bool) (start next : List �
               ⊎-elim
               (λ (q : j ≡ k).
               ap (λ (x : ℕ). getD (set seen k w) x 0) q ∙ getD-set-same seen k w 0 place ∙ ew
-              ∙ sym (step-down (ownIn edges j) n i (getD start j 0) inside ∙ ap (λ (t : Bool). cond t i (firstFrom (ownIn edges j) (n - (i + 1)) (i + 1) (getD start j 0))) (eq-eqb (getD edges i 0) j (e ∙ sym q))))
+              ∙ sym (step-down (ownIn edges j) n i (getD start j 0) inside ∙ ap
+              (λ (t : Bool). cond t i (firstFrom (ownIn edges j) (n - (i + 1)) (i + 1) (getD start j 0))) (eq-eqb (getD edges i 0) j (e ∙ sym q))))
               (λ (q : j ≡ k → ⊥). getD-set-other seen k j w 0 q ∙ l .last-seen j g c ∙ sym (not-own j (λ (r : getD edges i 0 ≡ j). q (sym r ∙ e))))
               (same? j k);
           anew = λ x j a c r g d.

@@ -33,7 +33,8 @@ segment-few i a b =
     let r = listed-few L.segments i L.next (a .next) (b .next) in
     omega (
       arith,
-      length-append (listed L.segments i L.link (a .link) (b .link)) (listed L.segments i L.serif (a .serif) (b .serif) ++ listed L.segments i L.next (a .next) (b .next)),
+      length-append (listed L.segments i L.link (a .link) (b .link))
+          (listed L.segments i L.serif (a .serif) (b .serif) ++ listed L.segments i L.next (a .next) (b .next)),
       length-append (listed L.segments i L.serif (a .serif) (b .serif)) (listed L.segments i L.next (a .next) (b .next)),
     )
 
@@ -56,12 +57,17 @@ edges-few f zero h = omega arith
 edges-few f (suc n) h = omega (arith, length-append (inOrder f n) (f n), edges-few f n h, h n)
 
 -- 2,048 places are enough
-pub few-altered : (axis : Axis) (t : Segments) (axis′ : Axis) (t′ : Segments) → t .len ≤ mostSegments → axis .len ≤ mostEdges → length (alterations axis t axis′ t′) ≤ mostAltered
+pub few-altered : (axis : Axis) (t : Segments) (axis′ : Axis) (t′ : Segments) → t .len ≤ mostSegments → axis .len ≤ mostEdges
+    → length (alterations axis t axis′ t′) ≤ mostAltered
 unfolding alterations
 few-altered axis t axis′ t′ h g =
     let p = segments-few (λ (i : ℕ). ofSegment i (segmentAt t i) (segmentAt t′ i)) (t .len) (λ i. segment-few i (segmentAt t i) (segmentAt t′ i)) in
     let q = edges-few (λ (k : ℕ). ofEdge k (edgeAt axis k) (edgeAt axis′ k)) (axis .len) (λ k. edge-few k (edgeAt axis k) (edgeAt axis′ k)) in
-    omega (arith, length-append (inOrder (λ (i : ℕ). ofSegment i (segmentAt t i) (segmentAt t′ i)) (t .len)) (inOrder (λ (k : ℕ). ofEdge k (edgeAt axis k) (edgeAt axis′ k)) (axis .len)))
+    omega (
+      arith,
+      length-append (inOrder (λ (i : ℕ). ofSegment i (segmentAt t i) (segmentAt t′ i)) (t .len))
+          (inOrder (λ (k : ℕ). ofEdge k (edgeAt axis k) (edgeAt axis′ k)) (axis .len)),
+    )
 
 -- ---- when it is empty
 same-link : (a : Link) → sameLink a a ≡ true
@@ -76,7 +82,13 @@ segment-none i s = rw (listed-none L.segments i L.link (s .link), listed-none L.
 
 edge-none : (k : ℕ) (e : Edge) → ofEdge k e e ≡ []
 edge-none k e =
-    rw (listed-none L.edges k L.link (e .link), listed-none L.edges k L.serif (e .serif), listed-none L.edges k L.first (Links.To (e .first)), listed-none L.edges k L.last (Links.To (e .last)))
+    rw (
+      listed-none L.edges k L.link (e .link),
+      listed-none L.edges k L.serif (e .serif),
+      listed-none L.edges k L.first (Links.To (e .first)),
+      listed-none
+          L.edges k L.last (Links.To (e .last)),
+    )
 
 order-none : (f : ℕ → List Alteration) (n : ℕ) → ((i : ℕ) → f i ≡ []) → inOrder f n ≡ []
 unfolding inOrder

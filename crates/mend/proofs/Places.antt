@@ -13,7 +13,7 @@ use Rattle.axis.specs.declared.segment.Segment.{Segment}
 use Rattle.axis.specs.declared.segment.Segments.{Segments}
 use Rattle.axis.specs.Edge.{emptyEdge, edgeAt}
 use Rattle.axis.specs.Segment.{emptySegment, segmentAt}
-use Rattle.turning.proofs.Fronts.{front, front-more, front-all, front-at, behind-at, front-length}
+use Rattle.turn.proofs.Fronts.{front, front-more, front-all, front-at, behind-at, front-length}
 use Rattle.mend.specs.Mended.{byPlace, frontBy, mendedSegment, mendedEdge, mendedSegments, mendedAxis}
 
 -- a list of which the first i of n places are written
@@ -39,7 +39,8 @@ module _ {A : Type 0} (f : ℕ → A → A) where
 
     first-at : (i : ℕ) (d : A) → i < n → getD (byPlace f 0 (take n xs)) i d ≡ f i (getD xs i d)
     first-at i d h =
-        place-at 0 (take n xs) i d (omega (arith, length-take-le n xs whole)) ∙ ap (λ (k : ℕ). f k (getD (take n xs) i d)) (let z : 0 + i ≡ i = omega arith in z)
+        place-at 0 (take n xs) i d (omega (arith, length-take-le n xs whole))
+        ∙ ap (λ (k : ℕ). f k (getD (take n xs) i d)) (let z : 0 + i ≡ i = omega arith in z)
         ∙ ap (f i) (getD-take n xs i d h)
 
     pub table-at : (i : ℕ) (d : A) → i < n → getD (frontBy f n xs) i d ≡ f i (getD xs i d)
@@ -62,7 +63,8 @@ module _ {A : Type 0} (f : ℕ → A → A) where
     all-written i h g = front-all (byPlace f 0 (take n xs)) xs n i front-size h g
 
 -- two that are the same in each of the first n places
-pub fronts-same : {A : Type 0} (f g : ℕ → A → A) (xs : List A) (n : ℕ) (d : A) → n ≤ length xs → ((i : ℕ) → i < n → f i (getD xs i d) ≡ g i (getD xs i d)) → frontBy f n xs ≡ frontBy g n xs
+pub fronts-same : {A : Type 0} (f g : ℕ → A → A) (xs : List A) (n : ℕ) (d : A) → n ≤ length xs → ((i : ℕ) → i < n → f i (getD xs i d) ≡ g i (getD xs i d))
+    → frontBy f n xs ≡ frontBy g n xs
 fronts-same f g xs n d whole same =
     ext-getD d (frontBy f n xs) (frontBy g n xs) (table-length f xs n whole ∙ sym (table-length g xs n whole))
     (λ (i : ℕ) (l : i < length (frontBy f n xs)).

@@ -70,7 +70,8 @@ module _ (own own′ : ℕ → Bool) (n : ℕ) (same : (i : ℕ) → i < n → o
   highest-agrees : highest own n ≡ highest own′ n
   highest-agrees = last-agrees n 0 (omega arith)
 
-  closes-agrees : (next next′ : ℕ → ℕ) (first last : ℕ) → ((i : ℕ) → i < n → next i ≡ next′ i) → (left ix : ℕ) → closes own next n first last left ix ≡ closes own′ next′ n first last left ix
+  closes-agrees : (next next′ : ℕ → ℕ) (first last : ℕ) → ((i : ℕ) → i < n → next i ≡ next′ i) → (left ix : ℕ)
+      → closes own next n first last left ix ≡ closes own′ next′ n first last left ix
   unfolding closes
   closes-agrees next next′ first last e zero ix = refl
   closes-agrees next next′ first last e (suc left) ix =
@@ -100,8 +101,10 @@ module _ (axis : Axis) (t : Segments) (edges next : List ℕ) (few : t .len ≤ 
   pub ring-told : (k : ℕ) → k < axis .len → (c : ℕ) → c ≡ count (ownIn edges k) n
       → closes (ownIn edges k) (nextIn next) n (edgeAt axis k .first) (edgeAt axis k .last) c (edgeAt axis k .first) ≡ isSound axis t k
   ring-told k l c e =
-      closes-agrees (ownIn edges k) (isOf t k) n (λ i h. own-is k i (omega arith) h) (nextIn next) (ledTo t) (edgeAt axis k .first) (edgeAt axis k .last) (λ i h. g .next-of i h) c (edgeAt axis k .first)
-      ∙ ap (λ (x : ℕ). closes (isOf t k) (ledTo t) n (edgeAt axis k .first) (edgeAt axis k .last) x (edgeAt axis k .first)) (e ∙ count-agrees (ownIn edges k) (isOf t k) n (λ i h. own-is k i (omega arith) h))
+      closes-agrees (ownIn edges k) (isOf t k) n (λ i h. own-is k i (omega arith) h) (nextIn next) (ledTo t) (edgeAt axis k .first) (edgeAt axis k .last)
+      (λ i h. g .next-of i h) c (edgeAt axis k .first)
+      ∙ ap (λ (x : ℕ). closes (isOf t k) (ledTo t) n (edgeAt axis k .first) (edgeAt axis k .last) x (edgeAt axis k .first))
+      (e ∙ count-agrees (ownIn edges k) (isOf t k) n (λ i h. own-is k i (omega arith) h))
       ∙ closes-sound (isOf t k) (ledTo t) n (edgeAt axis k .first) (edgeAt axis k .last) few
 
   -- the lowest and the highest are those of the edge
@@ -120,9 +123,11 @@ module _ (axis : Axis) (t : Segments) (edges next : List ℕ) (few : t .len ≤ 
       ∙ ap (every (λ (k : ℕ). ltb 0 (count (isOf t k) n))) (let z : axis .len ≡ min (axis .len) mostEdges = omega arith in z)
 
   -- ---- what was led is what mending says
-  module _ (broken : List Bool) (counts lows highs seen next′ : List ℕ) (b : Told axis t broken) (a : Tallied edges n counts lows highs) (l : Led edges n broken lows next seen next′) where
+  module _ (broken : List Bool) (counts lows highs seen next′ : List ℕ) (b : Told axis t broken) (a : Tallied edges n counts lows highs)
+      (l : Led edges n broken lows next seen next′) where
     -- the next of a segment of edge k
-    pub next-planned : (i k : ℕ) → i < n → k < axis .len → segmentAt t i .edge ≡ Links.To k → Links.To (getD next′ i 0) ≡ mendedNext axis t i (Links.To k) (segmentAt t i .next)
+    pub next-planned : (i k : ℕ) → i < n → k < axis .len → segmentAt t i .edge ≡ Links.To k
+        → Links.To (getD next′ i 0) ≡ mendedNext axis t i (Links.To k) (segmentAt t i .next)
     unfolding mendedNext linksTo
     next-planned i k h m e = by (isSound axis t k) refl
       where
@@ -140,7 +145,8 @@ module _ (axis : Axis) (t : Segments) (edges next : List ℕ) (few : t .len ≤ 
         by true q =
             ap Links.To (l .kept i k edge-is (omega arith) (b .ring k m ∙ ap not q) ∙ g .next-of i h)
             ∙ whole (segmentAt t i .next)
-            (leads-inside (isOf t k) (ledTo t) n (edgeAt axis k .first) (edgeAt axis k .last) (sound-is (isOf t k) (ledTo t) n (edgeAt axis k .first) (edgeAt axis k .last) q) i h own)
+            (leads-inside (isOf t k) (ledTo t) n (edgeAt axis k .first) (edgeAt axis k .last)
+            (sound-is (isOf t k) (ledTo t) n (edgeAt axis k .first) (edgeAt axis k .last) q) i h own)
         by false q =
             ap Links.To
             (l .anew i k h edge-is (omega arith) (b .ring k m ∙ ap not q)
@@ -156,10 +162,12 @@ module _ (axis : Axis) (t : Segments) (edges next : List ℕ) (few : t .len ≤ 
         ∙ low-is k m
 
     -- first and last of edge k
-    pub first-planned : (k : ℕ) → k < axis .len → 0 < count (isOf t k) n → cond (getD broken k false) (getD seen k 0) (edgeAt axis k .first) ≡ mendedEdge axis t k (edgeAt axis k) .first
+    pub first-planned : (k : ℕ) → k < axis .len → 0 < count (isOf t k) n
+        → cond (getD broken k false) (getD seen k 0) (edgeAt axis k .first) ≡ mendedEdge axis t k (edgeAt axis k) .first
     first-planned k m some = by (isSound axis t k) refl
       where
-        by : (x : Bool) → isSound axis t k ≡ x → cond (getD broken k false) (getD seen k 0) (edgeAt axis k .first) ≡ cond x (edgeAt axis k .first) (lowest (isOf t k) n)
+        by : (x : Bool) → isSound axis t k ≡ x → cond (getD broken k false) (getD seen k 0) (edgeAt axis k .first)
+            ≡ cond x (edgeAt axis k .first) (lowest (isOf t k) n)
         by true q = ap (λ (x : Bool). cond x (getD seen k 0) (edgeAt axis k .first)) (b .ring k m ∙ ap not q)
         by false q =
             let told = b .ring k m ∙ ap not q in
@@ -174,15 +182,20 @@ module _ (axis : Axis) (t : Segments) (edges next : List ℕ) (few : t .len ≤ 
 
     -- ---- so the tables are the mended ones, and so is the list
     module _ (ready : Mendable axis t) where
-      next-is : (i : ℕ) → i < n → plannedNext n (getD edges i 0) (getD next′ i 0) (segmentAt t i .next) ≡ mendedNext axis t i (segmentAt t i .edge) (segmentAt t i .next)
+      next-is : (i : ℕ) → i < n → plannedNext n (getD edges i 0) (getD next′ i 0) (segmentAt t i .next)
+          ≡ mendedNext axis t i (segmentAt t i .edge) (segmentAt t i .next)
       unfolding mendedNext
       next-is i h = by (segmentAt t i .edge) refl (ready .to-edges i h)
         where
-          by : (x : Link) → segmentAt t i .edge ≡ x → Below (axis .len) x → plannedNext n (getD edges i 0) (getD next′ i 0) (segmentAt t i .next) ≡ mendedNext axis t i x (segmentAt t i .next)
-          by Links.None e w = ap (λ (b : Bool). cond b (Links.To (getD next′ i 0)) (kept n (segmentAt t i .next))) (le-ltb (getD edges i 0) mostEdges (omega (arith, g .edge-of i h ∙ ap (indexOr mostEdges) e)))
+          by : (x : Link) → segmentAt t i .edge ≡ x → Below (axis .len) x
+              → plannedNext n (getD edges i 0) (getD next′ i 0) (segmentAt t i .next) ≡ mendedNext axis t i x (segmentAt t i .next)
+          by Links.None e w =
+              ap (λ (b : Bool). cond b (Links.To (getD next′ i 0)) (kept n (segmentAt t i .next)))
+              (le-ltb (getD edges i 0) mostEdges (omega (arith, g .edge-of i h ∙ ap (indexOr mostEdges) e)))
           by (Links.To k) e w =
               let m = w .at k refl in
-              ap (λ (b : Bool). cond b (Links.To (getD next′ i 0)) (kept n (segmentAt t i .next))) (lt-ltb (getD edges i 0) mostEdges (omega (arith, g .edge-of i h ∙ ap (indexOr mostEdges) e)))
+              ap (λ (b : Bool). cond b (Links.To (getD next′ i 0)) (kept n (segmentAt t i .next)))
+              (lt-ltb (getD edges i 0) mostEdges (omega (arith, g .edge-of i h ∙ ap (indexOr mostEdges) e)))
               ∙ next-planned i k h m e
 
       segment-is : (i : ℕ) → i < n → segmentBy n edges next′ i (segmentAt t i) ≡ mendedSegment axis t i (segmentAt t i)
@@ -195,7 +208,12 @@ module _ (axis : Axis) (t : Segments) (edges next : List ℕ) (few : t .len ≤ 
 
       pub segments-planned : plannedSegments edges next′ t ≡ mendedSegments axis t
       unfolding plannedSegments mendedSegments
-      segments-planned = λ j. record { segments = fronts-same (segmentBy n edges next′) (mendedSegment axis t) (t .segments) n emptySegment (ready .segments-whole) segment-is j; len = n }
+      segments-planned =
+          λ j. record {
+            segments = fronts-same (segmentBy n edges next′) (mendedSegment axis t) (t .segments) n emptySegment (ready .segments-whole)
+                segment-is j;
+            len = n;
+          }
 
       pub axis-planned : plannedAxis broken seen highs axis ≡ mendedAxis axis t
       unfolding plannedAxis mendedAxis
@@ -206,9 +224,12 @@ module _ (axis : Axis) (t : Segments) (edges next : List ℕ) (few : t .len ≤ 
         len = axis .len;
       }
 
-      pub list-planned : segmentsListed edges next′ t n ++ edgesListed broken seen highs axis (axis .len) ≡ alterations axis t (mendedAxis axis t) (mendedSegments axis t)
+      pub list-planned : segmentsListed edges next′ t n ++ edgesListed broken seen highs axis (axis .len)
+          ≡ alterations axis t (mendedAxis axis t) (mendedSegments axis t)
       unfolding alterations
       list-planned =
-          let ss = order-same _ _ n (λ (i : ℕ) (h : i < n). ap (ofSegment i (segmentAt t i)) (segment-is i h ∙ sym (mended-segment-at axis t (ready .segments-whole) i h))) in
-          let es = order-same _ _ (axis .len) (λ (k : ℕ) (h : k < axis .len). ap (ofEdge k (edgeAt axis k)) (edge-is k h ∙ sym (mended-edge-at axis t (ready .edges-whole) k h))) in
+          let ss = order-same _ _ n (λ (i : ℕ) (h : i < n). ap (ofSegment i (segmentAt t i))
+          (segment-is i h ∙ sym (mended-segment-at axis t (ready .segments-whole) i h))) in
+          let es = order-same _ _ (axis .len) (λ (k : ℕ) (h : k < axis .len). ap (ofEdge k (edgeAt axis k))
+          (edge-is k h ∙ sym (mended-edge-at axis t (ready .edges-whole) k h))) in
           λ j. ss j ++ es j

@@ -144,7 +144,8 @@ module _ (own : ℕ → Bool) (next : ℕ → ℕ) (n : ℕ) (leads : (i : ℕ) 
   on-the-way j i f e o q r rest =
       let inside : f < n = omega (arith, r .high) in
       let at : own f ≡ true = ap own q ∙ r .at in
-      let c : countFrom own j (i + 1) ≡ countFrom own (suc (n - f - 1)) f = r .left ∙ ap (λ (x : ℕ). countFrom own (i + 1 + j - x) x) (sym q) ∙ ap (λ (k : ℕ). countFrom own k f) (let z : i + 1 + j - f ≡ suc (n - f - 1) = omega arith in z) in
+      let c : countFrom own j (i + 1) ≡ countFrom own (suc (n - f - 1)) f = r .left ∙ ap (λ (x : ℕ). countFrom own (i + 1 + j - x) x) (sym q)
+      ∙ ap (λ (k : ℕ). countFrom own k f) (let z : i + 1 + j - f ≡ suc (n - f - 1) = omega arith in z) in
       let to : next i ≡ f = next-is j i e o ∙ sym q in
       let apart : i ≡ high → ⊥ = λ (h : i ≡ high). omega (arith, below-highest own n f 0 inside at, r .low) in
       subst (λ (k : ℕ). closes own next n low high k i ≡ true) (sym (count-here own j i o))
@@ -174,7 +175,8 @@ module _ (own : ℕ → Bool) (next : ℕ → ℕ) (n : ℕ) (leads : (i : ℕ) 
       ⊎-elim
       (λ (m : Missing own n 0 0). absurd (omega (arith, m .none)))
       (λ (r : Present own n 0 0).
-      let left : count own n ≡ countFrom own (suc (n - low - 1)) low = all ∙ r .left ∙ ap (λ (k : ℕ). countFrom own k low) (let z : 0 + n - low ≡ suc (n - low - 1) = omega (arith, r .high) in z) in
+      let left : count own n ≡ countFrom own (suc (n - low - 1)) low = all ∙ r .left
+      ∙ ap (λ (k : ℕ). countFrom own k low) (let z : 0 + n - low ≡ suc (n - low - 1) = omega (arith, r .high) in z) in
       subst (λ (k : ℕ). closes own next n low high k low ≡ true) (sym left) (steps-from n (n - low - 1) low (omega arith) (omega (arith, r .high)) (r .at)))
       (search-from own n 0 0)
 

@@ -98,7 +98,8 @@ module _ (axis : Axis) (t : Segments) (a : Mendable axis t) where
 
   -- ---- the ring, with its old segments and its new nexts
   ring : (k : ℕ) → k < axis .len → (b : Bool) → isSound axis t k ≡ b
-      → SoundRing (isOf t k) (λ (i : ℕ). indexOr n (segmentAt t′ i .next)) n (cond b (edgeAt axis k .first) (lowest (isOf t k) n)) (cond b (edgeAt axis k .last) (highest (isOf t k) n))
+      → SoundRing (isOf t k) (λ (i : ℕ). indexOr n (segmentAt t′ i .next)) n (cond b (edgeAt axis k .first) (lowest (isOf t k) n))
+      (cond b (edgeAt axis k .last) (highest (isOf t k) n))
   ring k h true e =
       sound-same (isOf t k) (ledTo t) (λ (i : ℕ). indexOr n (segmentAt t′ i .next)) n (edgeAt axis k .first) (edgeAt axis k .last)
       (λ i q o. ap (indexOr n) (sym (next-at i k q o ∙ ap (λ (b : Bool). cond b (segmentAt t i .next) (Links.To (behind (isOf t k) n i))) e)))

@@ -39,13 +39,16 @@ module _ (own : ℕ → Bool) (next : ℕ → ℕ) (n first last : ℕ) where
   step-last (suc left) ix h g b o e = rw (lt-ltb ix n b, o, eq-eqb ix last e, eq-eqb left 0 (let z : left ≡ 0 = omega arith in z))
 
   -- another one
-  pub step-on : (left ix : ℕ) → 0 < left → ix < n → own ix ≡ true → (ix ≡ last → ⊥) → closes own next n first last left ix ≡ closes own next n first last (left - 1) (next ix)
+  pub step-on : (left ix : ℕ) → 0 < left → ix < n → own ix ≡ true → (ix ≡ last → ⊥)
+      → closes own next n first last left ix ≡ closes own next n first last (left - 1) (next ix)
   unfolding closes
   step-on zero ix h b o e = absurd (omega arith)
-  step-on (suc left) ix h b o e = rw (lt-ltb ix n b, o, ne-eqb ix last e) (ap (λ (k : ℕ). closes own next n first last k (next ix)) (let z : left ≡ suc left - 1 = omega arith in z))
+  step-on (suc left) ix h b o e =
+      rw (lt-ltb ix n b, o, ne-eqb ix last e) (ap (λ (k : ℕ). closes own next n first last k (next ix)) (let z : left ≡ suc left - 1 = omega arith in z))
 
 -- an index as a place
-pub from-place : (own : ℕ → Bool) (next : ℕ → ℕ) (n first last left ix at : ℕ) (r : Bool) → at ≡ ix → closes own next n first last left ix ≡ r → closes own next n first last left at ≡ r
+pub from-place : (own : ℕ → Bool) (next : ℕ → ℕ) (n first last left ix at : ℕ) (r : Bool) → at ≡ ix → closes own next n first last left ix ≡ r
+    → closes own next n first last left at ≡ r
 from-place own next n first last left ix at r e h = ap (closes own next n first last left) e ∙ h
 
 -- none left

@@ -85,7 +85,8 @@ total-times n (m ∷ ms) h =
 
 -- ---- all of them
 -- numbers below n, each met once at most, all of a kind, and as many as there are of it: each of the kind is met once, and no other
-pub all-met : (own : ℕ → Bool) (n : ℕ) (ms : List ℕ) → ((x : ℕ) → 0 < times x ms → x < n) → ((x : ℕ) → 0 < times x ms → own x ≡ true) → ((x : ℕ) → times x ms ≤ 1)
+pub all-met : (own : ℕ → Bool) (n : ℕ) (ms : List ℕ) → ((x : ℕ) → 0 < times x ms → x < n) → ((x : ℕ) → 0 < times x ms → own x ≡ true)
+    → ((x : ℕ) → times x ms ≤ 1)
     → length ms ≡ count own n → (i : ℕ) → i < n → times i ms ≡ cond (own i) 1 0
 all-met own n ms b o u e = sums-same (λ (i : ℕ). times i ms) (λ (i : ℕ). cond (own i) 1 0) n le (omega (arith, total-times n ms b))
   where

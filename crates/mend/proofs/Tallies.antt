@@ -22,7 +22,8 @@ first-snoc : (p : ℕ → Bool) (n i other : ℕ) → firstFrom p (suc n) i othe
 unfolding firstFrom
 first-snoc p zero i other = let z : i + 0 ≡ i = omega arith in rw z
 first-snoc p (suc n) i other =
-    ap (cond (p i) i) (first-snoc p n (i + 1) other ∙ ap (λ (k : ℕ). firstFrom p n (i + 1) (cond (p k) k other)) (let z : i + 1 + n ≡ i + suc n = omega arith in z))
+    ap (cond (p i) i) (first-snoc p n (i + 1) other ∙ ap (λ (k : ℕ). firstFrom p n (i + 1) (cond (p k) k other))
+    (let z : i + 1 + n ≡ i + suc n = omega arith in z))
 
 -- where there is none, the other; where there is one, whatever the other is
 first-none : (p : ℕ → Bool) (n i other : ℕ) → countFrom p n i ≡ 0 → firstFrom p n i other ≡ other
@@ -30,7 +31,8 @@ unfolding firstFrom countFrom
 first-none p zero i other h = refl
 first-none p (suc n) i other h = by (p i) h (first-none p n (i + 1) other)
   where
-    by : (b : Bool) → cond b 1 0 + countFrom p n (i + 1) ≡ 0 → (countFrom p n (i + 1) ≡ 0 → firstFrom p n (i + 1) other ≡ other) → cond b i (firstFrom p n (i + 1) other) ≡ other
+    by : (b : Bool) → cond b 1 0 + countFrom p n (i + 1) ≡ 0 → (countFrom p n (i + 1) ≡ 0 → firstFrom p n (i + 1) other ≡ other)
+        → cond b i (firstFrom p n (i + 1) other) ≡ other
     by true h rest = absurd (omega arith)
     by false h rest = rest (omega arith)
 
@@ -53,7 +55,8 @@ lowest-again p n h = first-some p n 0 (lowest p n) 0 (omega (arith, counted-from
 
 lowest-more : (p : ℕ → Bool) (n c : ℕ) → c ≡ count p n → p n ≡ true → lowest p (n + 1) ≡ cond (eqb c 0) n (lowest p n)
 lowest-more p n c e o =
-    ap (λ (k : ℕ). firstFrom p k 0 0) (add-one n) ∙ first-snoc p n 0 0 ∙ ap (λ (k : ℕ). firstFrom p n 0 (cond (p k) k 0)) (let z : 0 + n ≡ n = omega arith in z) ∙ ap (λ (b : Bool). firstFrom p n 0 (cond b n 0)) o
+    ap (λ (k : ℕ). firstFrom p k 0 0) (add-one n) ∙ first-snoc p n 0 0
+    ∙ ap (λ (k : ℕ). firstFrom p n 0 (cond (p k) k 0)) (let z : 0 + n ≡ n = omega arith in z) ∙ ap (λ (b : Bool). firstFrom p n 0 (cond b n 0)) o
     ∙ ⊎-elim
     (λ (z : c ≡ 0). first-none p n 0 n (omega (arith, counted-from p n)) ∙ sym (ap (λ (b : Bool). cond b n (lowest p n)) (eq-eqb c 0 z)))
     (λ (z : c ≡ 0 → ⊥). first-some p n 0 n 0 (some z) ∙ sym (ap (λ (b : Bool). cond b n (lowest p n)) (ne-eqb c 0 z)))
@@ -67,7 +70,9 @@ lowest-more p n c e o =
         by (suc k) h = omega arith
 
 lowest-same : (p : ℕ → Bool) (n : ℕ) → p n ≡ false → lowest p (n + 1) ≡ lowest p n
-lowest-same p n o = ap (λ (k : ℕ). firstFrom p k 0 0) (add-one n) ∙ first-snoc p n 0 0 ∙ ap (λ (k : ℕ). firstFrom p n 0 (cond (p k) k 0)) (let z : 0 + n ≡ n = omega arith in z) ∙ ap (λ (b : Bool). firstFrom p n 0 (cond b n 0)) o
+lowest-same p n o =
+    ap (λ (k : ℕ). firstFrom p k 0 0) (add-one n) ∙ first-snoc p n 0 0
+    ∙ ap (λ (k : ℕ). firstFrom p n 0 (cond (p k) k 0)) (let z : 0 + n ≡ n = omega arith in z) ∙ ap (λ (b : Bool). firstFrom p n 0 (cond b n 0)) o
 
 -- ---- the highest
 highest-more : (p : ℕ → Bool) (n : ℕ) → highest p (n + 1) ≡ cond (p n) n (highest p n)
@@ -76,7 +81,8 @@ highest-more p n = rw add-one
 
 -- ---- the lists
 module _ (edges : List ℕ) where
-  pub tallied-none : {counts lows highs : List ℕ} → counts ≡ replicate mostEdges 0 → lows ≡ replicate mostEdges 0 → highs ≡ replicate mostEdges 0 → Tallied edges 0 counts lows highs
+  pub tallied-none : {counts lows highs : List ℕ} → counts ≡ replicate mostEdges 0 → lows ≡ replicate mostEdges 0 → highs ≡ replicate mostEdges 0
+      → Tallied edges 0 counts lows highs
   unfolding total firstFrom lastBelow
   tallied-none {counts} {lows} {highs} a b c = record {
     counts-size = ap (length {A = ℕ}) a ∙ length-replicate {A = ℕ} mostEdges 0;
@@ -117,7 +123,8 @@ module _ (edges : List ℕ) where
     }
 
     -- a segment of edge k
-    pub tallied-more : (k : ℕ) → getD edges i 0 ≡ k → k < mostEdges → (c l h : ℕ) → c ≡ getD counts k 0 + 1 → l ≡ cond (eqb (getD counts k 0) 0) i (getD lows k 0) → h ≡ i
+    pub tallied-more : (k : ℕ) → getD edges i 0 ≡ k → k < mostEdges → (c l h : ℕ) → c ≡ getD counts k 0 + 1
+        → l ≡ cond (eqb (getD counts k 0) 0) i (getD lows k 0) → h ≡ i
         → Tallied edges (i + 1) (set counts k c) (set lows k l) (set highs k h)
     tallied-more k e b c l h ec el eh =
         let o = eq-eqb (getD edges i 0) k e in
@@ -126,11 +133,14 @@ module _ (edges : List ℕ) where
           lows-size = length-set lows k l ∙ t .lows-size;
           highs-size = length-set highs k h ∙ t .highs-size;
           counted = λ j g. at counts k c (omega (arith, t .counts-size)) (λ (x : ℕ). count (ownIn edges x) (i + 1))
-              (ec ∙ ap (λ (x : ℕ). x + 1) (t .counted k b) ∙ sym (total-more (λ (x : ℕ). cond (ownIn edges k x) 1 0) i ∙ rw o)) j (λ q. same-count j g (λ r. q (sym r ∙ e)));
+              (ec ∙ ap (λ (x : ℕ). x + 1) (t .counted k b) ∙ sym (total-more (λ (x : ℕ). cond (ownIn edges k x) 1 0) i ∙ rw o)) j
+              (λ q. same-count j g (λ r. q (sym r ∙ e)));
           low = λ j g. at lows k l (omega (arith, t .lows-size)) (λ (x : ℕ). lowest (ownIn edges x) (i + 1))
-              (el ∙ ap (cond (eqb (getD counts k 0) 0) i) (t .low k b) ∙ sym (lowest-more (ownIn edges k) i (getD counts k 0) (t .counted k b) o)) j (λ q. same-low j g (λ r. q (sym r ∙ e)));
+              (el ∙ ap (cond (eqb (getD counts k 0) 0) i) (t .low k b) ∙ sym (lowest-more (ownIn edges k) i (getD counts k 0) (t .counted k b) o)) j
+              (λ q. same-low j g (λ r. q (sym r ∙ e)));
           high = λ j g. at highs k h (omega (arith, t .highs-size)) (λ (x : ℕ). highest (ownIn edges x) (i + 1))
-              (eh ∙ sym (highest-more (ownIn edges k) i ∙ ap (λ (x : Bool). cond x i (highest (ownIn edges k) i)) o)) j (λ q. same-high j g (λ r. q (sym r ∙ e)));
+              (eh ∙ sym (highest-more (ownIn edges k) i ∙ ap (λ (x : Bool). cond x i (highest (ownIn edges k) i)) o)) j
+              (λ q. same-high j g (λ r. q (sym r ∙ e)));
         }
       where
         -- a list in which one place is written

@@ -40,16 +40,19 @@ pub record Good (axis : Axis) (t : Segments) : Type 0 where
 
 -- ---- tables whose fields stay are the same tables
 -- a record is the same where the fields that are mended are
-pub segment-as : (axis : Axis) (t : Segments) (i : ℕ) (s : Segment) → kept (t .len) (s .link) ≡ s .link → kept (t .len) (s .serif) ≡ s .serif → mendedNext axis t i (s .edge) (s .next) ≡ s .next
+pub segment-as : (axis : Axis) (t : Segments) (i : ℕ) (s : Segment) → kept (t .len) (s .link) ≡ s .link → kept (t .len) (s .serif) ≡ s .serif
+    → mendedNext axis t i (s .edge) (s .next) ≡ s .next
     → mendedSegment axis t i s ≡ s
 segment-as axis t i s p q r = λ j. segmentWith s (p j) (q j) (r j)
 
-pub edge-as : (axis : Axis) (t : Segments) (k : ℕ) (e : Edge) → mendedEdge axis t k e .link ≡ e .link → mendedEdge axis t k e .serif ≡ e .serif → mendedEdge axis t k e .first ≡ e .first
+pub edge-as : (axis : Axis) (t : Segments) (k : ℕ) (e : Edge) → mendedEdge axis t k e .link ≡ e .link → mendedEdge axis t k e .serif ≡ e .serif
+    → mendedEdge axis t k e .first ≡ e .first
     → mendedEdge axis t k e .last ≡ e .last → mendedEdge axis t k e ≡ e
 edge-as axis t k e p q r s = λ j. edgeWith e (p j) (q j) (r j) (s j)
 
 module _ (axis : Axis) (t : Segments) where
-  segments-list : t .len ≤ length (t .segments) → ((i : ℕ) → i < t .len → mendedSegment axis t i (segmentAt t i) ≡ segmentAt t i) → mendedSegments axis t .segments ≡ t .segments
+  segments-list : t .len ≤ length (t .segments) → ((i : ℕ) → i < t .len → mendedSegment axis t i (segmentAt t i) ≡ segmentAt t i)
+      → mendedSegments axis t .segments ≡ t .segments
   segments-list whole same =
       ext-getD emptySegment (mendedSegments axis t .segments) (t .segments) (mended-segments-length axis t whole)
       (λ i l.
@@ -58,7 +61,8 @@ module _ (axis : Axis) (t : Segments) where
       (λ (h : t .len ≤ i). segments-behind axis t whole i h)
       (lt-or-le i (t .len)))
 
-  edges-list : axis .len ≤ length (axis .edges) → ((k : ℕ) → k < axis .len → mendedEdge axis t k (edgeAt axis k) ≡ edgeAt axis k) → mendedAxis axis t .edges ≡ axis .edges
+  edges-list : axis .len ≤ length (axis .edges) → ((k : ℕ) → k < axis .len → mendedEdge axis t k (edgeAt axis k) ≡ edgeAt axis k)
+      → mendedAxis axis t .edges ≡ axis .edges
   edges-list whole same =
       ext-getD emptyEdge (mendedAxis axis t .edges) (axis .edges) (mended-edges-length axis t whole)
       (λ k l.
@@ -67,7 +71,8 @@ module _ (axis : Axis) (t : Segments) where
       (λ (h : axis .len ≤ k). edges-behind axis t whole k h)
       (lt-or-le k (axis .len)))
 
-  pub segments-stay : t .len ≤ length (t .segments) → ((i : ℕ) → i < t .len → mendedSegment axis t i (segmentAt t i) ≡ segmentAt t i) → mendedSegments axis t ≡ t
+  pub segments-stay : t .len ≤ length (t .segments) → ((i : ℕ) → i < t .len → mendedSegment axis t i (segmentAt t i) ≡ segmentAt t i)
+      → mendedSegments axis t ≡ t
   unfolding mendedSegments
   segments-stay whole same = λ j. record { segments = segments-list whole same j; len = t .len }
 
@@ -88,13 +93,15 @@ module _ (axis : Axis) (t : Segments) (g : Good axis t) where
   segment-same : (i : ℕ) → i < t .len → mendedSegment axis t i (segmentAt t i) ≡ segmentAt t i
   segment-same i h =
       let s = segmentAt t i in
-      segment-as axis t i s (kept-same (t .len) (s .link) (g .link i h)) (kept-same (t .len) (s .serif) (g .serif i h)) (next-same i (s .edge) (s .next) (g .edge i h) (g .next i h))
+      segment-as axis t i s (kept-same (t .len) (s .link) (g .link i h)) (kept-same (t .len) (s .serif) (g .serif i h))
+      (next-same i (s .edge) (s .next) (g .edge i h) (g .next i h))
 
   edge-unaltered : (k : ℕ) → k < axis .len → mendedEdge axis t k (edgeAt axis k) ≡ edgeAt axis k
   edge-unaltered k h =
       let e = edgeAt axis k in
       edge-as axis t k e (kept-same (axis .len) (e .link) (g .edge-link k h)) (kept-same (axis .len) (e .serif) (g .edge-serif k h))
-      (ap (λ (b : Bool). cond b (e .first) (lowest (isOf t k) (t .len))) (sound-test k h)) (ap (λ (b : Bool). cond b (e .last) (highest (isOf t k) (t .len))) (sound-test k h))
+      (ap (λ (b : Bool). cond b (e .first) (lowest (isOf t k) (t .len))) (sound-test k h))
+      (ap (λ (b : Bool). cond b (e .last) (highest (isOf t k) (t .len))) (sound-test k h))
 
   pub segments-good : mendedSegments axis t ≡ t
   segments-good = segments-stay axis t (g .segments-whole) segment-same
@@ -138,12 +145,18 @@ module _ (axis : Axis) (t : Segments) (a : Mendable axis t) where
   mended-good = record {
     segments-whole = omega (arith, mended-segments-length axis t (a .segments-whole), a .segments-whole);
     edges-whole = omega (arith, mended-edges-length axis t (a .edges-whole), a .edges-whole);
-    link = λ i h. ap (λ (s : Segment). linkHolds (t .len) (s .link)) (mended-segment-at axis t (a .segments-whole) i h) ∙ kept-holds (t .len) (segmentAt t i .link);
-    serif = λ i h. ap (λ (s : Segment). linkHolds (t .len) (s .serif)) (mended-segment-at axis t (a .segments-whole) i h) ∙ kept-holds (t .len) (segmentAt t i .serif);
+    link =
+        λ i h. ap (λ (s : Segment). linkHolds (t .len) (s .link)) (mended-segment-at axis t (a .segments-whole) i h)
+        ∙ kept-holds (t .len) (segmentAt t i .link);
+    serif =
+        λ i h. ap (λ (s : Segment). linkHolds (t .len) (s .serif)) (mended-segment-at axis t (a .segments-whole) i h)
+        ∙ kept-holds (t .len) (segmentAt t i .serif);
     next = next-holds;
     edge = λ i h. subst (Below (axis .len)) (sym (edge-same axis t a i)) (a .to-edges i h);
-    edge-link = λ k h. ap (λ (e : Edge). linkHolds (axis .len) (e .link)) (mended-edge-at axis t (a .edges-whole) k h) ∙ kept-holds (axis .len) (edgeAt axis k .link);
-    edge-serif = λ k h. ap (λ (e : Edge). linkHolds (axis .len) (e .serif)) (mended-edge-at axis t (a .edges-whole) k h) ∙ kept-holds (axis .len) (edgeAt axis k .serif);
+    edge-link =
+        λ k h. ap (λ (e : Edge). linkHolds (axis .len) (e .link)) (mended-edge-at axis t (a .edges-whole) k h) ∙ kept-holds (axis .len) (edgeAt axis k .link);
+    edge-serif =
+        λ k h. ap (λ (e : Edge). linkHolds (axis .len) (e .serif)) (mended-edge-at axis t (a .edges-whole) k h) ∙ kept-holds (axis .len) (edgeAt axis k .serif);
     sound = mended-sound axis t a;
   }
 

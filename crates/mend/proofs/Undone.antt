@@ -18,7 +18,21 @@ use Rattle.axis.specs.declared.segment.Segments.{Segments}
 use Rattle.axis.specs.Edge.{edgeAt}
 use Rattle.axis.specs.Segment.{segmentAt}
 use Rattle.axis.proofs.Sound.{never}
-use Rattle.mend.specs.Altered.{Table, Field, Alteration, tableNumber, fieldNumber, sameLink, listed, ofSegment, ofEdge, inOrder, alterations, isField, before}
+use Rattle.mend.specs.Altered.{
+  Table,
+  Field,
+  Alteration,
+  tableNumber,
+  fieldNumber,
+  sameLink,
+  listed,
+  ofSegment,
+  ofEdge,
+  inOrder,
+  alterations,
+  isField,
+  before,
+}
 use Rattle.mend.specs.Altered as L
 
 -- ---- lists behind each other
@@ -44,7 +58,8 @@ here x i f a b = by (sameLink a b) refl
     by false e = rw (eq-eqb (tableNumber x) (tableNumber x) refl, eq-eqb (fieldNumber f) (fieldNumber f) refl, eq-eqb i i refl)
 
 -- that of another
-skips : (y x : Table) (j i : ℕ) (g f : Field) (a b now : Link) → ((eqb (tableNumber y) (tableNumber x) && eqb (fieldNumber g) (fieldNumber f)) && eqb j i) ≡ false → before (listed y j g a b) x i f now ≡ now
+skips : (y x : Table) (j i : ℕ) (g f : Field) (a b now : Link)
+    → ((eqb (tableNumber y) (tableNumber x) && eqb (fieldNumber g) (fieldNumber f)) && eqb j i) ≡ false → before (listed y j g a b) x i f now ≡ now
 unfolding before
 skips y x j i g f a b now e = by (sameLink a b)
   where
@@ -68,20 +83,23 @@ module _ (x : Table) (i : ℕ) (f : Field) where
   three : (p q r : List Alteration) (now : Link) → before (p ++ (q ++ r)) x i f now ≡ before p x i f (before q x i f (before r x i f now))
   three p q r now = before-append p (q ++ r) x i f now ∙ ap (before p x i f) (before-append q r x i f now)
 
-  four : (p q r s : List Alteration) (now : Link) → before (p ++ (q ++ (r ++ s))) x i f now ≡ before p x i f (before q x i f (before r x i f (before s x i f now)))
+  four : (p q r s : List Alteration) (now : Link) → before (p ++ (q ++ (r ++ s))) x i f now
+      ≡ before p x i f (before q x i f (before r x i f (before s x i f now)))
   four p q r s now = before-append p (q ++ (r ++ s)) x i f now ∙ ap (before p x i f) (three q r s now)
 
 -- a segment of another index, and any edge
 segment-skips : (j i : ℕ) (a b : Segment) (f : Field) (now : Link) → (j ≡ i → ⊥) → before (ofSegment j a b) L.segments i f now ≡ now
 segment-skips j i a b f now h =
-    three L.segments i f (listed L.segments j L.link (a .link) (b .link)) (listed L.segments j L.serif (a .serif) (b .serif)) (listed L.segments j L.next (a .next) (b .next)) now
+    three L.segments i f (listed L.segments j L.link (a .link) (b .link)) (listed L.segments j L.serif (a .serif) (b .serif))
+    (listed L.segments j L.next (a .next) (b .next)) now
     ∙ passes L.segments L.segments j i L.link f (a .link) (b .link) _ h
     ∙ passes L.segments L.segments j i L.serif f (a .serif) (b .serif) _ h
     ∙ passes L.segments L.segments j i L.next f (a .next) (b .next) now h
 
 edge-skips-segment : (j i : ℕ) (a b : Edge) (f : Field) (now : Link) → before (ofEdge j a b) L.segments i f now ≡ now
 edge-skips-segment j i a b f now =
-    four L.segments i f (listed L.edges j L.link (a .link) (b .link)) (listed L.edges j L.serif (a .serif) (b .serif)) (listed L.edges j L.first (Links.To (a .first)) (Links.To (b .first)))
+    four L.segments i f (listed L.edges j L.link (a .link) (b .link)) (listed L.edges j L.serif (a .serif) (b .serif))
+    (listed L.edges j L.first (Links.To (a .first)) (Links.To (b .first)))
     (listed L.edges j L.last (Links.To (a .last)) (Links.To (b .last))) now
     ∙ skips L.edges L.segments j i L.link f (a .link) (b .link) _ refl
     ∙ skips L.edges L.segments j i L.serif f (a .serif) (b .serif) _ refl
@@ -90,14 +108,16 @@ edge-skips-segment j i a b f now =
 
 segment-skips-edge : (j i : ℕ) (a b : Segment) (f : Field) (now : Link) → before (ofSegment j a b) L.edges i f now ≡ now
 segment-skips-edge j i a b f now =
-    three L.edges i f (listed L.segments j L.link (a .link) (b .link)) (listed L.segments j L.serif (a .serif) (b .serif)) (listed L.segments j L.next (a .next) (b .next)) now
+    three L.edges i f (listed L.segments j L.link (a .link) (b .link)) (listed L.segments j L.serif (a .serif) (b .serif))
+    (listed L.segments j L.next (a .next) (b .next)) now
     ∙ skips L.segments L.edges j i L.link f (a .link) (b .link) _ refl
     ∙ skips L.segments L.edges j i L.serif f (a .serif) (b .serif) _ refl
     ∙ skips L.segments L.edges j i L.next f (a .next) (b .next) now refl
 
 edge-skips : (j i : ℕ) (a b : Edge) (f : Field) (now : Link) → (j ≡ i → ⊥) → before (ofEdge j a b) L.edges i f now ≡ now
 edge-skips j i a b f now h =
-    four L.edges i f (listed L.edges j L.link (a .link) (b .link)) (listed L.edges j L.serif (a .serif) (b .serif)) (listed L.edges j L.first (Links.To (a .first)) (Links.To (b .first)))
+    four L.edges i f (listed L.edges j L.link (a .link) (b .link)) (listed L.edges j L.serif (a .serif) (b .serif))
+    (listed L.edges j L.first (Links.To (a .first)) (Links.To (b .first)))
     (listed L.edges j L.last (Links.To (a .last)) (Links.To (b .last))) now
     ∙ passes L.edges L.edges j i L.link f (a .link) (b .link) _ h
     ∙ passes L.edges L.edges j i L.serif f (a .serif) (b .serif) _ h
@@ -143,7 +163,8 @@ module _ (x : Table) (i : ℕ) (f : Field) (F : ℕ → List Alteration) (others
   unfolding inOrder before
   order-skips zero now h = refl
   order-skips (suc n) now h =
-      before-append (inOrder F n) (F n) x i f now ∙ ap (before (inOrder F n) x i f) (others n now (λ (e : n ≡ i). omega arith)) ∙ order-skips n now (omega arith)
+      before-append (inOrder F n) (F n) x i f now ∙ ap (before (inOrder F n) x i f) (others n now (λ (e : n ≡ i). omega arith))
+      ∙ order-skips n now (omega arith)
 
   order-finds : (n : ℕ) (old now : Link) → i < n → before (F i) x i f now ≡ old → before (inOrder F n) x i f now ≡ old
   unfolding inOrder
@@ -151,11 +172,13 @@ module _ (x : Table) (i : ℕ) (f : Field) (F : ℕ → List Alteration) (others
   order-finds (suc n) old now h e =
       before-append (inOrder F n) (F n) x i f now
       ∙ ⊎-elim
-      (λ (q : i ≡ n). ap (λ (k : ℕ). before (inOrder F n) x i f (before (F k) x i f now)) (sym q) ∙ ap (before (inOrder F n) x i f) e ∙ order-skips n old (omega arith))
+      (λ (q : i ≡ n). ap (λ (k : ℕ). before (inOrder F n) x i f (before (F k) x i f now)) (sym q) ∙ ap (before (inOrder F n) x i f) e
+      ∙ order-skips n old (omega arith))
       (λ (q : i < n). ap (before (inOrder F n) x i f) (others n now (λ (r : n ≡ i). omega arith)) ∙ order-finds n old now q e)
       (eq-or-lt-of-le (omega arith))
 
-order-none : (x : Table) (i : ℕ) (f : Field) (F : ℕ → List Alteration) → ((j : ℕ) (now : Link) → before (F j) x i f now ≡ now) → (n : ℕ) (now : Link) → before (inOrder F n) x i f now ≡ now
+order-none : (x : Table) (i : ℕ) (f : Field) (F : ℕ → List Alteration) → ((j : ℕ) (now : Link) → before (F j) x i f now ≡ now) → (n : ℕ) (now : Link)
+    → before (inOrder F n) x i f now ≡ now
 unfolding inOrder before
 order-none x i f F h zero now = refl
 order-none x i f F h (suc n) now = before-append (inOrder F n) (F n) x i f now ∙ ap (before (inOrder F n) x i f) (h n now) ∙ order-none x i f F h n now
@@ -167,11 +190,13 @@ module _ (axis : Axis) (t : Segments) (axis′ : Axis) (t′ : Segments) where
   abbrev E : ℕ → List Alteration
   E k = ofEdge k (edgeAt axis k) (edgeAt axis′ k)
 
-  segment-field : (i : ℕ) (f : Field) (old now : Link) → i < t .len → before (S i) L.segments i f now ≡ old → before (alterations axis t axis′ t′) L.segments i f now ≡ old
+  segment-field : (i : ℕ) (f : Field) (old now : Link) → i < t .len → before (S i) L.segments i f now ≡ old
+      → before (alterations axis t axis′ t′) L.segments i f now ≡ old
   unfolding alterations
   segment-field i f old now h e =
       before-append (inOrder S (t .len)) (inOrder E (axis .len)) L.segments i f now
-      ∙ ap (before (inOrder S (t .len)) L.segments i f) (order-none L.segments i f E (λ j v. edge-skips-segment j i (edgeAt axis j) (edgeAt axis′ j) f v) (axis .len) now)
+      ∙ ap (before (inOrder S (t .len)) L.segments i f)
+      (order-none L.segments i f E (λ j v. edge-skips-segment j i (edgeAt axis j) (edgeAt axis′ j) f v) (axis .len) now)
       ∙ order-finds L.segments i f S (λ j v q. segment-skips j i (segmentAt t j) (segmentAt t′ j) f v q) (t .len) old now h e
 
   -- link, serif and next of each segment, from what they are now and the list
@@ -223,7 +248,8 @@ module _ (k : ℕ) (a b : Edge) where
   edge-serif =
       four L.edges k L.serif edge-links edge-serifs firsts lasts (b .serif)
       ∙ past-link L.serif _ refl
-      ∙ ap (before edge-serifs L.edges k L.serif) (ap (before firsts L.edges k L.serif) (past-last L.serif (b .serif) refl) ∙ past-first L.serif (b .serif) refl)
+      ∙ ap (before edge-serifs L.edges k L.serif)
+      (ap (before firsts L.edges k L.serif) (past-last L.serif (b .serif) refl) ∙ past-first L.serif (b .serif) refl)
       ∙ here L.edges k L.serif (a .serif) (b .serif)
 
   edge-first : before (ofEdge k a b) L.edges k L.first (Links.To (b .first)) ≡ Links.To (a .first)
@@ -251,7 +277,8 @@ module _ (axis : Axis) (t : Segments) (axis′ : Axis) (t′ : Segments) where
   unfolding alterations
   edge-field k f old now h e =
       before-append (inOrder ofS (t .len)) (inOrder ofE (axis .len)) L.edges k f now
-      ∙ ap (before (inOrder ofS (t .len)) L.edges k f) (order-finds L.edges k f ofE (λ j v q. edge-skips j k (edgeAt axis j) (edgeAt axis′ j) f v q) (axis .len) old now h e)
+      ∙ ap (before (inOrder ofS (t .len)) L.edges k f)
+      (order-finds L.edges k f ofE (λ j v q. edge-skips j k (edgeAt axis j) (edgeAt axis′ j) f v q) (axis .len) old now h e)
       ∙ order-none L.edges k f ofS (λ j v. segment-skips-edge j k (segmentAt t j) (segmentAt t′ j) f v) (t .len) old
 
   -- link, serif, first and last of each edge
@@ -261,8 +288,10 @@ module _ (axis : Axis) (t : Segments) (axis′ : Axis) (t′ : Segments) where
   pub edge-serif-undone : (k : ℕ) → k < axis .len → before (alterations axis t axis′ t′) L.edges k L.serif (edgeAt axis′ k .serif) ≡ edgeAt axis k .serif
   edge-serif-undone k h = edge-field k L.serif (edgeAt axis k .serif) (edgeAt axis′ k .serif) h (edge-serif k (edgeAt axis k) (edgeAt axis′ k))
 
-  pub first-undone : (k : ℕ) → k < axis .len → before (alterations axis t axis′ t′) L.edges k L.first (Links.To (edgeAt axis′ k .first)) ≡ Links.To (edgeAt axis k .first)
+  pub first-undone : (k : ℕ) → k < axis .len → before (alterations axis t axis′ t′) L.edges k L.first (Links.To (edgeAt axis′ k .first))
+      ≡ Links.To (edgeAt axis k .first)
   first-undone k h = edge-field k L.first (Links.To (edgeAt axis k .first)) (Links.To (edgeAt axis′ k .first)) h (edge-first k (edgeAt axis k) (edgeAt axis′ k))
 
-  pub last-undone : (k : ℕ) → k < axis .len → before (alterations axis t axis′ t′) L.edges k L.last (Links.To (edgeAt axis′ k .last)) ≡ Links.To (edgeAt axis k .last)
+  pub last-undone : (k : ℕ) → k < axis .len → before (alterations axis t axis′ t′) L.edges k L.last (Links.To (edgeAt axis′ k .last))
+      ≡ Links.To (edgeAt axis k .last)
   last-undone k h = edge-field k L.last (Links.To (edgeAt axis k .last)) (Links.To (edgeAt axis′ k .last)) h (edge-last k (edgeAt axis k) (edgeAt axis′ k))

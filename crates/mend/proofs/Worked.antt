@@ -21,7 +21,7 @@ use Rattle.axis.specs.Ring.{walk, ends, times, soundRing}
 use Rattle.axis.specs.Segment.{emptySegment}
 use Rattle.mend.specs.Following.{total, ownIn}
 use Rattle.mend.specs.Rebuilt.{firstFrom, lastBelow, lowest, highest, behind}
-use Rattle.turning.specs.Indices.{segmentsEdges}
+use Rattle.turn.specs.Indices.{segmentsEdges}
 use Rattle.mend.specs.Mended.{mendedNext, byPlace, mendedSegments, mendedAxis}
 use Rattle.mend.specs.Altered.{Table, Field, Alteration, inOrder, alterations}
 use Rattle.mend.specs.Altered as L
@@ -92,13 +92,21 @@ unfolding mendedSegments byPlace mendedNext linkHolds linksTo soundRing ends wal
 lone = refl
 
 -- 65,535 is an index, beyond every list: a link, and a next without an edge
-far : mendedSegments (axis None 0 0) (table (segment None (To 0) (To 0) ∷ segment (To 65535) None (To 65535) ∷ [])) ≡ table (segment None (To 0) (To 0) ∷ segment None None None ∷ [])
+far : mendedSegments (axis None 0 0) (table (segment None (To 0) (To 0) ∷ segment (To 65535) None (To 65535) ∷ []))
+    ≡ table (segment None (To 0) (To 0) ∷ segment None None None ∷ [])
 unfolding mendedSegments byPlace mendedNext linkHolds linksTo soundRing ends walk times every firstFrom
 far = refl
 
 -- two edges, each with the other's first and last: both rings are made anew, and only first and last are altered
 abbrev two : ℕ → ℕ → Axis
-two a b = record { dim = Dimensions.Vertical; «major_dir» = Directions.Up; edges = freshEdge (pos 1) (pos 1) Directions.Up a ∷ freshEdge (pos 2) (pos 2) Directions.Up b ∷ []; len = 2 }
+two a b =
+    record {
+      dim = Dimensions.Vertical;
+      «major_dir» = Directions.Up;
+      edges = freshEdge (pos 1) (pos 1) Directions.Up a
+          ∷ freshEdge (pos 2) (pos 2) Directions.Up b ∷ [];
+      len = 2;
+    }
 
 abbrev each : Segments
 each = table (segment None (To 0) (To 0) ∷ segment None (To 1) (To 1) ∷ [])

@@ -10,7 +10,7 @@ use Rattle.axis.specs.declared.segment.Segments.{Segments}
 use Rattle.axis.specs.Limits.{mostEdges}
 use Rattle.axis.specs.Refusals.{every, edgesShort, edgesInRange, segmentsShort, segmentsInRange}
 use Rattle.mend.specs.Following.{count}
-use Rattle.turning.specs.Indices.{segmentsEdges}
+use Rattle.turn.specs.Indices.{segmentsEdges}
 use Rattle.axis.specs.Ring.{isOf}
 use Rattle.mend.specs.Mended.{mendedAxis, mendedSegments}
 use Rattle.mend.specs.Altered.{Alteration, alterations}

@@ -15,7 +15,7 @@ use Rattle.axis.specs.declared.edge.Axis.{Axis}
 use Rattle.axis.specs.declared.kinds.Dimension.the-variants as Dimensions
 use Rattle.axis.specs.declared.segment.Segments.{Segments}
 use Rattle.axis.specs.Limits.{mostEdges, mostSegments}
-use Rattle.turning.specs.Indices.{segmentsEdges}
+use Rattle.turn.specs.Indices.{segmentsEdges}
 use Rattle.mend.specs.Altered.{Alteration, alterations, mostAltered}
 use Rattle.mend.specs.Mend.{Mended, edgesNamed, tableTests, mendingTests, mend}
 use Rattle.mend.specs.Mended.{mendedAxis, mendedSegments}
@@ -24,24 +24,25 @@ use Rattle.mend.proofs.Lists.{few-altered}
 use Rattle.words.specs.Edge.{edgesIn, edgesOver}
 use Rattle.words.specs.Segment.{segmentsIn, flatSegments, segmentsOver}
 use Rattle.words.specs.Word.{written}
-use Rattle.lent.specs.Lent.{Lent, refusedOr, notWords, edgesOf}
-use Rattle.lent.proofs.Lents.{refused}
-use Rattle.edges_in.specs.Whole as Edges
-use Rattle.edges_in.proofs.Wholes.{shown-whole, edges-len}
-use Rattle.edges_in.proofs.Became as OfEdges
-use Rattle.edges_test.proofs.Calls.{lent-refused, lent-done}
-use Rattle.segments_in.specs.Whole as Segs
-use Rattle.segments_in.proofs.Wholes.{shown-whole as segments-whole, segments-len}
-use Rattle.segments_in.proofs.Became as OfSegments
-use Rattle.flat_turning.specs.Turn.{turnFront}
-use Rattle.flat_turning.proofs.Lending.{Shown, all-shown}
-use Rattle.mend_amend.specs.Listing.{alterationSize, listWords, Listed}
-use Rattle.mend_amend.specs.Amended.{AmendedSegments, AmendedEdges}
-use Rattle.mend_amend.proofs.Entries.{listed-then}
+use Rattle.words_call.specs.Lent.{Lent, refusedOr, notWords, edgesOf}
+use Rattle.words_call.proofs.Lents.{refused}
+use Rattle.words_edge.specs.Whole as Edges
+use Rattle.words_edge.proofs.Wholes.{shown-whole, edges-len}
+use Rattle.words_edge.proofs.Became as OfEdges
+use Rattle.words_edge_test.proofs.Calls.{lent-refused, lent-done}
+use Rattle.words_segment.specs.Whole as Segs
+use Rattle.words_segment.proofs.Wholes.{shown-whole as segments-whole, segments-len}
+use Rattle.words_segment.proofs.Became as OfSegments
+use Rattle.turn_words.specs.Lent.{turnFront}
+use Rattle.turn_words.proofs.Lending.{Shown, all-shown}
+use Rattle.mend_amend_words.specs.Listing.{alterationSize, listWords, Listed}
+use Rattle.mend_amend_words.specs.Amended.{AmendedSegments, AmendedEdges}
+use Rattle.mend_amend_words.proofs.Entries.{listed-then}
 use Rattle.mend_words.specs.Mending.{Planned, mendFront, mended, mendedWords, MendedLent, mendedAll, MendedIn}
 
 -- ---- behind the other tests
-module _ (ws es room : List ℤ) (count : ℤ) (w : Segs.Whole ws) (v : Edges.Whole es) (size : length room ≡ alterationSize * mostAltered) {r : Bool} {edges next : List ℕ} {broken : List Bool}
+module _ (ws es room : List ℤ) (count : ℤ) (w : Segs.Whole ws) (v : Edges.Whole es) (size : length room ≡ alterationSize * mostAltered) {r : Bool}
+    {edges next : List ℕ} {broken : List Bool}
     {lows highs : List ℕ} (p : Planned ws es r edges next broken lows highs) where
   abbrev axis : Axis
   axis = edgesOf es
@@ -54,16 +55,21 @@ module _ (ws es room : List ℤ) (count : ℤ) (w : Segs.Whole ws) (v : Edges.Wh
 
   -- an edge has no segment
   pub not-named : r ≡ false → MendedIn ws es room count brokenRing (ws, (es, (room, count)))
-  not-named q = subst (λ (b : Bool). Lent [] (cond b 0 brokenRing) (mendedAll ws es room) (ws, (es, (room, count))) brokenRing (ws, (es, (room, count)))) (sym q ∙ p .named) (refused (omega arith))
+  not-named q =
+      subst (λ (b : Bool). Lent [] (cond b 0 brokenRing) (mendedAll ws es room) (ws, (es, (room, count))) brokenRing (ws, (es, (room, count))))
+      (sym q ∙ p .named) (refused (omega arith))
 
   -- every edge has one
-  module _ {c1 c2 : ℕ} {ws′ room1 es′ room2 : List ℤ} {word : ℤ} (q : r ≡ true) (s : AmendedSegments edges next ws room c1 ws′ room1) (e : AmendedEdges broken lows highs c1 es room1 c2 es′ room2)
+  module _ {c1 c2 : ℕ} {ws′ room1 es′ room2 : List ℤ} {word : ℤ} (q : r ≡ true) (s : AmendedSegments edges next ws room c1 ws′ room1)
+      (e : AmendedEdges broken lows highs c1 es room1 c2 es′ room2)
       (is-word : word ≡ pos (c2 % 65536)) where
     is-list : segmentsListed edges next segments (segmentsIn ws) ++ edgesListed broken lows highs axis (edgesIn es) ≡ altered
     is-list = (λ j. segmentsListed edges next segments (sym (segments-len ws) j) ++ edgesListed broken lows highs axis (sym (edges-len es) j)) ∙ p .listed q
 
     few : length altered ≤ mostAltered
-    few = few-altered axis segments (mendedAxis axis segments) (mendedSegments axis segments) (omega (arith, segments-len ws, w .few)) (omega (arith, edges-len es, v .few))
+    few =
+        few-altered axis segments (mendedAxis axis segments) (mendedSegments axis segments) (omega (arith, segments-len ws, w .few))
+        (omega (arith, edges-len es, v .few))
 
     all-listed : Listed altered 0 room c2 room2
     all-listed =
@@ -119,7 +125,9 @@ module _ (ws es room : List ℤ) (count : ℤ) {k r : ℕ} (size : length room �
   -- the tests of the tables, then the last one
   all-tests : refusal (mendingTests A T) ≡ answered r (λ (i : ℕ). i) (cond (edgesNamed A T) 0 brokenRing)
   unfolding refusal
-  all-tests = own-first (tableTests A T) (brokenRing unless edgesNamed A T ∷ []) refl ∙ ap (λ (j : ℕ). answered j (λ (i : ℕ). i) (cond (edgesNamed A T) 0 brokenRing)) (sym e)
+  all-tests =
+      own-first (tableTests A T) (brokenRing unless edgesNamed A T ∷ []) refl
+      ∙ ap (λ (j : ℕ). answered j (λ (i : ℕ). i) (cond (edgesNamed A T) 0 brokenRing)) (sym e)
 
   behind : {j : ℕ} → j ≡ refusal (mendingTests A T) → j ≡ refusedOr (mendFront ws es room) (refusal (mendingTests A T))
   unfolding refusedOr
@@ -134,7 +142,8 @@ module _ (ws es room : List ℤ) (count : ℤ) {k r : ℕ} (size : length room �
   refuses-by : (j : ℕ) → j ≡ refusal (mendingTests A T) → 0 < j → MendedLent ws es room count j (ws, (es, (room, count)))
   unfolding mend
   refuses-by j q h =
-      lent-refused (mendFront ws es room) (refusal (mendingTests A T)) (behind q) (λ (x : Mended). x .answer) (mendedWords ws es room) (mendingTests A T) given result (λ (i : ℕ). refl) refl
+      lent-refused (mendFront ws es room) (refusal (mendingTests A T)) (behind q) (λ (x : Mended). x .answer) (mendedWords ws es room) (mendingTests A T)
+      given result (λ (i : ℕ). refl) refl
       (λ x. refl) h
 
   -- a test of the tables refuses
@@ -161,13 +170,16 @@ module _ (ws es room : List ℤ) (count : ℤ) {k r : ℕ} (size : length room �
     unfolding mend refusedOr refusal
     mends {j} {now} m = by (edgesNamed A T) refl (m .number) (m .held)
       where
-        by : (b : Bool) → edgesNamed A T ≡ b → j ≡ cond (edgesNamed A T) 0 brokenRing → now ≡ cond (eqb j 0) (mendedAll ws es room) (ws, (es, (room, count))) → MendedLent ws es room count j now
+        by : (b : Bool) → edgesNamed A T ≡ b → j ≡ cond (edgesNamed A T) 0 brokenRing → now ≡ cond (eqb j 0) (mendedAll ws es room) (ws, (es, (room, count)))
+            → MendedLent ws es room count j now
         by true q n e =
             let z : j ≡ 0 = n ∙ ap (λ (b : Bool). cond b 0 brokenRing) q in
             subst (λ (i : ℕ). MendedLent ws es room count i now) (sym z)
-            (lent-done (mendFront ws es room) (refusal (mendingTests A T)) (behind (n ∙ sym last-test)) (λ (x : Mended). x .answer) (mendedWords ws es room) (mendingTests A T) given result
+            (lent-done (mendFront ws es room) (refusal (mendingTests A T)) (behind (n ∙ sym last-test)) (λ (x : Mended). x .answer) (mendedWords ws es room)
+            (mendingTests A T) given result
             (λ (i : ℕ). refl) refl (λ x. refl) (omega arith) (e ∙ ap (λ (b : Bool). cond b (mendedAll ws es room) (ws, (es, (room, count)))) (eq-eqb j 0 z)))
         by false q n e =
             let z : j ≡ brokenRing = n ∙ ap (λ (b : Bool). cond b 0 brokenRing) q in
             subst (λ (x : List ℤ × (List ℤ × (List ℤ × ℤ))). MendedLent ws es room count j x)
-            (sym (e ∙ ap (λ (b : Bool). cond b (mendedAll ws es room) (ws, (es, (room, count)))) (ne-eqb j 0 (λ (y : j ≡ 0). omega arith)))) (refuses-by j (n ∙ sym last-test) (omega arith))
+            (sym (e ∙ ap (λ (b : Bool). cond b (mendedAll ws es room) (ws, (es, (room, count)))) (ne-eqb j 0 (λ (y : j ≡ 0). omega arith))))
+            (refuses-by j (n ∙ sym last-test) (omega arith))

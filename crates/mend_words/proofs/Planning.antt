@@ -18,7 +18,7 @@ use Rattle.axis.specs.Segment.{segmentAt}
 use Rattle.axis.proofs.Acceptance.{link-below}
 use Rattle.axis.proofs.Sound.{never}
 use Rattle.axis.proofs.Tests.{every-at}
-use Rattle.turning.specs.Indices.{segmentsEdges}
+use Rattle.turn.specs.Indices.{segmentsEdges}
 use Rattle.mend.specs.Following.{count}
 use Rattle.mend.specs.Mend.{edgesNamed}
 use Rattle.mend.specs.Plan.{Gathered, Told}
@@ -28,18 +28,20 @@ use Rattle.mend.proofs.Sound.{Mendable}
 use Rattle.words.specs.Edge.{edgesIn}
 use Rattle.words.specs.Segment.{segmentsIn, flatSegments}
 use Rattle.words.proofs.Typed.{flat-typed}
-use Rattle.lent.specs.Lent.{edgesOf}
-use Rattle.edges_in.specs.Whole as Edges
-use Rattle.edges_in.proofs.Wholes.{edges-len, axis-long}
-use Rattle.segments_in.specs.Whole as Segs
-use Rattle.segments_in.proofs.Wholes.{segments-len}
-use Rattle.mend_rings.specs.Followed.{FollowedTo}
+use Rattle.words_call.specs.Lent.{edgesOf}
+use Rattle.words_edge.specs.Whole as Edges
+use Rattle.words_edge.proofs.Wholes.{edges-len, axis-long}
+use Rattle.words_segment.specs.Whole as Segs
+use Rattle.words_segment.proofs.Wholes.{segments-len}
+use Rattle.mend_rings_words.specs.Followed.{FollowedTo}
 use Rattle.mend_words.specs.Named.{isNamed}
 use Rattle.mend_words.specs.Mending.{Planned}
-use Rattle.mend_rings.proofs.Follows.{followed-told}
+use Rattle.mend_rings_words.proofs.Follows.{followed-told}
 
-module _ (ws es : List ℤ) (w : Segs.Whole ws) (v : Edges.Whole es) (to-edges : segmentsEdges (edgesIn es) (flatSegments ws) ≡ true) (edges next counts lows highs : List ℕ)
-    (g : Gathered (flatSegments ws) edges next) (a : Tallied edges (segmentsIn ws) counts lows highs) (r : Bool) (e : r ≡ every (isNamed counts) (edgesIn es)) where
+module _ (ws es : List ℤ) (w : Segs.Whole ws) (v : Edges.Whole es) (to-edges : segmentsEdges (edgesIn es) (flatSegments ws) ≡ true)
+    (edges next counts lows highs : List ℕ)
+    (g : Gathered (flatSegments ws) edges next) (a : Tallied edges (segmentsIn ws) counts lows highs) (r : Bool)
+    (e : r ≡ every (isNamed counts) (edgesIn es)) where
   abbrev A : Axis
   A = edgesOf es
 
@@ -63,7 +65,8 @@ module _ (ws es : List ℤ) (w : Segs.Whole ws) (v : Edges.Whole es) (to-edges :
   not-planned q = record { named = sym q ∙ named; segments = λ z. never z; axis = λ z. never z; listed = λ z. never z }
 
   -- every edge has one
-  module _ (q : r ≡ true) (broken : List Bool) (seen next′ : List ℕ) (f : FollowedTo es edges next (segmentsIn ws) counts (edgesIn es) broken) (l : Led edges (segmentsIn ws) broken lows next seen next′) where
+  module _ (q : r ≡ true) (broken : List Bool) (seen next′ : List ℕ) (f : FollowedTo es edges next (segmentsIn ws) counts (edgesIn es) broken)
+      (l : Led edges (segmentsIn ws) broken lows next seen next′) where
     mendable : Mendable A T
     unfolding segmentsEdges segmentEdge edgesNamed
     mendable = record {
@@ -71,8 +74,10 @@ module _ (ws es : List ℤ) (w : Segs.Whole ws) (v : Edges.Whole es) (to-edges :
       edges-whole = omega (arith, axis-long es Dimensions.Horizontal, few-edges);
       few = few;
       to-edges = λ (i : ℕ) (h : i < T .len).
-          link-below (A .len) (segmentAt T i .edge) (every-at _ i (min (T .len) mostSegments) (ap (λ (m : ℕ). segmentsEdges m T) (edges-len es) ∙ to-edges) (omega (arith, few)));
-      named = λ (k : ℕ) (h : k < A .len). ltb-true 0 (count (isOf T k) (T .len)) (every-at _ k (min (A .len) mostEdges) (sym named ∙ q) (omega (arith, few-edges)));
+          link-below (A .len) (segmentAt T i .edge)
+          (every-at _ i (min (T .len) mostSegments) (ap (λ (m : ℕ). segmentsEdges m T) (edges-len es) ∙ to-edges) (omega (arith, few)));
+      named =
+          λ (k : ℕ) (h : k < A .len). ltb-true 0 (count (isOf T k) (T .len)) (every-at _ k (min (A .len) mostEdges) (sym named ∙ q) (omega (arith, few-edges)));
     }
 
     told : Told A T broken

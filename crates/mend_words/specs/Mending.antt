@@ -18,10 +18,10 @@ use Rattle.words.specs.Edge as E
 use Rattle.words.specs.Segment.{flatSegments, segmentsOver}
 use Rattle.words.specs.Segment as S
 use Rattle.words.specs.Word.{wordAt, written}
-use Rattle.lent.specs.Kept.{isOneOf}
-use Rattle.lent.specs.Lent.{Lent, notWords, edgesOf}
-use Rattle.flat_turning.specs.Turn.{turnFront}
-use Rattle.mend_amend.specs.Listing.{alterationSize, listWords}
+use Rattle.words_call.specs.Kept.{isOneOf}
+use Rattle.words_call.specs.Lent.{Lent, notWords, edgesOf}
+use Rattle.turn_words.specs.Lent.{turnFront}
+use Rattle.mend_amend_words.specs.Listing.{alterationSize, listWords}
 
 -- ---- the plan
 -- what each record becomes by lists of numbers is what it is mended to, where every edge has a segment

@@ -1,27 +1,27 @@
 // Lent segments and lent edges mended, and what was altered listed.
 use super::plan::plan_in;
-use super::test::refusal_in;
+use super::test::mend_refusal;
 use axis::limits::MOST_EDGES;
 use axis::limits::MOST_SEGMENTS;
-use flat_turning::turn::turning_front;
-use lent::shown::NOT_WORDS;
-use mend_amend::amend::ALTERATION_WORDS;
-use mend_amend::amend::MOST_ALTERED;
-use mend_amend::pass::amend_edges;
-use mend_amend::pass::amend_segments;
+use mend_amend_words::amend::ALTERATION_WORDS;
+use mend_amend_words::amend::MOST_ALTERED;
+use mend_amend_words::pass::amend_edges;
+use mend_amend_words::pass::amend_segments;
 use refusals::order::BROKEN_RING;
+use turn_words::lend::turning_front;
 use words::word::count_word;
+use words_call::shown::NOT_WORDS;
 ghost use mathlib.Core.Path.{_≡_};
 ghost use mathlib.Core.Bool.{true};
 ghost use Prim.Native.Nat.{_*_};
 ghost use lib.ListN.{length};
 ghost use Rattle.mend.specs.Altered.{mostAltered};
-ghost use Rattle.turning.specs.Indices.{segmentsEdges};
+ghost use Rattle.turn.specs.Indices.{segmentsEdges};
 ghost use Rattle.words.specs.Edge.{edgesIn};
 ghost use Rattle.words.specs.Segment.{flatSegments};
-ghost use Rattle.edges_in.specs.Whole as Edges;
-ghost use Rattle.segments_in.specs.Whole as Segments;
-ghost use Rattle.mend_amend.specs.Listing.{alterationSize};
+ghost use Rattle.words_edge.specs.Whole as Edges;
+ghost use Rattle.words_segment.specs.Whole as Segments;
+ghost use Rattle.mend_amend_words.specs.Listing.{alterationSize};
 ghost use Rattle.mend_words.specs.Mending.{MendedIn, MendedLent};
 
 // Mends segments and edges that no other test refuses.
@@ -71,7 +71,7 @@ pub fn lend_mending(
     if 0 < refusal {
         return refusal;
     }
-    let refusal = refusal_in(segments, edges);
+    let refusal = mend_refusal(segments, edges);
     if 0 < refusal {
         return refusal;
     }

@@ -4,19 +4,19 @@ use axis::limits::MOST_EDGES;
 use axis::limits::MOST_SEGMENTS;
 use mend::rebuild::rebuild;
 use mend::tally::tally;
-use mend_rings::broken::find_broken;
-use mend_rings::gather::gather_in;
+use mend_rings_words::broken::find_broken;
+use mend_rings_words::gather::gather_in;
 use words::edge::EDGE_WORDS;
 use words::segment::SEGMENT_WORDS;
 ghost use mathlib.Core.Path.{_≡_};
 ghost use mathlib.Core.Bool.{true, false};
 ghost use lib.ListN.{replicate};
 ghost use Rattle.axis.specs.Limits.{mostEdges, mostSegments};
-ghost use Rattle.turning.specs.Indices.{segmentsEdges};
+ghost use Rattle.turn.specs.Indices.{segmentsEdges};
 ghost use Rattle.words.specs.Edge.{edgesIn};
 ghost use Rattle.words.specs.Segment.{flatSegments};
-ghost use Rattle.edges_in.specs.Whole as Edges;
-ghost use Rattle.segments_in.specs.Whole as Segments;
+ghost use Rattle.words_edge.specs.Whole as Edges;
+ghost use Rattle.words_segment.specs.Whole as Segments;
 ghost use Rattle.mend_words.specs.Mending.{Planned};
 
 // The edge of each segment, what each is led to, which rings are broken, and the lowest and the highest segment of each edge, or false where an edge has no segment; the lists hold nothing

@@ -35,7 +35,8 @@ wrap-sum a b h k =
     let r = residue-is (a +ℤ b) 4294967296 (omega arith) in
     let e = bits-of h .bit in
     let f = bits-of k .bit in
-    rw (only 4294967296 (residue (a +ℤ b) 4294967296) (ofZ w32 a + ofZ w32 b) (r .more + neg a + neg b) (r .less) (r .below) (omega (arith, r .apart, add-law a b)))
+    rw (only 4294967296 (residue (a +ℤ b) 4294967296) (ofZ w32 a + ofZ w32 b) (r .more + neg a + neg b) (r .less) (r .below)
+    (omega (arith, r .apart, add-law a b)))
 
 -- s, which the bits of b make up to those of a, stands for the difference wrapped around
 pub wrap-difference : (a b : ℤ) (s : ℕ) → SFits w32 a → SFits w32 b → s < 4294967296 → (s + ofZ w32 b) % 4294967296 ≡ ofZ w32 a → wrapZ w32 (a -ℤ b) ≡ toZ w32 s

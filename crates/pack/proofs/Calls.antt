@@ -18,7 +18,7 @@ use Rattle.axis.specs.Refusals.{linkHolds, edgesIndices, edgeSegments, segmentE
 use Rattle.axis.specs.Segment.{segmentAt}
 use Rattle.axis.proofs.Acceptance.{link-below, nexts-below}
 use Rattle.axis.proofs.Tests.{every-at}
-use Rattle.turning.specs.Indices.{segmentsEdges, edgesSegments, indexTests}
+use Rattle.turn.specs.Indices.{segmentsEdges, edgesSegments, indexTests}
 use Rattle.mend.proofs.Sums.{count-few}
 use Rattle.mend.specs.Following.{total, count}
 use Rattle.pack.specs.Sets.{isIn}
@@ -42,13 +42,17 @@ holding axis t h =
       segments = record {
         few = few;
         link = λ i l. link-below (t .len) (segmentAt t i .link) (and-first _ _ (every-at _ i (min (t .len) mostSegments) links (omega arith)));
-        serif = λ i l. link-below (t .len) (segmentAt t i .serif) (and-second (linkHolds (t .len) (segmentAt t i .link)) _ (every-at _ i (min (t .len) mostSegments) links (omega arith)));
+        serif =
+            λ i l. link-below (t .len) (segmentAt t i .serif)
+            (and-second (linkHolds (t .len) (segmentAt t i .link)) _ (every-at _ i (min (t .len) mostSegments) links (omega arith)));
         next = λ i l. nexts-below t i few (h .1 .1 .1 .0) l;
       };
       edges = record {
         few = most;
         first = λ k l. ltb-true (edgeAt axis k .first) (t .len) (and-first _ _ (every-at _ k (min (axis .len) mostEdges) ends (omega arith)));
-        last = λ k l. ltb-true (edgeAt axis k .last) (t .len) (and-second (ltb (edgeAt axis k .first) (t .len)) _ (every-at _ k (min (axis .len) mostEdges) ends (omega arith)));
+        last =
+            λ k l. ltb-true (edgeAt axis k .last) (t .len)
+            (and-second (ltb (edgeAt axis k .first) (t .len)) _ (every-at _ k (min (axis .len) mostEdges) ends (omega arith)));
       };
       named = λ i l. link-below (axis .len) (segmentAt t i .edge) (every-at _ i (min (t .len) mostSegments) edges (omega arith));
     }
@@ -60,9 +64,11 @@ held axis t k e z = let q : k ≡ 0 = omega arith in holding axis t (all-hold (i
 -- one of them refuses, and behind them rings
 pub refused-first : (axis : Axis) (t : Segments) (k : ℕ) → k ≡ refusal (indexTests axis t) → 0 < k → k ≡ refusal (packingTests axis t)
 refused-first axis t k e h =
-    or-kept k brokenRing (ringsSound axis t) h ∙ ap (λ (j : ℕ). orRefused j (ringsSound axis t) brokenRing) e ∙ one-more (indexTests axis t) brokenRing (ringsSound axis t) refl
+    or-kept k brokenRing (ringsSound axis t) h ∙ ap (λ (j : ℕ). orRefused j (ringsSound axis t) brokenRing) e
+    ∙ one-more (indexTests axis t) brokenRing (ringsSound axis t) refl
 
-pub refused-last : (axis : Axis) (t : Segments) (k r : ℕ) (b : Bool) → k ≡ refusal (indexTests axis t) → k ≤ 0 → b ≡ ringsSound axis t → r ≡ orRefused 0 b brokenRing
+pub refused-last : (axis : Axis) (t : Segments) (k r : ℕ) (b : Bool) → k ≡ refusal (indexTests axis t) → k ≤ 0 → b ≡ ringsSound axis t
+    → r ≡ orRefused 0 b brokenRing
     → r ≡ refusal (packingTests axis t)
 refused-last axis t k r b e h q p =
     let z : 0 ≡ k = omega arith in
@@ -77,7 +83,18 @@ pub record Taken (axis : Axis) (t : Segments) : Type 0 where
 pub taken : (axis : Axis) (t : Segments) → refusal (packingTests axis t) ≡ 0 → Taken axis t
 taken axis t e =
     let h = all-hold (packingTests axis t) refl e in
-    record { holding = holding axis t (h .0, (h .1 .0, (h .1 .1 .0, (h .1 .1 .1 .0, (h .1 .1 .1 .1 .0, (h .1 .1 .1 .1 .1 .0, (h .1 .1 .1 .1 .1 .1 .0, refl))))))); indexed = h .1 .1 .1 .1 .1 .0; rings = h .1 .1 .1 .1 .1 .1 .1 .0 }
+    record {
+      holding = holding axis t (
+        h .0,
+        (
+          h .1 .0,
+          (h .1 .1 .0, (h .1 .1 .1 .0, (h .1 .1 .1 .1 .0, (h .1 .1 .1 .1 .1 .0, (h .1 .1 .1 .1 .1 .1 .0, refl))))),
+        ),
+      );
+      indexed = h .1 .1 .1 .1 .1 .0;
+      rings = h
+          .1 .1 .1 .1 .1 .1 .1 .0;
+    }
 
 pub linked : {t : Segments} → SegmentsHold t → Linked t
 linked h = record { few = h .few; linked = h .link; serifed = h .serif }
@@ -97,7 +114,8 @@ count-behind s m (suc n) h b =
     out l true e = absurd (let g = b n e in omega arith)
     out l false e = e
 
-pub number-few : (t : Segments) (list : List Bool) (n : ℕ) → t .len ≤ mostSegments → KeptAre t list → n ≡ count (isIn list) mostSegments → ((k : ℕ) → isIn list k ≡ true → k < t .len) → n ≡ keptCount t
+pub number-few : (t : Segments) (list : List Bool) (n : ℕ) → t .len ≤ mostSegments → KeptAre t list → n ≡ count (isIn list) mostSegments
+    → ((k : ℕ) → isIn list k ≡ true → k < t .len) → n ≡ keptCount t
 number-few t list n few a e inside = e ∙ count-behind (isIn list) (t .len) mostSegments few inside ∙ count-same (isIn list) (kept t) (t .len) (λ i h. a .at i)
 
 pub all-counted : (t : Segments) (list : List Bool) (new : List ℕ) (n : ℕ) → SegmentsHold t → KeptAre t list → Numbered list new n → n ≡ keptCount t

@@ -81,7 +81,9 @@ count-injective s j k a b e =
     (same? j k)
   where
     apart : (j ≡ k → ⊥) → ⊥
-    apart n = ⊎-elim (λ (l : j < k). let p = count-rises s j k a l in omega arith) (λ (l : k ≤ j). let p = count-rises s k j b (omega (arith, n)) in omega arith) (lt-or-le j k)
+    apart n =
+        ⊎-elim (λ (l : j < k). let p = count-rises s j k a l in omega arith) (λ (l : k ≤ j). let p = count-rises s k j b (omega (arith, n)) in omega arith)
+        (lt-or-le j k)
 
 -- all of them
 pub count-all : (s : ℕ → Bool) (n : ℕ) → ((i : ℕ) → i < n → s i ≡ true) → count s n ≡ n

@@ -78,7 +78,8 @@ three-next t given one two i x y z w h p q r = record {
   two = filled-next (serifOr t) 0 two i z (w .two) h r;
 }
 
-pub three-ends : (t : Segments) (given : List Bool) (one two : List ℕ) (i : ℕ) → i ≤ t .len → t .len ≤ i → Three t given one two i → Three t given one two (t .len)
+pub three-ends : (t : Segments) (given : List Bool) (one two : List ℕ) (i : ℕ) → i ≤ t .len → t .len ≤ i → Three t given one two i
+    → Three t given one two (t .len)
 three-ends t given one two i h g w = let e : i ≡ t .len = omega arith in rw e at w
 
 module _ (t : Segments) (l : Linked t) where
@@ -106,7 +107,8 @@ module _ (t : Segments) (l : Linked t) where
   twos-within m w = within (serifOr t) m (λ k h. index-within (t .len) k (segmentAt t k .serif) h (l .serifed k h)) w
 
   -- what is followed from them asks for
-  pub three-ready : (given : List Bool) (one two : List ℕ) (i : ℕ) → i ≤ t .len → t .len ≤ i → Three t given one two i → (length given ≡ mostSegments) × Within one × Within two
+  pub three-ready : (given : List Bool) (one two : List ℕ) (i : ℕ) → i ≤ t .len → t .len ≤ i → Three t given one two i
+      → (length given ≡ mostSegments) × Within one × Within two
   three-ready given one two i h g w =
       let v = three-ends t given one two i h g w in
       (v .given .long, ones-within one (v .one), twos-within two (v .two))
@@ -123,5 +125,7 @@ module _ (t : Segments) (l : Linked t) where
   three-followed given kept′ one two i h g w f =
       let v = three-ends t given one two i h g w in
       record {
-        at = followed-is-kept t (l .linked) (l .serifed) (numberAt one) (numberAt two) (isIn given) (isIn kept′) (v .one .done) (v .two .done) (starts given (v .given)) f;
+        at =
+            followed-is-kept t (l .linked) (l .serifed) (numberAt one) (numberAt two) (isIn given) (isIn kept′) (v .one .done) (v .two .done)
+            (starts given (v .given)) f;
       }

@@ -83,7 +83,8 @@ module _
     two = two;
   }
 
-pub follow-ends : (a b : ℕ → ℕ) (kept₀ kept : List Bool) (order : List ℕ) (len at : ℕ) → Following a b kept₀ kept order len at → len ≤ at → Least a b (isIn kept₀) (isIn kept)
+pub follow-ends : (a b : ℕ → ℕ) (kept₀ kept : List Bool) (order : List ℕ) (len at : ℕ)
+    → Following a b kept₀ kept order len at → len ≤ at → Least a b (isIn kept₀) (isIn kept)
 follow-ends a b kept₀ kept order len at f h = record {
   holds = f .held;
   closed = record {

@@ -25,7 +25,7 @@ use Rattle.axis.proofs.Acceptance.{below-none, below-to}
 use Rattle.axis.proofs.Accepting.{link-holds, every-holds, nexts-hold}
 use Rattle.axis.proofs.Sound.{sound-is, is-sound, of-link}
 use Rattle.axis.proofs.Tests.{every-at}
-use Rattle.turning.specs.Indices.{segmentsEdges, edgesSegments}
+use Rattle.turn.specs.Indices.{segmentsEdges, edgesSegments}
 use Rattle.pack.specs.Kept.{kept, newIndex}
 use Rattle.pack.specs.Packed.{moved, packedSegment, packedEdge, packedSegments, packedAxis}
 use Rattle.pack.specs.Call.{ringsSound, packingTests, Holding}
@@ -71,7 +71,8 @@ module _ (axis : Axis) (t : Segments) (w : TypedAxis axis) (v : Typed t) (a : Ta
   next-own : (i k j : ℕ) → i < t .len → k < axis .len → segmentAt t i .edge ≡ Links.To k → segmentAt t i .next ≡ Links.To j → segmentAt t j .edge ≡ Links.To k
   next-own i k j l b e q =
       let s = sound k b in
-      let once : times i (visited (ledTo t) (edgeAt axis k .first) (edgeAt axis k .last)) ≡ 1 = s .visits i l ∙ ap (λ (x : Bool). cond x 1 0) (of-link (segmentAt t i .edge) k e) in
+      let once : times i (visited (ledTo t) (edgeAt axis k .first) (edgeAt axis k .last)) ≡ 1 = s .visits i l
+      ∙ ap (λ (x : Bool). cond x 1 0) (of-link (segmentAt t i .edge) k e) in
       ap (λ (x : ℕ). segmentAt t x .edge) (sym (ap (indexOr (t .len)) q)) ∙ next-mine axis t k s i (omega arith) .1
 
   next-kept : (i j : ℕ) → i < t .len → isLinked (segmentAt t i .edge) ≡ true → segmentAt t i .next ≡ Links.To j → kept t j ≡ true
@@ -93,14 +94,18 @@ module _ (axis : Axis) (t : Segments) (w : TypedAxis axis) (v : Typed t) (a : Ta
 
     link-new : Below (table .len) (segmentAt table i .link)
     link-new = subst (λ (s : Segment). Below (table .len) (s .link)) (sym here) (moved-below new (table .len) (segmentAt t (from .it) .link)
-        (λ k q. to-new k (h .segments .link (from .it) (from .below) .at k q) (kept-link t (h .segments .link) (h .segments .serif) (from .it) k (from .below) (from .mine) q)))
+        (λ k q. to-new k (h .segments .link (from .it) (from .below) .at k q)
+        (kept-link t (h .segments .link) (h .segments .serif) (from .it) k (from .below) (from .mine) q)))
 
     serif-new : Below (table .len) (segmentAt table i .serif)
     serif-new = subst (λ (s : Segment). Below (table .len) (s .serif)) (sym here) (moved-below new (table .len) (segmentAt t (from .it) .serif)
-        (λ k q. to-new k (h .segments .serif (from .it) (from .below) .at k q) (kept-serif t (h .segments .link) (h .segments .serif) (from .it) k (from .below) (from .mine) q)))
+        (λ k q. to-new k (h .segments .serif (from .it) (from .below) .at k q)
+        (kept-serif t (h .segments .link) (h .segments .serif) (from .it) k (from .below) (from .mine) q)))
 
     next-by : (b : Bool) → isLinked (segmentAt t (from .it) .edge) ≡ b → Below (table .len) (cond b (moved new (segmentAt t (from .it) .next)) Links.None)
-    next-by true e = moved-below new (table .len) (segmentAt t (from .it) .next) (λ k q. to-new k (h .segments .next (from .it) (from .below) .at k q) (next-kept (from .it) k (from .below) e q))
+    next-by true e =
+        moved-below new (table .len) (segmentAt t (from .it) .next)
+        (λ k q. to-new k (h .segments .next (from .it) (from .below) .at k q) (next-kept (from .it) k (from .below) e q))
     next-by false e = below-none (table .len)
 
     next-new : Below (table .len) (segmentAt table i .next)
@@ -141,7 +146,8 @@ module _ (axis : Axis) (t : Segments) (w : TypedAxis axis) (v : Typed t) (a : Ta
   unfolding ringsSound
   rings-new =
       every-holds _ (packed .len)
-      (λ k b. is-sound (isOf table k) (ledTo table) (table .len) (edgeAt packed k .first) (edgeAt packed k .last) (sound-new k (subst (λ (n : ℕ). k < n) axis-len b)))
+      (λ k b. is-sound (isOf table k) (ledTo table) (table .len) (edgeAt packed k .first) (edgeAt packed k .last)
+      (sound-new k (subst (λ (n : ℕ). k < n) axis-len b)))
 
   -- ---- every test of the call
   same-indices : (e : Edge) → edgeIndices (axis .len) e ≡ true → edgeIndices (axis .len) (packedEdge new e) ≡ true
@@ -151,7 +157,8 @@ module _ (axis : Axis) (t : Segments) (w : TypedAxis axis) (v : Typed t) (a : Ta
   edges-indexed : edgesIndices packed ≡ true
   unfolding edgesIndices packedAxis
   edges-indexed = every-holds _ (min (axis .len) mostEdges)
-      (λ k l. subst (λ (e : Edge). edgeIndices (axis .len) e ≡ true) (sym (packed-edge-at t axis edges-whole k (omega (arith, l)))) (same-indices (edgeAt axis k) (every-at _ k (min (axis .len) mostEdges) (a .indexed) l)))
+      (λ k l. subst (λ (e : Edge). edgeIndices (axis .len) e ≡ true) (sym (packed-edge-at t axis edges-whole k (omega (arith, l))))
+      (same-indices (edgeAt axis k) (every-at _ k (min (axis .len) mostEdges) (a .indexed) l)))
 
   segments-indexed : segmentsIndices table ≡ true
   unfolding segmentsIndices segmentIndices
@@ -162,7 +169,10 @@ module _ (axis : Axis) (t : Segments) (w : TypedAxis axis) (v : Typed t) (a : Ta
 
   to-edges : segmentsEdges (packed .len) table ≡ true
   unfolding segmentsEdges segmentEdge
-  to-edges = every-holds _ (min (table .len) mostSegments) (λ i l. link-holds (packed .len) (segmentAt table i .edge) (subst (λ (n : ℕ). Below n (segmentAt table i .edge)) (sym axis-len) (edge-new i (omega (arith, l)))))
+  to-edges =
+      every-holds _ (min (table .len) mostSegments)
+      (λ i l. link-holds (packed .len) (segmentAt table i .edge)
+      (subst (λ (n : ℕ). Below n (segmentAt table i .edge)) (sym axis-len) (edge-new i (omega (arith, l)))))
 
   to-segments : edgesSegments (table .len) packed ≡ true
   unfolding edgesSegments edgeSegments
@@ -175,5 +185,8 @@ module _ (axis : Axis) (t : Segments) (w : TypedAxis axis) (v : Typed t) (a : Ta
   not-refused =
       no-refusal (packingTests packed table) (
         le-leb (table .len) mostSegments few-new,
-        (le-leb (packed .len) mostEdges (omega (arith, axis-len, h .edges .few)), (segments-indexed, (nexts-hold table next-new, (to-edges, (edges-indexed, (to-segments, (rings-new, refl))))))),
+        (
+          le-leb (packed .len) mostEdges (omega (arith, axis-len, h .edges .few)),
+          (segments-indexed, (nexts-hold table next-new, (to-edges, (edges-indexed, (to-segments, (rings-new, refl)))))),
+        ),
       )

@@ -113,7 +113,8 @@ module _ (t : Segments) where
           (leads-is i k l)
 
       kept-followed : (k : ℕ) → kept t k ≡ true → s k ≡ true
-      kept-followed k e = kept-least .least s (record { on = closed-on }) (λ (i : ℕ) (l : i < t .len) (g : hasEdge t i ≡ true). w .holds i (starts i ∙ g)) k (kept-below k e) e
+      kept-followed k e =
+          kept-least .least s (record { on = closed-on }) (λ (i : ℕ) (l : i < t .len) (g : hasEdge t i ≡ true). w .holds i (starts i ∙ g)) k (kept-below k e) e
 
       pub followed-is-kept : (k : ℕ) → s k ≡ kept t k
       followed-is-kept k = go (s k) (kept t k) refl refl

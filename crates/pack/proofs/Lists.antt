@@ -98,7 +98,8 @@ pub listing-few : {kept : List Bool} {order : List ℕ} {len i : ℕ} → Listin
 listing-few {kept} {i = i} l = omega (arith, l .counted, count-few (isIn kept) i)
 
 pub listing-starts : (kept : List Bool) (order : List ℕ) → length order ≡ mostSegments → Listing kept order 0 0
-listing-starts kept order e = record { slots = e; counted = sym (count-none (isIn kept)); member = λ j h. absurd (omega arith); found = λ k h. absurd (omega arith) }
+listing-starts kept order e =
+    record { slots = e; counted = sym (count-none (isIn kept)); member = λ j h. absurd (omega arith); found = λ k h. absurd (omega arith) }
 
 pub listing-passes : (kept : List Bool) (order : List ℕ) (len i : ℕ) → Listing kept order len i → isIn kept i ≡ false → Listing kept order len (i + 1)
 listing-passes kept order len i l out = record {
@@ -112,7 +113,8 @@ listing-passes kept order len i l out = record {
       (eq-or-lt-of-le (omega arith));
 }
 
-pub listing-takes : (kept : List Bool) (order : List ℕ) (len i : ℕ) → Listing kept order len i → i < mostSegments → isIn kept i ≡ true → Listing kept (set order len i) (len + 1) (i + 1)
+pub listing-takes : (kept : List Bool) (order : List ℕ) (len i : ℕ) → Listing kept order len i → i < mostSegments → isIn kept i ≡ true
+    → Listing kept (set order len i) (len + 1) (i + 1)
 listing-takes kept order len i l h e =
     let few = listing-few l in
     let last : numberAt (set order len i) len ≡ i = getD-set-same order len i 0 (omega (arith, l .slots)) in
@@ -134,7 +136,8 @@ listing-takes kept order len i l h e =
           (eq-or-lt-of-le (omega arith));
     }
 
-pub listing-ends : (kept : List Bool) (order : List ℕ) (len i : ℕ) → length kept ≡ mostSegments → i ≡ mostSegments → Listing kept order len i → Listed kept order len
+pub listing-ends : (kept : List Bool) (order : List ℕ) (len i : ℕ) → length kept ≡ mostSegments → i ≡ mostSegments → Listing kept order len i
+    → Listed kept order len
 listing-ends kept order len i p e l = record {
   places = p;
   slots = l .slots;
@@ -155,7 +158,8 @@ numbering-few {kept} {i = i} w = omega (arith, w .all, count-few (isIn kept) i)
 pub numbering-starts : (kept : List Bool) → Numbering kept (replicate mostSegments 0) 0 0
 numbering-starts kept = record { slots = length-replicate {A = ℕ} mostSegments 0; at = λ k h. absurd (omega arith); all = sym (count-none (isIn kept)) }
 
-pub numbering-next : (kept : List Bool) (new : List ℕ) (c i d : ℕ) → Numbering kept new c i → i < mostSegments → d ≡ cond (isIn kept i) 1 0 → Numbering kept (set new i c) (c + d) (i + 1)
+pub numbering-next : (kept : List Bool) (new : List ℕ) (c i d : ℕ) → Numbering kept new c i → i < mostSegments → d ≡ cond (isIn kept i) 1 0
+    → Numbering kept (set new i c) (c + d) (i + 1)
 numbering-next kept new c i d w h e = record {
   slots = length-set new i c ∙ w .slots;
   at = λ k g.

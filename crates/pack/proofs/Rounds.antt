@@ -65,7 +65,8 @@ unfolding total
 count-within s t zero h = omega arith
 count-within s t (suc n) h = omega (arith, count-within s t n (λ k l. h k (omega arith)), more (s n) (t n) (h n (omega arith)))
 
-pub same-or-more : (s t : ℕ → Bool) (n : ℕ) → ((k : ℕ) → k < n → s k ≡ true → t k ≡ true) → ((k : ℕ) → k < n → t k ≡ true → s k ≡ true) ⊎ (count s n < count t n)
+pub same-or-more : (s t : ℕ → Bool) (n : ℕ) → ((k : ℕ) → k < n → s k ≡ true → t k ≡ true)
+    → ((k : ℕ) → k < n → t k ≡ true → s k ≡ true) ⊎ (count s n < count t n)
 unfolding total
 same-or-more s t zero h = inl (λ k l. absurd (omega arith))
 same-or-more s t (suc n) h =

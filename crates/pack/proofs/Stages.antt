@@ -30,7 +30,8 @@ moved-same : (f g : ℕ → ℕ) (n : ℕ) → ((k : ℕ) → k < n → f k ≡ 
 moved-same f g n h Links.None b = refl
 moved-same f g n h (Links.To k) b = ap Links.To (h k (b .at k refl))
 
-pub segment-same : (f g : ℕ → ℕ) (n : ℕ) → ((k : ℕ) → k < n → f k ≡ g k) → (s : Segment) → Below n (s .link) → Below n (s .serif) → Below n (s .next) → packedSegment f s ≡ packedSegment g s
+pub segment-same : (f g : ℕ → ℕ) (n : ℕ) → ((k : ℕ) → k < n → f k ≡ g k) → (s : Segment) → Below n (s .link) → Below n (s .serif) → Below n (s .next)
+    → packedSegment f s ≡ packedSegment g s
 segment-same f g n h s a b c =
     let p = moved-same f g n h (s .link) a in
     let q = moved-same f g n h (s .serif) b in
@@ -122,13 +123,16 @@ module _ (t : Segments) where
       let q = sym (new-out i e) in
       λ j. record { segments = map f (p j) ++ drop (q j) (t .segments); len = t .len }
 
-  pub stage-in : (i : ℕ) (v : Segment) → kept t i ≡ true → i < t .len → t .len ≤ length (t .segments) → v ≡ f i → putSegment (stage i) (newIndex t i) v ≡ stage (i + 1)
+  pub stage-in : (i : ℕ) (v : Segment) → kept t i ≡ true → i < t .len → t .len ≤ length (t .segments) → v ≡ f i
+      → putSegment (stage i) (newIndex t i) v ≡ stage (i + 1)
   unfolding stage
   stage-in i v e h whole q =
       let room : newIndex t i < length (t .segments) = omega (arith, count-few (kept t) i) in
-      let list : set (map f (chosen (kept t) i) ++ drop (newIndex t i) (t .segments)) (newIndex t i) v ≡ map f (chosen (kept t) (i + 1)) ++ drop (newIndex t (i + 1)) (t .segments) =
+      let list : set (map f (chosen (kept t) i) ++ drop (newIndex t i) (t .segments)) (newIndex t i) v
+      ≡ map f (chosen (kept t) (i + 1)) ++ drop (newIndex t (i + 1)) (t .segments) =
       ap (λ (r : List Segment). set (map f (chosen (kept t) i) ++ r) (newIndex t i) v) (drop-cons (t .segments) (newIndex t i) emptySegment room)
-      ∙ set-at (map f (chosen (kept t) i)) (getD (t .segments) (newIndex t i) emptySegment) (drop (suc (newIndex t i)) (t .segments)) v (newIndex t i) (front-length i)
+      ∙ set-at (map f (chosen (kept t) i)) (getD (t .segments) (newIndex t i) emptySegment) (drop (suc (newIndex t i)) (t .segments)) v (newIndex t i)
+      (front-length i)
       ∙ ap (λ (x : Segment). map f (chosen (kept t) i) ++ x ∷ drop (suc (newIndex t i)) (t .segments)) q
       ∙ sym (append-snoc (map f (chosen (kept t) i)) (f i) (drop (suc (newIndex t i)) (t .segments)))
       ∙ ap (λ (r : List Segment). r ++ drop (suc (newIndex t i)) (t .segments)) (sym (map-append f (chosen (kept t) i) (i ∷ [])))
@@ -217,8 +221,10 @@ pub upto : {n m : ℕ} {l : Link} → n ≤ m → Below n l → Below m l
 upto {l = l} h b = record { at = λ (k : ℕ) (e : l ≡ Links.To k). omega (arith, b .at k e) }
 
 -- one kept segment moved, by its number on a list
-pub put-moved : (t : Segments) (new : List ℕ) (u : Segments) (i : ℕ) (v : Segment) → SegmentsHold t → Renumbers t new → i < t .len → t .len ≤ length (t .segments) → kept t i ≡ true
+pub put-moved : (t : Segments) (new : List ℕ) (u : Segments) (i : ℕ) (v : Segment) → SegmentsHold t → Renumbers t new → i < t .len
+    → t .len ≤ length (t .segments) → kept t i ≡ true
     → u ≡ stage t i → v ≡ packedSegment (λ (k : ℕ). getD new k 0) (segmentAt t i) → putSegment u (numberAt new i) v ≡ stage t (i + 1)
 put-moved t new u i v a r h whole e q p =
     (λ j. putSegment (q j) (r .at i h j) v)
-    ∙ stage-in t i v e h whole (p ∙ segment-same (λ (k : ℕ). getD new k 0) (newIndex t) (t .len) (r .at) (segmentAt t i) (a .link i h) (a .serif i h) (a .next i h))
+    ∙ stage-in t i v e h whole (p ∙ segment-same (λ (k : ℕ). getD new k 0) (newIndex t) (t .len) (r .at) (segmentAt t i) (a .link i h) (a .serif i h)
+    (a .next i h))

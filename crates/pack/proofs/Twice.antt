@@ -35,7 +35,8 @@ moved-upto new n m h Links.None b = record { at = λ (k : ℕ) (e : Links.None �
   where
     none-to : (k : ℕ) → Links.None ≡ Links.To k → ⊥
     none-to k e = false≢true (ap isLinked e)
-moved-upto new n m h (Links.To j) b = record { at = λ (k : ℕ) (e : Links.To (new j) ≡ Links.To k). let q = h j (b .at j refl) in let r = same-index (new j) k e in omega arith }
+moved-upto new n m h (Links.To j) b =
+    record { at = λ (k : ℕ) (e : Links.To (new j) ≡ Links.To k). let q = h j (b .at j refl) in let r = same-index (new j) k e in omega arith }
   where
     index : Link → ℕ
     index Links.None = 0
@@ -113,7 +114,8 @@ module _ (t : Segments) (x : Indexed t) where
   still : (l : Link) → Below (t .len) l → moved (newIndex table) (moved new l) ≡ moved new l
   still l b = moved-same (newIndex table) n same-index (moved new l) (moved-upto new (t .len) n up l b)
 
-  next-still : (b : Bool) (l : Link) → Below (t .len) l → cond b (moved (newIndex table) (cond b (moved new l) Links.None)) Links.None ≡ cond b (moved new l) Links.None
+  next-still : (b : Bool) (l : Link) → Below (t .len) l → cond b (moved (newIndex table) (cond b (moved new l) Links.None)) Links.None
+      ≡ cond b (moved new l) Links.None
   next-still true l w = still l w
   next-still false l w = refl
 
@@ -144,7 +146,8 @@ module _ (t : Segments) (x : Indexed t) where
   at-again : (j : ℕ) → j < n → segmentAt (packedSegments table) j ≡ segmentAt table j
   at-again j h =
       let c = chosen-is (kept t) (t .len) j h in
-      let here : segmentAt table j ≡ packedSegment new (segmentAt t (c .it)) = ap (segmentAt table) (sym (c .place)) ∙ packed-at t (c .it) (c .below) (c .mine) in
+      let here : segmentAt table j ≡ packedSegment new (segmentAt t (c .it)) = ap (segmentAt table) (sym (c .place))
+      ∙ packed-at t (c .it) (c .below) (c .mine) in
       ap (segmentAt (packedSegments table)) (sym (same-index j (omega arith)))
       ∙ packed-at table j (below-table j h) (all-kept j h)
       ∙ ap (packedSegment (newIndex table)) here

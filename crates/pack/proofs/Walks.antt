@@ -38,7 +38,8 @@ last-met next m last (suc n) x e = by (λ q. last-met next m last n (next x) q) 
     by rest false q e = met-behind last x (walk next last n (next x)) (rest (and-second (ltb (next x) m) _ e))
 
 -- the next of a number that is met is met, but for the last's
-pub next-met : (next : ℕ → ℕ) (m last n left x i : ℕ) → length (walk next last n x) ≤ left → ends next m last n x ≡ true → 0 < times i (walk next last n x) → (i ≡ last → ⊥)
+pub next-met : (next : ℕ → ℕ) (m last n left x i : ℕ) → length (walk next last n x) ≤ left → ends next m last n x ≡ true → 0 < times i (walk next last n x)
+    → (i ≡ last → ⊥)
     → 0 < times (next i) (walk next last n x)
 next-met next m last n zero x i few e g q = absurd (omega (arith, walk-some next last n x))
 next-met next m last n (suc left) x i few e g q =
@@ -50,7 +51,8 @@ next-met next m last n (suc left) x i few e g q =
     subst (λ (l : List ℕ). 0 < times (next i) l) (sym (w .step))
     (⊎-elim
     (λ (r : i ≡ x).
-    subst (λ (j : ℕ). 0 < times (next j) (x ∷ walk next last n (next x))) (sym r) (met-behind (next x) x (walk next last n (next x)) (head-met next last n (next x))))
+    subst (λ (j : ℕ). 0 < times (next j) (x ∷ walk next last n (next x))) (sym r)
+    (met-behind (next x) x (walk next last n (next x)) (head-met next last n (next x))))
     (λ (r : 0 < times i (walk next last n (next x))).
     met-behind (next i) x (walk next last n (next x)) (next-met next m last n left (next x) i (omega (arith, lengths)) (w .on) r q))
     (met i x (walk next last n (next x)) (subst (λ (l : List ℕ). 0 < times i l) (w .step) g))))
@@ -92,7 +94,8 @@ module _
       ap (λ (b : Bool). cond b true (ltb (next′ (new x)) m′ && ends next′ m′ (new last) n (next′ (new x)))) (same-test x p)
       ∙ by p (λ g q. ends-moved m m′ below n (next x) g q) (eqb x last) h e
     where
-      by : P x → (((i : ℕ) → 0 < times i (walk next last n (next x)) → P i) → ends next m last n (next x) ≡ true → ends next′ m′ (new last) n (new (next x)) ≡ true)
+      by : P x → (((i : ℕ) → 0 < times i (walk next last n (next x)) → P i) → ends next m last n (next x) ≡ true
+          → ends next′ m′ (new last) n (new (next x)) ≡ true)
           → (b : Bool) → ((i : ℕ) → 0 < times i (cond b (x ∷ []) (x ∷ walk next last n (next x))) → P i)
           → cond b true (ltb (next x) m && ends next m last n (next x)) ≡ true
           → cond b true (ltb (next′ (new x)) m′ && ends next′ m′ (new last) n (next′ (new x))) ≡ true

@@ -9,7 +9,7 @@ use Rattle.axis.specs.Accepted.{Below}
 use Rattle.axis.specs.Refusals.{every}
 use Rattle.axis.specs.Ring.{isSound}
 use Rattle.axis.specs.Segment.{segmentAt}
-use Rattle.turning.specs.Indices.{indexTests}
+use Rattle.turn.specs.Indices.{indexTests}
 use Rattle.pack.specs.Packed.{packedSegments, packedAxis, SegmentsHold, EdgesHold}
 
 -- ---- the tests in their order

@@ -23,16 +23,16 @@ use Rattle.pack.proofs.Stages.{renumbers, packed-is}
 use Rattle.words.specs.Edge.{edgesIn, edgesOver}
 use Rattle.words.specs.Segment.{segmentsIn, flatSegments, segmentsOver}
 use Rattle.words.proofs.Typed.{flat-typed}
-use Rattle.lent.specs.Lent.{refusedOr, edgesOf}
-use Rattle.edges_in.specs.Whole as E
-use Rattle.edges_in.proofs.Became.{became-over as edges-over}
-use Rattle.edges_in.proofs.Wholes.{shown-whole, edges-len, axis-long}
-use Rattle.edges_test.proofs.Calls.{lent-refused, lent-done}
-use Rattle.segments_in.specs.Whole as S
-use Rattle.segments_in.proofs.Became.{count-in, became-then, became-over}
-use Rattle.segments_in.proofs.Wholes.{shown-whole as segments-whole, segments-len}
-use Rattle.flat_turning.specs.Turn.{turnFront}
-use Rattle.flat_turning.proofs.Lending.{Shown, all-shown}
+use Rattle.words_call.specs.Lent.{refusedOr, edgesOf}
+use Rattle.words_edge.specs.Whole as E
+use Rattle.words_edge.proofs.Became.{became-over as edges-over}
+use Rattle.words_edge.proofs.Wholes.{shown-whole, edges-len, axis-long}
+use Rattle.words_edge_test.proofs.Calls.{lent-refused, lent-done}
+use Rattle.words_segment.specs.Whole as S
+use Rattle.words_segment.proofs.Became.{count-in, became-then, became-over}
+use Rattle.words_segment.proofs.Wholes.{shown-whole as segments-whole, segments-len}
+use Rattle.turn_words.specs.Lent.{turnFront}
+use Rattle.turn_words.proofs.Lending.{Shown, all-shown}
 use Rattle.pack_words.specs.Pack.{packedWords, PackedBoth, PackedLent}
 
 -- ---- the steps
@@ -65,12 +65,14 @@ module _ (ws es : List ℤ) (w : S.Whole ws) (v : E.Whole es) (h : Holding (edge
   unfolding segmentsOver
   over-places t u e = ap (λ (ss : List Segment). segmentsOver ws (record { segments = ss; len = t .len })) e
 
-  pub packs-both : {w1 w2 e1 : List ℤ} → S.Became movedSegments ws w1 → S.Became (cleared count) w1 w2 → E.Became (renumbered (numberAt new)) es e1 → PackedBoth ws es count w2 e1
+  pub packs-both : {w1 w2 e1 : List ℤ} → S.Became movedSegments ws w1 → S.Became (cleared count) w1 w2 → E.Became (renumbered (numberAt new)) es e1
+      → PackedBoth ws es count w2 e1
   packs-both a b c = record {
     segments =
         became-over {f = λ (t : Segments). cleared count (movedSegments t)} w (became-then a b)
         ∙ ap (λ (m : ℕ). segmentsOver ws (cleared m (movedSegments T))) is-count
-        ∙ over-places (cleared (keptCount T) (movedSegments T)) (packedSegments T) (packed-is T (omega (arith, segments-len ws, flat-typed ws .places, w .few)));
+        ∙ over-places (cleared (keptCount T) (movedSegments T)) (packedSegments T)
+        (packed-is T (omega (arith, segments-len ws, flat-typed ws .places, w .few)));
     edges =
         edges-over v c Dimensions.Horizontal
         ∙ ap (edgesOver es) (edges-packed T (edgesOf es) new (omega (arith, edges-len es, axis-long es Dimensions.Horizontal, v .few)) (h .edges) new-numbers);
@@ -117,7 +119,8 @@ module _ (ws es : List ℤ) (old : ℤ) {k : ℕ} (f : k ≡ refusal (turnFront 
             taken A B (sym e ∙ z) .holding,
           )
 
-      pub packs : {count : ℕ} {ws′ es′ : List ℤ} {now : ℤ} → PackedBoth ws es count ws′ es′ → now ≡ pos (count % 65536) → PackedLent ws es old 0 (ws′, (es′, now))
+      pub packs : {count : ℕ} {ws′ es′ : List ℤ} {now : ℤ} → PackedBoth ws es count ws′ es′ → now ≡ pos (count % 65536)
+          → PackedLent ws es old 0 (ws′, (es′, now))
       unfolding pack
       packs {count} {ws′} {es′} {now} b q =
           let small : count % 65536 ≡ count = omega (arith, b .counted, kept-few B, segments-len ws, shown .few-segments) in

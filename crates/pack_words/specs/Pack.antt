@@ -10,8 +10,8 @@ use Rattle.pack.specs.Packed.{keptCount, packedSegments, packedAxis}
 use Rattle.pack.specs.Call.{Packed, pack}
 use Rattle.words.specs.Edge.{edgesOver}
 use Rattle.words.specs.Segment.{flatSegments, segmentsOver}
-use Rattle.lent.specs.Lent.{Lent, edgesOf}
-use Rattle.flat_turning.specs.Turn.{turnFront}
+use Rattle.words_call.specs.Lent.{Lent, edgesOf}
+use Rattle.turn_words.specs.Lent.{turnFront}
 
 -- ---- the promise
 -- what the call hands back

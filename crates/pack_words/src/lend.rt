@@ -1,14 +1,14 @@
 // The call over lent segments and lent edges.
 use super::ring::rings_sound_in;
-use flat_turning::turn::turning_front;
 use pack::number::number;
-use pack_steps::down::clear_in;
-use pack_steps::down::move_in;
-use pack_steps::ends::ends_in;
-use pack_steps::keep::kept_in;
+use pack_steps_words::down::clear_in;
+use pack_steps_words::down::move_in;
+use pack_steps_words::ends::ends_in;
+use pack_steps_words::keep::kept_in;
 use refusals::order::BROKEN_RING;
 use refusals::order::or_refused;
-use turning_in::test::index_refusal_in;
+use turn_words::lend::turning_front;
+use turn_words::test::index_refusal;
 use words::word::count_word;
 ghost use mathlib.Core.Path.{_≡_};
 ghost use Prim.Native.Nat.{_≤_};
@@ -17,9 +17,9 @@ ghost use Rattle.axis.specs.Limits.{mostEdges, mostSegments};
 ghost use Rattle.pack.specs.Call.{packingTests, Holding};
 ghost use Rattle.words.specs.Edge.{edgesIn};
 ghost use Rattle.words.specs.Segment.{segmentsIn, flatSegments};
-ghost use Rattle.lent.specs.Lent.{edgesOf};
-ghost use Rattle.edges_in.specs.Whole as Edges;
-ghost use Rattle.segments_in.specs.Whole as Segments;
+ghost use Rattle.words_call.specs.Lent.{edgesOf};
+ghost use Rattle.words_edge.specs.Whole as Edges;
+ghost use Rattle.words_segment.specs.Whole as Segments;
 ghost use Rattle.pack_words.specs.Pack.{PackedBoth, PackedLent};
 
 // The refusal of the call, or 0: rings are followed where every index is tested.
@@ -27,7 +27,7 @@ fn packing_refusal(segments: &[i32], edges: &[i32]) -> u8
     requires { ⌜ (segmentsIn (now segments) ≤ mostSegments) × (edgesIn (now edges) ≤ mostEdges) ⌝ }
     ensures { λ r. ⌜ r ≡ refusal (packingTests (edgesOf (now (edges .entry))) (flatSegments (now (segments .entry)))) ⌝ }
 {
-    let answer = index_refusal_in(segments, edges);
+    let answer = index_refusal(segments, edges);
     if 0 < answer {
         return answer;
     }

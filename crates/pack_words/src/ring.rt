@@ -2,8 +2,8 @@
 use axis::limits::MOST_EDGES;
 use axis::limits::MOST_SEGMENTS;
 use mend::tally::tally;
-use mend_rings::broken::find_broken;
-use mend_rings::gather::gather_in;
+use mend_rings_words::broken::find_broken;
+use mend_rings_words::gather::gather_in;
 use words::edge::EDGE_WORDS;
 use words::segment::SEGMENT_WORDS;
 ghost use mathlib.Core.Path.{_≡_};
@@ -12,7 +12,7 @@ ghost use Rattle.axis.specs.Limits.{mostEdges, mostSegments};
 ghost use Rattle.pack.specs.Call.{ringsSound};
 ghost use Rattle.words.specs.Edge.{edgesIn};
 ghost use Rattle.words.specs.Segment.{segmentsIn, flatSegments};
-ghost use Rattle.lent.specs.Lent.{edgesOf};
+ghost use Rattle.words_call.specs.Lent.{edgesOf};
 ghost use Rattle.pack_words.specs.Pack.{noneBroken};
 
 // Whether none of the first m rings is broken.

@@ -8,9 +8,9 @@ use lib.ListN.{length}
 use lib.IntN.{ℤ}
 use Rattle.refusals.specs.Refusal.{refusal}
 use Rattle.refusals.proofs.Tests.{answered-no, answered-yes}
-use Rattle.contours.specs.Limits.{mostResult}
-use Rattle.outline.specs.Weak.{endsHold}
-use Rattle.outline.proofs.Refusals.{passed}
+use Rattle.weak_contour.specs.Limits.{mostResult}
+use Rattle.weak.specs.Weak.{endsHold}
+use Rattle.weak.proofs.Refusals.{passed}
 use Rattle.path_trip.specs.declared.step.PathStep.{PathStep}
 use Rattle.path_walk.specs.declared.walk.Sought.the-variants.{Here, Past}
 use Rattle.path_trip.specs.Path.{points, path}
@@ -36,7 +36,9 @@ named-past p k l e = rw (le-ltb k (length p) (in-past p k l e))
 module _ (xs ys : List ℤ) (marks es : List ℕ) where
   -- an outline that is answered by 0 is sound, and its ends hold
   pub accepted : refusal (pathTests xs ys marks es) ≡ 0 → Admitted (points xs ys marks) × (endsHold 0 (length xs) es ≡ true)
-  accepted e = let p = passed mostResult xs ys marks es e in (record { few = p .points; ys-length = p .seconds-length; marks-length = p .marks-length; wide = p .firsts; high = p .seconds }, p .ends)
+  accepted e =
+      let p = passed mostResult xs ys marks es e in
+      (record { few = p .points; ys-length = p .seconds-length; marks-length = p .marks-length; wide = p .firsts; high = p .seconds }, p .ends)
 
   module _ (k n : ℕ) (e : n ≡ refusal (pathTests xs ys marks es)) where
     pub handed-refused : 0 < n → Refused n ≡ handed xs ys marks es k

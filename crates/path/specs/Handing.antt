@@ -8,8 +8,8 @@ use lib.Dec.{ltb}
 use lib.ListN.{length, getD}
 use lib.IntN.{ℤ}
 use Rattle.refusals.specs.Refusal.{Test, refusal, answered}
-use Rattle.contours.specs.Limits.{mostResult}
-use Rattle.outline.specs.Weak.{outlineTests}
+use Rattle.weak_contour.specs.Limits.{mostResult}
+use Rattle.weak.specs.Weak.{outlineTests}
 use Rattle.path_trip.specs.declared.step.PathStep.{PathStep}
 use Rattle.path_trip.specs.declared.step.PathStep.the-variants.{Close}
 use Rattle.path_trip.specs.Path.{points, path}

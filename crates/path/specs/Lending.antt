@@ -4,8 +4,8 @@ use mathlib.Core.List.{List, [], _∷_}
 use Prim.Native.Nat.{ℕ}
 use lib.Ieee.{Float}
 use lib.IntN.{ℤ}
-use Rattle.pixels.specs.Places.{origin}
-use Rattle.pixels.specs.declared.PixelPoint.{PixelPoint}
+use Rattle.path_places.specs.Places.{origin}
+use Rattle.path_places.specs.declared.PixelPoint.{PixelPoint}
 use Rattle.path_trip.specs.Numbers.{kindOf, firstOf, secondOf}
 use Rattle.path.specs.declared.hand.Handed.{Handed}
 use Rattle.path.specs.declared.hand.Handed.the-variants.{Refused, Finished, Step}

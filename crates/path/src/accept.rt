@@ -1,5 +1,5 @@
 // Which outlines have no path.
-use outline::accept::outline_refusal;
+use weak::accept::outline_refusal;
 ghost use mathlib.Core.Path.{_≡_};
 ghost use Rattle.refusals.specs.Refusal.{refusal};
 ghost use Rattle.path.specs.Handing.{pathTests};

@@ -2,11 +2,11 @@
 use super::hand::Cursor;
 use super::hand::Handed;
 use super::hand::path_step;
+use path_places::PixelPoint;
+use path_places::no_place;
 use path_trip::step::first_of;
 use path_trip::step::kind_of;
 use path_trip::step::second_of;
-use pixels::PixelPoint;
-use pixels::no_place;
 ghost use mathlib.Core.Path.{_≡_};
 ghost use Rattle.path.specs.Lending.{four, StepLent};
 

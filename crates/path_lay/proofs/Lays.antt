@@ -5,7 +5,7 @@ use Prim.Native.Nat.{ℕ, _+_, _-_, _*_, _≤_}
 use native.Mathlib.Omega.{arith}
 use lib.Ieee.{Float}
 use lib.ListN.{length, set, length-set, length-append}
-use Rattle.pixels.specs.declared.PixelPoint.{PixelPoint}
+use Rattle.path_places.specs.declared.PixelPoint.{PixelPoint}
 use Rattle.path_trip.specs.declared.step.PathStep.{PathStep}
 use Rattle.path_trip.specs.Numbers.{kindOf, firstOf, secondOf}
 use Rattle.path_lay.specs.Laying.{Lists, lent, placedAt, laid, lay, Room}
@@ -59,7 +59,11 @@ room-less l m n h r = record { kinds-room = omega (arith, r .kinds-room); places
 pub room-laid : (l m : Lists) (s : PathStep) (n : ℕ) → m ≡ laid l s → Room l (n + 1) → Room m n
 room-laid l m s n e r =
     subst (λ (x : Lists). Room x n) (sym e)
-    (record { kinds-room = omega (arith, r .kinds-room, laid-kinds l s, laid-count l s); places-room = omega (arith, r .places-room, laid-places l s, laid-count l s) })
+    (record {
+      kinds-room = omega (arith, r .kinds-room, laid-kinds l s, laid-count l s);
+      places-room = omega
+          (arith, r .places-room, laid-places l s, laid-count l s);
+    })
 
 -- and behind several
 pub room-lay : (p : List PathStep) (l m : Lists) (n : ℕ) → m ≡ lay l p → Room l (length p + n) → Room m n

@@ -6,7 +6,7 @@ use Prim.Native.Nat.{ℕ, _+_, _≤_, _<_}
 use native.Mathlib.Omega.{arith}
 use lib.ListN.{length, drop}
 use lib.Seq.{drop-drop}
-use Rattle.pixels.specs.declared.PixelPoint.{PixelPoint}
+use Rattle.path_places.specs.declared.PixelPoint.{PixelPoint}
 use Rattle.path_trip.specs.declared.step.PathStep.the-variants.{Line, Curve}
 use Rattle.path_trip.specs.Path.{Points, place, onCurve, curveEnd, walked}
 use Rattle.path_trip.specs.Trips.{around, Walk}
@@ -29,7 +29,8 @@ module _ (o : Points) (start : PixelPoint) where
 
   -- a curve by an off-curve point, to its end
   curve-more : (i k : ℕ) (is : List ℕ) (b : Bool) → onCurve o i ≡ false → onCurve o k ≡ b
-      → walked o start true (i ∷ k ∷ is) ≡ Curve (place o i) (endPlace o start (endOf o i (k ∷ is))) ∷ walked o start true (drop (passed (endOf o i (k ∷ is))) (k ∷ is))
+      → walked o start true (i ∷ k ∷ is) ≡ Curve (place o i) (endPlace o start (endOf o i (k ∷ is)))
+      ∷ walked o start true (drop (passed (endOf o i (k ∷ is))) (k ∷ is))
   unfolding walked curveEnd endOf
   curve-more i k is true q h = rw (q, h)
   curve-more i k is false q h = rw (q, h) (rw h)
@@ -62,7 +63,8 @@ module _ (o : Points) (start : PixelPoint) where
         → walked o start true (drop j w) ≡ Curve (place o i) (endPlace o start x) ∷ walked o start true (drop (passed x) (drop (j + 1) w))
     curve-left x q h =
         ap (walked o start true) here ∙ curve-turn i (drop (j + 1) w) q
-        ∙ ap (λ (z : End). Curve (place o i) (endPlace o start z) ∷ walked o start true (drop (passed z) (drop (j + 1) w))) (ap (λ (k : ℕ). endOf o k (drop (j + 1) w)) p ∙ sym h)
+        ∙ ap (λ (z : End). Curve (place o i) (endPlace o start z) ∷ walked o start true (drop (passed z) (drop (j + 1) w)))
+        (ap (λ (k : ℕ). endOf o k (drop (j + 1) w)) p ∙ sym h)
 
 -- the point behind the next
 pub one-further : (j : ℕ) (w : List ℕ) → drop 1 (drop (j + 1) w) ≡ drop (j + 2) w

@@ -5,7 +5,7 @@ use mathlib.Core.List.{List, [], _∷_}
 use Prim.Native.Nat.{ℕ, _+_, _*_, _≤_, _<_}
 use lib.Ieee.{Float}
 use lib.ListN.{length, set, drop}
-use Rattle.pixels.specs.declared.PixelPoint.{PixelPoint}
+use Rattle.path_places.specs.declared.PixelPoint.{PixelPoint}
 use Rattle.path_trip.specs.declared.step.PathStep.{PathStep}
 use Rattle.path_trip.specs.Numbers.{kindOf, firstOf, secondOf}
 use Rattle.path_trip.specs.Path.{Points, walked}

@@ -1,10 +1,10 @@
 // One step in lent lists.
+use path_places::PixelPoint;
+use path_places::no_place;
 use path_trip::step::PathStep;
 use path_trip::step::first_of;
 use path_trip::step::kind_of;
 use path_trip::step::second_of;
-use pixels::PixelPoint;
-use pixels::no_place;
 ghost use mathlib.Core.Path.{_≡_};
 ghost use Prim.Native.Nat.{_+_, _*_, _<_};
 ghost use lib.ListN.{length, set};

@@ -58,7 +58,8 @@ lines-few o start i on [] = omega arith
 lines-few o start i on (j ∷ js) = by (onCurve o j) on (lines-few o start i true js) (lines-few o start i false js)
   where
     by : (b c : Bool) → lines i (legs o start true js) ≤ occurs i js → lines i (legs o start false js) ≤ occurs i js
-        → lines i (cond b (cond c (line j ∷ legs o start true js) (legs o start true js)) (curve j (curveTo o start j js) ∷ legs o start false js)) ≤ here i j + occurs i js
+        → lines i (cond b (cond c (line j ∷ legs o start true js) (legs o start true js)) (curve j (curveTo o start j js) ∷ legs o start false js))
+        ≤ here i j + occurs i js
     by true true p q = omega arith
     by true false p q = omega arith
     by false c p q = omega arith
@@ -133,4 +134,5 @@ module _ (o : Points) where
       by : (b : Bool) → onCurve o a ≡ b → (rest o (from (suc a) n) ≡ [] → (z : ℕ) → suc a ≤ z → z < suc a + n → onCurve o z ≡ false)
           → cond b (a ∷ from (suc a) n) (rest o (from (suc a) n)) ≡ [] → onCurve o z ≡ false
       by true p r q = let v : _≡_ {A = ℕ} 0 1 = cc in let w : ⊥ = omega arith in absurd w
-      by false p r q = ⊎-elim (λ (v : a < z). r q z (omega arith) (omega arith)) (λ (v : z ≤ a). let e : z ≡ a = omega arith in ap (onCurve o) e ∙ p) (lt-or-le a z)
+      by false p r q =
+          ⊎-elim (λ (v : a < z). r q z (omega arith) (omega arith)) (λ (v : z ≤ a). let e : z ≡ a = omega arith in ap (onCurve o) e ∙ p) (lt-or-le a z)

@@ -6,9 +6,9 @@ use native.Mathlib.Omega.{arith}
 use lib.IntN.{ℤ, pos, negsuc, _+ℤ_}
 use lib.Ieee.{Float, nan, inf, fin, odd}
 use lib.Ieee.Exact.{HasValue}
-use Rattle.contours.specs.Contour.{at}
-use Rattle.pixels.specs.Exact.{over, Exactly}
-use Rattle.pixels.proofs.Exact.{over-exact}
+use Rattle.weak_contour.specs.Contour.{at}
+use Rattle.path_places.specs.Exact.{over, Exactly}
+use Rattle.path_places.proofs.Exact.{over-exact}
 use Rattle.path_trip.specs.Path.{Points}
 use Rattle.path_trip.specs.declared.tour.Spot.{Spot}
 use Rattle.path_trip.specs.declared.tour.Spot.the-variants.{Point, Between}

@@ -9,7 +9,7 @@ use lib.IntN.{ℤ}
 use lib.ListN.{length, getD, drop, drop-of-length-le}
 use Rattle.signed.proofs.Signed.{lt-or-le}
 use Rattle.refusals.specs.Refusal.{refusal, answered}
-use Rattle.outline.proofs.Refusals.{drop-one}
+use Rattle.weak.proofs.Refusals.{drop-one}
 use Rattle.path_trip.specs.declared.step.PathStep.{PathStep}
 use Rattle.path_trip.specs.declared.step.PathStep.the-variants.{Close}
 use Rattle.path_trip.specs.Path.{points, path}
@@ -57,9 +57,11 @@ module _ (xs ys : List ℤ) (marks es : List ℕ) (e : refusal (pathTests xs ys 
   followed : (n k : ℕ) → length steps ≤ k + n → follow xs ys marks es n (handed xs ys marks es k) ≡ drop k steps
   unfolding follow
   followed zero k h = ended 0 k (omega arith)
-  followed (suc n) k h = ⊎-elim (λ (l : k < length steps). on (followed n (k + 1) (omega arith)) l) (λ (l : length steps ≤ k). ended (suc n) k l) (lt-or-le k (length steps))
+  followed (suc n) k h =
+      ⊎-elim (λ (l : k < length steps). on (followed n (k + 1) (omega arith)) l) (λ (l : length steps ≤ k). ended (suc n) k l) (lt-or-le k (length steps))
     where
-      on : follow xs ys marks es n (handed xs ys marks es (k + 1)) ≡ drop (k + 1) steps → k < length steps → follow xs ys marks es (suc n) (handed xs ys marks es k) ≡ drop k steps
+      on : follow xs ys marks es n (handed xs ys marks es (k + 1)) ≡ drop (k + 1) steps → k < length steps
+          → follow xs ys marks es (suc n) (handed xs ys marks es k) ≡ drop k steps
       on q l = rw (handed-step k l) (ap (λ (m : List PathStep). getD steps k Close ∷ m) q ∙ sym (drop-one steps k Close l))
 
   -- so points + 2 · contours calls are enough for all steps
@@ -73,4 +75,5 @@ whole xs ys marks es l r l′ w z =
     let tests = wholeTests xs ys marks es (length (l .kinds)) (length (l .places)) in
     let k : refusal tests ≡ 0 = sym (w .answer) ∙ z in
     let e = no-refusal (pathTests xs ys marks es) (all-hold tests refl k .1) in
-    w .lists ∙ worked (λ _. l) (written (path (points xs ys marks) es) l) (refusal tests) k ∙ ap (λ (p : List PathStep). written p l) (sym (sequence xs ys marks es e))
+    w .lists ∙ worked (λ _. l) (written (path (points xs ys marks) es) l) (refusal tests) k
+    ∙ ap (λ (p : List PathStep). written p l) (sym (sequence xs ys marks es e))

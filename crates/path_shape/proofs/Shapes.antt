@@ -10,7 +10,7 @@ use lib.IntN.{ℤ}
 use Rattle.signed.proofs.Choices.{clash}
 use Rattle.refusals.specs.Refusal.{refusal}
 use Rattle.refusals.proofs.Tests.{and-first, and-second}
-use Rattle.outline.specs.Weak.{endsHold}
+use Rattle.weak.specs.Weak.{endsHold}
 use Rattle.path_trip.specs.Path.{Points, points, onCurve, from, front, rest}
 use Rattle.path.specs.Handing.{pathTests}
 use Rattle.path.proofs.Named.{accepted}
@@ -61,8 +61,11 @@ module _ (o : Points) (a e : ℕ) (h : a ≤ e) where
         start-ends =
             let z = here-is f f refl in
             let m = parted f f behind q (g .low) (omega (arith, g .high)) in
-            let w : occurs f walk ≡ 0 = omega (arith, z, m, occurs-two f behind (front o whole)) in
-            (omega (arith, w, lines-few o (Point f) f true walk), ends-are o (Point f) f (g .on) walk ∙ (λ k. w k + cond (lastOn o true walk) 0 (z k)) ∙ omega arith);
+            let w : occurs f walk ≡ 0 = omega (arith, z, m, occurs-two f behind (front o whole)) in (
+              omega (arith, w, lines-few o (Point f) f true walk),
+              ends-are o (Point f) f (g .on) walk ∙ (λ k. w k + cond (lastOn o true walk) 0 (z k))
+                  ∙ omega arith,
+            );
       }
 
 -- every contour of an outline whose ends hold

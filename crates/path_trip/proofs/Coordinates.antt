@@ -6,12 +6,12 @@ use lib.IntN.{ℤ, natAbs}
 use mir.Syntax.{w32}
 use mir.Val.{toZ, ofZ}
 use mir.ValLaws.{toZ-ofZ}
-use Rattle.contours.specs.Limits.{mostResult}
-use Rattle.contours.specs.Contour.{at}
-use Rattle.pixels.specs.Exact.{mostExact}
-use Rattle.pixels.proofs.Exact.{mag-le}
-use Rattle.pixels.specs.Places.{pointAt, halfwayAt}
-use Rattle.pixels.specs.declared.PixelPoint.{PixelPoint}
+use Rattle.weak_contour.specs.Limits.{mostResult}
+use Rattle.weak_contour.specs.Contour.{at}
+use Rattle.path_places.specs.Exact.{mostExact}
+use Rattle.path_places.proofs.Exact.{mag-le}
+use Rattle.path_places.specs.Places.{pointAt, halfwayAt}
+use Rattle.path_places.specs.declared.PixelPoint.{PixelPoint}
 use Rattle.path_trip.specs.Path.{Points, place, middle}
 use Rattle.path_trip.specs.Trips.{Admitted}
 
@@ -35,5 +35,6 @@ module _ (o : Points) (s : Admitted o) where
   place-is i r e = e ∙ λ k. pointAt (x-is i k) (y-is i k)
 
   pub middle-is : (i j : ℕ) (r : PixelPoint)
-      → r ≡ halfwayAt (toZ w32 (ofZ w32 (at (o .xs) i))) (toZ w32 (ofZ w32 (at (o .ys) i))) (toZ w32 (ofZ w32 (at (o .xs) j))) (toZ w32 (ofZ w32 (at (o .ys) j))) → r ≡ middle o i j
+      → r ≡ halfwayAt (toZ w32 (ofZ w32 (at (o .xs) i))) (toZ w32 (ofZ w32 (at (o .ys) i))) (toZ w32 (ofZ w32 (at (o .xs) j)))
+      (toZ w32 (ofZ w32 (at (o .ys) j))) → r ≡ middle o i j
   middle-is i j r e = e ∙ λ k. halfwayAt (x-is i k) (y-is i k) (x-is j k) (y-is j k)

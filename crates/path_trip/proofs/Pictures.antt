@@ -32,13 +32,18 @@ module _ (o : Points) (start : Spot) where
           → walked o (spotPlace o start) false is ≡ pictures o (legs o start false is) ++ (Close ∷ [])
           → cond b (cond c (Line (place o i) ∷ walked o (spotPlace o start) true is) (walked o (spotPlace o start) true is))
           (Curve (place o i) (curveEnd o (spotPlace o start) i is) ∷ walked o (spotPlace o start) false is)
-          ≡ pictures o (cond b (cond c (line i ∷ legs o start true is) (legs o start true is)) (curve i (curveTo o start i is) ∷ legs o start false is)) ++ (Close ∷ [])
+          ≡ pictures o (cond b (cond c (line i ∷ legs o start true is) (legs o start true is)) (curve i (curveTo o start i is) ∷ legs o start false is))
+          ++ (Close ∷ [])
       by true true p q = ap (λ (l : List PathStep). Line (place o i) ∷ l) p
       by true false p q = p
       by false c p q = λ k. Curve (place o i) (curve-end i is k) ∷ q k
 
 -- the start and the walk of a contour
-round-is : (o : Points) (a e : ℕ) (before l : List ℕ) → roundBy o a e before l ≡ record { start = spotPlace o (tourBy a e before l .start); walk = tourBy a e before l .walk }
+round-is : (o : Points) (a e : ℕ) (before l : List ℕ) → roundBy o a e before l ≡ record {
+  start =
+      spotPlace o (tourBy a e before l .start);
+  walk = tourBy a e before l .walk;
+}
 unfolding roundBy tourBy
 round-is o a e before [] = refl
 round-is o a e before (f ∷ behind) = refl
@@ -49,7 +54,8 @@ unfolding stepsOf roundOf tourOf
 steps-are o a e =
     let f = front o (from a (suc e - a)) in
     let r = rest o (from a (suc e - a)) in
-    ap (stepsOf o) (round-is o a e f r) ∙ ap (λ (l : List PathStep). Move (spotPlace o (tourBy a e f r .start)) ∷ l) (walk-is o (tourBy a e f r .start) true (tourBy a e f r .walk))
+    ap (stepsOf o) (round-is o a e f r) ∙ ap (λ (l : List PathStep). Move (spotPlace o (tourBy a e f r .start)) ∷ l)
+    (walk-is o (tourBy a e f r .start) true (tourBy a e f r .walk))
 
 -- and its start and walk
 pub round-of : (o : Points) (a e : ℕ) → roundOf o a e ≡ record { start = spotPlace o (tourOf o a e .start); walk = tourOf o a e .walk }

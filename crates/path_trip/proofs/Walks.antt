@@ -96,7 +96,8 @@ module _ (o : Points) (a e f : ℕ) (h : a < e) (r : First (o .marks) a e f) whe
       let m = e - f - 1 in
       let nm : n - (f - a) ≡ suc m = omega (arith, r .low) in
       let cl : (z : ℕ) → z < a + (f - a) → a ≤ z → getD (o .marks) z 0 ≡ 0 = λ z x y. r .clear z (omega (arith, r .low)) y in
-      let p = front-clear o (f - a) a n (omega (arith, r .low)) cl ∙ ap (λ x. from a (f - a) ++ x) (front-on o (a + (f - a)) m (n - (f - a)) nm here) ∙ append-nil _ in
+      let p = front-clear o (f - a) a n (omega (arith, r .low)) cl ∙ ap (λ x. from a (f - a) ++ x) (front-on o (a + (f - a)) m (n - (f - a)) nm here)
+      ∙ append-nil _ in
       let q = rest-clear o (f - a) a n (omega (arith, r .low)) cl ∙ rest-on o (a + (f - a)) m (n - (f - a)) nm here in
       let fs : suc (a + (f - a)) ≡ f + 1 = omega arith in
       by-some a (e - 1) _ _ _ _ q ∙ λ i. record { start = Point (fa i); walk = from (fs i) m ++ p i }
@@ -123,7 +124,8 @@ around-high a e i h = rw (le-ltb i e h)
 at-two : (f m a n j : ℕ) → j < m + n → (j < m → getD (from f m ++ from a n) j 0 ≡ f + j) × (m ≤ j → getD (from f m ++ from a n) j 0 ≡ a + (j - m))
 at-two f m a n j x = (
   λ l. List·getD-append (from f m) (from a n) 0 j (omega (arith, length-from f m)) ∙ at-from f m j l,
-  λ l. ap (λ k. getD (from f m ++ from a n) k 0) (omega (arith, length-from f m)) ∙ getD-append-add (from f m) (from a n) (j - m) 0 ∙ at-from a n (j - m) (omega arith),
+  λ l. ap (λ k. getD (from f m ++ from a n) k 0) (omega (arith, length-from f m)) ∙ getD-append-add (from f m) (from a n) (j - m) 0
+      ∙ at-from a n (j - m) (omega arith),
 )
 
 module _ (a e f : ℕ) (h : a < e) (low : a ≤ f) (l : f < e) where
@@ -145,7 +147,14 @@ module _ (a e f : ℕ) (h : a < e) (low : a ≤ f) (l : f < e) where
 
 -- with no on-curve point
 walk-none : (a e : ℕ) → a < e → Walk (from a (e - a)) a e a (e - a)
-walk-none a e h = record { len = length-from a (e - a); each = λ j x. at-from a (e - a) j x ∙ sym (around-low a e (a + j) (omega arith)); inside = omega arith; from-a = omega arith }
+walk-none a e h =
+    record {
+      len = length-from a (e - a);
+      each = λ j x. at-from a (e - a) j x
+          ∙ sym (around-low a e (a + j) (omega arith));
+      inside = omega arith;
+      from-a = omega arith;
+    }
 
 -- ---- what `tour_of` finds
 module _ (o : Points) (a e f : ℕ) (h : a < e) (r : First (o .marks) a e f) where

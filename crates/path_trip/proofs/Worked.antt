@@ -5,9 +5,9 @@ use Prim.Native.Nat.{ℕ}
 use lib.IntN.{pos, negsuc}
 use lib.Count.{trailingZeros}
 use lib.Ieee.{odd}
-use Rattle.pixels.specs.Exact.{over}
-use Rattle.pixels.specs.Places.{pointAt, halfwayAt}
-use Rattle.pixels.specs.declared.PixelPoint.{PixelPoint}
+use Rattle.path_places.specs.Exact.{over}
+use Rattle.path_places.specs.Places.{pointAt, halfwayAt}
+use Rattle.path_places.specs.declared.PixelPoint.{PixelPoint}
 use Rattle.path_trip.specs.declared.step.PathStep.the-variants.{Move, Line, Curve, Close}
 use Rattle.path_trip.specs.Path.{Points, points, from, front, rest, roundBy, roundOf, curveEnd, walked, stepsOf, pathFrom, path}
 

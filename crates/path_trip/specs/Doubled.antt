@@ -1,7 +1,7 @@
 -- The whole number that a place of a path is made of.
 use mathlib.Core.List.{List}
 use lib.IntN.{ℤ, _+ℤ_}
-use Rattle.contours.specs.Contour.{at}
+use Rattle.weak_contour.specs.Contour.{at}
 use Rattle.path_trip.specs.declared.tour.Spot.{Spot}
 use Rattle.path_trip.specs.declared.tour.Spot.the-variants.{Point, Between}
 

@@ -2,7 +2,7 @@
 use mathlib.Core.Bool.{Bool, true, false, cond}
 use mathlib.Core.List.{List, [], _∷_, _++_}
 use Prim.Native.Nat.{ℕ, suc, _-_}
-use Rattle.pixels.specs.declared.PixelPoint.{PixelPoint}
+use Rattle.path_places.specs.declared.PixelPoint.{PixelPoint}
 use Rattle.path_trip.specs.declared.step.PathStep.{PathStep}
 use Rattle.path_trip.specs.declared.step.PathStep.the-variants.{Move, Line, Curve, Close}
 use Rattle.path_trip.specs.declared.tour.Spot.{Spot}

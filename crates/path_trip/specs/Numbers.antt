@@ -1,7 +1,7 @@
 -- The numbers of a step where it is lent: its kind, and two places. A place that a step does not have is (0, 0).
 use Prim.Native.Nat.{ℕ}
-use Rattle.pixels.specs.Places.{origin}
-use Rattle.pixels.specs.declared.PixelPoint.{PixelPoint}
+use Rattle.path_places.specs.Places.{origin}
+use Rattle.path_places.specs.declared.PixelPoint.{PixelPoint}
 use Rattle.path_trip.specs.declared.step.PathStep.{PathStep}
 use Rattle.path_trip.specs.declared.step.PathStep.the-variants.{Move, Line, Curve, Close}
 

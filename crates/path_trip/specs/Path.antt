@@ -5,9 +5,9 @@ use Prim.Native.Nat.{ℕ, zero, suc, _-_}
 use lib.Dec.{ltb}
 use lib.ListN.{getD}
 use lib.IntN.{ℤ}
-use Rattle.contours.specs.Contour.{at}
-use Rattle.pixels.specs.Places.{pointAt, halfwayAt}
-use Rattle.pixels.specs.declared.PixelPoint.{PixelPoint}
+use Rattle.weak_contour.specs.Contour.{at}
+use Rattle.path_places.specs.Places.{pointAt, halfwayAt}
+use Rattle.path_places.specs.declared.PixelPoint.{PixelPoint}
 use Rattle.path_trip.specs.declared.step.PathStep.{PathStep}
 use Rattle.path_trip.specs.declared.step.PathStep.the-variants.{Move, Line, Curve, Close}
 

@@ -6,8 +6,8 @@ use Prim.Native.Nat.{ℕ, _+_, _-_, _≤_, _<_}
 use lib.Dec.{ltb}
 use lib.ListN.{length, getD}
 use lib.IntN.{ℤ, natAbs}
-use Rattle.contours.specs.Limits.{mostPoints, mostResult}
-use Rattle.contours.specs.Contour.{at}
+use Rattle.weak_contour.specs.Limits.{mostPoints, mostResult}
+use Rattle.weak_contour.specs.Contour.{at}
 use Rattle.path_trip.specs.declared.tour.Spot.{Spot}
 use Rattle.path_trip.specs.declared.tour.Spot.the-variants.{Point, Between}
 use Rattle.path_trip.specs.Path.{Points}

@@ -1,8 +1,8 @@
 // Places of an outline's points.
 use super::tour::Spot;
-use pixels::PixelPoint;
-use pixels::halfway_point;
-use pixels::pixel_point;
+use path_places::PixelPoint;
+use path_places::halfway_point;
+use path_places::pixel_point;
 ghost use mathlib.Core.Path.{_≡_};
 ghost use Prim.Native.Nat.{_<_};
 ghost use lib.ListN.{length};

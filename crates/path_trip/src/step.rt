@@ -1,6 +1,6 @@
 // A step of a path, and the numbers that it has where it is lent.
-use pixels::PixelPoint;
-use pixels::no_place;
+use path_places::PixelPoint;
+use path_places::no_place;
 ghost use mathlib.Core.Path.{_≡_};
 ghost use Rattle.path_trip.specs.Numbers.{kindOf, firstOf, secondOf};
 

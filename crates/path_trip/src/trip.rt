@@ -1,7 +1,7 @@
 // Where a contour starts, and the points that it then walks by.
 use super::place::spot_place;
 use super::tour::tour_of;
-use pixels::PixelPoint;
+use path_places::PixelPoint;
 ghost use mathlib.Core.Path.{_≡_};
 ghost use Prim.Native.Nat.{_+_, _-_, _<_};
 ghost use lib.Dec.{ltb};

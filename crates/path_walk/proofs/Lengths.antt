@@ -8,9 +8,9 @@ use borrow.Author.Tests.{leb-true, ltb-true}
 use lib.Dec.{leb, ltb}
 use lib.ListN.{length, length-append}
 use Rattle.refusals.proofs.Tests.{and-first, and-second}
-use Rattle.contours.specs.Limits.{mostPoints}
-use Rattle.outline.specs.Weak.{endsHold}
-use Rattle.pixels.specs.declared.PixelPoint.{PixelPoint}
+use Rattle.weak_contour.specs.Limits.{mostPoints}
+use Rattle.weak.specs.Weak.{endsHold}
+use Rattle.path_places.specs.declared.PixelPoint.{PixelPoint}
 use Rattle.path_trip.specs.declared.step.PathStep.{PathStep}
 use Rattle.path_trip.specs.Path.{Points, onCurve, from, front, rest, Round, roundBy, roundOf, walked, stepsOf, pathFrom, path}
 use Rattle.path_trip.specs.Trips.{Admitted}
@@ -22,7 +22,8 @@ module _ (o : Points) where
   parts [] = refl
   parts (i ∷ l) = by (onCurve o i) (parts l)
     where
-      by : (b : Bool) → length (front o l) + length (rest o l) ≡ length l → length (cond b [] (i ∷ front o l)) + length (cond b (i ∷ l) (rest o l)) ≡ suc (length l)
+      by : (b : Bool) → length (front o l) + length (rest o l) ≡ length l
+          → length (cond b [] (i ∷ front o l)) + length (cond b (i ∷ l) (rest o l)) ≡ suc (length l)
       by true e = omega arith
       by false e = omega arith
 
@@ -44,7 +45,8 @@ module _ (o : Points) where
   unfolding walked
   walked-short start on [] = omega arith
   walked-short start on (i ∷ w) =
-      picked (onCurve o i) on _ _ _ _ (omega (arith, walked-short start true w)) (omega (arith, walked-short start true w)) (omega (arith, walked-short start false w))
+      picked (onCurve o i) on _ _ _ _ (omega (arith, walked-short start true w)) (omega (arith, walked-short start true w))
+      (omega (arith, walked-short start false w))
 
   steps-short : (r : Round) → length (stepsOf o r) ≤ length (r .walk) + 2
   unfolding stepsOf

@@ -6,7 +6,7 @@ use Prim.Native.Nat.{ℕ, zero, suc, _+_, _-_, _≤_, _<_}
 use native.Mathlib.Numerals.{add-one}
 use native.Mathlib.Omega.{arith}
 use lib.ListN.{length, getD, drop, drop-of-length-le}
-use Rattle.pixels.specs.declared.PixelPoint.{PixelPoint}
+use Rattle.path_places.specs.declared.PixelPoint.{PixelPoint}
 use Rattle.path_trip.specs.declared.step.PathStep.{PathStep}
 use Rattle.path_trip.specs.declared.step.PathStep.the-variants.{Move, Line, Curve, Close}
 use Rattle.path_walk.specs.declared.walk.End.the-variants.{Start, Point, Between}
@@ -15,7 +15,7 @@ use Rattle.path_walk.specs.declared.walk.Sought.the-variants.{Here, Past
 use Rattle.path_trip.specs.Path.{Points, place, middle, onCurve, Round, roundOf, curveEnd, walked, stepsOf, pathFrom, path}
 use Rattle.path_trip.specs.Trips.{around, Walk}
 use Rattle.path_walk.specs.Steps.{seek, countOf, stepOf, endOf, endPlace}
-use Rattle.outline.proofs.Refusals.{drop-one}
+use Rattle.weak.proofs.Refusals.{drop-one}
 
 -- ---- one list of steps
 -- the first step
@@ -82,13 +82,15 @@ module _ (w : List ℕ) (a e s n : ℕ) (t : Walk w a e s n) where
     unfolding endOf
     end-on i j l h q = rw (next-more j l h, q)
 
-    pub end-off : (i j : ℕ) → j < n → (n - j ≡ 1 → ⊥) → onCurve o (around a e (s + j + 1)) ≡ false → endOf o i (drop (j + 1) w) ≡ Between i (around a e (s + j + 1))
+    pub end-off : (i j : ℕ) → j < n → (n - j ≡ 1 → ⊥) → onCurve o (around a e (s + j + 1)) ≡ false
+        → endOf o i (drop (j + 1) w) ≡ Between i (around a e (s + j + 1))
     unfolding endOf
     end-off i j l h q = rw (next-more j l h, q)
 
 -- ---- one walk
 module _ (o : Points) (start : PixelPoint) where
-  turn-first : (i : ℕ) (is : List ℕ) (on joined : Bool) (k : ℕ) → onCurve o i ≡ on → k < countOf on joined → seek (walked o start joined (i ∷ is)) k ≡ Here (stepOf o start i is)
+  turn-first : (i : ℕ) (is : List ℕ) (on joined : Bool) (k : ℕ) → onCurve o i ≡ on → k < countOf on joined
+      → seek (walked o start joined (i ∷ is)) k ≡ Here (stepOf o start i is)
   unfolding walked
   turn-first i is true true k e h = rw e (seek-first _ _ k h)
   turn-first i is true false k e h = let z : ⊥ = omega arith in absurd z
@@ -110,11 +112,13 @@ module _ (o : Points) (start : PixelPoint) where
   module _ (w : List ℕ) (a e s n : ℕ) (t : Walk w a e s n) where
     pub walk-first : (j : ℕ) → j < n → (on joined : Bool) (k : ℕ) → onCurve o (around a e (s + j)) ≡ on → k < countOf on joined
         → seek (walked o start joined (drop j w)) k ≡ Here (stepOf o start (around a e (s + j)) (drop (j + 1) w))
-    walk-first j h on joined k q l = ap (λ (x : List ℕ). seek (walked o start joined x) k) (one-more w a e s n t j h) ∙ turn-first (around a e (s + j)) (drop (j + 1) w) on joined k q l
+    walk-first j h on joined k q l =
+        ap (λ (x : List ℕ). seek (walked o start joined x) k) (one-more w a e s n t j h) ∙ turn-first (around a e (s + j)) (drop (j + 1) w) on joined k q l
 
     pub walk-next : (j : ℕ) → j < n → (on joined : Bool) (k : ℕ) → onCurve o (around a e (s + j)) ≡ on → countOf on joined ≤ k
         → seek (walked o start joined (drop j w)) k ≡ seek (walked o start on (drop (j + 1) w)) (k - countOf on joined)
-    walk-next j h on joined k q l = ap (λ (x : List ℕ). seek (walked o start joined x) k) (one-more w a e s n t j h) ∙ turn-next (around a e (s + j)) (drop (j + 1) w) on joined k q l
+    walk-next j h on joined k q l =
+        ap (λ (x : List ℕ). seek (walked o start joined x) k) (one-more w a e s n t j h) ∙ turn-next (around a e (s + j)) (drop (j + 1) w) on joined k q l
 
     pub walk-closed : (j : ℕ) → n ≤ j → (joined : Bool) → walked o start joined (drop j w) ≡ Close ∷ []
     walk-closed j h joined = ap (walked o start joined) (drop-of-length-le w {i = j} (omega (arith, t .len))) ∙ closes joined
@@ -151,7 +155,8 @@ unfolding stepsOf
 seek-move o r p k q e = ap (λ (x : PixelPoint). Here (Move x)) q ∙ sym (seek-first _ _ k (omega arith))
 
 -- a step behind the move
-pub seek-walk : (o : Points) (r : Round) (p : PixelPoint) (k : ℕ) → p ≡ r .start → (k ≡ 0 → ⊥) → seek (stepsOf o r) k ≡ seek (walked o p true (drop 0 (r .walk))) (k - 1)
+pub seek-walk : (o : Points) (r : Round) (p : PixelPoint) (k : ℕ) → p ≡ r .start → (k ≡ 0 → ⊥)
+    → seek (stepsOf o r) k ≡ seek (walked o p true (drop 0 (r .walk))) (k - 1)
 unfolding stepsOf
 seek-walk o r p k q h = seek-next _ _ k (omega arith) ∙ ap (λ (x : PixelPoint). seek (walked o x true (r .walk)) (k - 1)) (sym q)
 
@@ -162,7 +167,8 @@ steps-are o r p q = ap (λ (x : PixelPoint). Move x ∷ walked o x true (r .walk
 
 -- ---- the outline, one contour at a time
 -- from the contour c on
-pub path-one : (o : Points) (a : ℕ) (es : List ℕ) (c : ℕ) → c < length es → pathFrom o a (drop c es) ≡ stepsOf o (roundOf o a (getD es c 0)) ++ pathFrom o (getD es c 0 + 1) (drop (c + 1) es)
+pub path-one : (o : Points) (a : ℕ) (es : List ℕ) (c : ℕ) → c < length es
+    → pathFrom o a (drop c es) ≡ stepsOf o (roundOf o a (getD es c 0)) ++ pathFrom o (getD es c 0 + 1) (drop (c + 1) es)
 unfolding pathFrom
 path-one o a es c h = rw (drop-one es c 0 h, add-one (getD es c 0))
 
@@ -181,7 +187,8 @@ pub path-start : (o : Points) (es : List ℕ) → path o es ≡ pathFrom o 0 (dr
 unfolding path
 path-start o es = refl
 
-module _ (o : Points) (a : ℕ) (es : List ℕ) (c k w : ℕ) (r : Sought) (h : c < length es) (e : w ≡ getD es c 0) (q : r ≡ seek (stepsOf o (roundOf o a (w + 1 - 1))) k) where
+module _ (o : Points) (a : ℕ) (es : List ℕ) (c k w : ℕ) (r : Sought) (h : c < length es) (e : w ≡ getD es c 0)
+    (q : r ≡ seek (stepsOf o (roundOf o a (w + 1 - 1))) k) where
   sought : r ≡ seek (stepsOf o (roundOf o a (getD es c 0))) k
   sought = let p : w + 1 - 1 ≡ getD es c 0 = omega arith in q ∙ ap (λ (x : ℕ). seek (stepsOf o (roundOf o a x)) k) p
 
@@ -190,7 +197,8 @@ module _ (o : Points) (a : ℕ) (es : List ℕ) (c k w : ℕ) (r : Sought) (h : 
 
   pub contour-past : (l : ℕ) → r ≡ Past l → seek (pathFrom o a (drop c es)) k ≡ seek (pathFrom o (w + 1) (drop (c + 1) es)) l
   contour-past l t =
-      ap (λ (x : List PathStep). seek x k) (path-one o a es c h) ∙ seek-past _ _ k l (sym sought ∙ t) ∙ ap (λ (x : ℕ). seek (pathFrom o (x + 1) (drop (c + 1) es)) l) (sym e)
+      ap (λ (x : List PathStep). seek x k) (path-one o a es c h) ∙ seek-past _ _ k l (sym sought ∙ t)
+      ∙ ap (λ (x : ℕ). seek (pathFrom o (x + 1) (drop (c + 1) es)) l) (sym e)
 
 -- ---- the outline, as it is laid
 pub path-turn : (o : Points) (a : ℕ) (es : List ℕ) (c w : ℕ) → c < length es → w ≡ getD es c 0

@@ -1,11 +1,11 @@
 // The steps of all contours.
 use super::walk::Sought;
 use super::walk::contour_step;
-use outline::accept::wide;
+use weak::accept::wide;
 ghost use mathlib.Core.Path.{_≡_};
 ghost use mathlib.Core.Bool.{true};
 ghost use lib.ListN.{length};
-ghost use Rattle.outline.specs.Weak.{endsHold};
+ghost use Rattle.weak.specs.Weak.{endsHold};
 ghost use Rattle.path_trip.specs.Path.{points, path};
 ghost use Rattle.path_trip.specs.Trips.{Admitted};
 ghost use Rattle.path_walk.specs.Steps.{seek};

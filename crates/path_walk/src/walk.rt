@@ -1,4 +1,5 @@
 // The steps of one contour.
+use path_places::PixelPoint;
 use path_trip::place::middle_of;
 use path_trip::place::place_of;
 use path_trip::step::PathStep;
@@ -6,7 +7,6 @@ use path_trip::trip::Trip;
 use path_trip::trip::around_at;
 use path_trip::trip::is_on;
 use path_trip::trip::trip_of;
-use pixels::PixelPoint;
 ghost use mathlib.Core.Path.{_≡_};
 ghost use Prim.Native.Nat.{_+_, _-_, _<_};
 ghost use lib.ListN.{drop};

@@ -7,7 +7,7 @@ use native.Mathlib.Omega.{arith}
 use lib.Ieee.{Float}
 use lib.ListN.{length, set, drop, length-append}
 use lib.Seq.{set-append-seam}
-use Rattle.pixels.specs.declared.PixelPoint.{PixelPoint}
+use Rattle.path_places.specs.declared.PixelPoint.{PixelPoint}
 use Rattle.path_trip.specs.declared.step.PathStep.{PathStep}
 use Rattle.path_trip.specs.Numbers.{kindOf, firstOf, secondOf}
 use Rattle.path.specs.Lending.{four}
@@ -26,7 +26,8 @@ past xs ys i j a e = ap (λ (k : ℕ). set (xs ++ ys) k a) e ∙ set-past xs ys 
 placed : (n : ℕ) (bs : List Float) (a b c d : Float) (ps : List Float) (p q : PixelPoint) → length bs ≡ 4 * n
     → placedAt (placedAt (bs ++ a ∷ b ∷ c ∷ d ∷ ps) (4 * n) p) (4 * n + 2) q ≡ bs ++ (four p q ++ ps)
 placed n bs a b c d ps p q e =
-    ap (λ (l : List Float). set (set (set l (4 * n + 1) (p .y)) (4 * n + 2) (q .x)) (4 * n + 2 + 1) (q .y)) (past bs (a ∷ b ∷ c ∷ d ∷ ps) 0 (4 * n) (p .x) (omega arith))
+    ap (λ (l : List Float). set (set (set l (4 * n + 1) (p .y)) (4 * n + 2) (q .x)) (4 * n + 2 + 1) (q .y))
+    (past bs (a ∷ b ∷ c ∷ d ∷ ps) 0 (4 * n) (p .x) (omega arith))
     ∙ ap (λ (l : List Float). set (set l (4 * n + 2) (q .x)) (4 * n + 2 + 1) (q .y)) (past bs (p .x ∷ b ∷ c ∷ d ∷ ps) 1 (4 * n + 1) (p .y) (omega arith))
     ∙ ap (λ (l : List Float). set l (4 * n + 2 + 1) (q .y)) (past bs (p .x ∷ p .y ∷ c ∷ d ∷ ps) 2 (4 * n + 2) (q .x) (omega arith))
     ∙ past bs (p .x ∷ p .y ∷ q .x ∷ d ∷ ps) 3 (4 * n + 2 + 1) (q .y) (omega arith)
@@ -63,7 +64,8 @@ lay-behind (s ∷ p) gs (k ∷ ks) bs (a ∷ b ∷ c ∷ d ∷ ps) h g e =
     let j =
     append-assoc bs (four (firstOf s) (secondOf s)) (numbersOf p ++ drop (4 * length p) ps)
     ∙ ap (λ (i : ℕ). bs ++ (four (firstOf s) (secondOf s) ++ (numbersOf p ++ drop i (a ∷ b ∷ c ∷ d ∷ ps)))) m in
-    ap (λ (x : Lists). lay x p) (laid-behind gs k ks bs a b c d ps s e) ∙ lay-behind p gs′ ks bs′ ps (omega arith) (omega arith) e′ ∙ λ i. lent (l i) (j i) (n i)
+    ap (λ (x : Lists). lay x p) (laid-behind gs k ks bs a b c d ps s e) ∙ lay-behind p gs′ ks bs′ ps (omega arith) (omega arith) e′
+    ∙ λ i. lent (l i) (j i) (n i)
 
 -- steps from the beginning on
 pub lay-over : (p : List PathStep) (ks : List ℕ) (ps : List Float) (n : ℕ) → Room (lent ks ps 0) (length p) → lay (lent ks ps 0) p ≡ written p (lent ks ps n)

@@ -12,7 +12,7 @@ use lib.ListN.{length}
 use Rattle.signed.proofs.Choices.{cond-true, cond-false}
 use Rattle.refusals.specs.Refusal.{refusal, tooLong}
 use Rattle.refusals.proofs.Tests.{and-first, and-second, all-hold, no-refusal, answered-no, answered-yes}
-use Rattle.outline.specs.Weak.{endsHold}
+use Rattle.weak.specs.Weak.{endsHold}
 use Rattle.path_trip.specs.Path.{points, path}
 use Rattle.path_trip.specs.Trips.{Admitted}
 use Rattle.path_walk.proofs.Lengths.{at-most, whole-short}
@@ -59,7 +59,8 @@ module _ (xs ys : List ℤ) (marks es : List ℕ) (kinds places : ℕ) where
   refused-else e = cond-true (hasRoom (length xs) (length es) kinds places) (refusal (pathTests xs ys marks es)) tooLong e
 
 -- ---- the outcome
-module _ (xs ys : List ℤ) (marks es : List ℕ) (ks : List ℕ) (ps : List Float) (n k : ℕ) (e : k ≡ refusal (wholeTests xs ys marks es (length ks) (length ps))) where
+module _ (xs ys : List ℤ) (marks es : List ℕ) (ks : List ℕ) (ps : List Float) (n k : ℕ)
+    (e : k ≡ refusal (wholeTests xs ys marks es (length ks) (length ps))) where
   pub wrote-nothing : 0 < k → WritesPath xs ys marks es (lent ks ps n) k (lent ks ps n)
   wrote-nothing h = record { answer = e; lists = answered-no k _ (λ _. lent ks ps n) (written (path (points xs ys marks) es) (lent ks ps n)) e h }
 
@@ -93,5 +94,7 @@ module _ (xs ys : List ℤ) (marks es : List ℕ) (ks : List ℕ) (ps : List Flo
       wrote j w =
           record {
             answer = sym none;
-            lists = answered-yes k _ (λ _. lent ks ps n) (written (path (points xs ys marks) es) (lent ks ps n)) (lent ks′ ps′ j) e h (ap (lent ks′ ps′) w ∙ written-is);
+            lists =
+                answered-yes k _ (λ _. lent ks ps n) (written (path (points xs ys marks) es) (lent ks ps n)) (lent ks′ ps′ j) e h
+                (ap (lent ks′ ps′) w ∙ written-is);
           }

@@ -6,7 +6,7 @@ use log_blocks::blocks::refit_block;
 use log_blocks::blocks::refit_rest;
 ghost use Prim.Native.Nat.{_≤_, _<_};
 ghost use lib.ListN.{length};
-ghost use Rattle.frames.specs.Limits.{mostDigits};
+ghost use Rattle.log_frame.specs.Limits.{mostDigits};
 ghost use Rattle.log_reply.specs.Reply.{mostReply};
 
 // How many bytes are held of the line that has begun, and whether every reply was written.

@@ -40,13 +40,20 @@ unfolding orRefused
 or-decided zero n h e = refl
 or-decided (suc k) n h e = absurd (omega arith)
 
+-- a test that does not refuse holds
+pub or-held : (n : ℕ) (h : Bool) → 0 < n → orRefused 0 h n ≡ 0 → h ≡ true
+unfolding orRefused
+or-held n true p e = refl
+or-held n false p e = absurd (omega (arith, e, p))
+
 -- one test more
 pub one-more : (ts : List Test) (n : ℕ) (h : Bool) → numbered ts ≡ true → orRefused (refusal ts) h n ≡ refusal (ts ++ (n unless h ∷ []))
 unfolding refusal
 one-more [] n h e = sym (or-decided 0 n h (omega arith))
 one-more (t ∷ ts) n h e = go (one-more ts n h (and-second (ltb 0 (t .number)) _ e)) (t .holds)
   where
-    go : orRefused (refusal ts) h n ≡ refusal (ts ++ (n unless h ∷ [])) → (b : Bool) → orRefused (cond b (refusal ts) (t .number)) h n ≡ cond b (refusal (ts ++ (n unless h ∷ []))) (t .number)
+    go : orRefused (refusal ts) h n ≡ refusal (ts ++ (n unless h ∷ [])) → (b : Bool)
+        → orRefused (cond b (refusal ts) (t .number)) h n ≡ cond b (refusal (ts ++ (n unless h ∷ []))) (t .number)
     go rest true = rest
     go rest false = sym (or-kept (t .number) n h (ltb-true 0 (t .number) (and-first _ _ e)))
 
@@ -64,7 +71,8 @@ numbered-more : (ts : List Test) (n : ℕ) (h : Bool) → numbered ts ≡ true �
 numbered-more [] n h e p = rw p
 numbered-more (t ∷ ts) n h e p = rw (and-first (ltb 0 (t .number)) _ e) (numbered-more ts n h (and-second (ltb 0 (t .number)) _ e) p)
 
-pub then-tested : {ts : List Test} {r k : ℕ} {g h : Bool} (n : ℕ) → Tested k ts → ltb 0 n ≡ true → r ≡ orRefused k g n → g ≡ h → Tested r (ts ++ (n unless h ∷ []))
+pub then-tested : {ts : List Test} {r k : ℕ} {g h : Bool} (n : ℕ) → Tested k ts → ltb 0 n ≡ true → r ≡ orRefused k g n → g ≡ h
+    → Tested r (ts ++ (n unless h ∷ []))
 then-tested {ts} {r} {k} {g} {h} n t p a c = record {
   refused = a ∙ (λ i. orRefused (t .refused i) (c i) n) ∙ one-more ts n h (t .numbers);
   numbers = numbered-more ts n h (t .numbers) p;

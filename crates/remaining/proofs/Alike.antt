@@ -15,8 +15,8 @@ use Rattle.axis.specs.Limits.{mostPos}
 use Rattle.axis.specs.Refusals.{within}
 use Rattle.axis.specs.Visits.{visits}
 use Rattle.axis.proofs.Alike.{Alike, AlikeAxis, placed-alike, fixed-alike, at-alike, put-alike, alike-len, cond-alike, visits-alike}
-use Rattle.placing.specs.declared.adjust.LinkDir.the-variants.{Prev, Next}
-use Rattle.placing.proofs.Alike.{adjusted-alike}
+use Rattle.place.specs.declared.adjust.LinkDir.the-variants.{Prev, Next}
+use Rattle.place.proofs.Alike.{adjusted-alike}
 use Rattle.remaining.specs.declared.kinds.Progress.{Progress}
 use Rattle.remaining.specs.declared.kinds.Plan.{Plan}
 use Rattle.remaining.specs.declared.kinds.Round.{Round}
@@ -24,7 +24,22 @@ use Rattle.remaining.specs.declared.kinds.Round.the-variants as Rounds
 use Rattle.remaining.specs.declared.kinds.Way.{Way}
 use Rattle.remaining.specs.declared.kinds.Way.the-variants as Ways
 use Rattle.remaining.specs.Plan.{oneLess, staysPlan, serifPlan, isNear, anchorPlan, spacedPlan, latinBetween, cjkBetween}
-use Rattle.remaining.specs.Remaining.{State, doneBefore, doneFrom, doneBehind, nearOf, byBounds, byAnchor, bySerif, serifsPlan, othersPlan, planOf, fixAt, stored, carriedOut}
+use Rattle.remaining.specs.Remaining.{
+  State,
+  doneBefore,
+  doneFrom,
+  doneBehind,
+  nearOf,
+  byBounds,
+  byAnchor,
+  bySerif,
+  serifsPlan,
+  othersPlan,
+  planOf,
+  fixAt,
+  stored,
+  carriedOut,
+}
 use Rattle.remaining.specs.Remaining.{visit, visited, passOf}
 
 -- two states are alike
@@ -97,7 +112,8 @@ module _ (a b : Axis) (alike : AlikeAxis a b) where
 
     plan-same : (round : Round) → planOf round a past i ≡ planOf round b past i
     unfolding planOf
-    plan-same Rounds.Latin = serif-same (nearOf a i (edgeAt a i .serif)) ∙ ap (bySerif b past i) (near-same (edgeAt a i .serif) ∙ λ j. nearOf b i (at i .same j .serif))
+    plan-same Rounds.Latin =
+        serif-same (nearOf a i (edgeAt a i .serif)) ∙ ap (bySerif b past i) (near-same (edgeAt a i .serif) ∙ λ j. nearOf b i (at i .same j .serif))
     plan-same Rounds.Serifs = serifs-same (edgeAt a i .serif) ∙ λ j. serifsPlan b past i (at i .same j .serif)
     plan-same Rounds.Others = others-same (doneBefore a i) (doneBehind a i) ∙ λ j. othersPlan b past i (before i j) (behind i j)
 

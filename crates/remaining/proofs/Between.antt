@@ -1,4 +1,5 @@
--- An edge placed between two lies between their positions, the ends included, where it is between them by the positions that decide: original ones for Latin, font positions for CJK; and of two
+-- An edge placed between two lies between their positions, the ends included, where it is between them by the positions that decide: original ones for Latin,
+-- font positions for CJK; and of two
 -- edges placed so the further one lies no lower, where the two between which they are placed are in order.
 use mathlib.Core.Path.{_≡_, refl, sym, subst}
 use mathlib.Core.Bool.{Bool, true, false, cond}
@@ -50,7 +51,8 @@ apart a b e = ⊎-elim (λ h. h) (λ h. absurd (eqZ-apart b a e (to-≡ b a (ome
 same-place : (p : ℤ) → p ≤ℤ p
 same-place p = to-≤ℤ p p (omega arith)
 
-pub between-lies : (at beforeAt beforePos afterAt afterPos : ℤ) → beforeAt ≤ℤ at → at ≤ℤ afterAt → LiesBetween beforePos afterPos (betweenPos at beforeAt beforePos afterAt afterPos)
+pub between-lies : (at beforeAt beforePos afterAt afterPos : ℤ) → beforeAt ≤ℤ at → at ≤ℤ afterAt
+    → LiesBetween beforePos afterPos (betweenPos at beforeAt beforePos afterAt afterPos)
 unfolding betweenPos
 between-lies at b p f q l m =
     cond-cases (LiesBetween p q) (eqZ f b) _ _ (λ t. record { rising = λ h. (same-place p, h); falling = λ h. (h, same-place p) })
@@ -60,7 +62,8 @@ between-lies at b p f q l m =
     let d = up (f -ℤ b) in
     let some : 0 < d = omega (arith, apart b f t, signed, sub-law f b, one-zero (f -ℤ b)) in
     let less : k ≤ d = omega (arith, signed, sub-law f b, sub-law at b, one-zero (f -ℤ b), one-zero (at -ℤ b)) in
-    subst (λ (r : ℤ). LiesBetween p q (p +ℤ r)) (λ i. mulDiv (sym (ahead b at l) i) (q -ℤ p) (sym (ahead b f far) i)) (lies p q _ (part-of k d (q -ℤ p) some less)))
+    subst (λ (r : ℤ). LiesBetween p q (p +ℤ r)) (λ i. mulDiv (sym (ahead b at l) i) (q -ℤ p) (sym (ahead b f far) i))
+    (lies p q _ (part-of k d (q -ℤ p) some less)))
 
 -- ---- two between the same two
 part-grows : (k m u d : ℕ) → 0 < d → k ≤ m → mulDiv (pos k) (pos u) (pos d) ≤ℤ mulDiv (pos m) (pos u) (pos d)

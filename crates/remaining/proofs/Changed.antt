@@ -23,16 +23,36 @@ use Rattle.axis.specs.Refusals.{within}
 use Rattle.axis.specs.Changes.{place, Only, wherever, OnlyAxis, Changes}
 use Rattle.axis.proofs.Only.{position-place, placed-only, fixed-only, named, same-axis, also-put, call-changes}
 use Rattle.axis.proofs.Visits.{visits-keep}
-use Rattle.placing.specs.declared.adjust.LinkDir.{LinkDir}
-use Rattle.placing.specs.declared.adjust.LinkDir.the-variants.{Prev, Next}
-use Rattle.placing.specs.Placing.{isFar, hasPassed, neighbour, heldTo, boundBy, adjusted}
+use Rattle.place.specs.declared.adjust.LinkDir.{LinkDir}
+use Rattle.place.specs.declared.adjust.LinkDir.the-variants.{Prev, Next}
+use Rattle.place.specs.Placing.{isFar, hasPassed, neighbour, heldTo, boundBy, adjusted}
 use Rattle.remaining.specs.declared.kinds.Progress.{Progress}
 use Rattle.remaining.specs.declared.kinds.Plan.{Plan}
 use Rattle.remaining.specs.declared.kinds.Round.{Round}
 use Rattle.remaining.specs.declared.kinds.Round.the-variants as Rounds
 use Rattle.remaining.specs.declared.kinds.Way.{Way}
 use Rattle.remaining.specs.declared.kinds.Way.the-variants as Ways
-use Rattle.remaining.specs.Remaining.{State, state, nearOf, byBounds, byAnchor, bySerif, serifsPlan, othersPlan, doneBefore, doneBehind, planOf, placeAt, fixAt, stored, carriedOut, visit, visited, passOf, begun}
+use Rattle.remaining.specs.Remaining.{
+  State,
+  state,
+  nearOf,
+  byBounds,
+  byAnchor,
+  bySerif,
+  serifsPlan,
+  othersPlan,
+  doneBefore,
+  doneBehind,
+  planOf,
+  placeAt,
+  fixAt,
+  stored,
+  carriedOut,
+  visit,
+  visited,
+  passOf,
+  begun,
+}
 use Rattle.remaining.specs.Remaining.{Remaining, remaining, remainingOf, outcome, remainingTests, alignRemainingEdges, remainingMarks}
 
 -- ---- the marks of a plan
@@ -128,7 +148,8 @@ module _ (old : Axis) where
   visit-kept round s i q h =
       let plan = planOf round (s .axis) (s .past) i in
       either-way KeptBy (s .past .beyond || edgeAt (s .axis) i .flags .done) s _ h
-      (either-way KeptBy (within mostPos (plan .pos)) _ _ (stored-kept (plan .way) (s .axis) i (plan .pos) (plan .mark) (plan-marked (s .axis) (s .past) i round) q h) h)
+      (either-way KeptBy (within mostPos (plan .pos)) _ _
+      (stored-kept (plan .way) (s .axis) i (plan .pos) (plan .mark) (plan-marked (s .axis) (s .past) i round) q h) h)
 
   visited-kept : (round : Round) (s : State) → KeptBy s → KeptBy (visited round s)
   visited-kept round s h = visits-keep KeptBy (visit round) (old .len) (visit-kept round) (s .axis .len) 0 s (omega (arith, h .len)) h
@@ -148,6 +169,7 @@ unfolding alignRemainingEdges
 changed axis group count anchor p =
     let Small = OnlyAxis (wherever (λ (i : ℕ). ltb i (axis .len)) (place remainingMarks)) in
     subst (λ (r : Remaining). Changes Small (r .answer) axis (r .axis)) (sym p)
-    (call-changes Small (refusal (remainingTests axis group count anchor)) axis (λ (k : ℕ). remaining Links.None axis k) (outcome (remainingOf axis group count anchor))
+    (call-changes Small (refusal (remainingTests axis group count anchor)) axis (λ (k : ℕ). remaining Links.None axis k)
+    (outcome (remainingOf axis group count anchor))
     (λ (r : Remaining). r .answer) (λ (r : Remaining). r .axis) (λ (k : ℕ). refl) (same-axis _ axis) refl
     (λ e. pass-kept axis group (state axis (begun count anchor)) (same-axis _ axis)))

@@ -30,17 +30,35 @@ use Rattle.axis.specs.Limits.{mostPos}
 use Rattle.axis.specs.Refusals.{within}
 use Rattle.axis.specs.Visits.{visits}
 use Rattle.axis.proofs.Only.{or-true}
-use Rattle.placing.specs.declared.adjust.LinkDir.{LinkDir}
-use Rattle.placing.specs.declared.adjust.LinkDir.the-variants.{Prev, Next}
-use Rattle.placing.specs.Placing.{adjusted}
-use Rattle.placing.proofs.Changed.{adjusted-only}
+use Rattle.place.specs.declared.adjust.LinkDir.{LinkDir}
+use Rattle.place.specs.declared.adjust.LinkDir.the-variants.{Prev, Next}
+use Rattle.place.specs.Placing.{adjusted}
+use Rattle.place.proofs.Changed.{adjusted-only}
 use Rattle.remaining.specs.declared.kinds.Progress.{Progress}
 use Rattle.remaining.specs.declared.kinds.Plan.{Plan}
 use Rattle.remaining.specs.declared.kinds.Round.{Round}
 use Rattle.remaining.specs.declared.kinds.Round.the-variants as Rounds
 use Rattle.remaining.specs.declared.kinds.Way.{Way}
 use Rattle.remaining.specs.declared.kinds.Way.the-variants as Ways
-use Rattle.remaining.specs.Remaining.{State, state, nearOf, byBounds, byAnchor, bySerif, doneBefore, doneBehind, planOf, fixAt, stored, carriedOut, visit, visited, passOf, begun, remainingOf}
+use Rattle.remaining.specs.Remaining.{
+  State,
+  state,
+  nearOf,
+  byBounds,
+  byAnchor,
+  bySerif,
+  doneBefore,
+  doneBehind,
+  planOf,
+  fixAt,
+  stored,
+  carriedOut,
+  visit,
+  visited,
+  passOf,
+  begun,
+  remainingOf,
+}
 use Rattle.remaining.specs.Remaining.{Remaining, remaining, outcome, remainingTests, alignRemainingEdges}
 
 -- edge j is done
@@ -52,7 +70,8 @@ IsDone axis j = edgeAt axis j .flags .done ≡ true
 held-flags : (axis : Axis) (i : ℕ) (dir : LinkDir) (j : ℕ) → edgeAt (adjusted axis i dir) j .flags ≡ edgeAt axis j .flags
 held-flags axis i dir j = by (eqb i j) (adjusted-only axis i dir .edges .edge j)
   where
-    by : (t : Bool) → Only (cond t (position (Bound ∷ [])) nothing) (edgeAt axis j) (edgeAt (adjusted axis i dir) j) → edgeAt (adjusted axis i dir) j .flags ≡ edgeAt axis j .flags
+    by : (t : Bool) → Only (cond t (position (Bound ∷ [])) nothing) (edgeAt axis j) (edgeAt (adjusted axis i dir) j)
+        → edgeAt (adjusted axis i dir) j .flags ≡ edgeAt axis j .flags
     by true o = ap (λ (e : Edge). e .flags) (o .rest)
     by false o = ap (λ (e : Edge). e .flags) (o .rest)
 
@@ -115,7 +134,8 @@ pub or-first : (a b : Bool) → (a || b) ≡ false → a ≡ false
 or-first true b p = absurd (clash true p refl)
 or-first false b p = refl
 
-carried-done : (n i : ℕ) (axis : Axis) (past : Progress) (plan : Plan) → i < n → plan .way ≡ Ways.Held → past .beyond ≡ false → DoneTo n i (state axis past) → DoneTo n (i + 1) (carriedOut axis past i plan)
+carried-done : (n i : ℕ) (axis : Axis) (past : Progress) (plan : Plan) → i < n → plan .way ≡ Ways.Held → past .beyond ≡ false → DoneTo n i (state axis past)
+    → DoneTo n (i + 1) (carriedOut axis past i plan)
 unfolding carriedOut stored
 carried-done n i axis past plan a w b h =
     cond-cases (DoneTo n (i + 1)) (within mostPos (plan .pos)) _ _
@@ -134,9 +154,12 @@ visit-done n i s a h =
     cond-cases (DoneTo n (i + 1)) (s .past .beyond || edgeAt (s .axis) i .flags .done) s _
     (λ t. record {
       long = h .long;
-      done = λ j q e. ⊎-elim (λ r. subst (IsDone (s .axis)) (sym r) (or-second (s .past .beyond) _ t e)) (λ r. h .done j r e) (eq-or-lt-of-le {n = j} {m = i} (omega arith));
+      done =
+          λ j q e. ⊎-elim (λ r. subst (IsDone (s .axis)) (sym r) (or-second (s .past .beyond) _ t e)) (λ r. h .done j r e)
+          (eq-or-lt-of-le {n = j} {m = i} (omega arith));
     })
-    (λ t. carried-done n i (s .axis) (s .past) (planOf Rounds.Latin (s .axis) (s .past) i) a (latin-holds (s .axis) (s .past) i) (or-first (s .past .beyond) _ t) h)
+    (λ t. carried-done n i (s .axis) (s .past) (planOf Rounds.Latin (s .axis) (s .past) i) a (latin-holds (s .axis) (s .past) i)
+    (or-first (s .past .beyond) _ t) h)
 
 visits-done : (n m i : ℕ) (s : State) → i + m ≤ n → DoneTo n i s → DoneTo n (i + m) (visits (visit Rounds.Latin) m i s)
 unfolding visits
@@ -149,7 +172,8 @@ pub latin-done : (axis : Axis) (count : ℕ) (anchor : Link) → axis .len ≤ l
     → (j : ℕ) → j < axis .len → IsDone (remainingOf axis Default count anchor .axis) j
 unfolding passOf
 latin-done axis count anchor l e j q =
-    visits-done (axis .len) (axis .len) 0 (state axis (begun count anchor)) (omega arith) (record { long = l; done = λ k p f. absurd (omega arith) }) .done j (omega (arith, q)) e
+    visits-done (axis .len) (axis .len) 0 (state axis (begun count anchor)) (omega arith) (record { long = l; done = λ k p f. absurd (omega arith) }) .done j
+    (omega (arith, q)) e
 
 -- ---- every edge done before
 module _ (s : State) (all : (j : ℕ) → j < s .axis .len → IsDone (s .axis) j) where
@@ -178,6 +202,8 @@ pub call-done : (axis : Axis) (count : ℕ) (anchor : Link) → axis .len ≤ le
 unfolding alignRemainingEdges
 call-done axis count anchor l e j q =
     let s = remainingOf axis Default count anchor in
-    let none = none-refused (remaining Links.None axis) (outcome s) (λ (r : Remaining). r .answer) (λ k. refl) (refusal (remainingTests axis Default count anchor)) e in
+    let none = none-refused (remaining Links.None axis) (outcome s) (λ (r : Remaining). r .answer) (λ k. refl)
+    (refusal (remainingTests axis Default count anchor)) e in
     let t = all-hold (remainingTests axis Default count anchor) refl none in
-    subst (λ (k : ℕ). IsDone (answered k (remaining Links.None axis) (outcome s) .axis) j) (sym none) (latin-done axis count anchor l (not-true _ (t .1 .1 .1 .1 .0)) j q)
+    subst (λ (k : ℕ). IsDone (answered k (remaining Links.None axis) (outcome s) .axis) j) (sym none)
+    (latin-done axis count anchor l (not-true _ (t .1 .1 .1 .1 .0)) j q)

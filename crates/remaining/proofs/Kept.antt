@@ -20,19 +20,39 @@ use Rattle.axis.specs.Refusals.{within}
 use Rattle.axis.specs.Visits.{visits}
 use Rattle.axis.proofs.Acceptance.{below-to, within-between}
 use Rattle.axis.proofs.Visits.{visits-keep}
-use Rattle.zone.proofs.Kept.{put-within}
-use Rattle.placing.specs.declared.adjust.LinkDir.{LinkDir}
-use Rattle.placing.specs.declared.adjust.LinkDir.the-variants.{Prev, Next}
-use Rattle.placing.specs.Placing.{isFar, hasPassed, neighbour, heldTo, boundBy, adjusted}
-use Rattle.placing.proofs.Changed.{adjusted-only}
-use Rattle.placing.proofs.Neighbours.{neighbour-below}
+use Rattle.zones.proofs.Kept.{put-within}
+use Rattle.place.specs.declared.adjust.LinkDir.{LinkDir}
+use Rattle.place.specs.declared.adjust.LinkDir.the-variants.{Prev, Next}
+use Rattle.place.specs.Placing.{isFar, hasPassed, neighbour, heldTo, boundBy, adjusted}
+use Rattle.place.proofs.Changed.{adjusted-only}
+use Rattle.place.proofs.Neighbours.{neighbour-below}
 use Rattle.remaining.specs.declared.kinds.Progress.{Progress}
 use Rattle.remaining.specs.declared.kinds.Plan.{Plan}
 use Rattle.remaining.specs.declared.kinds.Round.{Round}
 use Rattle.remaining.specs.declared.kinds.Round.the-variants as Rounds
 use Rattle.remaining.specs.declared.kinds.Way.{Way}
 use Rattle.remaining.specs.declared.kinds.Way.the-variants as Ways
-use Rattle.remaining.specs.Remaining.{State, state, nearOf, byBounds, byAnchor, bySerif, serifsPlan, othersPlan, doneBefore, doneBehind, planOf, fixAt, stored, carriedOut, visit, visited, passOf, begun, remainingOf}
+use Rattle.remaining.specs.Remaining.{
+  State,
+  state,
+  nearOf,
+  byBounds,
+  byAnchor,
+  bySerif,
+  serifsPlan,
+  othersPlan,
+  doneBefore,
+  doneBehind,
+  planOf,
+  fixAt,
+  stored,
+  carriedOut,
+  visit,
+  visited,
+  passOf,
+  begun,
+  remainingOf,
+}
 
 -- ---- the stores
 -- an edge that takes its neighbour's position
@@ -49,7 +69,8 @@ module _ (axis : Axis) (w : AxisWithin mostPos axis) where
   unfolding boundBy
   bound-within h i dir Links.None a b = w
   bound-within h i dir (Links.To k) a b =
-      either-way (AxisWithin mostPos) (hasPassed dir (edgeAt axis i .pos) (edgeAt axis k .pos)) _ axis (held-within h i k (edgeAt axis i .link) a (b .at k refl)) w
+      either-way (AxisWithin mostPos) (hasPassed dir (edgeAt axis i .pos) (edgeAt axis k .pos)) _ axis
+      (held-within h i k (edgeAt axis i .link) a (b .at k refl)) w
 
   pub adjusted-within : (i : ℕ) (dir : LinkDir) → i < axis .len → AxisWithin mostPos (adjusted axis i dir)
   unfolding adjusted
@@ -58,7 +79,8 @@ module _ (axis : Axis) (w : AxisWithin mostPos axis) where
 
   -- one that is given a position
   pub fixed-within : (i : ℕ) (p : ℤ) (m : Mark) → i < axis .len → Between mostPos mostPos p → AxisWithin mostPos (fixAt axis i p m)
-  fixed-within i p m a h = let e = w .edge i a in put-within mostPos i axis _ w (record { opos = e .opos; pos = h; blue = e .blue; link = e .link; serif = e .serif })
+  fixed-within i p m a h =
+      let e = w .edge i a in put-within mostPos i axis _ w (record { opos = e .opos; pos = h; blue = e .blue; link = e .link; serif = e .serif })
 
 -- one that is given a position and then held
 held-both : (axis : Axis) → AxisWithin mostPos axis → (i : ℕ) → i < axis .len → AxisWithin mostPos (adjusted (adjusted axis i Prev) i Next)
@@ -70,7 +92,8 @@ module _ (axis : Axis) (w : AxisWithin mostPos axis) where
   pub stored-within : (way : Way) (i : ℕ) (p : ℤ) (m : Mark) → i < axis .len → Between mostPos mostPos p → AxisWithin mostPos (stored way axis i p m)
   unfolding stored
   stored-within Ways.Stays i p m a h = w
-  stored-within Ways.Placed i p m a h = let e = w .edge i a in put-within mostPos i axis _ w (record { opos = e .opos; pos = h; blue = e .blue; link = e .link; serif = e .serif })
+  stored-within Ways.Placed i p m a h =
+      let e = w .edge i a in put-within mostPos i axis _ w (record { opos = e .opos; pos = h; blue = e .blue; link = e .link; serif = e .serif })
   stored-within Ways.Fixed i p m a h = fixed-within axis w i p m a h
   stored-within Ways.Held i p m a h = held-both (fixAt axis i p m) (fixed-within axis w i p m a h) i a
 
@@ -128,7 +151,8 @@ pub record Sound (n : ℕ) (s : State) : Type 0 where
   pub axis : AxisWithin mostPos (s .axis)
   pub anchor : Below n (s .past .anchor)
 
-carried-sound : (n i : ℕ) (axis : Axis) (past : Progress) (plan : Plan) → i < n → Sound n (state axis past) → Below n (plan .next .anchor) → Sound n (carriedOut axis past i plan)
+carried-sound : (n i : ℕ) (axis : Axis) (past : Progress) (plan : Plan) → i < n → Sound n (state axis past) → Below n (plan .next .anchor)
+    → Sound n (carriedOut axis past i plan)
 unfolding carriedOut
 carried-sound n i axis past plan a h b =
     cond-cases (Sound n) (within mostPos (plan .pos)) _ _
@@ -158,5 +182,6 @@ pass-sound Cjk n s h =
     either-way (Sound n) (eqb (first .past .count) 0) first _ g (visited-sound Rounds.Others n first g)
 
 -- what the loops hand on is accepted again
-pub handed : (axis : Axis) (group : Group) (count : ℕ) (anchor : Link) → AxisWithin mostPos axis → Below (axis .len) anchor → AxisWithin mostPos (remainingOf axis group count anchor .axis)
+pub handed : (axis : Axis) (group : Group) (count : ℕ) (anchor : Link) → AxisWithin mostPos axis → Below (axis .len) anchor
+    → AxisWithin mostPos (remainingOf axis group count anchor .axis)
 handed axis group count anchor w b = pass-sound group (axis .len) (state axis (begun count anchor)) (record { len = refl; axis = w; anchor = b }) .axis

@@ -12,7 +12,7 @@ use Rattle.signed.proofs.Signed.{natAbs-is, one-zero, sub-law, mul-up, mul-dn, 
 use Rattle.fixed_ratio.specs.Ratio.{mulDiv}
 use Rattle.fixed_ratio.proofs.Ratios.{ratio-abs}
 use Rattle.axis.specs.Limits.{mostUnits}
-use Rattle.placing.specs.Steps.{mostReach}
+use Rattle.place.specs.Steps.{mostReach}
 use Rattle.remaining.specs.Plan.{halfFloor}
 
 -- r is the largest multiple of 32 not above z
@@ -35,7 +35,8 @@ apart-abs a b n = ⊎-elim (λ h. h) (λ h. absurd (n (to-≡ a b (omega (arith,
 distance-most : (m : ℕ) (a b : ℤ) → Between m m a → Between m m b → natAbs (a -ℤ b) ≤ m + m
 distance-most m a b h g = omega (arith, natAbs-is (a -ℤ b), one-zero (a -ℤ b), sub-law a b)
 
-pub part-most : (at b f p q : ℤ) → Between mostUnits mostUnits at → Between mostUnits mostUnits b → Between mostReach mostReach p → Between mostReach mostReach q → 0 < natAbs (f -ℤ b)
+pub part-most : (at b f p q : ℤ) → Between mostUnits mostUnits at → Between mostUnits mostUnits b → Between mostReach mostReach p
+    → Between mostReach mostReach q → 0 < natAbs (f -ℤ b)
     → natAbs (mulDiv (at -ℤ b) (q -ℤ p) (f -ℤ b)) ≤ (mostUnits + mostUnits) * (mostReach + mostReach)
 part-most at b f p q h g k l n =
     omega (arith, ratio-abs (at -ℤ b) (q -ℤ p) (f -ℤ b) n, mul-le-mul (distance-most mostUnits at b h g) (distance-most mostReach q p l k))

@@ -19,9 +19,25 @@ use Rattle.axis.specs.declared.kinds.Mark.the-variants as Marks
 use Rattle.axis.specs.declared.edge.Edge.{Edge}
 use Rattle.axis.specs.Edge.{freshEdge, placed, finished, joinedTo}
 use Rattle.axis.specs.Visits.{visits}
-use Rattle.placing.specs.Placing.{serifPos, lowerBound, upperBound, hasPassed, neighbour, heldTo, boundBy, adjusted}
+use Rattle.place.specs.Placing.{serifPos, lowerBound, upperBound, hasPassed, neighbour, heldTo, boundBy, adjusted}
 use Rattle.remaining.specs.Plan.{halfFloor, spacedPos, betweenPos}
-use Rattle.remaining.specs.Remaining.{doneBefore, doneFrom, nearOf, byBounds, byAnchor, bySerif, serifsPlan, othersPlan, planOf, stored, State, carriedOut, visit, passOf, remainingOf}
+use Rattle.remaining.specs.Remaining.{
+  doneBefore,
+  doneFrom,
+  nearOf,
+  byBounds,
+  byAnchor,
+  bySerif,
+  serifsPlan,
+  othersPlan,
+  planOf,
+  stored,
+  State,
+  carriedOut,
+  visit,
+  passOf,
+  remainingOf,
+}
 
 -- ---- edges
 -- one that is left, by its opos; by its font position too
@@ -118,10 +134,12 @@ record Worked : Type 0 where
   turned : latin Links.None (left (pos 40) ∷ left (pos 50) ∷ done (pos 60) (pos 60) ∷ []) ≡ told (pos 64 ∷ pos 62 ∷ pos 60 ∷ []) zeroth
   turned-two : latin Links.None (left (pos 0) ∷ done (pos 1) (minus 1) ∷ []) ≡ told (pos 0 ∷ minus 1 ∷ []) zeroth
   -- by its serif at 54, held to 100 before it and then to 64 behind it; by a link that is the previous edge not at all
-  held : latin Links.None (done (pos 0) (pos 100) ∷ link 2 (serif 2 (left (pos 10))) ∷ done (pos 20) (pos 64) ∷ []) ≡ told (pos 100 ∷ pos 64 ∷ pos 64 ∷ []) Links.None
+  held : latin Links.None (done (pos 0) (pos 100) ∷ link 2 (serif 2 (left (pos 10))) ∷ done (pos 20) (pos 64) ∷ [])
+      ≡ told (pos 100 ∷ pos 64 ∷ pos 64 ∷ []) Links.None
   held-mark : marksOf (run Default 0 Links.None (done (pos 0) (pos 100) ∷ link 2 (serif 2 (left (pos 10))) ∷ done (pos 20) (pos 64) ∷ []))
       ≡ Marks.Stem ∷ Marks.Bound ∷ Marks.Stem ∷ []
-  not-held : latin Links.None (done (pos 0) (pos 100) ∷ link 0 (serif 2 (left (pos 10))) ∷ done (pos 20) (pos 64) ∷ []) ≡ told (pos 100 ∷ pos 54 ∷ pos 64 ∷ []) Links.None
+  not-held : latin Links.None (done (pos 0) (pos 100) ∷ link 0 (serif 2 (left (pos 10))) ∷ done (pos 20) (pos 64) ∷ [])
+      ≡ told (pos 100 ∷ pos 54 ∷ pos 64 ∷ []) Links.None
   -- CJK between two by font positions, not done; with a count of 0 not at all; by its serif, done
   cjk-between : cjk 1 (at (leftAt 0 0) (pos 10) ∷ leftAt 10 7 ∷ at (leftAt 40 28) (pos 50) ∷ []) ≡ pos 10 ∷ pos 20 ∷ pos 50 ∷ []
   cjk-undone : donesOf (run Cjk 1 Links.None (at (leftAt 0 0) (pos 10) ∷ leftAt 10 7 ∷ at (leftAt 40 28) (pos 50) ∷ [])) ≡ true ∷ false ∷ true ∷ []
@@ -141,7 +159,8 @@ record Worked : Type 0 where
   held-beyond : beyond zeroth (done (pos 0) (minus 16777216) ∷ link 2 (serif 0 (left (minus 1))) ∷ done (pos 3) (pos 0) ∷ []) ≡ true
 
 worked : Worked
-unfolding visits passOf visit carriedOut stored planOf othersPlan serifsPlan bySerif byAnchor byBounds nearOf doneFrom doneBefore betweenPos spacedPos halfFloor serifPos
+unfolding visits passOf visit carriedOut stored planOf othersPlan serifsPlan bySerif byAnchor byBounds nearOf doneFrom doneBefore betweenPos spacedPos
+    halfFloor serifPos
     lowerBound upperBound hasPassed neighbour heldTo boundBy adjusted pixFloor pixRound mulDiv roundedZ rounded
 worked = record {
   serif-near = refl;

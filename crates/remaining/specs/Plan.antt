@@ -11,7 +11,7 @@ use Rattle.axis.specs.declared.kinds.Link.the-variants as Links
 use Rattle.axis.specs.declared.kinds.Mark.{Mark}
 use Rattle.axis.specs.declared.kinds.Mark.the-variants as Marks
 use Rattle.axis.specs.declared.edge.Edge.{Edge}
-use Rattle.placing.specs.Placing.{serifPos}
+use Rattle.place.specs.Placing.{serifPos}
 use Rattle.remaining.specs.declared.kinds.Progress.{Progress}
 use Rattle.remaining.specs.declared.kinds.Plan.{Plan}
 use Rattle.remaining.specs.declared.kinds.Way.{Way}

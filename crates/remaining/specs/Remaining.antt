@@ -17,8 +17,8 @@ use Rattle.axis.specs.Limits.{mostPos}
 use Rattle.axis.specs.Mark.{unmarkedAxis}
 use Rattle.axis.specs.Refusals.{within, linkHolds, edgesShort, edgesIndexed, edgesInRange}
 use Rattle.axis.specs.Visits.{visits}
-use Rattle.placing.specs.declared.adjust.LinkDir.the-variants.{Prev, Next}
-use Rattle.placing.specs.Placing.{adjusted}
+use Rattle.place.specs.declared.adjust.LinkDir.the-variants.{Prev, Next}
+use Rattle.place.specs.Placing.{adjusted}
 use Rattle.remaining.specs.declared.kinds.Progress.{Progress}
 use Rattle.remaining.specs.declared.kinds.Plan.{Plan}
 use Rattle.remaining.specs.declared.kinds.Round.{Round}

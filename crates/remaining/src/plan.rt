@@ -10,13 +10,13 @@ use axis::limits::MOST_POS;
 use fixed::pixel::pix_round;
 use fixed::point::magnitude;
 use fixed_ratio::ratio::fixed_mul_div;
-use placing::place::serif_edge;
+use place::place::serif_edge;
 ghost use mathlib.Core.Path.{_≡_};
 ghost use Prim.Native.Nat.{_<_};
 ghost use Rattle.signed.specs.Range.{Between};
 ghost use Rattle.axis.specs.Limits.{mostEdges, mostUnits, mostPos};
 ghost use Rattle.axis.specs.Refusals.{within};
-ghost use Rattle.placing.specs.Steps.{InReach, mostReach};
+ghost use Rattle.place.specs.Steps.{InReach, mostReach};
 ghost use Rattle.remaining.specs.Plan.{isClose, isNear, serifPlan, anchorPlan, halfFloor, spacedPos, spacedPlan, betweenPos, latinBetween, cjkBetween, staysPlan, oneLess, asBeyond};
 
 // A position as plans hold it.

@@ -1,4 +1,5 @@
--- CJK's order: where done edges are in order, original and font positions do not fall, and no edge that is not done has a serif, all edges are in order behind remaining edges.
+-- CJK's order: where done edges are in order, original and font positions do not fall, and no edge that is not done has a serif, all edges are in order behind
+-- remaining edges.
 use mathlib.Core.Path.{_≡_, refl, sym, ap, subst, _∙_}
 use mathlib.Core.Bool.{Bool, true, false}
 use mathlib.Core.Logic.{⊎-elim, _≢_}
@@ -20,13 +21,28 @@ use Rattle.axis.specs.declared.kinds.Mark.{Mark}
 use Rattle.axis.specs.declared.edge.Edge.{Edge}
 use Rattle.axis.specs.declared.edge.Axis.{Axis}
 use Rattle.axis.specs.Edge.{emptyEdge, edgeAt, placed}
-use Rattle.placing.specs.Placing.{serifPos}
+use Rattle.place.specs.Placing.{serifPos}
 use Rattle.gaps.specs.Gaps.{isDone}
 use Rattle.gaps.proofs.Lasts.{Last}
 use Rattle.remaining.specs.declared.kinds.Progress.{Progress}
 use Rattle.remaining.specs.declared.kinds.Round.the-variants as Rounds
 use Rattle.remaining.specs.Plan.{betweenPos}
-use Rattle.remaining.specs.Remaining.{State, state, doneBefore, doneBehind, serifsPlan, othersPlan, planOf, placeAt, stored, visit, visited, othersVisited, passOf, begun}
+use Rattle.remaining.specs.Remaining.{
+  State,
+  state,
+  doneBefore,
+  doneBehind,
+  serifsPlan,
+  othersPlan,
+  planOf,
+  placeAt,
+  stored,
+  visit,
+  visited,
+  othersVisited,
+  passOf,
+  begun,
+}
 use Rattle.remaining.specs.Remaining.{remainingOf, alignRemainingEdges}
 use Rattle.remaining.proofs.Alike.{before-same, behind-same}
 use Rattle.remaining.proofs.Between.{between-grows, cjk-lies}
@@ -51,14 +67,16 @@ module _ (axis : Axis) (count : ℕ) (anchor : Link) (k : ℕ) (r : CjkReady axi
   serif-stays : (i : ℕ) (s : State) → i < axis .len → s ≡ start → visit Rounds.Serifs s i .past .beyond ≡ false → visit Rounds.Serifs s i ≡ start
   serif-stays i s there e b =
       visit-cases Rounds.Serifs (λ (t : State). t ≡ start) s i b (λ d. e)
-      (λ d. ap (λ (t : State). carried t i (planOf Rounds.Serifs (t .axis) (t .past) i)) e ∙ carried-start i there (ap (λ (t : State). isDone (t .axis) i) (sym e) ∙ d))
+      (λ d. ap (λ (t : State). carried t i (planOf Rounds.Serifs (t .axis) (t .past) i)) e
+      ∙ carried-start i there (ap (λ (t : State). isDone (t .axis) i) (sym e) ∙ d))
 
   -- so that the second one starts with the given edges
   others-alone : 0 < count → remainingOf axis Cjk count anchor .past .beyond ≡ false → remainingOf axis Cjk count anchor ≡ visited Rounds.Others start
   unfolding passOf
   others-alone some b =
       let first = visited Rounds.Serifs start in
-      let within = cond-cases (λ (t : State). t .past .beyond ≡ false → first .past .beyond ≡ false) (eqb (first .past .count) 0) first (visited Rounds.Others first) (λ t e. e)
+      let within = cond-cases (λ (t : State). t .past .beyond ≡ false → first .past .beyond ≡ false) (eqb (first .past .count) 0) first
+      (visited Rounds.Others first) (λ t e. e)
       (λ t e. visits-within Rounds.Others (first .axis .len) 0 first e) b in
       ap othersVisited (all-reach Rounds.Serifs (axis .len) (λ (i : ℕ) (s : State). s ≡ start) serif-stays start refl within)
       ∙ cond-false _ _ _ (ne-eqb count 0 (λ e. omega (arith, e, some)))
@@ -99,9 +117,12 @@ module _ (axis : Axis) (count : ℕ) (anchor : Link) (k : ℕ) (r : CjkReady axi
         long = omega (arith, length-set (s .axis .edges) i (own p m), h .long);
         later = λ j l. other j (λ e. omega (arith, e, l)) ∙ h .later j (omega arith);
         kept = λ j b. other j (λ e. clash _ d (subst (λ (x : ℕ). isDone axis x ≡ true) e b)) ∙ h .kept j b;
-        done = λ j. ⊎-elim (λ (e : j ≡ i). subst (λ (x : ℕ). isDone (placeAt (s .axis) i p m) x ≡ isDone axis x) (sym e) (ap (λ (x : Edge). x .flags .done) same ∙ h .done i))
+        done =
+            λ j. ⊎-elim (λ (e : j ≡ i). subst (λ (x : ℕ). isDone (placeAt (s .axis) i p m) x ≡ isDone axis x) (sym e)
+            (ap (λ (x : Edge). x .flags .done) same ∙ h .done i))
             (λ (n : j ≢ i). ap (λ (x : Edge). x .flags .done) (other j n) ∙ h .done j) (same-or-not j i);
-        moved = λ j l n. ⊎-elim (λ (e : j ≡ i). subst (λ (x : ℕ). edgeAt (placeAt (s .axis) i p m) x .pos ≡ placeOf x) (sym e) (ap (λ (x : Edge). x .pos) same ∙ q))
+        moved =
+            λ j l n. ⊎-elim (λ (e : j ≡ i). subst (λ (x : ℕ). edgeAt (placeAt (s .axis) i p m) x .pos ≡ placeOf x) (sym e) (ap (λ (x : Edge). x .pos) same ∙ q))
             (λ (b : j < i). ap (λ (x : Edge). x .pos) (other j (λ e. omega (arith, e, b))) ∙ h .moved j b n) (eq-or-lt-of-le (omega arith));
       }
         where
@@ -174,7 +195,8 @@ module _ (axis : Axis) (count : ℕ) (anchor : Link) (k : ℕ) (r : CjkReady axi
             let n = y .some f refl in
             let o = n .from in
             let b : f < axis .len = omega (arith, n .below) in
-            cjk-lies (edgeAt axis i) (edgeAt axis f) (edgeAt axis (i + 1)) past font (r .font-rise .at (i + 1) f (omega arith) b) .rising (r .in-order .at i f (omega arith) b d (n .done)) .0
+            cjk-lies (edgeAt axis i) (edgeAt axis f) (edgeAt axis (i + 1)) past font (r .font-rise .at (i + 1) f (omega arith) b) .rising
+            (r .in-order .at i f (omega arith) b d (n .done)) .0
 
     -- the second is done
     below : isDone axis (i + 1) ≡ true → placeOf i ≤ℤ edgeAt axis (i + 1) .pos
@@ -206,7 +228,8 @@ module _ (axis : Axis) (count : ℕ) (anchor : Link) (k : ℕ) (r : CjkReady axi
             let o = m .order in
             let u = n .from in
             let w : f < axis .len = omega (arith, n .below) in
-            between-grows (edgeAt axis i .fpos) (edgeAt axis (i + 1) .fpos) (edgeAt axis b .fpos) (edgeAt axis b .pos) (edgeAt axis f .fpos) (edgeAt axis f .pos)
+            between-grows (edgeAt axis i .fpos) (edgeAt axis (i + 1) .fpos) (edgeAt axis b .fpos) (edgeAt axis b .pos) (edgeAt axis f .fpos)
+            (edgeAt axis f .pos)
             (r .font-rise .at b i o (omega arith)) font (r .font-rise .at (i + 1) f (omega arith) w) (r .in-order .at b f (omega arith) w (m .passes) (n .done))
         by (Links.To b) Links.None x y = shifted-rises (edgeAt axis b .pos) (edgeAt axis b .opos) (edgeAt axis i .opos) (edgeAt axis (i + 1) .opos) units
         by Links.None (Links.To f) x y = shifted-rises (edgeAt axis f .pos) (edgeAt axis f .opos) (edgeAt axis i .opos) (edgeAt axis (i + 1) .opos) units
@@ -217,7 +240,8 @@ module _ (axis : Axis) (count : ℕ) (anchor : Link) (k : ℕ) (r : CjkReady axi
             (λ (q : i ≤ k).
             ⊎-elim (λ (z : i ≡ k). subst (λ (v : ℕ). isDone axis v ≡ false) z d)
             (λ (z : i < k).
-            ⊎-elim (λ (w : i + 1 ≡ k). subst (λ (v : ℕ). isDone axis v ≡ false) w e) (λ (w : i + 1 < k). y .none refl k (omega arith) (omega arith)) (eq-or-lt-of-le (omega arith)))
+            ⊎-elim (λ (w : i + 1 ≡ k). subst (λ (v : ℕ). isDone axis v ≡ false) w e) (λ (w : i + 1 < k). y .none refl k (omega arith) (omega arith))
+            (eq-or-lt-of-le (omega arith)))
             (eq-or-lt-of-le q))
             (lt-or-le k i))
             (r .done))

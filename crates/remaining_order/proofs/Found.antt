@@ -55,14 +55,18 @@ module _ (axis : Axis) where
             subst (IsNext (suc n) k) w (record { from = omega arith; below = omega arith; done = q; between = λ j g h. absurd (omega arith) });
       }
       by false q x = record {
-        none = λ e j g h. ⊎-elim (λ (w : k ≡ j). subst (λ (y : ℕ). isDone axis y ≡ false) w q) (λ (l : k < j). x .none e j (omega arith) (omega arith)) (eq-or-lt-of-le g);
+        none =
+            λ e j g h. ⊎-elim (λ (w : k ≡ j). subst (λ (y : ℕ). isDone axis y ≡ false) w q) (λ (l : k < j). x .none e j (omega arith) (omega arith))
+            (eq-or-lt-of-le g);
         some = λ f e.
             let y = x .some f e in
             record {
               from = omega (arith, y .from);
               below = omega (arith, y .below);
               done = y .done;
-              between = λ j g h. ⊎-elim (λ (w : k ≡ j). subst (λ (y : ℕ). isDone axis y ≡ false) w q) (λ (l : k < j). y .between j (omega arith) h) (eq-or-lt-of-le g);
+              between =
+                  λ j g h. ⊎-elim (λ (w : k ≡ j). subst (λ (y : ℕ). isDone axis y ≡ false) w q) (λ (l : k < j). y .between j (omega arith) h)
+                  (eq-or-lt-of-le g);
             };
       }
 
@@ -87,7 +91,8 @@ pub record DoneEnds (axis : Axis) : Type 0 where
   pub last-done : LastDone axis last
 
 pub done-ends : (axis : Axis) (k : ℕ) → k < axis .len → isDone axis k ≡ true → DoneEnds axis
-done-ends axis k l d = by (firstOf (isDone axis) (axis .len)) (lastOf (isDone axis) (axis .len)) (first-is (isDone axis) (axis .len)) (last-is (isDone axis) (axis .len))
+done-ends axis k l d =
+    by (firstOf (isDone axis) (axis .len)) (lastOf (isDone axis) (axis .len)) (first-is (isDone axis) (axis .len)) (last-is (isDone axis) (axis .len))
   where
     by : (f e : Link) → First (isDone axis) (axis .len) f → Last (isDone axis) (axis .len) e → DoneEnds axis
     by Links.None e x y = absurd (clash _ (x .none refl .fails k l) d)

@@ -46,7 +46,8 @@ module _ (axis : Axis) (a : ℕ) where
     pub done : (j : ℕ) → j < i → isDone (s .axis) j ≡ true
 
   pub goes-begun : (count : ℕ) → axis .len ≤ length (axis .edges) → Goes 0 (state axis (begun count (Links.To a)))
-  goes-begun count l = record { len = refl; long = l; anchor = refl; later = λ j h. refl; kept = λ j d. refl; opos = λ j. refl; done = λ j h. absurd (omega arith) }
+  goes-begun count l =
+      record { len = refl; long = l; anchor = refl; later = λ j h. refl; kept = λ j d. refl; opos = λ j. refl; done = λ j h. absurd (omega arith) }
 
   module _ (i : ℕ) (s : State) (g : Goes i s) where
     -- an edge to be visited is done as it was
@@ -85,7 +86,8 @@ module _ (axis : Axis) (a : ℕ) where
         later = λ j h. held-other (s .axis) i p m j (λ e. omega (arith, e)) ∙ g .later j (omega arith);
         kept = λ j b. held-other (s .axis) i p m j (λ e. clash _ placeless (subst (λ (k : ℕ). isDone axis k ≡ true) e b)) ∙ g .kept j b;
         opos = λ j. ⊎-elim
-            (λ (e : j ≡ i). subst (λ (k : ℕ). edgeAt (held (s .axis) i p m) k .opos ≡ edgeAt axis k .opos) (sym e) (held-opos (s .axis) i p m inside ∙ g .opos i))
+            (λ (e : j ≡ i). subst (λ (k : ℕ). edgeAt (held (s .axis) i p m) k .opos ≡ edgeAt axis k .opos) (sym e)
+            (held-opos (s .axis) i p m inside ∙ g .opos i))
             (λ (n : j ≢ i). ap (λ (x : Edge). x .opos) (held-other (s .axis) i p m j n) ∙ g .opos j)
             (same-or-not j i);
         done = λ j h. ⊎-elim
@@ -99,7 +101,8 @@ module _ (axis : Axis) (a : ℕ) where
   boundsAt i s = byBounds (s .axis) (s .past) i a (doneBefore (s .axis) i) (doneBehind (s .axis) i)
 
   bounds-carried : (s : State) (i : ℕ) (b f : Link) →
-      carried s i (byBounds (s .axis) (s .past) i a b f) ≡ state (held (s .axis) i (byBounds (s .axis) (s .past) i a b f .pos) (byBounds (s .axis) (s .past) i a b f .mark)) (s .past)
+      carried s i (byBounds (s .axis) (s .past) i a b f) ≡ state
+      (held (s .axis) i (byBounds (s .axis) (s .past) i a b f .pos) (byBounds (s .axis) (s .past) i a b f .mark)) (s .past)
   unfolding byBounds stored
   bounds-carried s i (Links.To b) (Links.To f) = refl
   bounds-carried s i (Links.To b) Links.None = refl
@@ -122,4 +125,5 @@ module _ (axis : Axis) (a : ℕ) where
         → (isDone (s .axis) i ≡ false → P (state (held (s .axis) i (boundsAt i s .pos) (boundsAt i s .mark)) (s .past))) → P (visit Rounds.Latin s i)
     latin-cases P e done left =
         visit-cases Rounds.Latin P s i e done
-        (λ d. subst P (sym (ap (carried s i) (plan-is (sym (done-same i s g i (omega arith)) ∙ d)) ∙ bounds-carried s i (doneBefore (s .axis) i) (doneBehind (s .axis) i))) (left d))
+        (λ d. subst P (sym (ap (carried s i) (plan-is (sym (done-same i s g i (omega arith)) ∙ d))
+        ∙ bounds-carried s i (doneBefore (s .axis) i) (doneBehind (s .axis) i))) (left d))

@@ -1,4 +1,5 @@
--- The guard behind remaining edges of the default group counts every edge, and none is left that is not done; where it finds nothing with least 0, all edges are in order.
+-- The guard behind remaining edges of the default group counts every edge, and none is left that is not done; where it finds nothing with least 0, all edges
+-- are in order.
 use mathlib.Core.Path.{_≡_, refl, ap, subst, _∙_}
 use mathlib.Core.Bool.{Bool, true, false, not, cond}
 use Prim.Native.Nat.{ℕ, zero, suc, _+_, _≤_, _<_}
@@ -34,10 +35,12 @@ all-told axis least linked all = by (refusal (gapsTests axis least))
 module _ (axis : Axis) (count : ℕ) (anchor : Link) (l : axis .len ≤ length (axis .edges)) (e : alignRemainingEdges axis Default count anchor .answer ≡ 0) where
   all-done : (j : ℕ) → j < alignRemainingEdges axis Default count anchor .axis .len → isDone (alignRemainingEdges axis Default count anchor .axis) j ≡ true
   all-done j h =
-      call-done axis count anchor l e j (subst (λ (n : ℕ). j < n) (changed axis Default count anchor {r = alignRemainingEdges axis Default count anchor} refl .only .len) h)
+      call-done axis count anchor l e j (subst (λ (n : ℕ). j < n)
+      (changed axis Default count anchor {r = alignRemainingEdges axis Default count anchor} refl .only .len) h)
 
   -- every edge counts
-  pub counts-every : (j : ℕ) → j < alignRemainingEdges axis Default count anchor .axis .len → counts false (alignRemainingEdges axis Default count anchor .axis) j ≡ true
+  pub counts-every : (j : ℕ) → j < alignRemainingEdges axis Default count anchor .axis .len
+      → counts false (alignRemainingEdges axis Default count anchor .axis) j ≡ true
   counts-every = all-done
 
   -- and none is told of that is not done
@@ -46,7 +49,8 @@ module _ (axis : Axis) (count : ℕ) (anchor : Link) (l : axis .len ≤ length (
 
   -- where it finds nothing, with least 0 and links not asked for, all are in order: so where they are not, it names some
   pub guarded-order : EdgesRise axis → lostGaps (alignRemainingEdges axis Default count anchor .axis) (pos 0) false .answer ≡ 0
-      → lostGaps (alignRemainingEdges axis Default count anchor .axis) (pos 0) false .count ≡ 0 → lostGaps (alignRemainingEdges axis Default count anchor .axis) (pos 0) false .stems ≡ 0
+      → lostGaps (alignRemainingEdges axis Default count anchor .axis) (pos 0) false .count ≡ 0
+      → lostGaps (alignRemainingEdges axis Default count anchor .axis) (pos 0) false .stems ≡ 0
       → InOrder (alignRemainingEdges axis Default count anchor .axis)
   guarded-order rise answer gaps stems =
       let new = alignRemainingEdges axis Default count anchor .axis in

@@ -1,4 +1,5 @@
--- Latin's order: where done edges are in order, the anchor is done and no serif is near, all edges are in order behind remaining edges exactly where the places by the anchor
+-- Latin's order: where done edges are in order, the anchor is done and no serif is near, all edges are in order behind remaining edges exactly where the places
+-- by the anchor
 -- fit at both ends of the done ones; and so always where the anchor alone is done.
 use mathlib.Core.Path.{_≡_, refl, sym, ap, subst, _∙_}
 use mathlib.Core.Bool.{Bool, true, false}
@@ -79,7 +80,8 @@ module _ (axis : Axis) (a first last : ℕ) (r : LatinReady axis a first last) w
   put-front : (i : ℕ) (s : State) (g : Goes axis a i s) → i < axis .len → isDone (s .axis) i ≡ false → i ≡ 0 → edgeAt (put i s g) i .pos ≡ placeBy axis a i
   unfolding doneBefore
   put-front zero s g there d e =
-      ap (λ (x : Axis). edgeAt x 0 .pos) (held-zero (s .axis) (given 0 s g) (mark 0 s g)) ∙ fixed-own (s .axis) 0 (given 0 s g) (mark 0 s g) (inside axis a 0 s g there d)
+      ap (λ (x : Axis). edgeAt x 0 .pos) (held-zero (s .axis) (given 0 s g) (mark 0 s g))
+      ∙ fixed-own (s .axis) 0 (given 0 s g) (mark 0 s g) (inside axis a 0 s g there d)
       ∙ front-place 0 s g (doneBehind (s .axis) 0)
   put-front (suc k) s g there d e = absurd (omega (arith, e))
 
@@ -100,9 +102,12 @@ module _ (axis : Axis) (a first last : ℕ) (r : LatinReady axis a first last) w
           let was = sym (done-same axis a i s g i (omega arith)) ∙ d in
           record {
             goes = goes-on axis a i s g d;
-            front = λ q n. ⊎-elim (λ (z : 0 ≡ i). absurd (clash _ n (subst (λ (k : ℕ). isDone axis k ≡ true) (sym z) was))) (λ (l : 0 < i). h .front l n) (eq-or-lt-of-le (omega arith));
+            front =
+                λ q n. ⊎-elim (λ (z : 0 ≡ i). absurd (clash _ n (subst (λ (k : ℕ). isDone axis k ≡ true) (sym z) was))) (λ (l : 0 < i). h .front l n)
+                (eq-or-lt-of-le (omega arith));
             back = λ q n. ⊎-elim
-                (λ (z : last + 1 ≡ i). absurd (clash _ (r .last-done .later i (omega arith) there) was)) (λ (l : last + 1 < i). h .back l n) (eq-or-lt-of-le (omega arith));
+                (λ (z : last + 1 ≡ i). absurd (clash _ (r .last-done .later i (omega arith) there) was)) (λ (l : last + 1 < i). h .back l n)
+                (eq-or-lt-of-le (omega arith));
           }
 
       left : isDone (s .axis) i ≡ false → Ends (i + 1) (state (put i s g) (s .past))
@@ -116,7 +121,8 @@ module _ (axis : Axis) (a first last : ℕ) (r : LatinReady axis a first last) w
             (λ (z : last + 1 ≡ i).
             subst (λ (k : ℕ). edgeAt (put i s g) k .pos ≡ placeBy axis a k) (sym z)
             (put-back i s g there d (omega arith) (subst (λ (k : ℕ). edgeAt axis k .link ≡ Links.None) z n)))
-            (λ (l : last + 1 < i). ap (λ (x : Edge). x .pos) (held-other (s .axis) i (given i s g) (mark i s g) (last + 1) (λ w. omega (arith, w, l))) ∙ h .back l n)
+            (λ (l : last + 1 < i). ap (λ (x : Edge). x .pos) (held-other (s .axis) i (given i s g) (mark i s g) (last + 1) (λ w. omega (arith, w, l)))
+            ∙ h .back l n)
             (eq-or-lt-of-le (omega arith));
       }
 
@@ -126,7 +132,8 @@ module _ (axis : Axis) (a first last : ℕ) (r : LatinReady axis a first last) w
   first-under k l d =
       ⊎-elim (λ (q : k < first). absurd (clash _ (r .first-done .earlier k q) d))
       (λ (q : first ≤ k).
-      ⊎-elim (λ (z : first ≡ k). subst (λ (x : ℕ). edgeAt axis first .pos ≤ℤ edgeAt axis x .pos) z (≤ℤ-refl _)) (λ (z : first < k). r .in-order .at first k z l (r .first-done .done) d)
+      ⊎-elim (λ (z : first ≡ k). subst (λ (x : ℕ). edgeAt axis first .pos ≤ℤ edgeAt axis x .pos) z (≤ℤ-refl _))
+      (λ (z : first < k). r .in-order .at first k z l (r .first-done .done) d)
       (eq-or-lt-of-le q))
       (lt-or-le k first)
 
@@ -163,7 +170,8 @@ module _ (axis : Axis) (a first last : ℕ) (r : LatinReady axis a first last) w
       unfolding byBounds
       lies = by (doneBefore (s .axis) i) (doneBehind (s .axis) i) (before-is (s .axis) i) (from-is (s .axis) (s .axis .len - (i + 1)) (i + 1))
         where
-          by : (b f : Link) → Last (isDone (s .axis)) i b → Next (s .axis) (s .axis .len - (i + 1)) (i + 1) f → Lies i s (byBounds (s .axis) (s .past) i a b f .pos)
+          by : (b f : Link) → Last (isDone (s .axis)) i b → Next (s .axis) (s .axis .len - (i + 1)) (i + 1) f
+              → Lies i s (byBounds (s .axis) (s .past) i a b f .pos)
           by Links.None f x y =
               let z : i ≡ 0 =
               ⊎-elim (λ (q : 0 < i). absurd (clash _ (x .none refl 0 q) (g .done 0 q))) (λ (q : i ≤ 0). omega arith) (lt-or-le 0 i) in
@@ -193,7 +201,8 @@ module _ (axis : Axis) (a first last : ℕ) (r : LatinReady axis a first last) w
               record {
                 under = λ k e.
                     let same : b ≡ k =
-                    ⊎-elim (λ (q : b < k). absurd (clash _ (before .between k q (omega arith)) (g .done k (omega arith)))) (λ (q : k ≤ b). omega (arith, e)) (lt-or-le b k) in
+                    ⊎-elim (λ (q : b < k). absurd (clash _ (before .between k q (omega arith)) (g .done k (omega arith)))) (λ (q : k ≤ b). omega (arith, e))
+                    (lt-or-le b k) in
                     subst (λ (v : ℕ). edgeAt (s .axis) v .pos ≤ℤ p) same (rising .0);
                 over = λ k l m q.
                     ⊎-elim (λ (w : k < f). absurd (clash _ (behind .between k (omega arith) w) q))
@@ -214,7 +223,8 @@ module _ (axis : Axis) (a first last : ℕ) (r : LatinReady axis a first last) w
       -- so it is not held
       stays : put i s g ≡ fixed
       stays =
-          held-stays (s .axis) i (given i s g) (mark i s g) here (λ k e. lies .under k (omega (arith, e))) (λ l q. lies .over (i + 1) (omega arith) (omega (arith, g .len)) q)
+          held-stays (s .axis) i (given i s g) (mark i s g) here (λ k e. lies .under k (omega (arith, e)))
+          (λ l q. lies .over (i + 1) (omega arith) (omega (arith, g .len)) q)
 
       own : edgeAt fixed i .pos ≡ given i s g
       own = fixed-own (s .axis) i (given i s g) (mark i s g) here
@@ -226,7 +236,8 @@ module _ (axis : Axis) (a first last : ℕ) (r : LatinReady axis a first last) w
       all-under j l =
           ⊎-elim (λ (e : j + 1 ≡ i). lies .under j e)
           (λ (q : j + 1 < i).
-          le-then _ _ _ (h .in-order .at j (i - 1) (omega arith) (omega (arith, g .len)) (g .done j l) (g .done (i - 1) (omega arith))) (lies .under (i - 1) (omega arith)))
+          le-then _ _ _ (h .in-order .at j (i - 1) (omega arith) (omega (arith, g .len)) (g .done j l) (g .done (i - 1) (omega arith)))
+          (lies .under (i - 1) (omega arith)))
           (eq-or-lt-of-le (omega arith))
 
       fixed-order : DoneInOrder fixed
@@ -253,7 +264,8 @@ module _ (axis : Axis) (a first last : ℕ) (r : LatinReady axis a first last) w
         in-order = subst DoneInOrder (sym stays) fixed-order;
         ahead = λ k e l n.
             let z : k ≡ i = omega (arith, e) in
-            le-by (ap (λ (x : ℕ). edgeAt (put i s g) x .pos) z ∙ ap (λ (x : Axis). edgeAt x i .pos) stays ∙ own ∙ lies .spaced (λ j q b. n j (omega arith) b)) refl
+            le-by (ap (λ (x : ℕ). edgeAt (put i s g) x .pos) z ∙ ap (λ (x : Axis). edgeAt x i .pos) stays ∙ own ∙ lies .spaced (λ j q b. n j (omega arith) b))
+            refl
             (spaced-rises (edgeAt axis a .pos) (edgeAt axis a .opos) (edgeAt axis i .opos) (edgeAt axis (i + 1) .opos) (r .rise .at i (i + 1) (omega arith) l));
       }
 
@@ -279,7 +291,8 @@ module _ (axis : Axis) (a first last : ℕ) (r : LatinReady axis a first last) w
         is-last n =
             ⊎-elim (λ (q : last < i). absurd (clash _ (r .last-done .later i q there) (sym (done-same axis a i s g i (omega arith)) ∙ d)))
             (λ (q : i ≤ last).
-            ⊎-elim (λ (z : i ≡ last). sym z) (λ (z : i < last). absurd (clash _ (n last (omega arith) (r .last-done .there)) (r .last-done .done))) (eq-or-lt-of-le q))
+            ⊎-elim (λ (z : i ≡ last). sym z) (λ (z : i < last). absurd (clash _ (n last (omega arith) (r .last-done .there)) (r .last-done .done)))
+            (eq-or-lt-of-le q))
             (lt-or-le last i)
 
     orderly-next : (i : ℕ) (s : State) → i < axis .len → Orderly i s → visit Rounds.Latin s i .past .beyond ≡ false → Orderly (i + 1) (visit Rounds.Latin s i)
@@ -333,13 +346,15 @@ module _ (axis : Axis) (a first last : ℕ) (r : LatinReady axis a first last) w
             let f = r .first-done in
             let l = f .there in
             let n : 0 < first =
-            ⊎-elim (λ (z : 0 ≡ first). absurd (clash _ q (subst (λ (y : ℕ). isDone axis y ≡ true) (sym z) (f .done)))) (λ (z : 0 < first). z) (eq-or-lt-of-le (omega arith)) in
+            ⊎-elim (λ (z : 0 ≡ first). absurd (clash _ q (subst (λ (y : ℕ). isDone axis y ≡ true) (sym z) (f .done)))) (λ (z : 0 < first). z)
+            (eq-or-lt-of-le (omega arith)) in
             inr (le-by (sym (ends .front (omega arith) q)) (sym (kept-pos first (f .done))) (o .at 0 first n (omega (arith, ends .goes .len))))
 
     above-fits : edgeAt axis (last + 1) .link ≡ Links.None → InOrder (end .axis) → FitsAbove axis a last
     above-fits n o =
         ⊎-elim
-        (λ (l : last + 1 < axis .len). inr (le-by (sym (kept-pos last (r .last-done .done))) (sym (ends .back l n)) (o .at last (last + 1) (omega arith) (omega (arith, ends .goes .len)))))
+        (λ (l : last + 1 < axis .len). inr (le-by (sym (kept-pos last (r .last-done .done))) (sym (ends .back l n))
+        (o .at last (last + 1) (omega arith) (omega (arith, ends .goes .len)))))
         (λ (l : axis .len ≤ last + 1).
         let t = r .last-done .there in
         let z : last ≡ axis .len - 1 = omega arith in
@@ -358,13 +373,17 @@ module _ (axis : Axis) (a : ℕ) (r : LatinReady axis a a a) where
   alone-below : FitsBelow axis a a
   alone-below =
       ⊎-elim (λ (z : 0 ≡ a). inl (subst (λ (y : ℕ). isDone axis y ≡ true) (sym z) (r .anchor)))
-      (λ (l : 0 < a). inr (spaced-below (edgeAt axis a .pos) (edgeAt axis a .opos) (edgeAt axis 0 .opos) (r .rise .at 0 a l (r .first-done .there)))) (eq-or-lt-of-le (omega arith))
+      (λ (l : 0 < a). inr (spaced-below (edgeAt axis a .pos) (edgeAt axis a .opos) (edgeAt axis 0 .opos) (r .rise .at 0 a l (r .first-done .there))))
+      (eq-or-lt-of-le (omega arith))
 
   alone-above : FitsAbove axis a a
   alone-above =
       let t = r .last-done .there in
-      ⊎-elim (λ (l : a + 1 < axis .len). inr (spaced-above (edgeAt axis a .pos) (edgeAt axis a .opos) (edgeAt axis (a + 1) .opos) (r .rise .at a (a + 1) (omega arith) l)))
-      (λ (l : axis .len ≤ a + 1). let z : a ≡ axis .len - 1 = omega arith in inl (subst (λ (y : ℕ). isDone axis y ≡ true) z (r .anchor))) (lt-or-le (a + 1) (axis .len))
+      ⊎-elim (λ (l : a + 1 < axis .len). inr (spaced-above (edgeAt axis a .pos) (edgeAt axis a .opos) (edgeAt axis (a + 1) .opos)
+      (r .rise .at a (a + 1) (omega arith) l)))
+      (λ (l : axis .len ≤ a + 1). let z : a ≡ axis .len - 1 = omega arith in inl (subst (λ (y : ℕ). isDone axis y ≡ true) z (r .anchor)))
+      (lt-or-le (a + 1) (axis .len))
 
-  pub anchor-alone : (count : ℕ) → alignRemainingEdges axis Default count (Links.To a) .answer ≡ 0 → InOrder (alignRemainingEdges axis Default count (Links.To a) .axis)
+  pub anchor-alone : (count : ℕ) → alignRemainingEdges axis Default count (Links.To a) .answer ≡ 0
+      → InOrder (alignRemainingEdges axis Default count (Links.To a) .axis)
   anchor-alone count e = latin-order axis a a a r count e .in-order alone-below alone-above

@@ -5,7 +5,7 @@ use native.Mathlib.Omega.{arith}
 use lib.IntN.{ℤ, pos, _+ℤ_, _-ℤ_, _*ℤ_}
 use lib.Signed.{_≤ℤ_, ≤ℤ-refl, shrZ}
 use Rattle.signed.proofs.Signed.{signed, add-law, sub-law, mul-up, mul-dn, shr-law, to-≤ℤ}
-use Rattle.placing.specs.Placing.{serifPos}
+use Rattle.place.specs.Placing.{serifPos}
 use Rattle.remaining.specs.Plan.{halfFloor, spacedPos}
 
 -- ---- order
@@ -40,14 +40,34 @@ unfolding spacedPos halfFloor
 spaced-below p o x h =
     let z = x -ℤ o +ℤ pos 16 in
     let q = shrZ z 32 in
-    to-≤ℤ (p +ℤ q *ℤ pos 32) p (omega (arith, signed, add-law p (q *ℤ pos 32), mul-up q 32, mul-dn q 32, shr-law z 32 tt, add-law (x -ℤ o) (pos 16), sub-law x o))
+    to-≤ℤ (p +ℤ q *ℤ pos 32) p (omega (
+      arith,
+      signed,
+      add-law p (q *ℤ pos 32),
+      mul-up q 32,
+      mul-dn q 32,
+      shr-law z 32 tt,
+      add-law (x -ℤ o) (pos 16),
+      sub-law x
+          o,
+    ))
 
 pub spaced-above : (p o x : ℤ) → o ≤ℤ x → p ≤ℤ spacedPos p o x
 unfolding spacedPos halfFloor
 spaced-above p o x h =
     let z = x -ℤ o +ℤ pos 16 in
     let q = shrZ z 32 in
-    to-≤ℤ p (p +ℤ q *ℤ pos 32) (omega (arith, signed, add-law p (q *ℤ pos 32), mul-up q 32, mul-dn q 32, shr-law z 32 tt, add-law (x -ℤ o) (pos 16), sub-law x o))
+    to-≤ℤ p (p +ℤ q *ℤ pos 32) (omega (
+      arith,
+      signed,
+      add-law p (q *ℤ pos 32),
+      mul-up q 32,
+      mul-dn q 32,
+      shr-law z 32 tt,
+      add-law (x -ℤ o) (pos 16),
+      sub-law x
+          o,
+    ))
 
 -- shifted with an edge that was at o and is at p
 pub shifted-rises : (p o x y : ℤ) → x ≤ℤ y → serifPos p o x ≤ℤ serifPos p o y

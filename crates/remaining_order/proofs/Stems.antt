@@ -1,4 +1,5 @@
--- Behind the stem pass with none passed over every edge is done, and remaining edges change nothing: so `hint_edges`' own condition for calling them decides nothing, with the
+-- Behind the stem pass with none passed over every edge is done, and remaining edges change nothing: so `hint_edges`' own condition for calling them decides
+-- nothing, with the
 -- lowercase m rule in between or without.
 use mathlib.Core.Path.{_≡_, refl, sym, ap, _∙_}
 use mathlib.Core.Bool.{Bool, true, false, not, cond, _||_}
@@ -23,7 +24,7 @@ use Rattle.axis.proofs.Only.{same-axis}
 use Rattle.gaps.specs.Gaps.{isDone}
 use Rattle.lowercase_m.specs.M.{hintLowercaseM}
 use Rattle.lowercase_m.proofs.Changed as M
-use Rattle.stems.specs.declared.pass.Stems.{Stems}
+use Rattle.stems.specs.declared.outcome.Stems.{Stems}
 use Rattle.stems.specs.Stems.{alignStemEdges}
 use Rattle.stems.proofs.Changed as Changed
 use Rattle.stems.proofs.Done.{none-passed-over}
@@ -40,7 +41,8 @@ module _ (axis : Axis) (group : Group) (count : ℕ) (given : Link) (all : (j : 
   tests : refusal (remainingTests axis group count given) ≡ refusal (tableTests axis given)
   unfolding refusal
   tests =
-      ap (λ (b : Bool). refusal (edgesShort axis ∷ edgesIndexed axis ∷ badIndex unless linkHolds (axis .len) given ∷ edgesInRange axis ∷ steep unless not b ∷ []))
+      ap (λ (b : Bool). refusal (edgesShort axis ∷ edgesIndexed axis ∷ badIndex unless linkHolds (axis .len) given ∷ edgesInRange axis ∷ steep unless not b
+      ∷ []))
       (λ i. stays i .past .beyond)
 
   call : alignRemainingEdges axis group count given ≡ answered (refusal (tableTests axis given)) (remaining Links.None axis) (remaining given axis 0)
@@ -65,7 +67,8 @@ module _ (axis : Axis) (group : Group) (count : ℕ) (given : Link) (all : (j : 
       by-answer zero = refl
       by-answer (suc k) = refl
 
-      by-anchor : (k : ℕ) → answered k (remaining Links.None axis) (remaining given axis 0) .answer ≡ 0 → answered k (remaining Links.None axis) (remaining given axis 0) .anchor ≡ given
+      by-anchor : (k : ℕ) → answered k (remaining Links.None axis) (remaining given axis 0) .answer ≡ 0
+          → answered k (remaining Links.None axis) (remaining given axis 0) .anchor ≡ given
       by-anchor zero e = refl
       by-anchor (suc k) e = absurd (omega (arith, e))
 
@@ -86,11 +89,13 @@ module _ (axis : Axis) (group : Group) (adjust ttb : Bool) (anchor : Link) (rule
   same-len = Changed.changed axis group adjust ttb anchor rule xs {r = passed} refl .only .len
 
   -- with none passed over no edge is left, whatever count and anchor are handed on; nor behind a call that changes edges as passes do
-  pub behind-changes : alignStemEdges axis group adjust ttb anchor rule xs .count ≡ 0 → (extent : ℕ → Extent) (new : Axis) → OnlyAxis extent (alignStemEdges axis group adjust ttb anchor rule xs .axis) new
+  pub behind-changes : alignStemEdges axis group adjust ttb anchor rule xs .count ≡ 0 → (extent : ℕ → Extent) (new : Axis)
+      → OnlyAxis extent (alignStemEdges axis group adjust ttb anchor rule xs .axis) new
       → (count : ℕ) (given : Link) → NoneLeft new group count given
   behind-changes z extent new o count given =
       none-left new group count given
-      (λ j h. still-done (extent j) (edgeAt (passed .axis) j) (edgeAt new j) (o .edges .edge j) (none-passed-over axis group adjust ttb anchor rule xs l e z j (omega (arith, h, o .len, same-len))))
+      (λ j h. still-done (extent j) (edgeAt (passed .axis) j) (edgeAt new j) (o .edges .edge j)
+      (none-passed-over axis group adjust ttb anchor rule xs l e z j (omega (arith, h, o .len, same-len))))
 
   pub behind-stems : alignStemEdges axis group adjust ttb anchor rule xs .count ≡ 0
       → (count : ℕ) (given : Link) → NoneLeft (alignStemEdges axis group adjust ttb anchor rule xs .axis) group count given
@@ -107,9 +112,13 @@ module _ (axis : Axis) (group : Group) (adjust ttb : Bool) (anchor : Link) (rule
           let z : passed .count ≡ 0 = omega (arith, ltb-false 0 (passed .count) (or-first (ltb 0 (passed .count)) _ q)) in
           sym (behind-changes z extent new o (passed .count) (passed .anchor) .nothing .edges)
 
-  pub nothing-behind-m : calledFor group (alignStemEdges axis group adjust ttb anchor rule xs) (hintLowercaseM (alignStemEdges axis group adjust ttb anchor rule xs .axis) group .axis)
-      ≡ called group (alignStemEdges axis group adjust ttb anchor rule xs) (hintLowercaseM (alignStemEdges axis group adjust ttb anchor rule xs .axis) group .axis)
-  nothing-behind-m = condition-decides-nothing _ (hintLowercaseM (passed .axis) group .axis) (M.changed (passed .axis) group {r = hintLowercaseM (passed .axis) group} refl .only)
+  pub nothing-behind-m : calledFor group (alignStemEdges axis group adjust ttb anchor rule xs)
+      (hintLowercaseM (alignStemEdges axis group adjust ttb anchor rule xs .axis) group .axis)
+      ≡ called group (alignStemEdges axis group adjust ttb anchor rule xs)
+      (hintLowercaseM (alignStemEdges axis group adjust ttb anchor rule xs .axis) group .axis)
+  nothing-behind-m =
+      condition-decides-nothing _ (hintLowercaseM (passed .axis) group .axis)
+      (M.changed (passed .axis) group {r = hintLowercaseM (passed .axis) group} refl .only)
 
   pub nothing-behind-stems : calledFor group (alignStemEdges axis group adjust ttb anchor rule xs) (alignStemEdges axis group adjust ttb anchor rule xs .axis)
       ≡ called group (alignStemEdges axis group adjust ttb anchor rule xs) (alignStemEdges axis group adjust ttb anchor rule xs .axis)

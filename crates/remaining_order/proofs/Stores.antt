@@ -1,4 +1,5 @@
--- What a store of Latin's leaves: no other edge is changed, the edge itself is done, and it stays where it is put if it has passed no neighbour, or has no link.
+-- What a store of Latin's leaves: no other edge is changed, the edge itself is done, and it stays where it is put if it has passed no neighbour, or has no
+-- link.
 use mathlib.Core.Path.{_≡_, refl, sym, ap, _∙_}
 use mathlib.Core.Bool.{Bool, true, false, cond, _&&_}
 use mathlib.Core.List.{[], _∷_}
@@ -22,10 +23,10 @@ use Rattle.axis.specs.declared.edge.Edge.{Edge}
 use Rattle.axis.specs.declared.edge.Axis.{Axis}
 use Rattle.axis.specs.Changes.{position, nothing, Only}
 use Rattle.axis.specs.Edge.{emptyEdge, edgeAt, fixedAt}
-use Rattle.placing.specs.declared.adjust.LinkDir.{LinkDir}
-use Rattle.placing.specs.declared.adjust.LinkDir.the-variants.{Prev, Next}
-use Rattle.placing.specs.Placing.{lowerBound, upperBound, hasPassed, neighbour, heldTo, boundBy, adjusted}
-use Rattle.placing.proofs.Changed.{adjusted-only}
+use Rattle.place.specs.declared.adjust.LinkDir.{LinkDir}
+use Rattle.place.specs.declared.adjust.LinkDir.the-variants.{Prev, Next}
+use Rattle.place.specs.Placing.{lowerBound, upperBound, hasPassed, neighbour, heldTo, boundBy, adjusted}
+use Rattle.place.proofs.Changed.{adjusted-only}
 use Rattle.gaps.specs.Gaps.{isDone}
 use Rattle.remaining.specs.Remaining.{fixAt}
 use Rattle.remaining.proofs.Done.{held}
@@ -36,7 +37,8 @@ module _ (axis : Axis) (i : ℕ) (dir : LinkDir) (j : ℕ) where
   adjusted-other : j ≢ i → edgeAt (adjusted axis i dir) j ≡ edgeAt axis j
   adjusted-other n = by (eqb i j) refl (adjusted-only axis i dir .edges .edge j)
     where
-      by : (t : Bool) → eqb i j ≡ t → Only (cond t (position (Bound ∷ [])) nothing) (edgeAt axis j) (edgeAt (adjusted axis i dir) j) → edgeAt (adjusted axis i dir) j ≡ edgeAt axis j
+      by : (t : Bool) → eqb i j ≡ t → Only (cond t (position (Bound ∷ [])) nothing) (edgeAt axis j) (edgeAt (adjusted axis i dir) j)
+          → edgeAt (adjusted axis i dir) j ≡ edgeAt axis j
       by true q o = absurd (n (sym (eqb-true i j q)))
       by false q o = o .rest
 
@@ -44,7 +46,8 @@ module _ (axis : Axis) (i : ℕ) (dir : LinkDir) (j : ℕ) where
   adjusted-opos : edgeAt (adjusted axis i dir) j .opos ≡ edgeAt axis j .opos
   adjusted-opos = by (eqb i j) (adjusted-only axis i dir .edges .edge j)
     where
-      by : (t : Bool) → Only (cond t (position (Bound ∷ [])) nothing) (edgeAt axis j) (edgeAt (adjusted axis i dir) j) → edgeAt (adjusted axis i dir) j .opos ≡ edgeAt axis j .opos
+      by : (t : Bool) → Only (cond t (position (Bound ∷ [])) nothing) (edgeAt axis j) (edgeAt (adjusted axis i dir) j)
+          → edgeAt (adjusted axis i dir) j .opos ≡ edgeAt axis j .opos
       by true o = ap (λ (e : Edge). e .opos) (o .rest)
       by false o = ap (λ (e : Edge). e .opos) (o .rest)
 
@@ -55,12 +58,14 @@ prev-stays axis zero h = refl
 prev-stays axis (suc g) h = let k = h g refl in cond-false _ _ axis (to-lt-false (edgeAt axis (suc g) .pos) (edgeAt axis g .pos) (omega (arith, signed)))
 
 -- it has not passed the next one, where that is done
-next-stays : (axis : Axis) (i : ℕ) → (i + 1 < axis .len → isDone axis (i + 1) ≡ true → edgeAt axis i .pos ≤ℤ edgeAt axis (i + 1) .pos) → adjusted axis i Next ≡ axis
+next-stays : (axis : Axis) (i : ℕ) → (i + 1 < axis .len → isDone axis (i + 1) ≡ true → edgeAt axis i .pos ≤ℤ edgeAt axis (i + 1) .pos)
+    → adjusted axis i Next ≡ axis
 unfolding adjusted boundBy neighbour upperBound hasPassed
 next-stays axis zero h = refl
 next-stays axis (suc g) h = by (ltb (suc g + 1) (axis .len) && isDone axis (suc g + 1)) refl
   where
-    by : (t : Bool) → (ltb (suc g + 1) (axis .len) && isDone axis (suc g + 1)) ≡ t → boundBy axis g (suc g) Next (cond t (Links.To (suc g + 1)) Links.None) ≡ axis
+    by : (t : Bool) → (ltb (suc g + 1) (axis .len) && isDone axis (suc g + 1)) ≡ t
+        → boundBy axis g (suc g) Next (cond t (Links.To (suc g + 1)) Links.None) ≡ axis
     by false q = refl
     by true q =
         let k = h (ltb-true _ _ (and-first (ltb (suc g + 1) (axis .len)) _ q)) (and-second (ltb (suc g + 1) (axis .len)) _ q) in
@@ -75,7 +80,8 @@ unlinked-stays axis (suc g) dir e = by (neighbour dir axis (suc g))
     by : (l : Link) → boundBy axis g (suc g) dir l ≡ axis
     by Links.None = refl
     by (Links.To k) =
-        either-way (λ (x : Axis). x ≡ axis) (hasPassed dir (edgeAt axis (suc g) .pos) (edgeAt axis k .pos)) (heldTo axis g (suc g) k (edgeAt axis (suc g) .link)) axis
+        either-way (λ (x : Axis). x ≡ axis) (hasPassed dir (edgeAt axis (suc g) .pos) (edgeAt axis k .pos))
+        (heldTo axis g (suc g) k (edgeAt axis (suc g) .link)) axis
         (ap (heldTo axis g (suc g) k) e) refl
 
 -- ---- an edge that is given a position, for good, and then held
@@ -98,7 +104,8 @@ module _ (axis : Axis) (i : ℕ) (p : ℤ) (m : Mark) where
       ∙ ap (λ (e : Edge). e .opos) (getD-set-same (axis .edges) i _ emptyEdge h)
 
   -- it stays there where it has passed neither neighbour
-  pub held-stays : i < length (axis .edges) → ((g : ℕ) → i ≡ suc g → edgeAt axis g .pos ≤ℤ p) → (i + 1 < axis .len → isDone axis (i + 1) ≡ true → p ≤ℤ edgeAt axis (i + 1) .pos)
+  pub held-stays : i < length (axis .edges) → ((g : ℕ) → i ≡ suc g → edgeAt axis g .pos ≤ℤ p)
+      → (i + 1 < axis .len → isDone axis (i + 1) ≡ true → p ≤ℤ edgeAt axis (i + 1) .pos)
       → held axis i p m ≡ fixAt axis i p m
   held-stays h low high = ap (λ (x : Axis). adjusted x i Next) prev ∙ next
     where

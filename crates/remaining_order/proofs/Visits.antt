@@ -28,7 +28,8 @@ pub record Passed (axis : Axis) (group : Group) (count : ℕ) (anchor : Link) : 
   pub none-beyond : remainingOf axis group count anchor .past .beyond ≡ false
   pub edges : alignRemainingEdges axis group count anchor .axis ≡ remainingOf axis group count anchor .axis
 
-pub passed : (axis : Axis) (group : Group) (count : ℕ) (anchor : Link) → alignRemainingEdges axis group count anchor .answer ≡ 0 → Passed axis group count anchor
+pub passed : (axis : Axis) (group : Group) (count : ℕ) (anchor : Link) → alignRemainingEdges axis group count anchor .answer ≡ 0
+    → Passed axis group count anchor
 unfolding alignRemainingEdges
 passed axis group count anchor e =
     let s = remainingOf axis group count anchor in

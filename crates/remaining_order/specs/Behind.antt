@@ -9,7 +9,7 @@ use Rattle.axis.specs.declared.kinds.Link.{Link}
 use Rattle.axis.specs.declared.edge.Axis.{Axis}
 use Rattle.axis.specs.Link.{isLinked}
 use Rattle.gaps.specs.Gaps.{isDone}
-use Rattle.stems.specs.declared.pass.Stems.{Stems}
+use Rattle.stems.specs.declared.outcome.Stems.{Stems}
 use Rattle.remaining.specs.Remaining.{tableTests, alignRemainingEdges}
 
 -- something was passed over, or there is no anchor

@@ -1,7 +1,8 @@
--- Laws on remaining edges in place: `Finding`, the done edges around an edge; `Reading`, what is read of edges; `Plans`, which plan is made; `Stores`; `Visits`, one visit; `Passes`, the loops.
-pub mod Finding
-pub mod Reading
-pub mod Plans
-pub mod Stores
-pub mod Visits
-pub mod Passes
+-- Laws on remaining edges over lent edges: `Copying`, words copied; `Trying`, the loops over a copy; `Lending`, the call by what the test of its edges tells;
+-- `Kept`, which words it can change;
+-- `Determined`, that the promise allows one outcome.
+pub mod Copying
+pub mod Trying
+pub mod Lending
+pub mod Kept
+pub mod Determined

@@ -1,2 +1,2 @@
 -- What the contracts of `remaining_words` cite.
-pub mod Words
+pub mod Lent

@@ -1,6 +1,3 @@
-// Remaining edges where their words stand: what a visit plans is `remaining`'s.
-mod find;
-pub mod pass;
-mod plan;
-mod read;
-mod store;
+// Remaining edges over lent edges: no table is made.
+pub mod copied;
+pub mod lend;

@@ -4,16 +4,16 @@ mod spell;
 use jobs::answer::answer_both;
 use libc::STDIN_FILENO;
 use libc::STDOUT_FILENO;
-use lines::limits::MOST_WORDS;
-use lines::line::Line;
-use lines::line::feed;
-use lines::line::words_of;
 use spell::MOST_TEXT;
 use spell::spell;
+use tool_lines::limits::MOST_WORDS;
+use tool_lines::line::Line;
+use tool_lines::line::feed;
+use tool_lines::line::words_of;
 use tool_lists::limits::LONGEST;
 ghost use Prim.Native.Nat.{_≤_};
 ghost use lib.ListN.{length};
-ghost use Rattle.lines.specs.Limits.{mostWords};
+ghost use Rattle.tool_lines.specs.Limits.{mostWords};
 ghost use Rattle.replay.specs.Limits.{mostText};
 
 // The line that has begun, and whether every answer was written.

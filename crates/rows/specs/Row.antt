@@ -6,7 +6,7 @@ use Prim.Native.Nat.{ℕ, _-_}
 use lib.IntN.{ℤ}
 use lib.ListN.{length, replicate}
 use Rattle.refusals.specs.Refusal.{refusal}
-use Rattle.outline.specs.Weak.{weakTests, result}
+use Rattle.weak.specs.Weak.{weakTests, result}
 use Rattle.fixed.specs.declared.width.WidthRule.{WidthRule}
 use Rattle.axis.specs.declared.kinds.Dimension.{Dimension}
 use Rattle.axis.specs.declared.kinds.Dimension.the-variants.{Horizontal}
@@ -21,10 +21,10 @@ use Rattle.axis.specs.declared.segment.Segments.{Segments}
 use Rattle.axis.specs.Edge.{emptyEdge}
 use Rattle.axis.specs.Segment.{emptySegment}
 use Rattle.axis.specs.Limits.{mostEdges, mostSegments}
-use Rattle.linking.specs.Linking.{beside, linkSegmentsCjk}
-use Rattle.building.specs.Building.{isCjk, distanceThreshold}
+use Rattle.link.specs.Linking.{beside, linkSegmentsCjk}
+use Rattle.build.specs.Building.{isCjk, distanceThreshold}
 use Rattle.lowercase_m.specs.M.{hinted, hintLowercaseM}
-use Rattle.stem_cjk.specs.Cjk.{hinted as hintedCjk, hintNormalStemCjk}
+use Rattle.stems_cjk.specs.Hint.{hinted as hintedCjk, hintNormalStemCjk}
 use Rattle.stems.specs.Stems.{stems as aligned, alignStemEdges}
 
 -- an axis of these edges, its other places empty

@@ -3,15 +3,16 @@ use mathlib.Core.Path.{refl}
 use mathlib.Core.Bool.{true, false}
 use mathlib.Core.List.{List, [], _∷_}
 use Prim.Native.Nat.{ℕ}
-use lib.IntN.{ℤ, pos, negℤ}
+use lib.IntN.{pos}
+use Rattle.signed.specs.Table.{minus}
 use Rattle.refusals.specs.Refusal.{refusal}
 use Rattle.fixed.specs.declared.width.WidthRule.the-variants.{Keep}
 use Rattle.fixed.specs.Pixel.{pixFloor, pixRound}
 use Rattle.fixed.specs.Width.{ruleHolds, fittedWidth}
 use Rattle.fixed.specs.Point.{rounded, roundedZ, mulFix, divFix, derived}
 use Rattle.fixed.specs.Divide.{tooSteep}
-use Rattle.contours.specs.Contour.{firstTouched, lastTouched, touchedBefore, touchedBehind, references, firstOf, secondOf, interpolated, betweenAt, shiftedAt, followed, weakAt, steepBetween, steepBy, steepFollowed, steepAt}
-use Rattle.outline.specs.Weak.{endsHold, coordinateHolds, coordinatesHold, contourOf, steepOn, gentleFrom, gentle, onContour, alignedAt, listOf, result}
+use Rattle.weak_contour.specs.Contour.{firstTouched, lastTouched, touchedBefore, touchedBehind, references, firstOf, secondOf, interpolated, betweenAt, shiftedAt, followed, weakAt, steepBetween, steepBy, steepFollowed, steepAt}
+use Rattle.weak.specs.Weak.{endsHold, coordinateHolds, coordinatesHold, contourOf, steepOn, gentleFrom, gentle, onContour, alignedAt, listOf, result}
 use Rattle.axis.specs.declared.kinds.Dimension.the-variants.{Vertical}
 use Rattle.axis.specs.declared.kinds.Direction.{Direction}
 use Rattle.axis.specs.declared.kinds.Direction.the-variants as Directions
@@ -30,23 +31,19 @@ use Rattle.axis.specs.Edge.{freshEdge, emptyEdge, placed, finished, joinedTo}
 use Rattle.axis.specs.Refusals.{linkHolds, blueHolds, every, edgeIndices, edgeNumbers, edgesIndices, edgesNumbers}
 use Rattle.axis.specs.Refusals.{segmentIndices, segmentNext, segmentNumbers, segmentsIndices, segmentsNexts, segmentsNumbers}
 use Rattle.axis.specs.Visits.{visits}
-use Rattle.building.specs.Building.{distanceThreshold}
-use Rattle.linking_rounds.specs.Loops.{turns, till}
-use Rattle.linking_rounds.specs.Pairs as P
-use Rattle.linking_rounds.specs.Rounds as Q
-use Rattle.linking.specs.Linking as L
+use Rattle.build.specs.Building.{distanceThreshold}
+use Rattle.link.specs.Loops.{turns, till}
+use Rattle.link.specs.Pairs as P
+use Rattle.link.specs.Rounds as Q
+use Rattle.link.specs.Linking as L
 use Rattle.lowercase_m.specs.M.{linkedOn, groupHolds, applies, moveDone, moveOnly, moveLink, moveSerifs, moveStem, aligned, hintLowercaseM}
-use Rattle.cjk_numbers.specs.Cjk.{maxGap, gapOf, pixelOffset, narrowDelta, isBlocked, shortestMove, wideDelta, offsetsDelta, startOf, clamped, deltaOf, stemAt, stemOf, placedStem, hintedStem}
-use Rattle.stem_cjk.specs.Cjk.{hintNormalStemCjk}
-use Rattle.placing.specs.Placing.{lowerBound, hasPassed, neighbour, boundBy, adjusted}
-use Rattle.stem_latin.specs.Latin.{centreOf, lowerOffset, upperOffset, nearerCentre, thinCentre, thinFirst, thinSecond, anchoredFirst, anchoredSecond}
-use Rattle.stems_plan.specs.Visit.{tooClose}
+use Rattle.stems_cjk.specs.Cjk.{maxGap, gapOf, pixelOffset, narrowDelta, isBlocked, shortestMove, wideDelta, offsetsDelta, startOf, clamped, deltaOf, stemAt, stemOf, placedStem, hintedStem}
+use Rattle.stems_cjk.specs.Hint.{hintNormalStemCjk}
+use Rattle.place.specs.Placing.{lowerBound, hasPassed, neighbour, boundBy, adjusted}
+use Rattle.stems_latin.specs.Latin.{centreOf, lowerOffset, upperOffset, nearerCentre, thinCentre, thinFirst, thinSecond, anchoredFirst, anchoredSecond}
+use Rattle.stems.specs.Visit.{tooClose}
 use Rattle.stems.specs.Stems.{besideAnchor, latinStem, groupStem, zoneStem, visitLink, visit, stemsOf, alignStemEdges}
 use Rattle.rows.specs.Row.{Row, weak, stems, stemCjk, build, m, link, All}
-
--- -n
-abbrev minus : ℕ → ℤ
-minus n = negℤ (pos n)
 
 -- an unlinked edge, by opos and pos, placed by nothing yet
 abbrev edge : ℕ → ℕ → Edge

@@ -46,7 +46,10 @@ three-black = refl
 
 -- a 3 of ten pixels: one piece, no hole
 abbrev three : ℕ → ℕ → Bool
-three = black (linesOf 64 1 (points (pos 0 ∷ pos 192 ∷ pos 192 ∷ pos 0 ∷ pos 0 ∷ pos 128 ∷ pos 128 ∷ pos 64 ∷ pos 64 ∷ pos 128 ∷ pos 128 ∷ pos 0 ∷ []) (pos 0 ∷ pos 0 ∷ pos 320 ∷ pos 320 ∷ pos 256 ∷ pos 256 ∷ pos 192 ∷ pos 192 ∷ pos 128 ∷ pos 128 ∷ pos 64 ∷ pos 64 ∷ []) (1 ∷ 1 ∷ 1 ∷ 1 ∷ 1 ∷ 1 ∷ 1 ∷ 1 ∷ 1 ∷ 1 ∷ 1 ∷ 1 ∷ [])) 0 (11 ∷ []))
+three =
+    black (linesOf 64 1 (points (pos 0 ∷ pos 192 ∷ pos 192 ∷ pos 0 ∷ pos 0 ∷ pos 128 ∷ pos 128 ∷ pos 64 ∷ pos 64 ∷ pos 128 ∷ pos 128 ∷ pos 0 ∷ [])
+    (pos 0 ∷ pos 0 ∷ pos 320 ∷ pos 320 ∷ pos 256 ∷ pos 256 ∷ pos 192 ∷ pos 192 ∷ pos 128 ∷ pos 128 ∷ pos 64 ∷ pos 64 ∷ [])
+    (1 ∷ 1 ∷ 1 ∷ 1 ∷ 1 ∷ 1 ∷ 1 ∷ 1 ∷ 1 ∷ 1 ∷ 1 ∷ 1 ∷ [])) 0 (11 ∷ []))
 
 three-counts : (blackCount three 7 ≡ 10) × (euler three 7 ≡ pos 1)
 unfolding around total ups downs linesOf linesBy places curveBy tourOf tourBy legs curveTo front rest from
@@ -102,7 +105,9 @@ at-lower-counts = (refl, refl)
 
 -- two pixels that meet at a corner are one piece
 abbrev corner-to-corner : ℕ → ℕ → Bool
-corner-to-corner = black (linesOf 64 1 (points (pos 0 ∷ pos 64 ∷ pos 64 ∷ pos 0 ∷ pos 64 ∷ pos 128 ∷ pos 128 ∷ pos 64 ∷ []) (pos 0 ∷ pos 0 ∷ pos 64 ∷ pos 64 ∷ pos 64 ∷ pos 64 ∷ pos 128 ∷ pos 128 ∷ []) (1 ∷ 1 ∷ 1 ∷ 1 ∷ 1 ∷ 1 ∷ 1 ∷ 1 ∷ [])) 0 (3 ∷ 7 ∷ []))
+corner-to-corner =
+    black (linesOf 64 1 (points (pos 0 ∷ pos 64 ∷ pos 64 ∷ pos 0 ∷ pos 64 ∷ pos 128 ∷ pos 128 ∷ pos 64 ∷ [])
+    (pos 0 ∷ pos 0 ∷ pos 64 ∷ pos 64 ∷ pos 64 ∷ pos 64 ∷ pos 128 ∷ pos 128 ∷ []) (1 ∷ 1 ∷ 1 ∷ 1 ∷ 1 ∷ 1 ∷ 1 ∷ 1 ∷ [])) 0 (3 ∷ 7 ∷ []))
 
 corner-to-corner-counts : (blackCount corner-to-corner 4 ≡ 2) × (euler corner-to-corner 4 ≡ pos 1)
 unfolding around total ups downs linesOf linesBy places curveBy tourOf tourBy legs curveTo front rest from
@@ -110,7 +115,10 @@ corner-to-corner-counts = (refl, refl)
 
 -- four around a white one: a hole, though they meet at corners alone
 abbrev diamond : ℕ → ℕ → Bool
-diamond = black (linesOf 64 1 (points (pos 64 ∷ pos 128 ∷ pos 128 ∷ pos 64 ∷ pos 0 ∷ pos 64 ∷ pos 64 ∷ pos 0 ∷ pos 128 ∷ pos 192 ∷ pos 192 ∷ pos 128 ∷ pos 64 ∷ pos 128 ∷ pos 128 ∷ pos 64 ∷ []) (pos 0 ∷ pos 0 ∷ pos 64 ∷ pos 64 ∷ pos 64 ∷ pos 64 ∷ pos 128 ∷ pos 128 ∷ pos 64 ∷ pos 64 ∷ pos 128 ∷ pos 128 ∷ pos 128 ∷ pos 128 ∷ pos 192 ∷ pos 192 ∷ []) (1 ∷ 1 ∷ 1 ∷ 1 ∷ 1 ∷ 1 ∷ 1 ∷ 1 ∷ 1 ∷ 1 ∷ 1 ∷ 1 ∷ 1 ∷ 1 ∷ 1 ∷ 1 ∷ [])) 0 (3 ∷ 7 ∷ 11 ∷ 15 ∷ []))
+diamond =
+    black (linesOf 64 1 (points (pos 64 ∷ pos 128 ∷ pos 128 ∷ pos 64 ∷ pos 0 ∷ pos 64 ∷ pos 64 ∷ pos 0 ∷ pos 128 ∷ pos 192 ∷ pos 192 ∷ pos 128 ∷ pos 64
+    ∷ pos 128 ∷ pos 128 ∷ pos 64 ∷ []) (pos 0 ∷ pos 0 ∷ pos 64 ∷ pos 64 ∷ pos 64 ∷ pos 64 ∷ pos 128 ∷ pos 128 ∷ pos 64 ∷ pos 64 ∷ pos 128 ∷ pos 128
+    ∷ pos 128 ∷ pos 128 ∷ pos 192 ∷ pos 192 ∷ []) (1 ∷ 1 ∷ 1 ∷ 1 ∷ 1 ∷ 1 ∷ 1 ∷ 1 ∷ 1 ∷ 1 ∷ 1 ∷ 1 ∷ 1 ∷ 1 ∷ 1 ∷ 1 ∷ [])) 0 (3 ∷ 7 ∷ 11 ∷ 15 ∷ []))
 
 diamond-counts : (blackCount diamond 5 ≡ 4) × (euler diamond 5 ≡ pos 0)
 unfolding around total ups downs linesOf linesBy places curveBy tourOf tourBy legs curveTo front rest from
@@ -134,7 +142,9 @@ curved-euler = refl
 
 -- a contour inside that is not turned is no hole
 abbrev filled : ℕ → ℕ → Bool
-filled = black (linesOf 64 1 (points (pos 0 ∷ pos 192 ∷ pos 192 ∷ pos 0 ∷ pos 64 ∷ pos 128 ∷ pos 128 ∷ pos 64 ∷ []) (pos 0 ∷ pos 0 ∷ pos 192 ∷ pos 192 ∷ pos 64 ∷ pos 64 ∷ pos 128 ∷ pos 128 ∷ []) (1 ∷ 1 ∷ 1 ∷ 1 ∷ 1 ∷ 1 ∷ 1 ∷ 1 ∷ [])) 0 (3 ∷ 7 ∷ []))
+filled =
+    black (linesOf 64 1 (points (pos 0 ∷ pos 192 ∷ pos 192 ∷ pos 0 ∷ pos 64 ∷ pos 128 ∷ pos 128 ∷ pos 64 ∷ [])
+    (pos 0 ∷ pos 0 ∷ pos 192 ∷ pos 192 ∷ pos 64 ∷ pos 64 ∷ pos 128 ∷ pos 128 ∷ []) (1 ∷ 1 ∷ 1 ∷ 1 ∷ 1 ∷ 1 ∷ 1 ∷ 1 ∷ [])) 0 (3 ∷ 7 ∷ []))
 
 filled-counts : (blackCount filled 5 ≡ 9) × (euler filled 5 ≡ pos 1)
 unfolding around total ups downs linesOf linesBy places curveBy tourOf tourBy legs curveTo front rest from
@@ -142,7 +152,10 @@ filled-counts = (refl, refl)
 
 -- an 8: one piece, two holes
 abbrev an-eight : ℕ → ℕ → Bool
-an-eight = black (linesOf 64 1 (points (pos 0 ∷ pos 192 ∷ pos 192 ∷ pos 0 ∷ pos 64 ∷ pos 128 ∷ pos 128 ∷ pos 64 ∷ pos 64 ∷ pos 128 ∷ pos 128 ∷ pos 64 ∷ []) (pos 0 ∷ pos 0 ∷ pos 320 ∷ pos 320 ∷ pos 128 ∷ pos 128 ∷ pos 64 ∷ pos 64 ∷ pos 256 ∷ pos 256 ∷ pos 192 ∷ pos 192 ∷ []) (1 ∷ 1 ∷ 1 ∷ 1 ∷ 1 ∷ 1 ∷ 1 ∷ 1 ∷ 1 ∷ 1 ∷ 1 ∷ 1 ∷ [])) 0 (3 ∷ 7 ∷ 11 ∷ []))
+an-eight =
+    black (linesOf 64 1 (points (pos 0 ∷ pos 192 ∷ pos 192 ∷ pos 0 ∷ pos 64 ∷ pos 128 ∷ pos 128 ∷ pos 64 ∷ pos 64 ∷ pos 128 ∷ pos 128 ∷ pos 64 ∷ [])
+    (pos 0 ∷ pos 0 ∷ pos 320 ∷ pos 320 ∷ pos 128 ∷ pos 128 ∷ pos 64 ∷ pos 64 ∷ pos 256 ∷ pos 256 ∷ pos 192 ∷ pos 192 ∷ [])
+    (1 ∷ 1 ∷ 1 ∷ 1 ∷ 1 ∷ 1 ∷ 1 ∷ 1 ∷ 1 ∷ 1 ∷ 1 ∷ 1 ∷ [])) 0 (3 ∷ 7 ∷ 11 ∷ []))
 
 an-eight-counts : (blackCount an-eight 7 ≡ 13) × (euler an-eight 7 ≡ negsuc 0)
 unfolding around total ups downs linesOf linesBy places curveBy tourOf tourBy legs curveTo front rest from

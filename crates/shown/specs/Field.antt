@@ -2,8 +2,8 @@
 use mathlib.Core.List.{List}
 use Prim.Native.Nat.{ℕ, _*_, _≤_, _<_}
 use lib.IntN.{ℤ, natAbs}
-use Rattle.contours.specs.Contour.{at}
-use Rattle.contours.specs.Limits.{mostCoordinate}
+use Rattle.weak_contour.specs.Contour.{at}
+use Rattle.weak_contour.specs.Limits.{mostCoordinate}
 use Rattle.path_trip.specs.Path.{Points}
 
 -- units from its left side, or from its lower one, to 0

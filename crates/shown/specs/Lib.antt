@@ -1,3 +1,5 @@
--- What the contracts of `shown` cite.
+-- What the display shows of an outline, and the words of the laws of it.
 pub mod Shown
 pub mod Field
+pub mod Frames
+pub mod Moves

@@ -14,9 +14,9 @@ use Rattle.signed.proofs.Signed.{signed, natAbs-is, one-zero, natAbs-mul, below
 use Rattle.refusals.specs.Refusal.{refusal, outOfRange}
 use Rattle.refusals.proofs.Tests.{and-first, and-second, all-hold}
 use Rattle.axis.specs.Refusals.{inside}
-use Rattle.contours.specs.Limits.{mostPoints, mostCoordinate}
-use Rattle.contours.specs.Contour.{at}
-use Rattle.outline.specs.Weak.{endsHold, coordinateHolds, coordinatesHold, listTests, rangeTests}
+use Rattle.weak_contour.specs.Limits.{mostPoints, mostCoordinate}
+use Rattle.weak_contour.specs.Contour.{at}
+use Rattle.weak.specs.Weak.{endsHold, coordinateHolds, coordinatesHold, listTests, rangeTests}
 use Rattle.path_trip.specs.Path.{points}
 use Rattle.path_trip.specs.Trips.{Admitted}
 use Rattle.shown_lines.specs.Lines.{mostMagnify, Reach, InField}
@@ -92,26 +92,31 @@ module _ (xs ys : List ℤ) (marks es : List ℕ) (m : ℤ) {k : ℕ} (e : k ≡
   pub refused-lists : k ≡ 1 → refusal (shownTests xs ys marks es m) ≡ 1
   unfolding refusal
   refused-lists q =
-      by-lists (leb (length xs) mostPoints) (eqb (length ys) (length xs)) (eqb (length marks) (length xs)) (inside (pos 1) (pos mostMagnify) m) (endsHold 0 (length xs) es) _ (sym e ∙ q)
+      by-lists (leb (length xs) mostPoints) (eqb (length ys) (length xs)) (eqb (length marks) (length xs)) (inside (pos 1) (pos mostMagnify) m)
+      (endsHold 0 (length xs) es) _ (sym e ∙ q)
 
   module _ (q : k ≡ 1 → ⊥) where
     pub refused-magnification : inside (pos 1) (pos mostMagnify) m ≡ false → refusal (shownTests xs ys marks es m) ≡ 2
     unfolding refusal
     refused-magnification t =
-        by-magnification (leb (length xs) mostPoints) (eqb (length ys) (length xs)) (eqb (length marks) (length xs)) (inside (pos 1) (pos mostMagnify) m) (endsHold 0 (length xs) es) _
+        by-magnification (leb (length xs) mostPoints) (eqb (length ys) (length xs)) (eqb (length marks) (length xs)) (inside (pos 1) (pos mostMagnify) m)
+        (endsHold 0 (length xs) es) _
         (λ (z : refusal (listTests xs ys marks es) ≡ 1). q (e ∙ z)) t
 
     pub refused-ends : inside (pos 1) (pos mostMagnify) m ≡ true → 0 < k → refusal (shownTests xs ys marks es m) ≡ k
     unfolding refusal
     refused-ends t l =
-        by-ends (leb (length xs) mostPoints) (eqb (length ys) (length xs)) (eqb (length marks) (length xs)) (inside (pos 1) (pos mostMagnify) m) (endsHold 0 (length xs) es) _
+        by-ends (leb (length xs) mostPoints) (eqb (length ys) (length xs)) (eqb (length marks) (length xs)) (inside (pos 1) (pos mostMagnify) m)
+        (endsHold 0 (length xs) es) _
         (λ (z : refusal (listTests xs ys marks es) ≡ 1). q (e ∙ z)) t (subst (λ (n : ℕ). 0 < n) e l)
         ∙ sym e
 
-    pub refused-else : inside (pos 1) (pos mostMagnify) m ≡ true → k ≤ 0 → refusal (shownTests xs ys marks es m) ≡ refusal (rangeTests mostCoordinate (magnified m xs) (magnified m ys))
+    pub refused-else : inside (pos 1) (pos mostMagnify) m ≡ true → k ≤ 0
+        → refusal (shownTests xs ys marks es m) ≡ refusal (rangeTests mostCoordinate (magnified m xs) (magnified m ys))
     unfolding refusal
     refused-else t l =
-        by-coordinates (leb (length xs) mostPoints) (eqb (length ys) (length xs)) (eqb (length marks) (length xs)) (inside (pos 1) (pos mostMagnify) m) (endsHold 0 (length xs) es) _
+        by-coordinates (leb (length xs) mostPoints) (eqb (length ys) (length xs)) (eqb (length marks) (length xs)) (inside (pos 1) (pos mostMagnify) m)
+        (endsHold 0 (length xs) es) _
         (λ (z : refusal (listTests xs ys marks es) ≡ 1). q (e ∙ z)) t (subst (λ (n : ℕ). n ≤ 0) e l)
 
 -- ---- what is not refused
@@ -133,7 +138,12 @@ reached : (m : ℤ) (l : List ℤ) → coordinatesHold mostCoordinate (magnified
 unfolding coordinatesHold coordinateHolds
 reached m [] e i = omega arith
 reached m (z ∷ l) e zero =
-    omega (arith, natAbs-mul m z, leb-true (natAbs (m *ℤ z)) mostCoordinate (and-first (leb (natAbs (m *ℤ z)) mostCoordinate) (coordinatesHold mostCoordinate (magnified m l)) e))
+    omega (
+      arith,
+      natAbs-mul m z,
+      leb-true (natAbs (m *ℤ z)) mostCoordinate
+          (and-first (leb (natAbs (m *ℤ z)) mostCoordinate) (coordinatesHold mostCoordinate (magnified m l)) e),
+    )
 reached m (z ∷ l) e (suc i) = reached m l (and-second (leb (natAbs (m *ℤ z)) mostCoordinate) (coordinatesHold mostCoordinate (magnified m l)) e) i
 
 -- an outline of whose tests none fails

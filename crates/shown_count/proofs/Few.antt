@@ -8,7 +8,7 @@ use lib.IntN.{ℤ, natAbs}
 use Rattle.refusals.specs.Refusal.{refusal, answered}
 use Rattle.path_trip.specs.Path.{points}
 use Rattle.shown_rows.specs.Turns.{mostColumns}
-use Rattle.shown_laws.proofs.Limits.{blacks-most, euler-most}
+use Rattle.shown.proofs.Limits.{blacks-most, euler-most}
 use Rattle.shown_count.specs.declared.count.Shown.{Shown}
 use Rattle.shown_count.specs.Count.{shownTests, picture, refusedBy, countedOf, shown, CountsShown}
 use Rattle.shown_count.proofs.Accepting.{passed}

@@ -12,7 +12,7 @@ use Rattle.shown_rows.specs.declared.turns.Counts.{Counts}
 use Rattle.shown_rows.specs.Turns.{mostColumns}
 use Rattle.shown.specs.Shown.{linesOf, black, around}
 use Rattle.shown_lines.specs.Lines.{fieldHalf}
-use Rattle.shown_laws.proofs.Counts.{euler-turns}
+use Rattle.shown.proofs.Counts.{euler-turns}
 use Rattle.shown_picture.specs.Rows.{mostCount, Small, PictureCounted}
 use Rattle.shown_picture.proofs.Reading.{rows-small}
 use Rattle.shown_count.specs.declared.count.Shown.{Shown}
@@ -35,7 +35,8 @@ module _ (xs ys : List ℤ) (marks es : List ℕ) (m : ℤ) {k : ℕ} (e : k ≡
     accepted = passed xs ys marks es m (let z : refusal (shownTests xs ys marks es m) ≡ 0 = omega arith in z)
 
     -- and counted
-    pub counted : {t : ℕ} {c : Counts} {n : ℤ} → t ≡ natAbs m → PictureCounted (black (linesOf fieldHalf t (points xs ys marks) 0 es)) c → n ≡ pos (c .outer) -ℤ pos (c .inner)
+    pub counted : {t : ℕ} {c : Counts} {n : ℤ} → t ≡ natAbs m → PictureCounted (black (linesOf fieldHalf t (points xs ys marks) 0 es)) c
+        → n ≡ pos (c .outer) -ℤ pos (c .inner)
         → CountsShown xs ys marks es m (record { answer = 0; black = c .black; euler = n })
     unfolding shown
     counted {t} {c} {n} q p w =
@@ -45,7 +46,8 @@ module _ (xs ys : List ℤ) (marks es : List ℕ) (m : ℤ) {k : ℕ} (e : k ≡
         let inners = r .inners in
         let number = w ∙ (λ i. pos (outers i) -ℤ pos (inners i)) ∙ sym (euler-turns b mostColumns) in
         let blacks = r .black in
-        answered-yes k (refusal (shownTests xs ys marks es m)) refusedBy (countedOf b) (record { answer = 0; black = c .black; euler = n }) e h (λ i. record { answer = 0; black = blacks i; euler = number i })
+        answered-yes k (refusal (shownTests xs ys marks es m)) refusedBy (countedOf b) (record { answer = 0; black = c .black; euler = n }) e h
+        (λ i. record { answer = 0; black = blacks i; euler = number i })
 
 -- ---- in lent places
 module _ (xs ys : List ℤ) (marks es : List ℕ) (m : ℤ) (blacks : ℕ) (number : ℤ) {s : Shown} (e : CountsShown xs ys marks es m s) where

@@ -9,8 +9,8 @@ use lib.ListN.{length}
 use lib.IntN.{ℤ, pos, natAbs, _*ℤ_}
 use Rattle.refusals.specs.Refusal.{Test, _unless_, refusal, answered, tooLong, badParameter, badIndex}
 use Rattle.axis.specs.Refusals.{inside}
-use Rattle.contours.specs.Limits.{mostPoints, mostCoordinate}
-use Rattle.outline.specs.Weak.{endsHold, rangeTests}
+use Rattle.weak_contour.specs.Limits.{mostPoints, mostCoordinate}
+use Rattle.weak.specs.Weak.{endsHold, rangeTests}
 use Rattle.path_trip.specs.Path.{points}
 use Rattle.shown_rows.specs.Turns.{mostColumns}
 use Rattle.shown.specs.Shown.{linesOf, black, blackCount, euler}

@@ -1,16 +1,16 @@
 // Which outlines are refused.
 use axis::accept::is_inside;
-use outline::accept::list_refusal;
-use outline::accept::range_refusal;
-use outline::limits::MOST_COORDINATE;
 use refusals::order::BAD_PARAMETER;
 use refusals::order::TOO_LONG;
+use weak::accept::list_refusal;
+use weak::accept::range_refusal;
+use weak::limits::MOST_COORDINATE;
 ghost use mathlib.Core.Path.{_≡_};
 ghost use Prim.Native.Nat.{_/_, _<_};
 ghost use lib.IntN.{pos, natAbs};
 ghost use lib.Signed.{_<ℤ_};
 ghost use Rattle.refusals.specs.Refusal.{refusal};
-ghost use Rattle.contours.specs.Limits.{mostCoordinate};
+ghost use Rattle.weak_contour.specs.Limits.{mostCoordinate};
 ghost use Rattle.shown_count.specs.Count.{shownTests};
 
 // Coordinates are multiplied by at most this.

@@ -1,4 +1,5 @@
--- The sixteen lines of a curve: where its three points are on one side of a height they do not cross it, and they are those that a contour goes by. Assumes nothing.
+-- The sixteen lines of a curve: where its three points are on one side of a height they do not cross it, and they are those that a contour goes by. Assumes
+-- nothing.
 use mathlib.Core.Path.{_≡_, refl, sym, ap, _∙_}
 use mathlib.Core.List.{List, [], _∷_, _++_}
 use Prim.Native.Nat.{ℕ, zero, suc, _+_, _-_, _*_, _≤_}
@@ -16,8 +17,10 @@ use Rattle.shown_lines.proofs.Winding.{Still, still-none, still-more}
 -- ---- on one side of a height
 module _ (p c q : Halves) (y : ℕ) (o : OneSide (p .y) (c .y) (q .y) y) where
   one-stays : (k : ℕ) → suc k ≤ 16 → (o : OneSide (p .y) (c .y) (q .y) y) → Stays (placeAt (p .y) (c .y) (q .y) k) (placeAt (p .y) (c .y) (q .y) (suc k)) y
-  one-stays k h (none-above a b d) = below (Closed.all-below (p .y) (c .y) (q .y) k y (omega arith) a b d) (Closed.all-below (p .y) (c .y) (q .y) (suc k) y h a b d)
-  one-stays k h (all-above a b d) = above (Closed.all-above (p .y) (c .y) (q .y) k y (omega arith) a b d) (Closed.all-above (p .y) (c .y) (q .y) (suc k) y h a b d)
+  one-stays k h (none-above a b d) =
+      below (Closed.all-below (p .y) (c .y) (q .y) k y (omega arith) a b d) (Closed.all-below (p .y) (c .y) (q .y) (suc k) y h a b d)
+  one-stays k h (all-above a b d) =
+      above (Closed.all-above (p .y) (c .y) (q .y) k y (omega arith) a b d) (Closed.all-above (p .y) (c .y) (q .y) (suc k) y h a b d)
 
   pub still-curve : (k n : ℕ) → k + n ≤ 16 → Still (curveSides p c q k n) y
   unfolding curveSides
@@ -67,6 +70,7 @@ module _ (m : ℕ) (o : Points) (s : Spot) (c : ℕ) (e : Spot) where
   pub curve-lines : (start : Place) (ps : List Place)
       → linesBy start (spotAt fieldHalf m o s) (curveBy fieldHalf m o s c e (from 1 16) ++ ps) ≡ cut 0 16 ++ linesBy start (spotAt fieldHalf m o e) ps
   curve-lines start ps =
-      ap (λ (p : Place). linesBy start p (curveBy fieldHalf m o s c e (from 1 16) ++ ps)) (sym (starts-there (halvesAt o m s) (halvesAt o m (Point c)) (halvesAt o m e)))
+      ap (λ (p : Place). linesBy start p (curveBy fieldHalf m o s c e (from 1 16) ++ ps))
+      (sym (starts-there (halvesAt o m s) (halvesAt o m (Point c)) (halvesAt o m e)))
       ∙ lines-from start ps 0 16
       ∙ ap (λ (p : Place). cut 0 16 ++ linesBy start p ps) (ends-there (halvesAt o m s) (halvesAt o m (Point c)) (halvesAt o m e))

@@ -9,7 +9,7 @@ use mir.Syntax.{w32}
 use mir.Val.{SFits, Fits}
 use Rattle.signed.specs.Parts.{up, dn}
 use Rattle.signed.proofs.Signed.{one-zero, natAbs-is, add-law, natAbs-mul, fits-abs, to-sfits, to-unsigned}
-use Rattle.contours.specs.Limits.{mostCoordinate}
+use Rattle.weak_contour.specs.Limits.{mostCoordinate}
 use Rattle.shown_rows.specs.Chains.{placeAt}
 use Rattle.shown_rows.specs.Crossing.{mostPlace}
 use Rattle.shown_rows.proofs.Closed.{all-below}

@@ -41,7 +41,10 @@ take-white (suc n) (suc m) (suc i) = take-white n m i
 
 module _ (n : ℕ) where
   pub zeros-long : n ≤ mostColumns → length {A = ℕ} (take (n - 0) (replicate mostColumns 0)) ≡ n
-  zeros-long h = length-take {A = ℕ} (n - 0) (replicate mostColumns 0) ∙ ap (min (n - 0)) (length-replicate {A = ℕ} mostColumns 0) ∙ (let e : min (n - 0) mostColumns ≡ n = omega arith in e)
+  zeros-long h =
+      length-take {A =
+      ℕ} (n - 0) (replicate mostColumns 0) ∙ ap (min (n - 0)) (length-replicate {A = ℕ} mostColumns 0)
+      ∙ (let e : min (n - 0) mostColumns ≡ n = omega arith in e)
 
   pub zeros-white : White (take (n - 0) (replicate mostColumns 0))
   zeros-white i = take-white mostColumns (n - 0) i

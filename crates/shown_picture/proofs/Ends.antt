@@ -9,7 +9,7 @@ use borrow.Author.Tests.{ltb-true, leb-true, lt-ltb}
 use lib.Dec.{leb, ltb}
 use lib.ListN.{length, getD}
 use Rattle.refusals.proofs.Tests.{and-first, and-second}
-use Rattle.outline.specs.Weak.{endsHold}
+use Rattle.weak.specs.Weak.{endsHold}
 
 -- the ends hold of as many points as go up to it, and it is one of the points
 pub record Last (s n e : ℕ) (es : List ℕ) : Type 0 where

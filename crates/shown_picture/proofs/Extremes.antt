@@ -8,7 +8,7 @@ use native.Mathlib.Omega.{arith}
 use lib.IntN.{ℤ}
 use lib.Signed.{ltZ, _≤ℤ_}
 use Rattle.signed.proofs.Signed.{signed, atmost}
-use Rattle.contours.specs.Contour.{at}
+use Rattle.weak_contour.specs.Contour.{at}
 use Rattle.shown_picture.specs.Window.{Lesser, Greater, Spread}
 
 -- ---- of two

@@ -7,8 +7,8 @@ use native.Mathlib.Nat.{mul-le-mul-left, mul-le-mul-right}
 use native.Mathlib.Omega.{arith}
 use lib.Dec.{ltb}
 use lib.ListN.{length, getD}
-use Rattle.contours.specs.Limits.{mostPoints}
-use Rattle.outline.specs.Weak.{endsHold}
+use Rattle.weak_contour.specs.Limits.{mostPoints}
+use Rattle.weak.specs.Weak.{endsHold}
 use Rattle.path_trip.specs.Path.{Points}
 use Rattle.shown_rows.specs.declared.turns.Counts.{Counts}
 use Rattle.shown_rows.specs.Turns.{mostColumns, pixel, outer, inner, total, before, window, windows}
@@ -17,12 +17,12 @@ use Rattle.shown_rows.specs.Rows.{blackAt, wound, CountsBy, Closed}
 use Rattle.shown_rows.proofs.Euler.{total-few, total-more, before-more, pixel-one, outer-one, inner-one}
 use Rattle.shown.specs.Shown.{linesOf, ups, downs}
 use Rattle.shown_lines.specs.Lines.{fieldHalf, Wound}
-use Rattle.shown_laws.proofs.Counts.{framed-counts}
-use Rattle.shown_laws.proofs.Limits.{total-most}
+use Rattle.shown.proofs.Counts.{framed-counts}
+use Rattle.shown.proofs.Limits.{total-most}
 use Rattle.shown_picture.specs.declared.window.Window.{Window}
 use Rattle.shown_picture.specs.Window.{picture, Bounds}
 use Rattle.shown_picture.specs.Rows.{mostCount, Small, Sum, White, Cleared, rowFrom, RowRead, shifted, rowsTo, RowsRead, PictureCounted}
-use Rattle.shown_laws.proofs.Told.{black-told}
+use Rattle.shown.proofs.Told.{black-told}
 
 -- ---- totals
 total-same : (f g : ℕ → ℕ) (n : ℕ) → ((i : ℕ) → i < n → f i ≡ g i) → total f n ≡ total g n
@@ -50,7 +50,8 @@ module _ (a b c d : ℕ → Bool) (n : ℕ) (p : (i : ℕ) → i < n → a i ≡
   counts-same w = record { black = w .black ∙ windows-same pixel; outers = w .outers ∙ windows-same outer; inners = w .inners ∙ windows-same (λ _. inner) }
 
 -- ---- one row
-module _ (m : ℕ) (o : Points) (es : List ℕ) (few : length (o .xs) ≤ mostPoints) (ends : endsHold 0 (length (o .xs)) es ≡ true) (left row : ℕ) (l l₁ l₂ : List ℕ) (c : Cleared l l₁)
+module _ (m : ℕ) (o : Points) (es : List ℕ) (few : length (o .xs) ≤ mostPoints) (ends : endsHold 0 (length (o .xs)) es ≡ true) (left row : ℕ)
+    (l l₁ l₂ : List ℕ) (c : Cleared l l₁)
     (w : Wound (linesOf fieldHalf m o 0 es) left (centre row) l₁ l₂) where
   -- what winds is told by the changes
   wound-picture : (i : ℕ) → i < length l → wound l₂ i ≡ picture m o es (left + i) row
@@ -74,7 +75,8 @@ module _ (m : ℕ) (o : Points) (es : List ℕ) (few : length (o .xs) ≤ mostPo
       }
 
 -- a white row
-pub white-read : (here : ℕ → Bool) → ((i : ℕ) → here i ≡ false) → {l l₁ : List ℕ} → Cleared l l₁ → {below below′ : List ℕ} {r : Counts} → Closed below l₁ r below′
+pub white-read : (here : ℕ → Bool) → ((i : ℕ) → here i ≡ false) → {l l₁ : List ℕ} → Cleared l l₁ → {below below′ : List ℕ} {r : Counts}
+    → Closed below l₁ r below′
     → RowRead here below (length l) r below′
 white-read here h {l} {l₁} c {below} {below′} {r} k =
     let none : (i : ℕ) → i < length l → wound l₁ i ≡ here i = λ i g. ap (λ (x : ℕ). ltb 0 (x % 65536)) (white-total l₁ (c .none) (suc i)) ∙ sym (h i) in
@@ -98,7 +100,8 @@ pub rows-none : (p : ℕ → ℕ → Bool) (n : ℕ) → CountsBy (λ f. rowsTo 
 unfolding total
 rows-none p n = record { black = refl; outers = refl; inners = refl }
 
-module _ (p : ℕ → ℕ → Bool) (n j : ℕ) (here : ℕ → Bool) (same : (i : ℕ) → here i ≡ p i j) {below below′ : List ℕ} {r : Counts} (d : RowRead here below n r below′) where
+module _ (p : ℕ → ℕ → Bool) (n j : ℕ) (here : ℕ → Bool) (same : (i : ℕ) → here i ≡ p i j) {below below′ : List ℕ} {r : Counts}
+    (d : RowRead here below n r below′) where
   pub lower-more : Lower p n (j + 1) below′
   lower-more i h = d .over i h ∙ same i ∙ before-more (p i) j
 
@@ -112,11 +115,15 @@ module _ (p : ℕ → ℕ → Bool) (n j : ℕ) (here : ℕ → Bool) (same : (i
       }
 
 -- all rows of a window
-pub rows-read : (b : ℕ → ℕ → Bool) (w : Window) {j : ℕ} {r : Counts} → j ≡ w .rows → CountsBy (λ f. rowsTo f (shifted b (w .left) (w .low)) (w .columns + 1) (j + 1)) r → RowsRead b w r
+pub rows-read : (b : ℕ → ℕ → Bool) (w : Window) {j : ℕ} {r : Counts} → j ≡ w .rows
+    → CountsBy (λ f. rowsTo f (shifted b (w .left) (w .low)) (w .columns + 1) (j + 1)) r → RowsRead b w r
 rows-read b w {j} {r} e c =
     let n : w .columns + 1 ≡ suc (w .columns) = omega arith in
     let m : j + 1 ≡ suc (w .rows) = omega arith in
-    record { counts = subst (λ (k : ℕ). CountsBy (λ f. rowsTo f (shifted b (w .left) (w .low)) k (suc (w .rows))) r) n (subst (λ (k : ℕ). CountsBy (λ f. rowsTo f (shifted b (w .left) (w .low)) (w .columns + 1) k) r) m c) }
+    record {
+      counts = subst (λ (k : ℕ). CountsBy (λ f. rowsTo f (shifted b (w .left) (w .low)) k (suc (w .rows))) r) n
+          (subst (λ (k : ℕ). CountsBy (λ f. rowsTo f (shifted b (w .left) (w .low)) (w .columns + 1) k) r) m c);
+    }
 
 -- the whole field, of which the rest is white
 pub picture-counted : (b : ℕ → ℕ → Bool) (w : Window) {r : Counts} → Bounds b w → RowsRead b w r → PictureCounted b r
@@ -156,7 +163,28 @@ module _ (n : ℕ) where
   rows-small h p m g c =
       let most : m * n ≤ mostColumns * mostColumns = omega (arith, mul-le-mul-left m h, mul-le-mul-right mostColumns g) in
       record {
-        blacks = omega (arith, most, c .black, total-most (λ j. windows pixel (λ i. before (p i) j) (λ i. p i j) n) n (λ j. pixels-few (λ i. before (p i) j) (λ i. p i j)) m);
-        outers = omega (arith, most, c .outers, total-most (λ j. windows outer (λ i. before (p i) j) (λ i. p i j) n) n (λ j. outers-few (λ i. before (p i) j) (λ i. p i j)) m);
-        inners = omega (arith, most, c .inners, total-most (λ j. windows (λ _. inner) (λ i. before (p i) j) (λ i. p i j) n) n (λ j. inners-few (λ i. before (p i) j) (λ i. p i j)) m);
+        blacks =
+            omega (
+              arith,
+              most,
+              c .black,
+              total-most (λ j. windows pixel (λ i. before (p i) j) (λ i. p i j) n) n
+                  (λ j. pixels-few (λ i. before (p i) j) (λ i. p i j)) m,
+            );
+        outers =
+            omega (
+              arith,
+              most,
+              c .outers,
+              total-most (λ j. windows outer (λ i. before (p i) j) (λ i. p i j) n) n
+                  (λ j. outers-few (λ i. before (p i) j) (λ i. p i j)) m,
+            );
+        inners =
+            omega (
+              arith,
+              most,
+              c .inners,
+              total-most (λ j. windows (λ _. inner) (λ i. before (p i) j) (λ i. p i j) n) n
+                  (λ j. inners-few (λ i. before (p i) j) (λ i. p i j)) m,
+            );
       }

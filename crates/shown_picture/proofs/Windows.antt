@@ -10,16 +10,16 @@ use lib.IntN.{ℤ, pos, _+ℤ_, _*ℤ_}
 use lib.Signed.{_≤ℤ_}
 use Rattle.signed.specs.Parts.{up, dn}
 use Rattle.signed.proofs.Signed.{signed, one-zero, natAbs-is, to-≤ℤ}
-use Rattle.contours.specs.Contour.{at}
-use Rattle.outline.specs.Weak.{endsHold}
+use Rattle.weak_contour.specs.Contour.{at}
+use Rattle.weak.specs.Weak.{endsHold}
 use Rattle.path_trip.specs.Path.{Points}
 use Rattle.path_trip.specs.declared.tour.Spot.the-variants.{Point}
 use Rattle.shown.specs.Shown.{halves, linesOf, ups, downs}
-use Rattle.shown_laws.specs.Frames.{placeOf, Spans}
+use Rattle.shown.specs.Frames.{placeOf, Spans}
 use Rattle.shown_lines.specs.Lines.{fieldHalf, Reach, InField}
 use Rattle.shown_lines.proofs.Fields.{whole-parts, whole-less}
 use Rattle.shown_picture.specs.Window.{mostCells, picture, cellOf, Spread, Bounds}
-use Rattle.shown_laws.proofs.White.{place-parts, sum-parts, white-left, white-right, white-below, white-above}
+use Rattle.shown.proofs.White.{place-parts, sum-parts, white-left, white-right, white-below, white-above}
 
 -- ---- one axis
 module _ (m : ℕ) (l : List ℤ) (some : 0 < m) (r : Reach m l) where
@@ -41,7 +41,8 @@ module _ (m : ℕ) (l : List ℤ) (some : 0 < m) (r : Reach m l) where
       )
 
   -- and rises as its coordinate does
-  place-rises : (i j : ℕ) → at l i ≤ℤ at l j → up (placeOf fieldHalf m l i) + dn (placeOf fieldHalf m l j) ≤ up (placeOf fieldHalf m l j) + dn (placeOf fieldHalf m l i)
+  place-rises : (i j : ℕ) → at l i ≤ℤ at l j → up (placeOf fieldHalf m l i) + dn (placeOf fieldHalf m l j)
+      ≤ up (placeOf fieldHalf m l j) + dn (placeOf fieldHalf m l i)
   place-rises i j g =
       let k : up (at l i) + dn (at l j) ≤ up (at l j) + dn (at l i) = omega (arith, signed) in
       omega (arith, place-parts fieldHalf m l i, place-parts fieldHalf m l j, mul-le-mul-left m k)
@@ -61,7 +62,8 @@ module _ (m : ℕ) (l : List ℤ) (some : 0 < m) (r : Reach m l) where
     cells-most = omega (arith, whole-less m (at l q) (at l q) some (r q) (r q))
 
 -- ---- both
-module _ (m : ℕ) (o : Points) (es : List ℕ) (n : ℕ) (ends : endsHold 0 n es ≡ true) (f : InField o m) (k q u v : ℕ) (across : Spread (o .xs) n k q) (upward : Spread (o .ys) n u v) where
+module _ (m : ℕ) (o : Points) (es : List ℕ) (n : ℕ) (ends : endsHold 0 n es ≡ true) (f : InField o m) (k q u v : ℕ) (across : Spread (o .xs) n k q)
+    (upward : Spread (o .ys) n u v) where
   abbrev hx : ℕ → ℕ
   hx i = halves fieldHalf m (o .xs) (Point i)
 

@@ -4,10 +4,10 @@ use mathlib.Core.List.{List}
 use Prim.Native.Nat.{ℕ, _+_, _/_, _≤_, _<_}
 use lib.IntN.{ℤ}
 use lib.Signed.{_≤ℤ_}
-use Rattle.contours.specs.Contour.{at}
+use Rattle.weak_contour.specs.Contour.{at}
 use Rattle.path_trip.specs.Path.{Points}
 use Rattle.shown.specs.Shown.{linesOf, black}
-use Rattle.shown_laws.specs.Frames.{WhiteAround}
+use Rattle.shown.specs.Frames.{WhiteAround}
 use Rattle.shown_lines.specs.Lines.{fieldHalf}
 use Rattle.shown_picture.specs.declared.window.Window.{Window}
 

@@ -5,7 +5,7 @@ use shown_rows::turns::Counts;
 ghost use mathlib.Core.Path.{_≡_};
 ghost use mathlib.Core.Bool.{true};
 ghost use lib.ListN.{length};
-ghost use Rattle.outline.specs.Weak.{endsHold};
+ghost use Rattle.weak.specs.Weak.{endsHold};
 ghost use Rattle.path_trip.specs.Path.{points};
 ghost use Rattle.path_trip.specs.Trips.{Admitted};
 ghost use Rattle.shown_lines.specs.Lines.{InField};

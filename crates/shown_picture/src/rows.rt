@@ -7,7 +7,7 @@ ghost use mathlib.Core.Path.{_≡_};
 ghost use mathlib.Core.Bool.{true};
 ghost use Prim.Native.Nat.{_+_, _≤_, _<_};
 ghost use lib.ListN.{length};
-ghost use Rattle.outline.specs.Weak.{endsHold};
+ghost use Rattle.weak.specs.Weak.{endsHold};
 ghost use Rattle.path_trip.specs.Path.{points};
 ghost use Rattle.path_trip.specs.Trips.{Admitted};
 ghost use Rattle.shown_rows.specs.Turns.{mostColumns};

@@ -1,11 +1,11 @@
 // The columns and rows of the field that an outline can blacken.
-use outline::accept::wide;
 use shown_lines::place::point_place;
+use weak::accept::wide;
 ghost use mathlib.Core.Path.{_≡_};
 ghost use mathlib.Core.Bool.{true};
 ghost use Prim.Native.Nat.{_≤_, _<_};
 ghost use lib.ListN.{length};
-ghost use Rattle.outline.specs.Weak.{endsHold};
+ghost use Rattle.weak.specs.Weak.{endsHold};
 ghost use Rattle.path_trip.specs.Path.{points};
 ghost use Rattle.path_trip.specs.Trips.{Admitted};
 ghost use Rattle.shown_lines.specs.Lines.{mostHalves, InField};

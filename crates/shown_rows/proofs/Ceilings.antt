@@ -66,7 +66,8 @@ module _ (lx ly hx hy y m n : ℕ) (some : 0 < hy - ly) (at : lx * (hy - y) + hx
       record {
         inside = λ i h. let k : m + q ≤ centre i = omega arith in omega (arith, at, law .not-below, mul-le-mul-right d k);
         outside = λ i h.
-            let k : m + q ≤ centre i = ⊎-elim (λ x. absurd (omega (arith, at, h, law .not-above, mul-le-mul-right d x))) (λ x. x) (lt-or-le (centre i) (m + q)) in
+            let k : m + q ≤ centre i = ⊎-elim (λ x. absurd (omega (arith, at, h, law .not-above, mul-le-mul-right d x))) (λ x. x)
+            (lt-or-le (centre i) (m + q)) in
             omega arith;
       }
 

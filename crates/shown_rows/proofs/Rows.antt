@@ -35,14 +35,16 @@ pub over-none : (row changes : List ℕ) → Over row changes 0 row
 over-none row changes = record { as-long = refl; here = λ k h. absurd (let z : ⊥ = omega arith in z); behind = λ k h. refl }
 
 -- one pixel more
-pub over-more : (row changes row′ : List ℕ) (i x : ℕ) (d : Bool) → Over row changes i row′ → i < length row → x ≡ bit d → d ≡ wound changes i → Over row changes (i + 1) (set row′ i x)
+pub over-more : (row changes row′ : List ℕ) (i x : ℕ) (d : Bool) → Over row changes i row′ → i < length row → x ≡ bit d → d ≡ wound changes i
+    → Over row changes (i + 1) (set row′ i x)
 over-more row changes row′ i x d o h p q = record {
   as-long = length-set row′ i x ∙ o .as-long;
   here = λ k l.
       ⊎-elim
       (λ m. ap (ltb 0) (getD-set-other row′ i k x 0 (λ (e : k ≡ i). omega arith)) ∙ o .here k m)
       (λ m. let e : k ≡ i = omega arith in
-      ap (λ (z : ℕ). blackAt (set row′ i x) z) e ∙ ap (ltb 0) (getD-set-same row′ i x 0 (omega (arith, o .as-long)) ∙ p) ∙ bit-black d ∙ q ∙ ap (wound changes) (sym e))
+      ap (λ (z : ℕ). blackAt (set row′ i x) z) e ∙ ap (ltb 0) (getD-set-same row′ i x 0 (omega (arith, o .as-long)) ∙ p) ∙ bit-black d ∙ q
+      ∙ ap (wound changes) (sym e))
       (lt-or-le k i);
   behind = λ k l. getD-set-other row′ i k x 0 (λ (e : k ≡ i). omega arith) ∙ o .behind k (omega arith);
 }

@@ -1,4 +1,5 @@
--- The lines of a contour, point by point of its walk. An on-curve point behind a curve stands where the curve ends: the line to it has no height. Assumes nothing.
+-- The lines of a contour, point by point of its walk. An on-curve point behind a curve stands where the curve ends: the line to it has no height. Assumes
+-- nothing.
 use mathlib.Core.Path.{_≡_, refl, sym, ap, _∙_, subst}
 use mathlib.Core.Bool.{Bool, true, false, cond}
 use mathlib.Core.List.{List, [], _∷_, _++_}
@@ -6,7 +7,7 @@ use Prim.Native.Nat.{ℕ, suc, _+_, _-_, _≤_, _<_}
 use native.Mathlib.Omega.{arith}
 use lib.ListN.{length, getD, drop, drop-of-length-le}
 use Rattle.signed.proofs.Choices.{clash}
-use Rattle.outline.proofs.Refusals.{drop-one}
+use Rattle.weak.proofs.Refusals.{drop-one}
 use Rattle.path_trip.specs.Path.{Points, onCurve, roundOf, Round}
 use Rattle.path_trip.specs.declared.tour.Spot.{Spot}
 use Rattle.path_trip.specs.declared.tour.Spot.the-variants.{Point, Between}
@@ -44,7 +45,8 @@ module _ (o : Points) (m : ℕ) (start : Spot) where
   abbrev linesFrom : Spot → List Leg → List Side
   linesFrom s ls = linesBy (spotAt fieldHalf m o start) (spotAt fieldHalf m o s) (places fieldHalf m o s ls)
 
-  line-legs : (s : Spot) (i : ℕ) (ls : List Leg) → linesFrom s (line i ∷ ls) ≡ (straight (halvesAt o m s) (halvesAt o m (Point i)) ∷ []) ++ linesFrom (Point i) ls
+  line-legs : (s : Spot) (i : ℕ) (ls : List Leg) → linesFrom s (line i ∷ ls)
+      ≡ (straight (halvesAt o m s) (halvesAt o m (Point i)) ∷ []) ++ linesFrom (Point i) ls
   unfolding linesBy places
   line-legs s i ls = refl
 
@@ -76,7 +78,8 @@ module _ (o : Points) (m : ℕ) (start : Spot) where
       subst (λ (x : Spot). Alike (linesFrom x ls) ((straight (halvesAt o m x) (halvesAt o m (Point i)) ∷ []) ++ t)) (sym e)
       (alike-flat (spotAt fieldHalf m o (Point i)) (linesFrom (Point i) ls) t a)
 
-  pub walk-alike : (on : Bool) (s : Spot) (w : List ℕ) → (on ≡ false → Behind s w) → Alike (linesFrom s (legs o start on w)) (walkSides o m start (halvesAt o m s) w)
+  pub walk-alike : (on : Bool) (s : Spot) (w : List ℕ) → (on ≡ false → Behind s w)
+      → Alike (linesFrom s (legs o start on w)) (walkSides o m start (halvesAt o m s) w)
   unfolding legs walkSides
   walk-alike on s [] b = subst (λ (x : List Side). Alike (linesFrom s []) x) (no-legs s) (alike-same (linesFrom s []))
   walk-alike on s (i ∷ is) b =
@@ -89,15 +92,18 @@ module _ (o : Points) (m : ℕ) (start : Spot) where
           → Alike (linesFrom (Point i) (legs o start true is)) (walkSides o m start (halvesAt o m (Point i)) is)
           → Alike (linesFrom (curveTo o start i is) (legs o start false is)) (walkSides o m start (halvesAt o m (curveTo o start i is)) is)
           → (on ≡ false → c ≡ true → s ≡ Point i)
-          → Alike (linesFrom s (cond c (cond on (line i ∷ legs o start true is) (legs o start true is)) (curve i (curveTo o start i is) ∷ legs o start false is)))
+          → Alike (linesFrom s (cond c (cond on (line i ∷ legs o start true is) (legs o start true is))
+          (curve i (curveTo o start i is) ∷ legs o start false is)))
           (cond c ((straight (halvesAt o m s) (halvesAt o m (Point i)) ∷ []) ++ walkSides o m start (halvesAt o m (Point i)) is)
-          (curveSides (halvesAt o m s) (halvesAt o m (Point i)) (halvesAt o m (curveTo o start i is)) 0 16 ++ walkSides o m start (halvesAt o m (curveTo o start i is)) is))
+          (curveSides (halvesAt o m s) (halvesAt o m (Point i)) (halvesAt o m (curveTo o start i is)) 0 16
+          ++ walkSides o m start (halvesAt o m (curveTo o start i is)) is))
       by true true p q b = alike-line s i (legs o start true is) (walkSides o m start (halvesAt o m (Point i)) is) p
       by true false p q b = alike-behind s i (legs o start true is) (walkSides o m start (halvesAt o m (Point i)) is) (b refl refl) p
       by false on p q b = alike-curve s i (curveTo o start i is) (legs o start false is) (walkSides o m start (halvesAt o m (curveTo o start i is)) is) q
 
 -- the lines of a contour
-pub contour-alike : (o : Points) (m : ℕ) (t : Tour) → Alike (contourLines fieldHalf m o t) (walkSides o m (t .start) (halvesAt o m (t .start)) (drop 0 (t .walk)))
+pub contour-alike : (o : Points) (m : ℕ) (t : Tour) → Alike (contourLines fieldHalf m o t)
+    (walkSides o m (t .start) (halvesAt o m (t .start)) (drop 0 (t .walk)))
 contour-alike o m t = walk-alike o m (t .start) true (t .start) (t .walk) (λ e. absurd (clash true e refl))
 
 -- ---- one point at a time

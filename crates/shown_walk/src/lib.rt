@@ -1,5 +1,4 @@
 // What the contours of an outline wind in one row of pixels, with no line stored.
-use outline::accept::wide;
 use path_trip::tour::tour_of;
 use path_trip::trip::around_at;
 use path_trip::trip::is_on;
@@ -9,11 +8,12 @@ use shown_lines::line::cross_straight;
 use shown_lines::place::end_halves;
 use shown_lines::place::point_place;
 use shown_lines::place::spot_halves;
+use weak::accept::wide;
 ghost use mathlib.Core.Path.{_≡_};
 ghost use mathlib.Core.Bool.{true};
 ghost use Prim.Native.Nat.{_-_};
 ghost use lib.ListN.{length};
-ghost use Rattle.outline.specs.Weak.{endsHold};
+ghost use Rattle.weak.specs.Weak.{endsHold};
 ghost use Rattle.path_trip.specs.Path.{points};
 ghost use Rattle.path_trip.specs.Legs.{tourOf};
 ghost use Rattle.path_trip.specs.Trips.{Admitted, Within};

@@ -7,7 +7,8 @@ by₂ f e p q = e ∙ λ i. f (p i) (q i)
 pub by₃ : {A B C R : Type 0} (f : A → B → C → R) {r : R} {a a′ : A} {b b′ : B} {c c′ : C} → r ≡ f a b c → a ≡ a′ → b ≡ b′ → c ≡ c′ → r ≡ f a′ b′ c′
 by₃ f e p q s = e ∙ λ i. f (p i) (q i) (s i)
 
-pub by₄ : {A B C D R : Type 0} (f : A → B → C → D → R) {r : R} {a a′ : A} {b b′ : B} {c c′ : C} {d d′ : D} → r ≡ f a b c d → a ≡ a′ → b ≡ b′ → c ≡ c′ → d ≡ d′ → r ≡ f a′ b′ c′ d′
+pub by₄ : {A B C D R : Type 0} (f : A → B → C → D → R) {r : R} {a a′ : A} {b b′ : B} {c c′ : C} {d d′ : D} → r ≡ f a b c d → a ≡ a′ → b ≡ b′ → c ≡ c′ → d ≡ d′
+    → r ≡ f a′ b′ c′ d′
 by₄ f e p q s t = e ∙ λ i. f (p i) (q i) (s i) (t i)
 
 pub by₅ : {A B C D E R : Type 0} (f : A → B → C → D → E → R) {r : R} {a a′ : A} {b b′ : B} {c c′ : C} {d d′ : D} {x x′ : E}

@@ -41,11 +41,13 @@ back-16 z p = rw (back w16 z p) (is (wide-16 z (got w16 z p)))
 apart : (x y : ℤ) → mag x < 2 ^ hbits w16 → mag y < 2 ^ hbits w16 → SFits w32 (x -ℤ y)
 apart x y p q = fits (omega (arith, signed, range (got w16 x p), range (got w16 y q)))
 
-pub sub-fits : (x y : ℤ) → mag x < 2 ^ hbits w16 → mag y < 2 ^ hbits w16 → SFits w32 (toZ w32 (ofZ w32 (toZ w16 (ofZ w16 x))) -ℤ toZ w32 (ofZ w32 (toZ w16 (ofZ w16 y))))
+pub sub-fits : (x y : ℤ) → mag x < 2 ^ hbits w16 → mag y < 2 ^ hbits w16
+    → SFits w32 (toZ w32 (ofZ w32 (toZ w16 (ofZ w16 x))) -ℤ toZ w32 (ofZ w32 (toZ w16 (ofZ w16 y))))
 sub-fits x y p q = rw (back-16 x p, back-16 y q) (apart x y p q)
 
 -- and is read back
-pub sub-is : (x y : ℤ) → mag x < 2 ^ hbits w16 → mag y < 2 ^ hbits w16 → toZ w32 (ofZ w32 (toZ w32 (ofZ w32 (toZ w16 (ofZ w16 x))) -ℤ toZ w32 (ofZ w32 (toZ w16 (ofZ w16 y))))) ≡ x -ℤ y
+pub sub-is : (x y : ℤ) → mag x < 2 ^ hbits w16 → mag y < 2 ^ hbits w16
+    → toZ w32 (ofZ w32 (toZ w32 (ofZ w32 (toZ w16 (ofZ w16 x))) -ℤ toZ w32 (ofZ w32 (toZ w16 (ofZ w16 y))))) ≡ x -ℤ y
 sub-is x y p q = rw (back-16 x p, back-16 y q) (is (apart x y p q))
 
 -- the difference that is not below zero is the distance

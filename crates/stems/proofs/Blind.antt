@@ -17,9 +17,9 @@ use Rattle.axis.specs.Mark.{Blind}
 use Rattle.axis.specs.Refusals.{linkHolds}
 use Rattle.axis.specs.Visits.{visits}
 use Rattle.axis.proofs.Alike.{AlikeAxis, alike-len, visits-alike, indices-alike, numbers-alike, answered-alike, blind}
-use Rattle.stems_plan.specs.declared.kinds.Mode.{Mode}
+use Rattle.stems.specs.declared.kinds.Mode.{Mode}
 use Rattle.stems.specs.Stems.{State, visit, begun, outcome, stems, stemsOf, modeOf, stemsTests, alignStemEdges, withoutMarks}
-use Rattle.stems.proofs.Alike.{AlikeState, visit-alike}
+use Rattle.stems.proofs.AlikePass.{AlikeState, visit-alike}
 
 -- ---- the pass
 outcome-same : (s t : State) → AlikeState s t → withoutMarks (outcome s) ≡ withoutMarks (outcome t)
@@ -29,7 +29,8 @@ pass-same : (m : Mode) (xs : List ℤ) (anchor : Link) (a b : Axis) → AlikeAxi
 unfolding stemsOf
 pass-same m xs anchor a b h =
     let start : AlikeState (begun anchor a) (begun anchor b) = record { axis = h; count = refl; anchor = refl; trail = refl } in
-    let all = visits-alike AlikeState (visit m xs) (λ (s t : State) (i : ℕ) (r : AlikeState s t). visit-alike m xs s t r i) (a .len) 0 (begun anchor a) (begun anchor b) start in
+    let all = visits-alike AlikeState (visit m xs) (λ (s t : State) (i : ℕ) (r : AlikeState s t). visit-alike m xs s t r i) (a .len) 0 (begun anchor a)
+    (begun anchor b) start in
     outcome-same _ _ all ∙ ap (λ (n : ℕ). withoutMarks (outcome (visits (visit m xs) n 0 (begun anchor b)))) (alike-len a b h)
 
 -- ---- the call

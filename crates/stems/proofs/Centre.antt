@@ -18,10 +18,10 @@ use Rattle.axis.specs.declared.kinds.Mark.the-variants.{Stem}
 use Rattle.axis.specs.declared.edge.Edge.{Edge}
 use Rattle.axis.specs.declared.edge.Axis.{Axis}
 use Rattle.axis.specs.Edge.{emptyEdge, edgeAt, fixedAt}
-use Rattle.stem_latin.specs.Latin.{anchoredFirst, anchoredSecond}
-use Rattle.stem_latin.proofs.Chosen.{chosen, about-chosen, together}
-use Rattle.stems_plan.specs.declared.kinds.Mode.{Mode}
-use Rattle.stems_plan.specs.Visit.{tooClose, originalLen, startBeside}
+use Rattle.stems_latin.specs.Latin.{anchoredFirst, anchoredSecond}
+use Rattle.stems_latin.proofs.Chosen.{chosen, about-chosen, together}
+use Rattle.stems.specs.declared.kinds.Mode.{Mode}
+use Rattle.stems.specs.Visit.{tooClose, originalLen, startBeside}
 use Rattle.stems.specs.Stems.{State, counted, centredStem, besideAnchor, latinStem, groupStem, zoneStem, visitLink, visit}
 use Rattle.stems.specs.Centre.{stemWidth, shiftedCentre, beforeBound, ThinStem, Centred}
 use Rattle.stems.proofs.Straight.{own-width}
@@ -86,8 +86,10 @@ module _ (m : Mode) (xs : List ℤ) (s : State) (i k a : ℕ) where
       let p = startBeside (edgeAt (s .axis) a) e in
       let n = originalLen e e2 in
       let w = stemWidth m xs s i k in
-      let open-link : beforeBound m xs s i k a ≡ centredStem (s .axis) i k p n w = cond-false (e2 .flags .done) _ (centredStem (s .axis) i k p n w) (h .link-not-done) in
-      let both = both-fixed (s .axis .edges) i k (anchoredFirst p n w) (anchoredSecond p n w) (linked-place (s .axis .edges) i k (h .link)) (h .place) (λ (q : i ≡ k). together p n w (alone q)) in
+      let open-link : beforeBound m xs s i k a ≡ centredStem (s .axis) i k p n w = cond-false (e2 .flags .done) _ (centredStem (s .axis) i k p n w)
+      (h .link-not-done) in
+      let both = both-fixed (s .axis .edges) i k (anchoredFirst p n w) (anchoredSecond p n w) (linked-place (s .axis .edges) i k (h .link)) (h .place)
+      (λ (q : i ≡ k). together p n w (alone q)) in
       record {
         bound-after = visited h;
         about = ap (λ (u : Axis). edgeAt u i .pos +ℤ edgeAt u k .pos) open-link ∙ by₂ _+ℤ_ refl (both .first) (both .second)

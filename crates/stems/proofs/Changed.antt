@@ -29,17 +29,17 @@ use Rattle.axis.specs.Changes.{place, Only, wherever, OnlyAxis, Changes}
 use Rattle.axis.proofs.Acceptance.{axis-within}
 use Rattle.axis.proofs.Only.{same-edge, position-place, placed-only, fixed-only, named, same-axis, also-put, link-kept, call-changes}
 use Rattle.axis.proofs.Visits.{visits-keep}
-use Rattle.cjk_numbers.specs.declared.stem.Stem.{Stem}
-use Rattle.stems_plan.specs.declared.kinds.Mode.{Mode}
-use Rattle.stems_plan.specs.declared.kinds.Trail.{Trail}
-use Rattle.stems_plan.specs.declared.kinds.Second.{Second}
-use Rattle.stems_plan.specs.declared.kinds.Second.the-variants.{Stays, Placed, Fixed}
-use Rattle.stems_plan.specs.declared.kinds.Plan.{Plan}
-use Rattle.stems_plan.specs.Visit.{tooClose}
-use Rattle.stems_plan.specs.Plan.{anchoredPlan, freePlan, latinPlan, stemPlan, cjkPlan, groupPlan, zonePlan, isBounded, isOver, secondEdge, heldEdge}
-use Rattle.stems.specs.declared.pass.Stems.{Stems}
+use Rattle.stems_cjk.specs.declared.stem.Stem.{Stem}
+use Rattle.stems.specs.declared.kinds.Mode.{Mode}
+use Rattle.stems.specs.declared.kinds.Trail.{Trail}
+use Rattle.stems.specs.declared.kinds.Second.{Second}
+use Rattle.stems.specs.declared.kinds.Second.the-variants.{Stays, Placed, Fixed}
+use Rattle.stems.specs.declared.kinds.Plan.{Plan}
+use Rattle.stems.specs.Visit.{tooClose}
+use Rattle.stems.specs.Plan.{anchoredPlan, freePlan, latinPlan, stemPlan, cjkPlan, groupPlan, zonePlan, isBounded, isOver, secondEdge, heldEdge}
+use Rattle.stems.specs.declared.outcome.Stems.{Stems}
 use Rattle.stems.specs.Stems.{State, counted, begun, stems, stemsOf, modeOf, stemsTests, alignStemEdges, AlignsStemEdges, stemsMarks}
-use Rattle.stems.specs.Steps.{planAt, firstPut, secondPut, carriedOut, stepLink, step}
+use Rattle.stems.specs.StepsPass.{planAt, firstPut, secondPut, carriedOut, stepLink, step}
 use Rattle.stems.proofs.Straight.{steps-are}
 
 -- ---- the marks of a plan
@@ -81,7 +81,8 @@ second-only e (Fixed p) = fixed-only stemsMarks e p Marks.Stem refl
 held-only : (plan : Plan) (i : ℕ) (e prev link : Edge) → PlacedOnly e (heldEdge plan i e prev link)
 unfolding heldEdge among
 held-only plan i e prev link =
-    either-way (PlacedOnly e) (isBounded plan i && isOver e prev link) _ e (position-place stemsMarks e _ (placed-only stemsMarks e (prev .pos) Marks.Bound refl))
+    either-way (PlacedOnly e) (isBounded plan i && isOver e prev link) _ e
+    (position-place stemsMarks e _ (placed-only stemsMarks e (prev .pos) Marks.Bound refl))
     (same-edge (place stemsMarks) e)
 
 -- ---- the pass
@@ -101,7 +102,8 @@ module _ (m : Mode) (xs : List ℤ) (old : Axis) (b : ℕ) (within : AxisWithin 
       let one = firstPut plan i (s .axis) in
       let two = secondPut plan k one in
       put two i _ p
-      (put one k _ q (put (s .axis) i _ p h (fixed-only stemsMarks (edgeAt (s .axis) i) (plan .first) (plan .mark) (g .marks))) (second-only (edgeAt one k) (plan .second)))
+      (put one k _ q (put (s .axis) i _ p h (fixed-only stemsMarks (edgeAt (s .axis) i) (plan .first) (plan .mark) (g .marks)))
+      (second-only (edgeAt one k) (plan .second)))
       (held-only plan i (edgeAt two i) (edgeAt two (i - 1)) (edgeAt two k))
 
   by-link : (s : State) (i : ℕ) (l : Link) → Below (old .len) l → i < old .len → KeptBy s → KeptBy (stepLink m xs s i l)
@@ -128,13 +130,16 @@ unfolding stemsOf
 stems-done m xs anchor axis = refl
 
 -- ---- the call
-pub changed : (axis : Axis) (group : Group) (adjust ttb : Bool) (anchor : Link) (rule : WidthRule) (xs : List ℤ) {r : Stems} → AlignsStemEdges axis group adjust ttb anchor rule xs r
+pub changed : (axis : Axis) (group : Group) (adjust ttb : Bool) (anchor : Link) (rule : WidthRule) (xs : List ℤ) {r : Stems}
+    → AlignsStemEdges axis group adjust ttb anchor rule xs r
     → Changes (OnlyAxis (wherever (λ (i : ℕ). ltb i (axis .len)) (place stemsMarks))) (r .answer) axis (r .axis)
 unfolding alignStemEdges
 changed axis group adjust ttb anchor rule xs p =
     let Small = OnlyAxis (wherever (λ (i : ℕ). ltb i (axis .len)) (place stemsMarks)) in
     let m = modeOf axis group adjust rule in
     subst (λ (r : Stems). Changes Small (r .answer) axis (r .axis)) (sym p)
-    (call-changes Small (refusal (stemsTests axis ttb anchor rule xs)) axis (λ (k : ℕ). stems 0 Links.None axis k) (stemsOf m xs anchor axis) (λ (r : Stems). r .answer) (λ (r : Stems). r .axis)
+    (call-changes Small (refusal (stemsTests axis ttb anchor rule xs)) axis (λ (k : ℕ). stems 0 Links.None axis k) (stemsOf m xs anchor axis)
+    (λ (r : Stems). r .answer) (λ (r : Stems). r .axis)
     (λ (k : ℕ). refl) (same-axis _ axis) (stems-done m xs anchor axis)
-    (λ e. let t = all-hold (stemsTests axis ttb anchor rule xs) refl e in pass m xs axis mostPos (axis-within axis (t .0) (t .1 .1 .1 .0) (t .1 .1 .1 .1 .1 .0)) anchor))
+    (λ e. let t = all-hold (stemsTests axis ttb anchor rule xs) refl e in pass m xs axis mostPos
+    (axis-within axis (t .0) (t .1 .1 .1 .0) (t .1 .1 .1 .1 .1 .0)) anchor))

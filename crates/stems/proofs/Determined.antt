@@ -7,7 +7,7 @@ use Rattle.fixed.specs.declared.width.WidthRule.{WidthRule}
 use Rattle.axis.specs.declared.kinds.Group.{Group}
 use Rattle.axis.specs.declared.kinds.Link.{Link}
 use Rattle.axis.specs.declared.edge.Axis.{Axis}
-use Rattle.stems.specs.declared.pass.Stems.{Stems}
+use Rattle.stems.specs.declared.outcome.Stems.{Stems}
 use Rattle.stems.specs.Stems.{AlignsStemEdges}
 
 pub determined : (axis : Axis) (group : Group) (adjust ttb : Bool) (anchor : Link) (rule : WidthRule) (xs : List ℤ) {r s : Stems}

@@ -20,12 +20,12 @@ use Rattle.axis.specs.declared.edge.Edge.{Edge}
 use Rattle.axis.specs.declared.edge.Axis.{Axis}
 use Rattle.axis.specs.Edge.{emptyEdge, edgeAt}
 use Rattle.axis.specs.Visits.{visits}
-use Rattle.stems_plan.specs.declared.kinds.Mode.{Mode}
-use Rattle.stems_plan.specs.declared.kinds.Plan.{Plan}
-use Rattle.stems_plan.specs.Visit.{tooClose}
-use Rattle.stems.specs.declared.pass.Stems.{Stems}
+use Rattle.stems.specs.declared.kinds.Mode.{Mode}
+use Rattle.stems.specs.declared.kinds.Plan.{Plan}
+use Rattle.stems.specs.Visit.{tooClose}
+use Rattle.stems.specs.declared.outcome.Stems.{Stems}
 use Rattle.stems.specs.Stems.{State, counted, begun, stems, stemsOf, modeOf, stemsTests, alignStemEdges}
-use Rattle.stems.specs.Steps.{planAt, firstPut, secondPut, carriedOut, stepLink, step}
+use Rattle.stems.specs.StepsPass.{planAt, firstPut, secondPut, carriedOut, stepLink, step}
 use Rattle.stems.proofs.Straight.{steps-are}
 use Rattle.stems.proofs.Settling.{second-grown, held-grown, step-grown}
 use Rattle.stems.proofs.Handed.{outcome}
@@ -53,7 +53,8 @@ unfolding carriedOut
 carried-done s i k plan h =
     let one = firstPut plan i (s .axis) in
     let two = secondPut plan k one in
-    held-grown plan i k two .edge i .done (second-grown plan k one .edge i .done (ap (λ (e : Edge). e .flags .done) (getD-set-same (s .axis .edges) i _ emptyEdge h)))
+    held-grown plan i k two .edge i .done (second-grown plan k one .edge i .done
+    (ap (λ (e : Edge). e .flags .done) (getD-set-same (s .axis .edges) i _ emptyEdge h)))
 
 module _ (m : Mode) (xs : List ℤ) where
   counted-visited : (n i : ℕ) (s : State) → n ≤ length (s .axis .edges) → Visited n i (counted s)
@@ -69,18 +70,21 @@ module _ (m : Mode) (xs : List ℤ) where
   step-visited : (n i : ℕ) (s : State) → n ≤ length (s .axis .edges) → i < n → Visited n i (step m xs s i)
   unfolding step
   step-visited n i s l h =
-      cond-cases (Visited n i) (edgeAt (s .axis) i .flags .done) s _ (λ t. record { long = l; done = λ e. t }) (λ t. link-visited n i s (edgeAt (s .axis) i .link) l h)
+      cond-cases (Visited n i) (edgeAt (s .axis) i .flags .done) s _ (λ t. record { long = l; done = λ e. t })
+      (λ t. link-visited n i s (edgeAt (s .axis) i .link) l h)
 
   -- nothing that was counted is forgotten
   link-counts : (s : State) (i : ℕ) (l : Link) → s .count ≤ stepLink m xs s i l .count
   unfolding stepLink carriedOut
   link-counts s i Links.None = omega arith
   link-counts s i (Links.To k) =
-      cond-cases (λ (t : State). s .count ≤ t .count) (tooClose (m .group) (s .trail .last) (edgeAt (s .axis) i) (edgeAt (s .axis) k)) (counted s) _ (λ t. omega arith) (λ t. omega arith)
+      cond-cases (λ (t : State). s .count ≤ t .count) (tooClose (m .group) (s .trail .last) (edgeAt (s .axis) i) (edgeAt (s .axis) k)) (counted s) _
+      (λ t. omega arith) (λ t. omega arith)
 
   step-counts : (s : State) (i : ℕ) → s .count ≤ step m xs s i .count
   unfolding step
-  step-counts s i = cond-cases (λ (t : State). s .count ≤ t .count) (edgeAt (s .axis) i .flags .done) s _ (λ t. omega arith) (λ t. link-counts s i (edgeAt (s .axis) i .link))
+  step-counts s i =
+      cond-cases (λ (t : State). s .count ≤ t .count) (edgeAt (s .axis) i .flags .done) s _ (λ t. omega arith) (λ t. link-counts s i (edgeAt (s .axis) i .link))
 
   -- ---- all visits
   -- after i of them: where none was counted, the first i edges are done
@@ -109,7 +113,8 @@ module _ (m : Mode) (xs : List ℤ) where
   unfolding stemsOf
   all-done anchor axis l e j h =
       let start : DoneBelow (axis .len) 0 (begun anchor axis) = record { long = l; done = λ e j b. absurd (omega (arith, b)) } in
-      subst (DoneBelow (axis .len) (axis .len)) (steps-are m xs (axis .len) 0 (begun anchor axis)) (done-all (axis .len) 0 (axis .len) (begun anchor axis) (omega arith) start) .done e j h
+      subst (DoneBelow (axis .len) (axis .len)) (steps-are m xs (axis .len) 0 (begun anchor axis))
+      (done-all (axis .len) 0 (axis .len) (begun anchor axis) (omega arith) start) .done e j h
 
 -- ---- the call
 -- with answer 0 and 0 passed over every edge is done
@@ -121,4 +126,5 @@ none-passed-over axis group adjust ttb anchor rule xs l a c j h =
     let work = stemsOf (modeOf axis group adjust rule) xs anchor axis in
     let z = none-refused (stems 0 Links.None axis) work (λ (s : Stems). s .answer) (λ j. refl) (refusal (stemsTests axis ttb anchor rule xs)) a in
     let out = outcome axis group adjust ttb anchor rule xs z in
-    ap (λ (s : Stems). edgeAt (s .axis) j .flags .done) out ∙ all-done (modeOf axis group adjust rule) xs anchor axis l (ap (λ (s : Stems). s .count) (sym out) ∙ c) j h
+    ap (λ (s : Stems). edgeAt (s .axis) j .flags .done) out ∙ all-done (modeOf axis group adjust rule) xs anchor axis l
+    (ap (λ (s : Stems). s .count) (sym out) ∙ c) j h

@@ -20,23 +20,36 @@ use Rattle.axis.specs.declared.kinds.Dimension.{Dimension}
 use Rattle.axis.specs.declared.kinds.Dimension.the-variants.{Horizontal, Vertical}
 use Rattle.axis.specs.declared.edge.Edge.{Edge}
 use Rattle.axis.specs.Limits.{mostUnits, mostPos, mostPassed}
-use Rattle.placing.specs.Placing.{linkedPos}
-use Rattle.placing.specs.Steps.{mostReach, InReach}
-use Rattle.placing.proofs.Reach.{width-range}
-use Rattle.stem_latin.specs.Latin.{mostLength}
-use Rattle.stem_latin.proofs.Moves.{mostShift, anchored-ends, first-range, second-range, free-ends, free-range, free-second-range}
-use Rattle.cjk_numbers.specs.declared.stem.Stem.{Stem}
-use Rattle.cjk_numbers.specs.Cjk.{mostCjkStart, mostWidth, mostMove}
-use Rattle.cjk_numbers.proofs.Moves.{stem-pos-range, stem-width-range, stem-delta-range}
-use Rattle.stems_plan.specs.declared.kinds.Mode.{Mode}
-use Rattle.stems_plan.specs.declared.kinds.LastStem.the-variants as LastStems
-use Rattle.stems_plan.specs.declared.kinds.Trail.{Trail}
-use Rattle.stems_plan.specs.declared.kinds.Second.{Second}
-use Rattle.stems_plan.specs.declared.kinds.Second.the-variants.{Stays, Placed, Fixed}
-use Rattle.stems_plan.specs.declared.kinds.Plan.{Plan}
-use Rattle.stems_plan.specs.Visit.{originalLen, widthOf, startBeside, deltaBeside, deltaAfter}
-use Rattle.stems_plan.specs.Plan.{linkedPlan, behindPlan, centredPlan, anchoredPlan, freePlan, latinPlan, fixedPlan, stemPlan, cjkPlan, groupPlan, zonePlan, planOf}
-use Rattle.stems_plan.specs.Steps.{mostPlace, LastWithin}
+use Rattle.place.specs.Placing.{linkedPos}
+use Rattle.place.specs.Steps.{mostReach, InReach}
+use Rattle.place.proofs.Reach.{width-range}
+use Rattle.stems_latin.specs.Latin.{mostLength}
+use Rattle.stems_latin.proofs.Moves.{mostShift, anchored-ends, first-range, second-range, free-ends, free-range, free-second-range}
+use Rattle.stems_cjk.specs.declared.stem.Stem.{Stem}
+use Rattle.stems_cjk.specs.Cjk.{mostCjkStart, mostWidth, mostMove}
+use Rattle.stems_cjk.proofs.Moves.{stem-pos-range, stem-width-range, stem-delta-range}
+use Rattle.stems.specs.declared.kinds.Mode.{Mode}
+use Rattle.stems.specs.declared.kinds.LastStem.the-variants as LastStems
+use Rattle.stems.specs.declared.kinds.Trail.{Trail}
+use Rattle.stems.specs.declared.kinds.Second.{Second}
+use Rattle.stems.specs.declared.kinds.Second.the-variants.{Stays, Placed, Fixed}
+use Rattle.stems.specs.declared.kinds.Plan.{Plan}
+use Rattle.stems.specs.Visit.{originalLen, widthOf, startBeside, deltaBeside, deltaAfter}
+use Rattle.stems.specs.Plan.{
+  linkedPlan,
+  behindPlan,
+  centredPlan,
+  anchoredPlan,
+  freePlan,
+  latinPlan,
+  fixedPlan,
+  stemPlan,
+  cjkPlan,
+  groupPlan,
+  zonePlan,
+  planOf,
+}
+use Rattle.stems.specs.Steps.{mostPlace, LastWithin}
 
 -- what a visit adds: beside an anchor, the distance of two original positions, a rounding, and a width
 abbrev pub mostGrowth : ℕ
@@ -102,7 +115,8 @@ width-in : (b : ℕ) (rule : WidthRule) (xs : List ℤ) (e e2 : Edge) → EdgeIn
 width-in b rule xs e e2 h g = width-range rule xs (e .opos) (e2 .opos) (h .opos) (g .opos)
 
 module _ (b : ℕ) (r : Reached b) where
-  linked-within : (rule : WidthRule) (xs : List ℤ) (e e2 : Edge) (t : Trail) → EdgeIn b e → EdgeIn b e2 → TrailWithin t → PlanWithin (b + mostGrowth) (linkedPlan rule xs e e2 t)
+  linked-within : (rule : WidthRule) (xs : List ℤ) (e e2 : Edge) (t : Trail) → EdgeIn b e → EdgeIn b e2 → TrailWithin t
+      → PlanWithin (b + mostGrowth) (linkedPlan rule xs e e2 t)
   unfolding linkedPos
   linked-within rule xs e e2 t h g k = record {
     first = omega (arith, g .pos, width-in b rule xs e2 e g h, add-law (e2 .pos) (widthOf rule xs e2 e));
@@ -120,9 +134,11 @@ module _ (b : ℕ) (r : Reached b) where
   }
 
   centred-within : (rule : WidthRule) (xs : List ℤ) (e e2 a : Edge) (t : Trail)
-      → EdgeIn b e → EdgeIn b e2 → EdgeIn b a → TrailWithin t → PlanWithin (b + mostGrowth) (centredPlan (startBeside a e) (originalLen e e2) (widthOf rule xs e e2) t)
+      → EdgeIn b e → EdgeIn b e2 → EdgeIn b a → TrailWithin t → PlanWithin (b + mostGrowth)
+      (centredPlan (startBeside a e) (originalLen e e2) (widthOf rule xs e e2) t)
   centred-within rule xs e e2 a t h g l k =
-      let n = anchored-ends b (a .pos) (a .opos) (e .opos) (e2 .opos) (widthOf rule xs e e2) (l .pos) (l .opos) (h .opos) (g .opos) (width-in b rule xs e e2 h g) in
+      let n = anchored-ends b (a .pos) (a .opos) (e .opos) (e2 .opos) (widthOf rule xs e e2) (l .pos) (l .opos) (h .opos) (g .opos)
+      (width-in b rule xs e e2 h g) in
       record {
         first = omega (arith, first-range _ _ _ _ n);
         second = fixed-within (b + mostGrowth) _ (omega (arith, second-range _ _ _ _ n));
@@ -132,9 +148,11 @@ module _ (b : ℕ) (r : Reached b) where
   anchored-within : (rule : WidthRule) (xs : List ℤ) (e e2 a : Edge) (t : Trail)
       → EdgeIn b e → EdgeIn b e2 → EdgeIn b a → TrailWithin t → PlanWithin (b + mostGrowth) (anchoredPlan rule xs e e2 a t)
   unfolding anchoredPlan
-  anchored-within rule xs e e2 a t h g l k = either-way (PlanWithin (b + mostGrowth)) (e2 .flags .done) _ _ (behind-within rule xs e e2 t h g k) (centred-within rule xs e e2 a t h g l k)
+  anchored-within rule xs e e2 a t h g l k =
+      either-way (PlanWithin (b + mostGrowth)) (e2 .flags .done) _ _ (behind-within rule xs e e2 t h g k) (centred-within rule xs e e2 a t h g l k)
 
-  free-within : (rule : WidthRule) (xs : List ℤ) (e e2 : Edge) (t : Trail) → EdgeIn b e → EdgeIn b e2 → TrailWithin t → PlanWithin (b + mostGrowth) (freePlan rule xs e e2 t)
+  free-within : (rule : WidthRule) (xs : List ℤ) (e e2 : Edge) (t : Trail) → EdgeIn b e → EdgeIn b e2 → TrailWithin t
+      → PlanWithin (b + mostGrowth) (freePlan rule xs e e2 t)
   unfolding freePlan linkedPos
   free-within rule xs e e2 t h g k =
       let n = free-ends (e .opos) (e2 .opos) (widthOf rule xs e e2) (h .opos) (g .opos) (width-in b rule xs e e2 h g) in
@@ -151,14 +169,16 @@ module _ (b : ℕ) (r : Reached b) where
   latin-within rule xs e e2 a (Links.To j) t h g l k = anchored-within rule xs e e2 a t h g l k
 
   -- ---- CJK
-  fixed-plan-within : (p q d : ℤ) → Between mostEnd mostEnd p → Between mostEnd mostEnd q → Between mostPassed mostPassed d → PlanWithin (b + mostGrowth) (fixedPlan p q d)
+  fixed-plan-within : (p q d : ℤ) → Between mostEnd mostEnd p → Between mostEnd mostEnd q → Between mostPassed mostPassed d
+      → PlanWithin (b + mostGrowth) (fixedPlan p q d)
   fixed-plan-within p q d h g k = record {
     first = omega (arith, r .least, h);
     second = fixed-within (b + mostGrowth) q (omega (arith, r .least, g));
     trail = record { last = last-at q (omega (arith, g)); delta = k };
   }
 
-  stem-within : (e e2 : Edge) (s : Stem) (d : ℤ) → Between mostCjkStart mostCjkStart (s .pos) → Between mostWidth mostWidth (s .width) → Between mostPassed mostPassed d
+  stem-within : (e e2 : Edge) (s : Stem) (d : ℤ) → Between mostCjkStart mostCjkStart (s .pos) → Between mostWidth mostWidth (s .width)
+      → Between mostPassed mostPassed d
       → PlanWithin (b + mostGrowth) (stemPlan e e2 s d)
   unfolding stemPlan
   stem-within e e2 s d h g k =
@@ -166,12 +186,14 @@ module _ (b : ℕ) (r : Reached b) where
       let l : Between mostEnd mostEnd (s .pos) = omega (arith, h) in
       either-way (PlanWithin (b + mostGrowth)) (ltZ (e .opos) (e2 .opos)) _ _ (fixed-plan-within _ _ d l u k) (fixed-plan-within _ _ d u l k)
 
-  beside-within : (anchor : Link) (old d : ℤ) → Between mostPassed mostPassed old → Between mostMove mostMove d → Between mostPassed mostPassed (deltaBeside anchor old d)
+  beside-within : (anchor : Link) (old d : ℤ) → Between mostPassed mostPassed old → Between mostMove mostMove d
+      → Between mostPassed mostPassed (deltaBeside anchor old d)
   unfolding deltaBeside
   beside-within Links.None old d h g = omega (arith, g)
   beside-within (Links.To j) old d h g = h
 
-  after-within : (dim : Dimension) (anchor : Link) (old d : ℤ) → Between mostPassed mostPassed old → Between mostMove mostMove d → Between mostPassed mostPassed (deltaAfter dim anchor old d)
+  after-within : (dim : Dimension) (anchor : Link) (old d : ℤ) → Between mostPassed mostPassed old → Between mostMove mostMove d
+      → Between mostPassed mostPassed (deltaAfter dim anchor old d)
   unfolding deltaAfter
   after-within Horizontal anchor old d h g = beside-within anchor old d h g
   after-within Vertical anchor old d h g = h

@@ -23,16 +23,16 @@ use Rattle.axis.specs.Visits.{visits}
 use Rattle.axis.specs.Accepted.{Below, EdgeWithin, AxisWithin}
 use Rattle.axis.proofs.Acceptance.{below-to, link-below, axis-within}
 use Rattle.axis.proofs.Visits.{turn}
-use Rattle.zone.proofs.Kept.{within-more, put-within, edge-at}
-use Rattle.stems_plan.specs.declared.kinds.Mode.{Mode}
-use Rattle.stems_plan.specs.declared.kinds.Second.{Second}
-use Rattle.stems_plan.specs.declared.kinds.Second.the-variants.{Stays, Placed, Fixed}
-use Rattle.stems_plan.specs.declared.kinds.Plan.{Plan}
-use Rattle.stems_plan.specs.Visit.{tooClose}
-use Rattle.stems_plan.specs.Plan.{isBounded, isOver, secondEdge, heldEdge, anchorAfter}
+use Rattle.zones.proofs.Kept.{within-more, put-within, edge-at}
+use Rattle.stems.specs.declared.kinds.Mode.{Mode}
+use Rattle.stems.specs.declared.kinds.Second.{Second}
+use Rattle.stems.specs.declared.kinds.Second.the-variants.{Stays, Placed, Fixed}
+use Rattle.stems.specs.declared.kinds.Plan.{Plan}
+use Rattle.stems.specs.Visit.{tooClose}
+use Rattle.stems.specs.Plan.{isBounded, isOver, secondEdge, heldEdge, anchorAfter}
 use Rattle.stems.specs.Handed.{mostFitted}
 use Rattle.stems.specs.Stems.{State, counted, begun, stems, stemsOf, modeOf, stemsTests, alignStemEdges}
-use Rattle.stems.specs.Steps.{planAt, firstPut, secondPut, heldPut, carriedOut, stepLink, step}
+use Rattle.stems.specs.StepsPass.{planAt, firstPut, secondPut, heldPut, carriedOut, stepLink, step}
 use Rattle.stems.proofs.Straight.{steps-are}
 use Rattle.stems.proofs.Growth.{mostGrowth, SecondWithin, TrailWithin, PlanWithin, EdgeIn, Reached, plan-within, last-none}
 
@@ -51,7 +51,8 @@ second-within c n e (Fixed z) h g = fixed-within c n e z _ h (g .fixed z refl)
 
 held-within : (c n : ℕ) (plan : Plan) (i : ℕ) (e prev link : Edge) → EdgeWithin c n e → EdgeWithin c n prev → EdgeWithin c n (heldEdge plan i e prev link)
 unfolding heldEdge
-held-within c n plan i e prev link h g = either-way (EdgeWithin c n) (isBounded plan i && isOver e prev link) _ e (moved-within c n e (prev .pos) _ h (g .pos)) h
+held-within c n plan i e prev link h g =
+    either-way (EdgeWithin c n) (isBounded plan i && isOver e prev link) _ e (moved-within c n e (prev .pos) _ h (g .pos)) h
 
 pub first-put : (c i : ℕ) (plan : Plan) (axis : Axis) → AxisWithin c axis → i < axis .len → PlanWithin c plan → AxisWithin c (firstPut plan i axis)
 first-put c i plan axis h q g = put-within c i axis _ h (fixed-within c (axis .len) (edgeAt axis i) (plan .first) (plan .mark) (h .edge i q) (g .first))
@@ -61,7 +62,8 @@ second-put c k plan axis h q g = put-within c k axis _ h (second-within c (axis 
 
 held-put : (c i k : ℕ) (plan : Plan) (axis : Axis) → AxisWithin c axis → i < axis .len → AxisWithin c (heldPut plan i k axis)
 held-put c i k plan axis h q =
-    put-within c i axis _ h (held-within c (axis .len) plan i (edgeAt axis i) (edgeAt axis (i - 1)) (edgeAt axis k) (h .edge i q) (h .edge (i - 1) (omega (arith, q))))
+    put-within c i axis _ h (held-within c (axis .len) plan i (edgeAt axis i) (edgeAt axis (i - 1)) (edgeAt axis k) (h .edge i q)
+    (h .edge (i - 1) (omega (arith, q))))
 
 -- ---- a step
 -- a state after i visits of n edges, its positions within b
@@ -105,11 +107,14 @@ edge-in b n i j s h q = let e = edge-at b n j (s .axis) (h .axis-in) (h .len) q 
 pub link-in : (b n i k : ℕ) (s : State) → StateSound b n i s → i < n → edgeAt (s .axis) i .link ≡ Links.To k → k < n
 link-in b n i k s h q e = edge-at b n i (s .axis) (h .axis-in) (h .len) q .link .at k e
 
-pub plan-in : (b n i k : ℕ) (m : Mode) (xs : List ℤ) (s : State) → Reached b → StateSound b n i s → i < n → k < n → PlanWithin (b + mostGrowth) (planAt m xs s i k)
+pub plan-in : (b n i k : ℕ) (m : Mode) (xs : List ℤ) (s : State) → Reached b → StateSound b n i s → i < n → k < n
+    → PlanWithin (b + mostGrowth) (planAt m xs s i k)
 plan-in b n i k m xs s r h q p =
-    plan-within b r m xs _ _ _ (s .anchor) _ (s .trail) (edge-in b n i i s h q) (edge-in b n i k s h p) (edge-in b n i _ s h (anchor-or n i (s .anchor) (h .anchor-in) q)) (h .trail-in)
+    plan-within b r m xs _ _ _ (s .anchor) _ (s .trail) (edge-in b n i i s h q) (edge-in b n i k s h p)
+    (edge-in b n i _ s h (anchor-or n i (s .anchor) (h .anchor-in) q)) (h .trail-in)
 
-carried-sound : (b n i k : ℕ) (s : State) (plan : Plan) → StateSound b n i s → i < n → k < n → PlanWithin (b + mostGrowth) plan → StateSound (b + mostGrowth) n (i + 1) (carriedOut s i k plan)
+carried-sound : (b n i k : ℕ) (s : State) (plan : Plan) → StateSound b n i s → i < n → k < n → PlanWithin (b + mostGrowth) plan
+    → StateSound (b + mostGrowth) n (i + 1) (carriedOut s i k plan)
 unfolding carriedOut
 carried-sound b n i k s plan h q p g =
     let c = b + mostGrowth in
@@ -152,12 +157,15 @@ pub reached : (n i : ℕ) → n ≤ mostEdges → i < n → Reached (grown i)
 reached n i h q = record { least = omega arith; most = omega (arith, h, q) }
 
 pub begun-sound : (anchor : Link) (axis : Axis) → AxisWithin mostPos axis → Below (axis .len) anchor → StateSound (grown 0) (axis .len) 0 (begun anchor axis)
-begun-sound anchor axis h g = record { len = refl; axis-in = h; count-in = omega arith; anchor-in = g; trail-in = record { last = last-none; delta = omega arith } }
+begun-sound anchor axis h g =
+    record { len = refl; axis-in = h; count-in = omega arith; anchor-in = g; trail-in = record { last = last-none; delta = omega arith } }
 
-pub turn-sound : (n i : ℕ) (m : Mode) (xs : List ℤ) (s s′ : State) → n ≤ mostEdges → i < n → step m xs s i ≡ s′ → StateSound (grown i) n i s → StateSound (grown (i + 1)) n (i + 1) s′
+pub turn-sound : (n i : ℕ) (m : Mode) (xs : List ℤ) (s s′ : State) → n ≤ mostEdges → i < n → step m xs s i ≡ s′ → StateSound (grown i) n i s
+    → StateSound (grown (i + 1)) n (i + 1) s′
 turn-sound n i m xs s s′ h q e g =
     let g′ : grown i + mostGrowth ≡ grown (i + 1) = omega arith in
-    subst (λ (c : ℕ). StateSound c n (i + 1) s′) g′ (subst (StateSound (grown i + mostGrowth) n (i + 1)) e (step-sound (grown i) n i m xs s (reached n i h q) g q))
+    subst (λ (c : ℕ). StateSound c n (i + 1) s′) g′
+    (subst (StateSound (grown i + mostGrowth) n (i + 1)) e (step-sound (grown i) n i m xs s (reached n i h q) g q))
 
 -- after i of n visits of the code: the state is sound, and what is left gives the whole pass
 pub record Goes (m : Mode) (xs : List ℤ) (n : ℕ) (anchor : Link) (axis : Axis) (s : State) (i : ℕ) : Type 0 where
@@ -166,7 +174,8 @@ pub record Goes (m : Mode) (xs : List ℤ) (n : ℕ) (anchor : Link) (axis : Axi
   pub sound : StateSound (grown i) n i s
   pub rest : visits (step m xs) (n - i) i s ≡ visits (step m xs) n 0 (begun anchor axis)
 
-pub goes-begun : (m : Mode) (xs : List ℤ) (anchor : Link) (axis : Axis) → AxisWithin mostPos axis → Below (axis .len) anchor → Goes m xs (axis .len) anchor axis (begun anchor axis) 0
+pub goes-begun : (m : Mode) (xs : List ℤ) (anchor : Link) (axis : Axis) → AxisWithin mostPos axis → Below (axis .len) anchor
+    → Goes m xs (axis .len) anchor axis (begun anchor axis) 0
 goes-begun m xs anchor axis h g =
     let e : axis .len - 0 ≡ axis .len = omega arith in
     record {
@@ -185,14 +194,16 @@ goes-on {m} {xs} {n} {anchor} {axis} {s} {s′} {i} g q e = record {
   rest = turn (step m xs) n i s s′ _ q e (g .rest);
 }
 
-steps-sound : (j i n : ℕ) (m : Mode) (xs : List ℤ) (s : State) → n ≤ mostEdges → i + j ≡ n → StateSound (grown i) n i s → StateSound (grown n) n n (visits (step m xs) j i s)
+steps-sound : (j i n : ℕ) (m : Mode) (xs : List ℤ) (s : State) → n ≤ mostEdges → i + j ≡ n → StateSound (grown i) n i s
+    → StateSound (grown n) n n (visits (step m xs) j i s)
 unfolding visits
 steps-sound zero i n m xs s h e g = let q : i ≡ n = omega (arith, e) in subst (λ (x : ℕ). StateSound (grown x) n x s) q g
 steps-sound (suc j) i n m xs s h e g =
     let q : i < n = omega (arith, e) in
     steps-sound j (i + 1) n m xs (step m xs s i) h (omega (arith, e)) (turn-sound n i m xs s (step m xs s i) h q refl g)
 
--- the pass on an accepted axis: every position stays within `mostFitted`, and so within the reach, in which all sums fit 32 bits; no more edges are counted than
+-- the pass on an accepted axis: every position stays within `mostFitted`, and so within the reach, in which all sums fit 32 bits; no more edges are counted
+-- than
 -- visited; and the anchor is an edge
 pub record PassKeeps (m : Mode) (xs : List ℤ) (anchor : Link) (axis : Axis) : Type 0 where
   pub positions : AxisWithin mostFitted (stemsOf m xs anchor axis .axis)

@@ -1,5 +1,8 @@
--- The laws by subject, each over plain variables; passes worked out by hand; then `Determined`, that the promise determines the outcome, `Changed`, what the call changes,
--- `Handed`, where positions come to and what the call accepts, `Done`, that with 0 passed over every edge is done, and requests #112, `Centre`, #102, `Thin`, and #105, `Alike` and `Blind`.
+-- Laws on the plan of a visit, on the pass, and on the call: `Determined`, `Changed`, `Handed`, `Blind`, `Done`, `Thin`, `Centre`; `Worked` has values by hand.
+pub mod Ranges
+pub mod Tests
+pub mod Fallback
+pub mod Alike
 pub mod Straight
 pub mod Growth
 pub mod Kept
@@ -12,5 +15,5 @@ pub mod Handed
 pub mod Done
 pub mod Centre
 pub mod Thin
-pub mod Alike
+pub mod AlikePass
 pub mod Blind

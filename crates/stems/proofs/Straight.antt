@@ -28,21 +28,48 @@ use Rattle.axis.specs.Link.{indexOr}
 use Rattle.axis.specs.Edge.{emptyEdge, edgeAt, putEdge, placed, finished, fixedAt}
 use Rattle.axis.specs.Visits.{visits}
 use Rattle.axis.proofs.Visits.{visits-same}
-use Rattle.placing.specs.declared.adjust.LinkDir.the-variants.{Prev}
-use Rattle.placing.specs.Placing.{linkedPos, lowerBound, hasPassed, isFar, neighbour, heldTo, boundBy, adjusted}
-use Rattle.stem_latin.specs.Latin.{anchoredFirst, anchoredSecond}
-use Rattle.cjk_numbers.specs.Cjk.{stemAt, stemOf, placedStem, hintedStem}
-use Rattle.zone.proofs.Straight.{put-same, keeps}
-use Rattle.stems_plan.specs.declared.kinds.Mode.{Mode}
-use Rattle.stems_plan.specs.declared.kinds.LastStem.the-variants as LastStems
-use Rattle.stems_plan.specs.declared.kinds.Trail.{Trail}
-use Rattle.stems_plan.specs.declared.kinds.Plan.{Plan}
-use Rattle.stems_plan.specs.Visit.{tooClose, widthOf}
-use Rattle.stems_plan.specs.Plan.{linkedPlan, behindPlan, centredPlan, anchoredPlan, freePlan, latinPlan, fixedPlan, stemPlan, normalPlan, cjkPlan, groupPlan, zonePlan}
-use Rattle.stems_plan.specs.Plan.{secondEdge, heldEdge, anchorAfter}
-use Rattle.stems.specs.Stems.{State, counted, fixAt, fixByLink, bothDone, centredStem, besideAnchor, freePos, firstStem, latinStem, backStem, normalStem, cjkStem}
+use Rattle.place.specs.declared.adjust.LinkDir.the-variants.{Prev}
+use Rattle.place.specs.Placing.{linkedPos, lowerBound, hasPassed, isFar, neighbour, heldTo, boundBy, adjusted}
+use Rattle.stems_latin.specs.Latin.{anchoredFirst, anchoredSecond}
+use Rattle.stems_cjk.specs.Cjk.{stemAt, stemOf, placedStem, hintedStem}
+use Rattle.zones.proofs.Straight.{put-same, keeps}
+use Rattle.stems.specs.declared.kinds.Mode.{Mode}
+use Rattle.stems.specs.declared.kinds.LastStem.the-variants as LastStems
+use Rattle.stems.specs.declared.kinds.Trail.{Trail}
+use Rattle.stems.specs.declared.kinds.Plan.{Plan}
+use Rattle.stems.specs.Visit.{tooClose, widthOf}
+use Rattle.stems.specs.Plan.{
+  linkedPlan,
+  behindPlan,
+  centredPlan,
+  anchoredPlan,
+  freePlan,
+  latinPlan,
+  fixedPlan,
+  stemPlan,
+  normalPlan,
+  cjkPlan,
+  groupPlan,
+  zonePlan,
+}
+use Rattle.stems.specs.Plan.{secondEdge, heldEdge, anchorAfter}
+use Rattle.stems.specs.Stems.{
+  State,
+  counted,
+  fixAt,
+  fixByLink,
+  bothDone,
+  centredStem,
+  besideAnchor,
+  freePos,
+  firstStem,
+  latinStem,
+  backStem,
+  normalStem,
+  cjkStem,
+}
 use Rattle.stems.specs.Stems.{groupStem, zoneStem, visitLink, visit}
-use Rattle.stems.specs.Steps.{heldPut, carriedOut, stepLink, step}
+use Rattle.stems.specs.StepsPass.{heldPut, carriedOut, stepLink, step}
 
 -- ---- the bound
 -- a store that is made where two tests hold
@@ -52,12 +79,14 @@ one-store axis i e true false = put-same axis i
 one-store axis i e false y = put-same axis i
 
 far-held : (axis : Axis) (h i k : ℕ) (l : Link) → l ≡ Links.To k
-    → heldTo axis h i h l ≡ cond (isFar (edgeAt axis k .pos) (edgeAt axis h .pos)) (putEdge axis i (placed (edgeAt axis i) (edgeAt axis h .pos) Marks.Bound)) axis
+    → heldTo axis h i h l ≡ cond (isFar (edgeAt axis k .pos) (edgeAt axis h .pos)) (putEdge axis i (placed (edgeAt axis i) (edgeAt axis h .pos) Marks.Bound))
+    axis
 unfolding heldTo
 far-held axis h i k l e = rw e
 
 -- the edge that a plan bounds, linked to edge k
-bound-is-adjusted : (axis : Axis) (i k : ℕ) (plan : Plan) → plan .bounded ≡ true → edgeAt axis i .link ≡ Links.To k → heldPut plan i k axis ≡ adjusted axis i Prev
+bound-is-adjusted : (axis : Axis) (i k : ℕ) (plan : Plan) → plan .bounded ≡ true → edgeAt axis i .link ≡ Links.To k
+    → heldPut plan i k axis ≡ adjusted axis i Prev
 unfolding heldEdge adjusted boundBy neighbour lowerBound
 bound-is-adjusted axis zero k plan h e = rw h (put-same axis zero)
 bound-is-adjusted axis (suc j) k plan h e =
@@ -128,7 +157,8 @@ by-lower : (s : State) (i k : ℕ) (p w d : ℤ) (lower : Bool) → (i ≡ k →
     (bothDone i k (cond lower (placedStem (s .axis) i k p w) (placedStem (s .axis) k i p w)))
 unfolding carriedOut secondEdge heldEdge anchorAfter placedStem
 by-lower s i k p w d true h = ap (anchorState s i _) (put-same _ i ∙ ap (withEdges (s .axis)) (rising (s .axis .edges) i k p (p +ℤ w)))
-by-lower s i k p w d false h = ap (anchorState s i _) (put-same _ i ∙ ap (withEdges (s .axis)) (falling (s .axis .edges) i k (p +ℤ w) p (λ (e : i ≡ k). plus-none p w (h e))))
+by-lower s i k p w d false h =
+    ap (anchorState s i _) (put-same _ i ∙ ap (withEdges (s .axis)) (falling (s .axis .edges) i k (p +ℤ w) p (λ (e : i ≡ k). plus-none p w (h e))))
   where
     plus-none : (p w : ℤ) → w ≡ pos 0 → p +ℤ w ≡ p
     plus-none p w e = rw e (same (omega (arith, add-law p (pos 0))))
@@ -142,7 +172,8 @@ no-width Snap (x ∷ xs) = refl
 pub own-width : (rule : WidthRule) (xs : List ℤ) (o : ℤ) → fittedWidth rule xs (o -ℤ o) ≡ pos 0
 own-width rule xs o = let z : o -ℤ o ≡ pos 0 = same (omega (arith, sub-law o o)) in rw z (no-width rule xs)
 
-stem-alone : (m : Mode) (xs : List ℤ) (axis : Axis) (i k : ℕ) (d : ℤ) → i ≡ k → stemOf (m .dim) (m .«stem_adjust») (m .rule) xs (edgeAt axis i) (edgeAt axis k) d .width ≡ pos 0
+stem-alone : (m : Mode) (xs : List ℤ) (axis : Axis) (i k : ℕ) (d : ℤ) → i ≡ k
+    → stemOf (m .dim) (m .«stem_adjust») (m .rule) xs (edgeAt axis i) (edgeAt axis k) d .width ≡ pos 0
 unfolding stemOf stemAt
 stem-alone m xs axis i k d e = rw e (own-width (m .rule) xs (edgeAt axis k .opos))
 
@@ -162,7 +193,8 @@ module _ (m : Mode) (xs : List ℤ) (s : State) (i k : ℕ) where
   unfolding carriedOut secondEdge heldEdge anchorAfter
   linked-is t = ap (axisState s t) (put-same _ i ∙ put-same _ k)
 
-  normal-is : carriedOut s i k (normalPlan m xs e e2 (s .anchor) (s .trail)) ≡ normalStem m s i k (stemOf (m .dim) (m .«stem_adjust») (m .rule) xs e e2 (s .trail .delta))
+  normal-is : carriedOut s i k (normalPlan m xs e e2 (s .anchor) (s .trail))
+      ≡ normalStem m s i k (stemOf (m .dim) (m .«stem_adjust») (m .rule) xs e e2 (s .trail .delta))
   unfolding stemPlan hintedStem
   normal-is = by-lower s i k _ _ _ (ltZ (e .opos) (e2 .opos)) (stem-alone m xs (s .axis) i k (s .trail .delta))
 
@@ -172,7 +204,8 @@ module _ (m : Mode) (xs : List ℤ) (s : State) (i k : ℕ) where
     where
       by : (before : Bool)
           → carriedOut s i k
-          (cond before (linkedPlan (m .rule) xs e e2 (record { last = LastStems.At (e .pos); delta = s .trail .delta })) (normalPlan m xs e e2 (s .anchor) (s .trail)))
+          (cond before (linkedPlan (m .rule) xs e e2 (record { last = LastStems.At (e .pos); delta = s .trail .delta }))
+          (normalPlan m xs e e2 (s .anchor) (s .trail)))
           ≡ cond before (backStem m xs s i k) (normalStem m s i k (stemOf (m .dim) (m .«stem_adjust») (m .rule) xs e e2 (s .trail .delta)))
       by true = linked-is _
       by false = normal-is
@@ -194,7 +227,8 @@ module _ (m : Mode) (xs : List ℤ) (s : State) (i k : ℕ) where
     centred-is p n w =
         ap (axisState s (s .trail))
         (bound-is-adjusted _ i k (centredPlan p n w (s .trail)) refl
-        (fix-keeps-link (fixAt (s .axis) i (anchoredFirst p n w) Marks.Stem) k i (anchoredSecond p n w) Marks.Stem ∙ fix-keeps-link (s .axis) i i (anchoredFirst p n w) Marks.Stem ∙ h))
+        (fix-keeps-link (fixAt (s .axis) i (anchoredFirst p n w) Marks.Stem) k i (anchoredSecond p n w) Marks.Stem
+        ∙ fix-keeps-link (s .axis) i i (anchoredFirst p n w) Marks.Stem ∙ h))
 
     anchored-is : (a : ℕ) → carriedOut s i k (anchoredPlan (m .rule) xs e e2 (edgeAt (s .axis) a) (s .trail))
         ≡ axisState s (s .trail) (adjusted (besideAnchor (m .rule) xs (s .axis) i k a) i Prev)
@@ -208,25 +242,30 @@ module _ (m : Mode) (xs : List ℤ) (s : State) (i k : ℕ) where
         by true x y u v p q = p
         by false x y u v p q = q
 
-    free-is : carriedOut s i k (freePlan (m .rule) xs e e2 (s .trail)) ≡ anchorState s i (s .trail) (firstStem (m .rule) xs (s .axis) i k (freePos (m .rule) xs e e2))
+    free-is : carriedOut s i k (freePlan (m .rule) xs e e2 (s .trail))
+        ≡ anchorState s i (s .trail) (firstStem (m .rule) xs (s .axis) i k (freePos (m .rule) xs e e2))
     unfolding carriedOut freePlan secondEdge heldEdge anchorAfter
     free-is =
         let p = freePos (m .rule) xs e e2 in
         let u = fixAt (s .axis) i p Marks.Anchor in
         ap (anchorState s i (s .trail))
-        (put-same _ i ∙ ap (λ (o : ℤ). putEdge u k (placed (edgeAt u k) (linkedPos (m .rule) xs p (e .opos) o) Marks.Linked)) (sym (fix-keeps-opos (s .axis) i k p Marks.Anchor)))
+        (put-same _ i ∙ ap (λ (o : ℤ). putEdge u k (placed (edgeAt u k) (linkedPos (m .rule) xs p (e .opos) o) Marks.Linked))
+        (sym (fix-keeps-opos (s .axis) i k p Marks.Anchor)))
 
-    latin-is : (l : Link) → s .anchor ≡ l → carriedOut s i k (latinPlan (m .rule) xs e e2 (edgeAt (s .axis) (indexOr i l)) l (s .trail)) ≡ latinStem m xs s i k l
+    latin-is : (l : Link) → s .anchor ≡ l → carriedOut s i k (latinPlan (m .rule) xs e e2 (edgeAt (s .axis) (indexOr i l)) l (s .trail))
+        ≡ latinStem m xs s i k l
     unfolding latinPlan latinStem
     latin-is Links.None g = free-is
     latin-is (Links.To a) g = anchored-is a
 
-    group-is : (g : Group) → carriedOut s i k (groupPlan g m xs e e2 (edgeAt (s .axis) (indexOr i (s .anchor))) (s .anchor) (ltb k i) (s .trail)) ≡ groupStem g m xs s i k
+    group-is : (g : Group) → carriedOut s i k (groupPlan g m xs e e2 (edgeAt (s .axis) (indexOr i (s .anchor))) (s .anchor) (ltb k i) (s .trail))
+        ≡ groupStem g m xs s i k
     unfolding groupPlan groupStem
     group-is Default = latin-is (s .anchor) refl
     group-is Cjk = cjk-is
 
-    zone-is : (b : Blue) → carriedOut s i k (zonePlan b m xs e e2 (edgeAt (s .axis) (indexOr i (s .anchor))) (s .anchor) (ltb k i) (s .trail)) ≡ zoneStem b m xs s i k
+    zone-is : (b : Blue) → carriedOut s i k (zonePlan b m xs e e2 (edgeAt (s .axis) (indexOr i (s .anchor))) (s .anchor) (ltb k i) (s .trail))
+        ≡ zoneStem b m xs s i k
     unfolding zonePlan zoneStem
     zone-is Blues.None = group-is (m .group)
     zone-is (Blues.Fitted z) = linked-is (s .trail)
@@ -235,7 +274,8 @@ module _ (m : Mode) (xs : List ℤ) (s : State) (i : ℕ) where
   link-is : (l : Link) → edgeAt (s .axis) i .link ≡ l → stepLink m xs s i l ≡ visitLink m xs s i l
   unfolding stepLink visitLink
   link-is Links.None h = refl
-  link-is (Links.To k) h = ap (cond (tooClose (m .group) (s .trail .last) (edgeAt (s .axis) i) (edgeAt (s .axis) k)) (counted s)) (zone-is m xs s i k h (edgeAt (s .axis) k .blue))
+  link-is (Links.To k) h =
+      ap (cond (tooClose (m .group) (s .trail .last) (edgeAt (s .axis) i) (edgeAt (s .axis) k)) (counted s)) (zone-is m xs s i k h (edgeAt (s .axis) k .blue))
 
   step-is : step m xs s i ≡ visit m xs s i
   unfolding step visit

@@ -1,4 +1,5 @@
--- Request #102, the visit: with Snap a stem that has a width is placed at least a pixel wide, before the neighbour bound, in every branch, for every axis and every index.
+-- Request #102, the visit: with Snap a stem that has a width is placed at least a pixel wide, before the neighbour bound, in every branch, for every axis and
+-- every index.
 use mathlib.Core.Path.{_≡_, refl, sym, ap, subst, _∙_}
 use mathlib.Core.List.{List, [], _∷_}
 use mathlib.Core.Logic.{inl, inr}
@@ -21,15 +22,29 @@ use Rattle.axis.specs.declared.kinds.Mark.the-variants.{Anchor}
 use Rattle.axis.specs.declared.edge.Edge.{Edge}
 use Rattle.axis.specs.declared.edge.Axis.{Axis}
 use Rattle.axis.specs.Edge.{emptyEdge, edgeAt, finished, fixedAt}
-use Rattle.placing.specs.Placing.{linkedEdge}
-use Rattle.placing.specs.Thin.{PixelApart, HasWidth}
-use Rattle.placing.proofs.Thin.{apart-before, swapped, fitted-pixel, turned, linked-apart, Seen, two-edges, put-one, put-both, seen-both-ways}
-use Rattle.stem_latin.proofs.Drawn.{drawn-apart}
-use Rattle.cjk_numbers.specs.Cjk.{stemOf, hintedStem}
-use Rattle.cjk_numbers.proofs.Thin.{hinted-seen}
-use Rattle.stems_plan.specs.declared.kinds.Mode.{Mode}
-use Rattle.stems_plan.specs.Visit.{tooClose, originalLen, startBeside}
-use Rattle.stems.specs.Stems.{State, counted, fixByLink, bothDone, besideAnchor, freePos, firstStem, latinStem, cjkStem, groupStem, zoneStem, visitLink, visit}
+use Rattle.place.specs.Placing.{linkedEdge}
+use Rattle.place.specs.Thin.{PixelApart, HasWidth}
+use Rattle.place.proofs.Thin.{apart-before, swapped, fitted-pixel, turned, linked-apart, Seen, two-edges, put-one, put-both, seen-both-ways}
+use Rattle.stems_latin.proofs.Drawn.{drawn-apart}
+use Rattle.stems_cjk.specs.Cjk.{stemOf, hintedStem}
+use Rattle.stems_cjk.proofs.Thin.{hinted-seen}
+use Rattle.stems.specs.declared.kinds.Mode.{Mode}
+use Rattle.stems.specs.Visit.{tooClose, originalLen, startBeside}
+use Rattle.stems.specs.Stems.{
+  State,
+  counted,
+  fixByLink,
+  bothDone,
+  besideAnchor,
+  freePos,
+  firstStem,
+  latinStem,
+  cjkStem,
+  groupStem,
+  zoneStem,
+  visitLink,
+  visit,
+}
 use Rattle.stems.specs.Thin.{VisitedStem, NotVanishing}
 use Rattle.stems.proofs.Centre.{linked-place}
 
@@ -45,7 +60,8 @@ seen-done : (es : List Edge) (j i k : ℕ) → Seen es i k → Seen (set es j (f
 seen-done es j i k s = record { apart = rw (done-pos es j i, done-pos es j k) (s .apart) }
 
 -- ---- each way to place the stem of edge i and its link k
-module _ (xs : List ℤ) (axis : Axis) (i k : ℕ) (hi : i < length (axis .edges)) (hk : k < length (axis .edges)) (w : HasWidth xs (edgeAt axis i .opos) (edgeAt axis k .opos)) where
+module _ (xs : List ℤ) (axis : Axis) (i k : ℕ) (hi : i < length (axis .edges)) (hk : k < length (axis .edges))
+    (w : HasWidth xs (edgeAt axis i .opos) (edgeAt axis k .opos)) where
   abbrev SeenIn : Axis → Type 0
   SeenIn a = Seen (a .edges) i k
 
@@ -77,7 +93,9 @@ module _ (xs : List ℤ) (axis : Axis) (i k : ℕ) (hi : i < length (axis .edges
 
   -- by its link alone: a CJK stem whose second edge is in front, and an edge whose link is on a zone
   pub linked-seen : SeenIn (fixByLink Snap xs axis i k)
-  linked-seen = seen-both-ways _ k i (put-one (axis .edges) k i _ hi (λ q. two (sym q)) (linked-apart xs (e2 .pos) (e2 .opos) (e .opos) (turned xs (e .opos) (e2 .opos) w)))
+  linked-seen =
+      seen-both-ways _ k i (put-one (axis .edges) k i _ hi (λ q. two (sym q))
+      (linked-apart xs (e2 .pos) (e2 .opos) (e .opos) (turned xs (e .opos) (e2 .opos) w)))
 
 -- ---- the visit
 module _ (m : Mode) (xs : List ℤ) (s : State) (i k : ℕ) (h : VisitedStem m xs s i k) where
@@ -111,9 +129,11 @@ module _ (m : Mode) (xs : List ℤ) (s : State) (i k : ℕ) (h : VisitedStem m x
       (first-seen xs (s .axis) i k own-place (h .place) (h .has-width) _))
 
   -- both edges done, where `hint_normal_stem_cjk` puts them
-  normal-seen : Seen (bothDone i k (hintedStem (s .axis) i k (stemOf (m .dim) (m .«stem_adjust») (m .rule) xs (edgeAt (s .axis) i) (edgeAt (s .axis) k) (s .trail .delta))) .edges) i k
+  normal-seen : Seen (bothDone i k (hintedStem (s .axis) i k
+      (stemOf (m .dim) (m .«stem_adjust») (m .rule) xs (edgeAt (s .axis) i) (edgeAt (s .axis) k) (s .trail .delta))) .edges) i k
   normal-seen =
-      let p = ruled (λ (r : WidthRule). hintedStem (s .axis) i k (stemOf (m .dim) (m .«stem_adjust») r xs (edgeAt (s .axis) i) (edgeAt (s .axis) k) (s .trail .delta)))
+      let p = ruled (λ (r : WidthRule). hintedStem (s .axis) i k
+      (stemOf (m .dim) (m .«stem_adjust») r xs (edgeAt (s .axis) i) (edgeAt (s .axis) k) (s .trail .delta)))
       (hinted-seen (s .axis) (m .dim) (m .«stem_adjust») xs i k (s .trail .delta) own-place (h .place) (h .has-width)) in
       seen-done _ k i k (seen-done _ i i k p)
 

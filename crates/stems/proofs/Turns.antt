@@ -12,12 +12,12 @@ use Rattle.axis.specs.declared.edge.Edge.{Edge}
 use Rattle.axis.specs.declared.edge.Axis.{Axis}
 use Rattle.axis.specs.Link.{indexOr}
 use Rattle.axis.specs.Edge.{edgeAt, putEdge, fixedAt}
-use Rattle.stems_plan.specs.declared.kinds.Mode.{Mode}
-use Rattle.stems_plan.specs.declared.kinds.Plan.{Plan}
-use Rattle.stems_plan.specs.Visit.{tooClose}
-use Rattle.stems_plan.specs.Plan.{planOf, secondEdge, heldEdge, anchorAfter}
+use Rattle.stems.specs.declared.kinds.Mode.{Mode}
+use Rattle.stems.specs.declared.kinds.Plan.{Plan}
+use Rattle.stems.specs.Visit.{tooClose}
+use Rattle.stems.specs.Plan.{planOf, secondEdge, heldEdge, anchorAfter}
 use Rattle.stems.specs.Stems.{State, counted}
-use Rattle.stems.specs.Steps.{planAt, firstPut, secondPut, heldPut, carriedOut, stepLink, step}
+use Rattle.stems.specs.StepsPass.{planAt, firstPut, secondPut, heldPut, carriedOut, stepLink, step}
 
 module _ (m : Mode) (xs : List ℤ) (s : State) (i : ℕ) where
   pub step-done : edgeAt (s .axis) i .flags .done ≡ true → step m xs s i ≡ s
@@ -60,7 +60,8 @@ module _ (m : Mode) (xs : List ℤ) (s : State) (i : ℕ) where
     pub anchor : a ≡ anchorAfter plan (s .anchor) i
 
   -- the axis after two stores, and after all three
-  pub two-puts : (k : ℕ) (plan : Plan) (e g : Edge) → e ≡ fixedAt (edgeAt (s .axis) i) (plan .first) (plan .mark) → g ≡ secondEdge (edgeAt (putEdge (s .axis) i e) k) (plan .second)
+  pub two-puts : (k : ℕ) (plan : Plan) (e g : Edge) → e ≡ fixedAt (edgeAt (s .axis) i) (plan .first) (plan .mark)
+      → g ≡ secondEdge (edgeAt (putEdge (s .axis) i e) k) (plan .second)
       → putEdge (putEdge (s .axis) i e) k g ≡ secondPut plan k (firstPut plan i (s .axis))
   two-puts k plan e g h1 h2 = cc
 
@@ -72,7 +73,8 @@ module _ (m : Mode) (xs : List ℤ) (s : State) (i : ℕ) where
       → plan ≡ planOf m xs (edgeAt (s .axis) i) (edgeAt (s .axis) k) (edgeAt (s .axis) base) (s .anchor) (ltb k i) (s .trail) → plan ≡ planAt m xs s i k
   plan-at k base plan e q = q ∙ ap (λ (j : ℕ). planOf m xs (edgeAt (s .axis) i) (edgeAt (s .axis) k) (edgeAt (s .axis) j) (s .anchor) (ltb k i) (s .trail)) e
 
-  carried : (k : ℕ) (plan : Plan) (u : Axis) (a : Link) → u ≡ heldPut plan i k (secondPut plan k (firstPut plan i (s .axis))) → a ≡ anchorAfter plan (s .anchor) i
+  carried : (k : ℕ) (plan : Plan) (u : Axis) (a : Link) → u ≡ heldPut plan i k (secondPut plan k (firstPut plan i (s .axis)))
+      → a ≡ anchorAfter plan (s .anchor) i
       → carriedOut s i k plan ≡ record { axis = u; count = s .count; anchor = a; trail = plan .trail }
   unfolding carriedOut
   carried k plan u a e q =

@@ -1,4 +1,5 @@
--- Passes worked out by hand from document 01 and the Rust: what is counted, what becomes the anchor, what the neighbour bound does, and what each edge is marked with.
+-- Passes worked out by hand from document 01 and the Rust: what is counted, what becomes the anchor, what the neighbour bound does, and what each edge is
+-- marked with.
 use mathlib.Core.Path.{_≡_, refl}
 use mathlib.Core.Bool.{false}
 use mathlib.Core.List.{List, [], _∷_}
@@ -22,11 +23,23 @@ use Rattle.axis.specs.declared.edge.Edge.{Edge}
 use Rattle.axis.specs.declared.edge.Axis.{Axis}
 use Rattle.axis.specs.Edge.{freshEdge, changed, placed, finished, joinedTo}
 use Rattle.axis.specs.Visits.{visits}
-use Rattle.placing.specs.Placing.{linkedPos, lowerBound, hasPassed, neighbour, heldTo, boundBy, adjusted}
-use Rattle.stem_latin.specs.Latin.{centreOf, lowerOffset, upperOffset, nearerCentre, thinCentre, thinFirst, thinSecond, wideFirst, anchoredFirst, anchoredSecond, freeFirst}
-use Rattle.cjk_numbers.specs.Cjk.{maxGap, gapOf, pixelOffset, narrowDelta, offsetsDelta, startOf, clamped, deltaOf, stemAt, stemOf, placedStem, hintedStem}
-use Rattle.stems_plan.specs.Visit.{isClose, tooClose, deltaAfter}
-use Rattle.stems.specs.declared.pass.Stems.{Stems}
+use Rattle.place.specs.Placing.{linkedPos, lowerBound, hasPassed, neighbour, heldTo, boundBy, adjusted}
+use Rattle.stems_latin.specs.Latin.{
+  centreOf,
+  lowerOffset,
+  upperOffset,
+  nearerCentre,
+  thinCentre,
+  thinFirst,
+  thinSecond,
+  wideFirst,
+  anchoredFirst,
+  anchoredSecond,
+  freeFirst,
+}
+use Rattle.stems_cjk.specs.Cjk.{maxGap, gapOf, pixelOffset, narrowDelta, offsetsDelta, startOf, clamped, deltaOf, stemAt, stemOf, placedStem, hintedStem}
+use Rattle.stems.specs.Visit.{isClose, tooClose, deltaAfter}
+use Rattle.stems.specs.declared.outcome.Stems.{Stems}
 use Rattle.stems.specs.Stems.{besideAnchor, latinStem, cjkStem, groupStem, zoneStem, visitLink, visit, stems, stemsOf, modeOf}
 
 -- an edge by its mark, opos, pos and link
@@ -54,9 +67,11 @@ abbrev passOf : Group → Link → List Edge → Stems
 passOf = passBy Keep []
 
 pub record Worked : Type 0 where
-  -- an edge with no link is counted, one that is done is not, and both keep their marks; the first stem, from 10 to 74, goes to 0 and 64 and is the anchor, and the visit
+  -- an edge with no link is counted, one that is done is not, and both keep their marks; the first stem, from 10 to 74, goes to 0 and 64 and is the anchor, and
+  -- the visit
   -- of its second edge ends with that edge adjusted
-  pub first-stem : passOf Default Links.None (marked Marks.Serif 5 5 Links.None ∷ finished (marked Marks.Blue 8 8 Links.None) ∷ edge 10 10 (Links.To 3) ∷ edge 74 74 (Links.To 2) ∷ [])
+  pub first-stem : passOf Default Links.None
+      (marked Marks.Serif 5 5 Links.None ∷ finished (marked Marks.Blue 8 8 Links.None) ∷ edge 10 10 (Links.To 3) ∷ edge 74 74 (Links.To 2) ∷ [])
       ≡ stems 1 (Links.To 2)
       (axisOf
       (marked Marks.Serif 5 5 Links.None ∷ finished (marked Marks.Blue 8 8 Links.None)
@@ -66,26 +81,35 @@ pub record Worked : Type 0 where
   pub second-edge : passOf Default Links.None (edge 10 10 (Links.To 1) ∷ edge 74 74 Links.None ∷ [])
       ≡ stems 1 (Links.To 0) (axisOf (finished (marked Marks.Anchor 10 0 (Links.To 1)) ∷ marked Marks.Linked 74 64 Links.None ∷ [])) 0
   -- a first edge that is linked to itself is placed as the anchor, then by its link
-  pub self-linked-first : passOf Default Links.None (edge 100 100 (Links.To 0) ∷ []) ≡ stems 0 (Links.To 0) (axisOf (finished (marked Marks.Linked 100 96 (Links.To 0)) ∷ [])) 0
-  -- stems of 96 and more: beside an anchor at 0 one from 100 to 196 goes to 96 and 192, and both its edges are marked stem; as the first one it goes to 128 and 224
+  pub self-linked-first : passOf Default Links.None (edge 100 100 (Links.To 0) ∷ [])
+      ≡ stems 0 (Links.To 0) (axisOf (finished (marked Marks.Linked 100 96 (Links.To 0)) ∷ [])) 0
+  -- stems of 96 and more: beside an anchor at 0 one from 100 to 196 goes to 96 and 192, and both its edges are marked stem; as the first one it goes to 128 and
+  -- 224
   pub wide-stem : passOf Default (Links.To 0) (finished (edge 0 0 Links.None) ∷ edge 100 100 (Links.To 2) ∷ edge 196 196 (Links.To 1) ∷ [])
-      ≡ stems 0 (Links.To 0) (axisOf (finished (edge 0 0 Links.None) ∷ finished (marked Marks.Stem 100 96 (Links.To 2)) ∷ finished (marked Marks.Stem 196 192 (Links.To 1)) ∷ [])) 0
+      ≡ stems 0 (Links.To 0) (axisOf (finished (edge 0 0 Links.None) ∷ finished (marked Marks.Stem 100 96 (Links.To 2))
+      ∷ finished (marked Marks.Stem 196 192 (Links.To 1)) ∷ [])) 0
   pub wide-first : passOf Default Links.None (edge 100 100 (Links.To 1) ∷ edge 196 196 (Links.To 0) ∷ [])
       ≡ stems 0 (Links.To 0) (axisOf (finished (marked Marks.Anchor 100 128 (Links.To 1)) ∷ finished (marked Marks.Adjusted 196 224 (Links.To 0)) ∷ [])) 0
   -- a stem from 130 to 190 whose first edge has passed the edge before it, at 300, more than 16 from the second, is held to that
-  pub bounded : passOf Default (Links.To 0) (finished (edge 0 0 Links.None) ∷ finished (edge 50 300 Links.None) ∷ edge 100 100 (Links.To 3) ∷ edge 160 160 (Links.To 2) ∷ [])
+  pub bounded : passOf Default (Links.To 0)
+      (finished (edge 0 0 Links.None) ∷ finished (edge 50 300 Links.None) ∷ edge 100 100 (Links.To 3) ∷ edge 160 160 (Links.To 2) ∷ [])
       ≡ stems 0 (Links.To 0)
-      (axisOf (finished (edge 0 0 Links.None) ∷ finished (edge 50 300 Links.None) ∷ finished (marked Marks.Bound 100 300 (Links.To 3)) ∷ finished (marked Marks.Stem 160 190 (Links.To 2)) ∷ [])) 0
+      (axisOf (finished (edge 0 0 Links.None) ∷ finished (edge 50 300 Links.None) ∷ finished (marked Marks.Bound 100 300 (Links.To 3))
+      ∷ finished (marked Marks.Stem 160 190 (Links.To 2)) ∷ [])) 0
   -- and so is one that is adjusted to its second edge, which is done: bound comes last
-  pub adjusted-bound : passOf Default (Links.To 0) (finished (edge 0 0 Links.None) ∷ finished (edge 50 300 Links.None) ∷ edge 100 100 (Links.To 3) ∷ finished (edge 160 160 (Links.To 2)) ∷ [])
+  pub adjusted-bound : passOf Default (Links.To 0)
+      (finished (edge 0 0 Links.None) ∷ finished (edge 50 300 Links.None) ∷ edge 100 100 (Links.To 3) ∷ finished (edge 160 160 (Links.To 2)) ∷ [])
       ≡ stems 0 (Links.To 0)
-      (axisOf (finished (edge 0 0 Links.None) ∷ finished (edge 50 300 Links.None) ∷ finished (marked Marks.Bound 100 300 (Links.To 3)) ∷ finished (edge 160 160 (Links.To 2)) ∷ [])) 0
+      (axisOf (finished (edge 0 0 Links.None) ∷ finished (edge 50 300 Links.None) ∷ finished (marked Marks.Bound 100 300 (Links.To 3))
+      ∷ finished (edge 160 160 (Links.To 2)) ∷ [])) 0
   -- an edge whose link is on a zone is placed by that, whatever the group
   pub on-zone : passOf Default Links.None (edge 100 100 (Links.To 1) ∷ zoned (finished (marked Marks.BlueAnchor 160 170 (Links.To 0))) ∷ [])
-      ≡ stems 0 Links.None (axisOf (finished (marked Marks.Linked 100 110 (Links.To 1)) ∷ zoned (finished (marked Marks.BlueAnchor 160 170 (Links.To 0))) ∷ [])) 0
+      ≡ stems 0 Links.None (axisOf (finished (marked Marks.Linked 100 110 (Links.To 1)) ∷ zoned (finished (marked Marks.BlueAnchor 160 170 (Links.To 0)))
+      ∷ [])) 0
   -- a CJK stem goes to 26 and 66; the next, whose first edge at 129 is less than 64 behind, is passed over, and both its edges are counted
   pub too-close : passOf Cjk Links.None (edge 40 40 (Links.To 1) ∷ edge 80 80 (Links.To 0) ∷ edge 129 129 (Links.To 3) ∷ edge 170 170 (Links.To 2) ∷ [])
-      ≡ stems 2 (Links.To 0) (axisOf (finished (marked Marks.Stem 40 26 (Links.To 1)) ∷ finished (marked Marks.Stem 80 66 (Links.To 0)) ∷ edge 129 129 (Links.To 3) ∷ edge 170 170 (Links.To 2) ∷ [])) 0
+      ≡ stems 2 (Links.To 0) (axisOf (finished (marked Marks.Stem 40 26 (Links.To 1)) ∷ finished (marked Marks.Stem 80 66 (Links.To 0))
+      ∷ edge 129 129 (Links.To 3) ∷ edge 170 170 (Links.To 2) ∷ [])) 0
   -- so it goes where its second edge is done already
   pub second-done : passOf Cjk Links.None (edge 40 40 (Links.To 1) ∷ finished (marked Marks.Blue 80 80 (Links.To 0)) ∷ [])
       ≡ stems 0 (Links.To 0) (axisOf (finished (marked Marks.Stem 40 26 (Links.To 1)) ∷ finished (marked Marks.Stem 80 66 (Links.To 0)) ∷ [])) 0
@@ -102,11 +126,13 @@ pub record Worked : Type 0 where
       ≡ stems 0 (Links.To 0) (axisOf (finished (marked Marks.Stem 100 130 (Links.To 1)) ∷ finished (marked Marks.Stem 161 190 (Links.To 0)) ∷ [])) 0
   -- request #102: with Snap a stem of 10 units, from 100 to 110, is drawn a pixel wide, about the centre chosen, 96
   pub not-vanishing : passBy Snap [] Default (Links.To 0) (finished (edge 0 0 Links.None) ∷ edge 100 100 (Links.To 2) ∷ edge 110 110 (Links.To 1) ∷ [])
-      ≡ stems 0 (Links.To 0) (axisOf (finished (edge 0 0 Links.None) ∷ finished (marked Marks.Stem 100 64 (Links.To 2)) ∷ finished (marked Marks.Stem 110 128 (Links.To 1)) ∷ [])) 0
+      ≡ stems 0 (Links.To 0) (axisOf (finished (edge 0 0 Links.None) ∷ finished (marked Marks.Stem 100 64 (Links.To 2))
+      ∷ finished (marked Marks.Stem 110 128 (Links.To 1)) ∷ [])) 0
 
 pub worked : Worked
 unfolding stemsOf visits visit visitLink tooClose isClose zoneStem groupStem latinStem besideAnchor cjkStem deltaAfter linkedPos lowerBound hasPassed
-    neighbour heldTo boundBy adjusted fittedWidth lifted snapped settled withSign pixFloor pixRound centreOf lowerOffset upperOffset nearerCentre thinCentre thinFirst thinSecond
+    neighbour heldTo boundBy adjusted fittedWidth lifted snapped settled withSign pixFloor pixRound centreOf lowerOffset upperOffset nearerCentre thinCentre
+    thinFirst thinSecond
     wideFirst anchoredFirst anchoredSecond freeFirst maxGap gapOf pixelOffset narrowDelta offsetsDelta startOf clamped deltaOf stemAt stemOf placedStem
     hintedStem
 worked = record {

@@ -11,12 +11,12 @@ use Rattle.axis.specs.declared.kinds.Blue.the-variants as Blues
 use Rattle.axis.specs.declared.kinds.Group.the-variants.{Default}
 use Rattle.axis.specs.declared.edge.Axis.{Axis}
 use Rattle.axis.specs.Edge.{edgeAt}
-use Rattle.placing.specs.declared.adjust.LinkDir.the-variants.{Prev}
-use Rattle.placing.specs.Placing.{adjusted}
-use Rattle.stem_latin.specs.Latin.{centreOf, thinCentre}
-use Rattle.stem_latin.specs.Centre.{ChosenFor}
-use Rattle.stems_plan.specs.declared.kinds.Mode.{Mode}
-use Rattle.stems_plan.specs.Visit.{originalLen, widthOf, startBeside}
+use Rattle.place.specs.declared.adjust.LinkDir.the-variants.{Prev}
+use Rattle.place.specs.Placing.{adjusted}
+use Rattle.stems_latin.specs.Latin.{centreOf, thinCentre}
+use Rattle.stems_latin.specs.Centre.{ChosenFor}
+use Rattle.stems.specs.declared.kinds.Mode.{Mode}
+use Rattle.stems.specs.Visit.{originalLen, widthOf, startBeside}
 use Rattle.stems.specs.Stems.{State, besideAnchor, visit}
 
 -- ---- the stem of edge i and its link k beside the anchor a, where a, i and k may be the same

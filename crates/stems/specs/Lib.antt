@@ -1,7 +1,9 @@
--- What the contracts of `stems` cite: `Stems`, what the call does; `Steps`, the visit along one path, by its plan, and what a pass without the fallback needs; `Handed`, where
--- positions come to; `Centre`, the words of request #112; and `Thin`, those of request #102.
-pub mod Stems
+-- Stems: the plan of a visit (`Plan`, `Visit`, `Steps`), the pass and the call with its promise (`Stems`, `StepsPass`), and what their theorems say (`Centre`, `Handed`, `Thin`).
+pub mod Visit
+pub mod Plan
 pub mod Steps
+pub mod Stems
+pub mod StepsPass
 pub mod Handed
 pub mod Centre
 pub mod Thin

@@ -23,16 +23,16 @@ use Rattle.axis.specs.Edge.{edgeAt, putEdge, finished, fixedAt}
 use Rattle.axis.specs.Mark.{unmarkedAxis}
 use Rattle.axis.specs.Refusals.{linkHolds, edgesShort, bottomToTop, edgesIndexed, edgesInRange}
 use Rattle.axis.specs.Visits.{visits}
-use Rattle.placing.specs.declared.adjust.LinkDir.the-variants.{Prev}
-use Rattle.placing.specs.Placing.{linkedEdge, adjusted}
-use Rattle.stem_latin.specs.Latin.{anchoredFirst, anchoredSecond, freeFirst}
-use Rattle.cjk_numbers.specs.declared.stem.Stem.{Stem}
-use Rattle.cjk_numbers.specs.Cjk.{stemOf, hintedStem}
-use Rattle.stems_plan.specs.declared.kinds.Mode.{Mode}
-use Rattle.stems_plan.specs.declared.kinds.LastStem.the-variants as LastStems
-use Rattle.stems_plan.specs.declared.kinds.Trail.{Trail}
-use Rattle.stems_plan.specs.Visit.{tooClose, originalLen, widthOf, startBeside, deltaAfter}
-use Rattle.stems.specs.declared.pass.Stems.{Stems}
+use Rattle.place.specs.declared.adjust.LinkDir.the-variants.{Prev}
+use Rattle.place.specs.Placing.{linkedEdge, adjusted}
+use Rattle.stems_latin.specs.Latin.{anchoredFirst, anchoredSecond, freeFirst}
+use Rattle.stems_cjk.specs.declared.stem.Stem.{Stem}
+use Rattle.stems_cjk.specs.Cjk.{stemOf, hintedStem}
+use Rattle.stems.specs.declared.kinds.Mode.{Mode}
+use Rattle.stems.specs.declared.kinds.LastStem.the-variants as LastStems
+use Rattle.stems.specs.declared.kinds.Trail.{Trail}
+use Rattle.stems.specs.Visit.{tooClose, originalLen, widthOf, startBeside, deltaAfter}
+use Rattle.stems.specs.declared.outcome.Stems.{Stems}
 
 -- ---- what the visits come to
 -- the axis, how many edges were passed over, the anchor or its absence, and what CJK stems leave to the next one

@@ -1,56 +1,23 @@
--- A visit along one path: a plan, and three stores that may change nothing. `steps-are` shows that steps are visits.
+-- What the steps of a visit need: ranges, and no zone where there is no fallback.
 use mathlib.Core.Path.{_≡_}
-use mathlib.Core.Bool.{Bool, false, cond}
-use mathlib.Core.List.{List}
-use Prim.Native.Nat.{ℕ, _-_}
-use lib.Dec.{ltb}
+use mathlib.Core.Bool.{Bool, false}
+use Prim.Native.Nat.{ℕ}
 use lib.IntN.{ℤ}
-use Rattle.axis.specs.declared.kinds.Link.{Link}
-use Rattle.axis.specs.declared.kinds.Link.the-variants as Links
-use Rattle.axis.specs.declared.edge.Axis.{Axis}
-use Rattle.axis.specs.Link.{indexOr}
-use Rattle.axis.specs.Edge.{edgeAt, putEdge, fixedAt}
-use Rattle.zone.specs.Settled.{Settled}
-use Rattle.stems_plan.specs.declared.kinds.Mode.{Mode}
-use Rattle.stems_plan.specs.declared.kinds.Plan.{Plan}
-use Rattle.stems_plan.specs.Visit.{tooClose}
-use Rattle.stems_plan.specs.Plan.{planOf, secondEdge, heldEdge, anchorAfter}
-use Rattle.stems.specs.Stems.{State, counted}
+use Rattle.signed.specs.Range.{Between}
+use Rattle.axis.specs.declared.kinds.Blue.the-variants as Blues
+use Rattle.axis.specs.declared.edge.Edge.{Edge}
+use Rattle.stems_latin.specs.Latin.{mostStart}
+use Rattle.stems.specs.declared.kinds.LastStem.{LastStem}
+use Rattle.stems.specs.declared.kinds.LastStem.the-variants as LastStems
 
--- the plan for edge i, linked to edge k; without an anchor, its edge is not read
-abbrev pub planAt : Mode → List ℤ → State → ℕ → ℕ → Plan
-planAt m xs s i k = planOf m xs (edgeAt (s .axis) i) (edgeAt (s .axis) k) (edgeAt (s .axis) (indexOr i (s .anchor))) (s .anchor) (ltb k i) (s .trail)
+-- what a plan's positions can be: the reach, and what one visit adds
+abbrev pub mostPlace : ℕ
+mostPlace = mostStart
 
--- edge i is placed for good, then edge k as it is then, and edge i as it is then is held to the previous edge
-abbrev pub firstPut : Plan → ℕ → Axis → Axis
-firstPut plan i axis = putEdge axis i (fixedAt (edgeAt axis i) (plan .first) (plan .mark))
+-- the last stem's position, where there is one, is within that
+pub record LastWithin (l : LastStem) : Type 0 where
+  pub at : (z : ℤ) → l ≡ LastStems.At z → Between mostPlace mostPlace z
 
-abbrev pub secondPut : Plan → ℕ → Axis → Axis
-secondPut plan k axis = putEdge axis k (secondEdge (edgeAt axis k) (plan .second))
-
-abbrev pub heldPut : Plan → ℕ → ℕ → Axis → Axis
-heldPut plan i k axis = putEdge axis i (heldEdge plan i (edgeAt axis i) (edgeAt axis (i - 1)) (edgeAt axis k))
-
--- the state once a plan for edge i and its link k is carried out
-unfoldable pub carriedOut : State → ℕ → ℕ → Plan → State
-carriedOut s i k plan = record {
-  axis = heldPut plan i k (secondPut plan k (firstPut plan i (s .axis)));
-  count = s .count;
-  anchor = anchorAfter plan (s .anchor) i;
-  trail = plan .trail;
-}
-
--- edge i by its link
-unfoldable pub stepLink : Mode → List ℤ → State → ℕ → Link → State
-stepLink m xs s i Links.None = counted s
-stepLink m xs s i (Links.To k) =
-    cond (tooClose (m .group) (s .trail .last) (edgeAt (s .axis) i) (edgeAt (s .axis) k)) (counted s) (carriedOut s i k (planAt m xs s i k))
-
--- the step of edge i
-unfoldable pub step : Mode → List ℤ → State → ℕ → State
-step m xs s i = cond (edgeAt (s .axis) i .flags .done) s (stepLink m xs s i (edgeAt (s .axis) i .link))
-
--- ---- the fallback, for an edge whose link has a zone
--- without it the first n edges are settled
-pub record SettledWithout (fallback : Bool) (n : ℕ) (axis : Axis) : Type 0 where
-  pub settled : fallback ≡ false → Settled n axis
+-- without the fallback the link e2 has no zone
+pub record BareWithout (fallback : Bool) (e2 : Edge) : Type 0 where
+  pub bare : fallback ≡ false → e2 .blue ≡ Blues.None

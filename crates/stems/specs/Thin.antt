@@ -10,11 +10,11 @@ use Rattle.fixed.specs.declared.width.WidthRule.the-variants.{Snap}
 use Rattle.axis.specs.declared.kinds.Link.the-variants as Links
 use Rattle.axis.specs.declared.edge.Axis.{Axis}
 use Rattle.axis.specs.Edge.{edgeAt}
-use Rattle.placing.specs.declared.adjust.LinkDir.the-variants.{Prev}
-use Rattle.placing.specs.Placing.{adjusted}
-use Rattle.placing.specs.Thin.{PixelApart, HasWidth}
-use Rattle.stems_plan.specs.declared.kinds.Mode.{Mode}
-use Rattle.stems_plan.specs.Visit.{tooClose}
+use Rattle.place.specs.declared.adjust.LinkDir.the-variants.{Prev}
+use Rattle.place.specs.Placing.{adjusted}
+use Rattle.place.specs.Thin.{PixelApart, HasWidth}
+use Rattle.stems.specs.declared.kinds.Mode.{Mode}
+use Rattle.stems.specs.Visit.{tooClose}
 use Rattle.stems.specs.Stems.{State, besideAnchor}
 
 -- given: Snap, edge i not done, its link k, which has a place in the table, a stem that is not passed over, and a width between their original positions

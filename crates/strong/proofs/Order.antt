@@ -1,4 +1,5 @@
--- Points keep their order: on edges whose font positions and positions do not fall, two points in one order by font positions and originals end in it, no unit lost.
+-- Points keep their order: on edges whose font positions and positions do not fall, two points in one order by font positions and originals end in it, no unit
+-- lost.
 use mathlib.Core.Path.{_≡_, refl, sym, ap, subst, _∙_}
 use mathlib.Core.Bool.{Bool, true, false, cond}
 use mathlib.Core.Logic.{_⊎_, inl, inr, ⊎-elim}
@@ -174,16 +175,20 @@ module _ (axis : Axis) (rise : Rising axis) (short : Shorts axis) where
     some q = stays-not (sym (place-none axis u v q) ∙ e)
 
     ends : edgeAt axis 0 .pos ≤ℤ edgeAt axis last .pos
-    ends = ⊎-elim (λ (l : 0 < axis .len). rise .pos 0 last (omega arith) (omega arith)) (λ (l : axis .len ≤ 0). absurd (some (omega arith))) (lt-or-le 0 (axis .len))
+    ends =
+        ⊎-elim (λ (l : 0 < axis .len). rise .pos 0 last (omega arith) (omega arith)) (λ (l : axis .len ≤ 0). absurd (some (omega arith)))
+        (lt-or-le 0 (axis .len))
 
     -- by which rule each is placed
     low-is : (x y w : ℤ) → leZ x (fposAt axis 0) ≡ true → placeOf axis x y ≡ At w → w ≡ edgeAt axis 0 .pos +ℤ (y -ℤ edgeAt axis 0 .opos)
     low-is x y w t p = moved-is _ _ _ w (sym (place-low axis x y some t) ∙ p)
 
-    high-is : (x y w : ℤ) → leZ x (fposAt axis 0) ≡ false → leZ (fposAt axis last) x ≡ true → placeOf axis x y ≡ At w → w ≡ edgeAt axis last .pos +ℤ (y -ℤ edgeAt axis last .opos)
+    high-is : (x y w : ℤ) → leZ x (fposAt axis 0) ≡ false → leZ (fposAt axis last) x ≡ true → placeOf axis x y ≡ At w
+        → w ≡ edgeAt axis last .pos +ℤ (y -ℤ edgeAt axis last .opos)
     high-is x y w s t p = moved-is _ _ _ w (sym (place-high axis x y some s t) ∙ p)
 
-    inner-is : (x y w : ℤ) → leZ x (fposAt axis 0) ≡ false → leZ (fposAt axis last) x ≡ false → placeOf axis x y ≡ At w → onOrBefore axis x (found axis x) ≡ At w
+    inner-is : (x y w : ℤ) → leZ x (fposAt axis 0) ≡ false → leZ (fposAt axis last) x ≡ false → placeOf axis x y ≡ At w
+        → onOrBefore axis x (found axis x) ≡ At w
     inner-is x y w s t p = sym (place-inside axis x y some s t) ∙ p
 
     -- and what is inside lies between the positions of the first edge and of the last
@@ -191,31 +196,53 @@ module _ (axis : Axis) (rise : Rising axis) (short : Shorts axis) where
     from-first x y w s t p =
         let a = around axis x (lies-inside axis x s t) in
         let k = found axis x in
-        to-≤ℤ _ w (omega (arith, of-≤ℤ _ _ (rise .pos 0 (k - 1) (omega arith) (omega (arith, a .inside))), of-≤ℤ _ w (not-below x k w a (ways axis x k w a (inner-is x y w s t p)))))
+        to-≤ℤ _ w (omega (
+          arith,
+          of-≤ℤ _ _ (rise .pos 0 (k - 1) (omega arith) (omega (arith, a .inside))),
+          of-≤ℤ _ w
+              (not-below x k w a (ways axis x k w a (inner-is x y w s t p))),
+        ))
 
     to-last : (x y w : ℤ) → leZ x (fposAt axis 0) ≡ false → leZ (fposAt axis last) x ≡ false → placeOf axis x y ≡ At w → w ≤ℤ edgeAt axis last .pos
     to-last x y w s t p =
         let a = around axis x (lies-inside axis x s t) in
         let k = found axis x in
-        to-≤ℤ w _ (omega (arith, of-≤ℤ _ _ (rise .pos k last (omega (arith, a .inside)) (omega (arith, a .inside))), of-≤ℤ w _ (not-above x k w a (ways axis x k w a (inner-is x y w s t p)))))
+        to-≤ℤ w _ (omega (
+          arith,
+          of-≤ℤ _ _ (rise .pos k last (omega (arith, a .inside)) (omega (arith, a .inside))),
+          of-≤ℤ w _
+              (not-above x k w a (ways axis x k w a (inner-is x y w s t p))),
+        ))
 
-    -- they keep their order: where one is at or below the first edge and the other is not, the one's original not above that edge's, and where the other is at or above the last
+    -- they keep their order: where one is at or below the first edge and the other is not, the one's original not above that edge's, and where the other is at
+    -- or above the last
     -- and the one is not, the other's original not below that edge's
     pub keeps-order :
         (u ≤ℤ fposAt axis 0 → fposAt axis 0 <ℤ u′ → v ≤ℤ edgeAt axis 0 .opos)
         → (fposAt axis 0 <ℤ u′ → fposAt axis last ≤ℤ u′ → (u ≤ℤ fposAt axis 0) ⊎ (u <ℤ fposAt axis last) → edgeAt axis last .opos ≤ℤ v′)
         → z ≤ℤ z′
-    keeps-order below-first above-last = by (leZ u (fposAt axis 0)) (leZ (fposAt axis last) u) (leZ u′ (fposAt axis 0)) (leZ (fposAt axis last) u′) refl refl refl refl
+    keeps-order below-first above-last =
+        by (leZ u (fposAt axis 0)) (leZ (fposAt axis last) u) (leZ u′ (fposAt axis 0)) (leZ (fposAt axis last) u′) refl refl refl refl
       where
         over : (x : ℤ) → leZ x (fposAt axis 0) ≡ false → fposAt axis 0 <ℤ x
         over x q = to-<ℤ _ x (le-false x (fposAt axis 0) q)
 
-        by : (s t s′ t′ : Bool) → leZ u (fposAt axis 0) ≡ s → leZ (fposAt axis last) u ≡ t → leZ u′ (fposAt axis 0) ≡ s′ → leZ (fposAt axis last) u′ ≡ t′ → z ≤ℤ z′
+        by : (s t s′ t′ : Bool) → leZ u (fposAt axis 0) ≡ s → leZ (fposAt axis last) u ≡ t → leZ u′ (fposAt axis 0) ≡ s′ → leZ (fposAt axis last) u′ ≡ t′
+            → z ≤ℤ z′
         by true t true t′ p q p′ q′ =
             let o = edgeAt axis 0 .opos in
             let x = edgeAt axis 0 .pos in
             to-≤ℤ z z′
-            (omega (arith, of-≡ z _ (low-is u v z p e), of-≡ z′ _ (low-is u′ v′ z′ p′ e′), add-law x (v -ℤ o), add-law x (v′ -ℤ o), sub-law v o, sub-law v′ o, of-≤ℤ v v′ g))
+            (omega (
+              arith,
+              of-≡ z _ (low-is u v z p e),
+              of-≡ z′ _ (low-is u′ v′ z′ p′ e′),
+              add-law x (v -ℤ o),
+              add-law x (v′ -ℤ o),
+              sub-law v o,
+              sub-law v′ o,
+              of-≤ℤ v v′ g,
+            ))
         by true t false true p q p′ q′ =
             let o = edgeAt axis 0 .opos in
             let x = edgeAt axis 0 .pos in
@@ -241,24 +268,45 @@ module _ (axis : Axis) (rise : Rising axis) (short : Shorts axis) where
             let x = edgeAt axis 0 .pos in
             let l = below-first (is-≤ℤ u _ p) (over u′ p′) in
             to-≤ℤ z z′ (omega (arith, of-≡ z _ (low-is u v z p e), add-law x (v -ℤ o), sub-law v o, of-≤ℤ v o l, of-≤ℤ x z′ (from-first u′ v′ z′ p′ q′ e′)))
-        by false t true t′ p q p′ q′ = absurd (omega (arith, of-<ℤ (fposAt axis 0) u (over u p), of-≤ℤ u u′ h, of-≤ℤ u′ (fposAt axis 0) (is-≤ℤ u′ (fposAt axis 0) p′)))
+        by false t true t′ p q p′ q′ =
+            absurd (omega (arith, of-<ℤ (fposAt axis 0) u (over u p), of-≤ℤ u u′ h, of-≤ℤ u′ (fposAt axis 0) (is-≤ℤ u′ (fposAt axis 0) p′)))
         by false true false true p q p′ q′ =
             let o = edgeAt axis last .opos in
             let x = edgeAt axis last .pos in
             to-≤ℤ z z′
-            (omega (arith, of-≡ z _ (high-is u v z p q e), of-≡ z′ _ (high-is u′ v′ z′ p′ q′ e′), add-law x (v -ℤ o), add-law x (v′ -ℤ o), sub-law v o, sub-law v′ o, of-≤ℤ v v′ g))
-        by false true false false p q p′ q′ = absurd (omega (arith, of-≤ℤ (fposAt axis last) u (is-≤ℤ (fposAt axis last) u q), of-≤ℤ u u′ h, le-false (fposAt axis last) u′ q′))
+            (omega (
+              arith,
+              of-≡ z _ (high-is u v z p q e),
+              of-≡ z′ _ (high-is u′ v′ z′ p′ q′ e′),
+              add-law x (v -ℤ o),
+              add-law x (v′ -ℤ o),
+              sub-law v o,
+              sub-law v′ o,
+              of-≤ℤ v v′ g,
+            ))
+        by false true false false p q p′ q′ =
+            absurd (omega (arith, of-≤ℤ (fposAt axis last) u (is-≤ℤ (fposAt axis last) u q), of-≤ℤ u u′ h, le-false (fposAt axis last) u′ q′))
         by false false false true p q p′ q′ =
             let o′ = edgeAt axis last .opos in
             let x′ = edgeAt axis last .pos in
             let m = above-last (over u′ p′) (is-≤ℤ _ u′ q′) (inr (to-<ℤ u (fposAt axis last) (le-false (fposAt axis last) u q))) in
-            to-≤ℤ z z′ (omega (arith, of-≡ z′ _ (high-is u′ v′ z′ p′ q′ e′), add-law x′ (v′ -ℤ o′), sub-law v′ o′, of-≤ℤ o′ v′ m, of-≤ℤ z x′ (to-last u v z p q e)))
+            to-≤ℤ z z′ (omega (
+              arith,
+              of-≡ z′ _ (high-is u′ v′ z′ p′ q′ e′),
+              add-law x′ (v′ -ℤ o′),
+              sub-law v′ o′,
+              of-≤ℤ o′ v′ m,
+              of-≤ℤ z x′
+                  (to-last u v z p q e),
+            ))
         by false false false false p q p′ q′ =
-            inside-order u u′ z z′ (found axis u) (found axis u′) (around axis u (lies-inside axis u p q)) (around axis u′ (lies-inside axis u′ p′ q′)) (ap (found axis)) h (inner-is u v z p q e)
+            inside-order u u′ z z′ (found axis u) (found axis u′) (around axis u (lies-inside axis u p q)) (around axis u′ (lies-inside axis u′ p′ q′))
+            (ap (found axis)) h (inner-is u v z p q e)
             (inner-is u′ v′ z′ p′ q′ e′)
 
     -- so always where originals and `opos` are font positions scaled by one scale
-    pub scaled-order : (s : ℤ) → dn s ≤ up s → v ≡ mulFix u s → v′ ≡ mulFix u′ s → ((i : ℕ) → i < axis .len → edgeAt axis i .opos ≡ mulFix (fposAt axis i) s) → z ≤ℤ z′
+    pub scaled-order : (s : ℤ) → dn s ≤ up s → v ≡ mulFix u s → v′ ≡ mulFix u′ s → ((i : ℕ) → i < axis .len → edgeAt axis i .opos ≡ mulFix (fposAt axis i) s)
+        → z ≤ℤ z′
     scaled-order s positive a a′ o =
         let l : 0 < axis .len = ⊎-elim (λ (l : 0 < axis .len). l) (λ (l : axis .len ≤ 0). absurd (some (omega arith))) (lt-or-le 0 (axis .len)) in
         keeps-order

@@ -22,7 +22,7 @@ use Rattle.axis.specs.Refusals.{within}
 use Rattle.fixed.specs.Point.{mulFix, divFix}
 use Rattle.fixed.specs.Divide.{tooSteep}
 use Rattle.fixed.proofs.Interpolation as Interpolation
-use Rattle.contours.specs.Contour.{at}
+use Rattle.weak_contour.specs.Contour.{at}
 use Rattle.strong.specs.declared.place.Place.the-variants.{Stays, At, Beyond}
 use Rattle.strong.specs.Strong.{fposAt, found, movedWith, between, withEdge, onOrBefore, placeOf, strongAt}
 use Rattle.strong.specs.Steps.{Inside}
@@ -101,7 +101,8 @@ module _ (axis : Axis) (u : ℤ) (k : ℕ) where
   unfolding onOrBefore
   place-on e = cond-true _ _ _ (eqZ-yes u (fposAt axis k) e)
 
-  pub place-before : (u ≡ fposAt axis k → ⊥) → onOrBefore axis u k ≡ between u (fposAt axis (k - 1)) (edgeAt axis (k - 1) .pos) (fposAt axis k) (edgeAt axis k .pos)
+  pub place-before : (u ≡ fposAt axis k → ⊥) → onOrBefore axis u k
+      ≡ between u (fposAt axis (k - 1)) (edgeAt axis (k - 1) .pos) (fposAt axis k) (edgeAt axis k .pos)
   unfolding onOrBefore
   place-before n = cond-false _ _ _ (eqZ-no u (fposAt axis k) n)
 

@@ -1,4 +1,5 @@
--- Which edge is found for a font position: in every table its neighbour lies below and it does not, and where the font positions do not fall these are the nearest.
+-- Which edge is found for a font position: in every table its neighbour lies below and it does not, and where the font positions do not fall these are the
+-- nearest.
 use mathlib.Core.Path.{_≡_, refl, ap, subst, _∙_}
 use mathlib.Core.Bool.{Bool, true, false, cond}
 use mathlib.Core.Logic.{_⊎_, inl, inr, ⊎-elim}
@@ -38,7 +39,8 @@ first-is f u i (suc n) = by (leZ u (f i)) refl (first-is f u (suc i) n)
       low = omega (arith, r .low);
       high = omega (arith, r .high);
       passed = λ j a b.
-          ⊎-elim (λ (q : i ≡ j). subst (λ (k : ℕ). f k <ℤ u) q (to-<ℤ (f i) u (le-false u (f i) e))) (λ (l : i < j). r .passed j (omega arith) b) (eq-or-lt-of-le a);
+          ⊎-elim (λ (q : i ≡ j). subst (λ (k : ℕ). f k <ℤ u) q (to-<ℤ (f i) u (le-false u (f i) e))) (λ (l : i < j). r .passed j (omega arith) b)
+          (eq-or-lt-of-le a);
       reached = λ h. r .reached (omega arith);
     }
 
@@ -69,14 +71,17 @@ record Met (f : ℕ → ℤ) (u : ℤ) (n r : ℕ) : Type 0 where
 above : (u z : ℤ) → ltZ u z ≡ false → eqZ u z ≡ false → z <ℤ u
 above u z l e = to-<ℤ z u (⊎-elim (λ h. h) (λ h. absurd (eqZ-apart u z e (to-≡ u z (omega (arith, lt-false u z l, h))))) (lt-or-le (up z + dn u) (up u + dn z)))
 
-met : (f : ℕ → ℤ) (u : ℤ) (n m lo hi : ℕ) → hi ≤ lo + m → lo ≤ hi → hi ≤ n → (0 < lo → f (lo - 1) <ℤ u) → (hi < n → u <ℤ f hi) → Met f u n (byHalving f u m lo hi)
+met : (f : ℕ → ℤ) (u : ℤ) (n m lo hi : ℕ) → hi ≤ lo + m → lo ≤ hi → hi ≤ n → (0 < lo → f (lo - 1) <ℤ u) → (hi < n → u <ℤ f hi)
+    → Met f u n (byHalving f u m lo hi)
 unfolding byHalving
 met f u n zero lo hi a b c low high =
     let q : hi ≡ lo = omega arith in
     record { high = omega arith; how = inr (low, λ h. subst (λ (k : ℕ). u <ℤ f k) q (high (omega arith))) }
 met f u n (suc m) lo hi a b c low high =
-    by (ltb lo hi) (ltZ u (f (middle lo hi))) (eqZ u (f (middle lo hi))) refl refl refl (λ l h. met f u n m lo (middle lo hi) (omega arith) (omega arith) (omega arith) low (λ _. h))
-    (λ l h. met f u n m (suc (middle lo hi)) hi (omega arith) (omega arith) c (λ _. let q : middle lo hi ≡ suc (middle lo hi) - 1 = omega arith in subst (λ (k : ℕ). f k <ℤ u) q h) high)
+    by (ltb lo hi) (ltZ u (f (middle lo hi))) (eqZ u (f (middle lo hi))) refl refl refl
+    (λ l h. met f u n m lo (middle lo hi) (omega arith) (omega arith) (omega arith) low (λ _. h))
+    (λ l h. met f u n m (suc (middle lo hi)) hi (omega arith) (omega arith) c
+    (λ _. let q : middle lo hi ≡ suc (middle lo hi) - 1 = omega arith in subst (λ (k : ℕ). f k <ℤ u) q h) high)
   where
     by : (x y z : Bool) → ltb lo hi ≡ x → ltZ u (f (middle lo hi)) ≡ y → eqZ u (f (middle lo hi)) ≡ z
         → (lo < hi → u <ℤ f (middle lo hi) → Met f u n (byHalving f u m lo (middle lo hi)))
@@ -96,13 +101,16 @@ enough-steps f u zero zero lo hi a b = refl
 enough-steps f u zero (suc n) lo hi a b = rw (le-ltb lo hi (omega arith))
 enough-steps f u (suc m) zero lo hi a b = rw (le-ltb lo hi (omega arith))
 enough-steps f u (suc m) (suc n) lo hi a b =
-    by (ltb lo hi) refl (λ l. enough-steps f u m n lo (middle lo hi) (omega arith) (omega arith)) (λ l. enough-steps f u m n (suc (middle lo hi)) hi (omega arith) (omega arith))
+    by (ltb lo hi) refl (λ l. enough-steps f u m n lo (middle lo hi) (omega arith) (omega arith))
+    (λ l. enough-steps f u m n (suc (middle lo hi)) hi (omega arith) (omega arith))
   where
     by : (x : Bool) → ltb lo hi ≡ x
         → (lo < hi → byHalving f u m lo (middle lo hi) ≡ byHalving f u n lo (middle lo hi))
         → (lo < hi → byHalving f u m (suc (middle lo hi)) hi ≡ byHalving f u n (suc (middle lo hi)) hi)
-        → cond x (cond (ltZ u (f (middle lo hi))) (byHalving f u m lo (middle lo hi)) (cond (eqZ u (f (middle lo hi))) (middle lo hi) (byHalving f u m (suc (middle lo hi)) hi))) lo
-        ≡ cond x (cond (ltZ u (f (middle lo hi))) (byHalving f u n lo (middle lo hi)) (cond (eqZ u (f (middle lo hi))) (middle lo hi) (byHalving f u n (suc (middle lo hi)) hi))) lo
+        → cond x (cond (ltZ u (f (middle lo hi))) (byHalving f u m lo (middle lo hi))
+        (cond (eqZ u (f (middle lo hi))) (middle lo hi) (byHalving f u m (suc (middle lo hi)) hi))) lo
+        ≡ cond x (cond (ltZ u (f (middle lo hi))) (byHalving f u n lo (middle lo hi))
+        (cond (eqZ u (f (middle lo hi))) (middle lo hi) (byHalving f u n (suc (middle lo hi)) hi))) lo
     by false p below behind = refl
     by true p below behind = let l = ltb-true lo hi p in rw (below l, behind l)
 
@@ -132,7 +140,8 @@ module _ (f : ℕ → ℤ) (u : ℤ) (lo hi : ℕ) (l : lo < hi) where
   pub step-on : u ≡ f (middle lo hi) → byHalving f u (hi - lo) lo hi ≡ middle lo hi
   step-on e = one-step ∙ rw (to-lt-false u (f (middle lo hi)) (omega (arith, of-≡ u (f (middle lo hi)) e)), eqZ-yes u (f (middle lo hi)) e)
 
-  pub step-high : ltZ u (f (middle lo hi)) ≡ false → (u ≡ f (middle lo hi) → ⊥) → byHalving f u (hi - lo) lo hi ≡ byHalving f u (hi - (middle lo hi + 1)) (middle lo hi + 1) hi
+  pub step-high : ltZ u (f (middle lo hi)) ≡ false → (u ≡ f (middle lo hi) → ⊥)
+      → byHalving f u (hi - lo) lo hi ≡ byHalving f u (hi - (middle lo hi + 1)) (middle lo hi + 1) hi
   step-high e n = one-step ∙ rw (e, eqZ-no u (f (middle lo hi)) n, add-one)
 
 pub steps-end : (f : ℕ → ℤ) (u : ℤ) (lo hi : ℕ) → hi ≤ lo → byHalving f u (hi - lo) lo hi ≡ lo
@@ -178,7 +187,12 @@ module _ (axis : Axis) (u : ℤ) (h : Inside axis u) where
       below : r < n
       below =
           ⊎-elim (λ (l : r < n). l)
-          (λ (l : n ≤ r). absurd (omega (arith, of-<ℤ u (fposAt axis (n - 1)) (h .below), of-<ℤ (fposAt axis (n - 1)) u (g .passed (n - 1) (omega arith) (omega (arith, two))))))
+          (λ (l : n ≤ r). absurd (omega (
+            arith,
+            of-<ℤ u (fposAt axis (n - 1)) (h .below),
+            of-<ℤ (fposAt axis (n - 1)) u
+                (g .passed (n - 1) (omega arith) (omega (arith, two))),
+          )))
           (lt-or-le r n)
 
   by-halves : {r : ℕ} → Met (fposAt axis) u n r → Around axis u r
@@ -206,7 +220,8 @@ module _ (axis : Axis) (u : ℤ) (h : Inside axis u) where
           below : r < n
           below =
               ⊎-elim (λ (l : r < n). l)
-              (λ (l : n ≤ r). absurd (let q : r ≡ n = omega (arith, g .high) in let b = subst (λ (k : ℕ). fposAt axis (k - 1) <ℤ u) q (p .0 (omega (arith, two))) in
+              (λ (l : n ≤ r). absurd (let q : r ≡ n = omega (arith, g .high) in let b = subst (λ (k : ℕ). fposAt axis (k - 1) <ℤ u) q
+              (p .0 (omega (arith, two))) in
               omega (arith, of-<ℤ u (fposAt axis (n - 1)) (h .below), of-<ℤ (fposAt axis (n - 1)) u b)))
               (lt-or-le r n)
 
@@ -235,6 +250,7 @@ strictly axis u k a away = (
 )
 
 -- where the font positions do not fall, no edge lies between these two: every other is at or in front of the one, or at or behind the other
-pub nearest : (axis : Axis) (u : ℤ) (k : ℕ) → Rising axis → Around axis u k → (j : ℕ) → j < axis .len → (fposAt axis j ≤ℤ fposAt axis (k - 1)) ⊎ (fposAt axis k ≤ℤ fposAt axis j)
+pub nearest : (axis : Axis) (u : ℤ) (k : ℕ) → Rising axis → Around axis u k → (j : ℕ) → j < axis .len
+    → (fposAt axis j ≤ℤ fposAt axis (k - 1)) ⊎ (fposAt axis k ≤ℤ fposAt axis j)
 nearest axis u k rise a j h =
     ⊎-elim (λ (l : j < k). inl (rise .fpos j (k - 1) (omega arith) (omega (arith, a .inside)))) (λ (l : k ≤ j). inr (rise .fpos k j l h)) (lt-or-le j k)

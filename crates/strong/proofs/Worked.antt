@@ -15,11 +15,27 @@ use Rattle.axis.specs.Limits.{mostPos}
 use Rattle.axis.specs.Refusals.{linkHolds, blueHolds, every, edgeIndices, edgeNumbers, edgesIndices, edgesNumbers}
 use Rattle.fixed.specs.Point.{rounded, roundedZ, mulFix, divFix}
 use Rattle.fixed.specs.Divide.{tooSteep}
-use Rattle.outline.specs.Weak.{coordinateHolds, coordinatesHold}
+use Rattle.weak.specs.Weak.{coordinateHolds, coordinatesHold}
 use Rattle.words.specs.Word.{firsts}
 use Rattle.strong.specs.declared.place.Place.{Place}
 use Rattle.strong.specs.declared.place.Place.the-variants.{Stays, At, Beyond}
-use Rattle.strong.specs.Strong.{oneByOne, byHalving, found, movedWith, between, onOrBefore, placeOf, strongAt, currentAfter, markAfter, isPlaced, allPlaced, Aligned, refusedBy, alignStrong}
+use Rattle.strong.specs.Strong.{
+  oneByOne,
+  byHalving,
+  found,
+  movedWith,
+  between,
+  onOrBefore,
+  placeOf,
+  strongAt,
+  currentAfter,
+  markAfter,
+  isPlaced,
+  allPlaced,
+  Aligned,
+  refusedBy,
+  alignStrong,
+}
 
 -- an edge at the font position f that was at o and is at p, which need not be done
 abbrev edge : ℤ → ℤ → ℤ → Edge
@@ -147,8 +163,14 @@ too-far = refl
 abbrev called : List Edge → List ℤ → List ℕ → Aligned
 called es o t = alignStrong (axisOf es) (pos 50 ∷ pos 50 ∷ pos 50 ∷ []) o (pos 7 ∷ pos 8 ∷ pos 9 ∷ []) t (0 ∷ 0 ∷ 3 ∷ [])
 
-the-first-moves : called pair (pos 32 ∷ pos 32 ∷ pos 32 ∷ []) (0 ∷ 2 ∷ 0 ∷ []) ≡ record { answer = 0; currents = pos 64 ∷ pos 8 ∷ pos 9 ∷ []; touched = 1 ∷ 2 ∷ 0 ∷ [] }
-unfolding alignStrong refusal linkHolds blueHolds every edgeIndices edgeNumbers edgesIndices edgesNumbers coordinateHolds coordinatesHold firsts allPlaced isPlaced strongAt currentAfter markAfter placeOf found oneByOne byHalving onOrBefore between movedWith tooSteep mulFix divFix roundedZ rounded
+the-first-moves : called pair (pos 32 ∷ pos 32 ∷ pos 32 ∷ []) (0 ∷ 2 ∷ 0 ∷ []) ≡ record {
+  answer =
+      0;
+  currents = pos 64 ∷ pos 8 ∷ pos 9 ∷ [];
+  touched = 1 ∷ 2 ∷ 0 ∷ [];
+}
+unfolding alignStrong refusal linkHolds blueHolds every edgeIndices edgeNumbers edgesIndices edgesNumbers coordinateHolds coordinatesHold firsts allPlaced
+    isPlaced strongAt currentAfter markAfter placeOf found oneByOne byHalving onOrBefore between movedWith tooSteep mulFix divFix roundedZ rounded
 the-first-moves = refl
 
 -- a list of another length, in front of a coordinate out of range, in front of a point that is too steep
@@ -162,5 +184,6 @@ out-of-range = refl
 
 refused : called (edge (pos 0) (pos 0) (pos 0) ∷ edge (pos 51) (pos 0) (pos mostPos) ∷ []) (pos 32 ∷ pos 32 ∷ pos 32 ∷ []) (0 ∷ 2 ∷ 0 ∷ [])
     ≡ refusedBy (pos 7 ∷ pos 8 ∷ pos 9 ∷ []) (0 ∷ 2 ∷ 0 ∷ []) 8
-unfolding alignStrong refusal linkHolds blueHolds every edgeIndices edgeNumbers edgesIndices edgesNumbers coordinateHolds coordinatesHold allPlaced isPlaced strongAt placeOf found oneByOne byHalving onOrBefore between movedWith tooSteep divFix roundedZ rounded
+unfolding alignStrong refusal linkHolds blueHolds every edgeIndices edgeNumbers edgesIndices edgesNumbers coordinateHolds coordinatesHold allPlaced isPlaced
+    strongAt placeOf found oneByOne byHalving onOrBefore between movedWith tooSteep divFix roundedZ rounded
 refused = refl

@@ -15,9 +15,9 @@ use Rattle.axis.specs.Limits.{mostPos}
 use Rattle.axis.specs.Refusals.{within, every, edgesShort, edgesIndexed, edgesInRange}
 use Rattle.fixed.specs.Point.{mulFix, divFix}
 use Rattle.fixed.specs.Divide.{tooSteep}
-use Rattle.contours.specs.Limits.{mostPoints, mostCoordinate}
-use Rattle.contours.specs.Contour.{at, isTouched}
-use Rattle.outline.specs.Weak.{rangeTests}
+use Rattle.weak_contour.specs.Limits.{mostPoints, mostCoordinate}
+use Rattle.weak_contour.specs.Contour.{at, isTouched}
+use Rattle.weak.specs.Weak.{rangeTests}
 use Rattle.words.specs.Word.{firsts}
 use Rattle.strong.specs.declared.place.Place.{Place}
 use Rattle.strong.specs.declared.place.Place.the-variants.{Stays, At, Beyond}

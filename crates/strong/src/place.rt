@@ -10,7 +10,7 @@ ghost use lib.Signed.{_<ℤ_};
 ghost use Rattle.signed.specs.Range.{Between};
 ghost use Rattle.axis.specs.Handed.{Short};
 ghost use Rattle.axis.specs.Limits.{mostUnits, mostPos};
-ghost use Rattle.contours.specs.Steps.{Coordinate};
+ghost use Rattle.weak_contour.specs.Steps.{Coordinate};
 ghost use Rattle.strong.specs.Strong.{movedWith, between, currentAfter, markAfter, isPlaced};
 
 // What becomes of a point: it stays, it comes to a position, or the call is refused for it.

@@ -14,21 +14,22 @@ use Rattle.refusals.proofs.Tests.{and-first, all-hold, own-first, answered-no}
 use Rattle.axis.specs.declared.edge.Axis.{Axis}
 use Rattle.axis.specs.Limits.{mostEdges}
 use Rattle.axis.specs.Refusals.{edgesShort, edgesIndexed, edgesInRange}
-use Rattle.contours.specs.Limits.{mostCoordinate, mostPoints}
-use Rattle.contours.specs.Contour.{at}
-use Rattle.outline.specs.Weak.{coordinatesHold, rangeTests}
-use Rattle.outline.proofs.Refusals.{coordinates-of}
-use Rattle.lent.specs.Lent.{refusedOr, edgesFront, edgesOf}
-use Rattle.lent.proofs.Kept.{passed}
-use Rattle.edges_in.proofs.Wholes.{edges-len}
-use Rattle.edges_test.specs.Held.{tested}
-use Rattle.edges_test.proofs.Calls.{ready, lent-refused, lent-done}
-use Rattle.edges_test.proofs.Order.{call-tests}
+use Rattle.weak_contour.specs.Limits.{mostCoordinate, mostPoints}
+use Rattle.weak_contour.specs.Contour.{at}
+use Rattle.weak.specs.Weak.{coordinatesHold, rangeTests}
+use Rattle.weak.proofs.Refusals.{coordinates-of}
+use Rattle.words_call.specs.Lent.{refusedOr, edgesFront, edgesOf}
+use Rattle.words_call.proofs.Kept.{passed}
+use Rattle.words_edge.proofs.Wholes.{edges-len}
+use Rattle.words_edge_test.specs.Held.{tested}
+use Rattle.words_edge_test.proofs.Calls.{ready, lent-refused, lent-done}
+use Rattle.words_edge_test.proofs.Order.{call-tests}
 use Rattle.strong.specs.Strong.{Aligned, listTests, allPlaced, strongTests, alignedAll, refusedBy, alignStrong}
 use Rattle.strong_words.specs.Strong.{lists, StrongLent, Placeable, PlacedAll}
 
 -- two tests by one number are one
-two-ranges : (o c : List ℤ) → refusal (rangeTests mostCoordinate o c) ≡ refusal (outOfRange unless (coordinatesHold mostCoordinate o && coordinatesHold mostCoordinate c) ∷ [])
+two-ranges : (o c : List ℤ) → refusal (rangeTests mostCoordinate o c)
+    ≡ refusal (outOfRange unless (coordinatesHold mostCoordinate o && coordinatesHold mostCoordinate c) ∷ [])
 unfolding refusal
 two-ranges o c = by (coordinatesHold mostCoordinate o)
   where
@@ -65,7 +66,8 @@ module _ (fronts : List Test) (a t g : ℕ) (e : a ≡ refusedOr fronts t) where
       sym ((λ x. answered (p .0 x) (λ (i : ℕ). i) (answered (p .1 x) (λ (i : ℕ). i) g)))
 
 module _ (ws f o c : List ℤ) (t w : List ℕ) {own r : ℕ} {near : Bool} (l : own ≡ refusal (listTests f o c t w))
-    (m : near ≡ (coordinatesHold mostCoordinate o && coordinatesHold mostCoordinate c)) (e : r ≡ refusedOr (edgesFront ws true) (tested (edgesOf ws) own true near)) where
+    (m : near ≡ (coordinatesHold mostCoordinate o && coordinatesHold mostCoordinate c))
+    (e : r ≡ refusedOr (edgesFront ws true) (tested (edgesOf ws) own true near)) where
   abbrev A : Axis
   A = edgesOf ws
 
@@ -76,7 +78,8 @@ module _ (ws f o c : List ℤ) (t w : List ℕ) {own r : ℕ} {near : Bool} (l :
   G = cond (allPlaced A f o t w) 0 steep
 
   -- the tests of the call: those that are made of edges and lists, then each point
-  in-front : leb (A .len) mostEdges ≡ true → refusal (edgesShort A ∷ (listTests f o c t w ++ (edgesIndexed A ∷ edgesInRange A ∷ rangeTests mostCoordinate o c))) ≡ T
+  in-front : leb (A .len) mostEdges ≡ true → refusal
+      (edgesShort A ∷ (listTests f o c t w ++ (edgesIndexed A ∷ edgesInRange A ∷ rangeTests mostCoordinate o c))) ≡ T
   unfolding refusal
   in-front h =
       own-first (edgesShort A ∷ (listTests f o c t w ++ (edgesIndexed A ∷ edgesInRange A ∷ []))) (rangeTests mostCoordinate o c) refl
@@ -90,7 +93,8 @@ module _ (ws f o c : List ℤ) (t w : List ℕ) {own r : ℕ} {near : Bool} (l :
   all-tests : leb (A .len) mostEdges ≡ true → refusal (strongTests A f o c t w) ≡ answered T (λ (k : ℕ). k) G
   unfolding refusal
   all-tests h =
-      own-first (edgesShort A ∷ (listTests f o c t w ++ (edgesIndexed A ∷ edgesInRange A ∷ rangeTests mostCoordinate o c))) (steep unless allPlaced A f o t w ∷ []) refl
+      own-first (edgesShort A ∷ (listTests f o c t w ++ (edgesIndexed A ∷ edgesInRange A ∷ rangeTests mostCoordinate o c)))
+      (steep unless allPlaced A f o t w ∷ []) refl
       ∙ ap (λ (k : ℕ). answered k (λ (i : ℕ). i) G) (in-front h)
 
   short : refusal (edgesFront ws true) ≡ 0 → leb (A .len) mostEdges ≡ true
@@ -100,7 +104,8 @@ module _ (ws f o c : List ℤ) (t w : List ℕ) {own r : ℕ} {near : Bool} (l :
   refuses-by : {a : ℕ} → a ≡ refusedOr (edgesFront ws true) (answered T (λ (k : ℕ). k) G) → 0 < a → StrongLent ws f o c t w a (c, t)
   unfolding alignStrong
   refuses-by q h =
-      lent-refused (edgesFront ws true) (answered T (λ (k : ℕ). k) G) q (λ (x : Aligned). x .answer) lists (strongTests A f o c t w) (refusedBy c t) (alignedAll A f o c t w) (λ (k : ℕ). refl) refl
+      lent-refused (edgesFront ws true) (answered T (λ (k : ℕ). k) G) q (λ (x : Aligned). x .answer) lists (strongTests A f o c t w) (refusedBy c t)
+      (alignedAll A f o c t w) (λ (k : ℕ). refl) refl
       (λ z. all-tests (short z)) h
 
   -- edges or lists are refused
@@ -133,9 +138,11 @@ module _ (ws f o c : List ℤ) (t w : List ℕ) {own r : ℕ} {near : Bool} (l :
         refuses-by (sym z ∙ last-decides (edgesFront ws true) r T G e h) (omega arith)
 
     -- none is
-    pub all-placed : {b : Bool} {c′ : List ℤ} {t′ : List ℕ} → b ≡ allPlaced A f o t w → b ≡ true → PlacedAll ws f o c t w c′ t′ → StrongLent ws f o c t w 0 (c′, t′)
+    pub all-placed : {b : Bool} {c′ : List ℤ} {t′ : List ℕ} → b ≡ allPlaced A f o t w → b ≡ true → PlacedAll ws f o c t w c′ t′
+        → StrongLent ws f o c t w 0 (c′, t′)
     unfolding alignStrong
     all-placed p q a =
         let z : G ≡ 0 = ap (λ (x : Bool). cond x 0 steep) (sym p ∙ q) in
-        lent-done (edgesFront ws true) (answered T (λ (k : ℕ). k) G) (sym z ∙ last-decides (edgesFront ws true) r T G e h) (λ (x : Aligned). x .answer) lists (strongTests A f o c t w) (refusedBy c t)
+        lent-done (edgesFront ws true) (answered T (λ (k : ℕ). k) G) (sym z ∙ last-decides (edgesFront ws true) r T G e h) (λ (x : Aligned). x .answer) lists
+        (strongTests A f o c t w) (refusedBy c t)
         (alignedAll A f o c t w) (λ (k : ℕ). refl) refl (λ y. all-tests (short y)) (omega arith) (λ x. (a .currents x, a .touched x))

@@ -20,10 +20,10 @@ use Rattle.axis.specs.Refusals.{inside}
 use Rattle.words.specs.Edge.{edgeSize, oposPlace, posPlace, edgesIn, edgeWords, wordOfEdge}
 use Rattle.words.specs.Field.{shortOf}
 use Rattle.words.specs.Word.{wordAt}
-use Rattle.lent.specs.Lent.{edgesOf}
-use Rattle.edges_in.specs.Whole.{Whole}
-use Rattle.edges_in.proofs.Reading.{fpos-in, opos-in, pos-in}
-use Rattle.edges_in.proofs.Wholes.{edges-len, edge-in}
+use Rattle.words_call.specs.Lent.{edgesOf}
+use Rattle.words_edge.specs.Whole.{Whole}
+use Rattle.words_edge.proofs.Reading.{fpos-in, opos-in, pos-in}
+use Rattle.words_edge.proofs.Wholes.{edges-len, edge-in}
 use Rattle.strong.specs.declared.place.Place.the-variants.{Stays}
 use Rattle.strong.specs.Strong.{mostOneByOne, oneByOne, byHalving, fposAt, found, withEdge, onOrBefore, placeOf}
 use Rattle.strong.specs.Steps.{Around}
@@ -77,7 +77,8 @@ module _ (ws : List ℤ) (u : ℤ) where
     module _ (e : leZ u (fposAt A 0) ≡ false) where
       pub high-placed : leZ (fposAt A (edgesIn ws - 1)) u ≡ true → placeOf A u v ≡ withEdge A (edgesIn ws - 1) v
       high-placed g =
-          subst (λ (n : ℕ). leZ (fposAt A (n - 1)) u ≡ true → placeOf A u v ≡ withEdge A (n - 1) v) (edges-len ws) (place-high A u v (λ q. some (sym (edges-len ws) ∙ q)) e) g
+          subst (λ (n : ℕ). leZ (fposAt A (n - 1)) u ≡ true → placeOf A u v ≡ withEdge A (n - 1) v) (edges-len ws)
+          (place-high A u v (λ q. some (sym (edges-len ws) ∙ q)) e) g
 
       module _ (g : leZ (fposAt A (edgesIn ws - 1)) u ≡ false) where
         last-is : leZ (fposAt A (A .len - 1)) u ≡ false

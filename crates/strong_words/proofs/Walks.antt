@@ -11,7 +11,7 @@ use lib.IntN.{ℤ}
 use lib.ListN.{length, getD, set, length-set}
 use lib.Seq.{ext-getD, getD-set-same, getD-set-other}
 use Rattle.axis.specs.declared.edge.Axis.{Axis}
-use Rattle.contours.specs.Contour.{at, isTouched}
+use Rattle.weak_contour.specs.Contour.{at, isTouched}
 use Rattle.words.specs.Word.{firsts}
 use Rattle.words.proofs.Places.{firsts-at}
 use Rattle.words.proofs.Tables.{firsts-length}
@@ -44,7 +44,9 @@ module _ {A : Type 0} (d : A) (f : ℕ → A) where
     pub upto-same : getD old i d ≡ f i → Upto d f (i + 1) old now
     upto-same e = record {
       len = w .len;
-      passed = λ j l. ⊎-elim (λ (q : j ≡ i). ap (λ (k : ℕ). getD now k d) q ∙ w .ahead i (omega arith) ∙ e ∙ ap f (sym q)) (λ (g : j < i). w .passed j g) (eq-or-lt-of-le (omega arith));
+      passed =
+          λ j l. ⊎-elim (λ (q : j ≡ i). ap (λ (k : ℕ). getD now k d) q ∙ w .ahead i (omega arith) ∙ e ∙ ap f (sym q)) (λ (g : j < i). w .passed j g)
+          (eq-or-lt-of-le (omega arith));
       ahead = λ j l. w .ahead j (omega arith);
     }
 
@@ -52,7 +54,8 @@ module _ {A : Type 0} (d : A) (f : ℕ → A) where
   pub upto-all : (i n : ℕ) (old now : List A) → length old ≡ n → n ≤ i → Upto d f i old now → now ≡ firsts f n
   upto-all i n old now e h w =
       ext-getD d now (firsts f n) (w .len ∙ e ∙ sym (firsts-length f n))
-      (λ j l. w .passed j (omega (arith, w .len, e)) ∙ sym (ap (λ (xs : List A). getD xs j d) (sym (append-nil (firsts f n))) ∙ firsts-at f n j _ d (omega (arith, w .len, e))))
+      (λ j l. w .passed j (omega (arith, w .len, e)) ∙ sym
+      (ap (λ (xs : List A). getD xs j d) (sym (append-nil (firsts f n))) ∙ firsts-at f n j _ d (omega (arith, w .len, e))))
 
 -- ---- points that stay
 module _ (t w : List ℕ) (i : ℕ) where

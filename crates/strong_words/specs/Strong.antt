@@ -8,11 +8,11 @@ use lib.ListN.{length, getD}
 use lib.IntN.{ℤ}
 use Rattle.axis.specs.Accepted.{AxisWithin}
 use Rattle.axis.specs.Limits.{mostPos}
-use Rattle.contours.specs.Contour.{at, isTouched}
-use Rattle.contours.specs.Limits.{mostPoints}
-use Rattle.contours.specs.Steps.{Coordinates}
-use Rattle.lent.specs.Lent.{Lent, edgesFront, edgesOf}
-use Rattle.edges_in.specs.Whole.{Whole}
+use Rattle.weak_contour.specs.Contour.{at, isTouched}
+use Rattle.weak_contour.specs.Limits.{mostPoints}
+use Rattle.weak_contour.specs.Steps.{Coordinates}
+use Rattle.words_call.specs.Lent.{Lent, edgesFront, edgesOf}
+use Rattle.words_edge.specs.Whole.{Whole}
 use Rattle.strong.specs.Strong.{Aligned, alignStrong, alignedAll, allPlaced}
 
 -- ---- the call

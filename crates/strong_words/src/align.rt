@@ -3,8 +3,8 @@ use super::place::place_each;
 use super::refuse::all_placed;
 use super::refuse::coordinates_hold;
 use super::refuse::list_refusal;
-use edges_test::test::edges_test;
 use refusals::order::TOO_STEEP;
+use words_edge_test::test::edges_test;
 ghost use Rattle.strong_words.specs.Strong.{StrongLent};
 
 // Aligns the points that are neither touched nor weak by the edges around them, and touches them. The answer is 0, or the number of the refusal, which writes nothing: 255, 1, 3 and 4, and 8

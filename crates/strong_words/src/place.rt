@@ -1,6 +1,6 @@
 // Where the points of an outline come to by lent edges.
 use super::search::find_edge;
-use super::search::fpos_in;
+use super::search::read_fpos;
 use strong::place::Place;
 use strong::place::between;
 use strong::place::current_after;
@@ -10,7 +10,7 @@ use strong::place::moved_with;
 use words::edge::EDGE_WORDS;
 use words::edge::OPOS_PLACE;
 use words::edge::POS_PLACE;
-use words::word::word_in;
+use words::word::read_word;
 ghost use mathlib.Core.Path.{_≡_};
 ghost use mathlib.Core.Bool.{_||_};
 ghost use Prim.Native.Nat.{_<_};
@@ -18,20 +18,20 @@ ghost use lib.ListN.{length};
 ghost use Rattle.axis.specs.Accepted.{AxisWithin};
 ghost use Rattle.axis.specs.Edge.{edgeAt};
 ghost use Rattle.axis.specs.Limits.{mostPos};
-ghost use Rattle.contours.specs.Contour.{at, isTouched};
-ghost use Rattle.contours.specs.Steps.{Coordinate, Coordinates};
+ghost use Rattle.weak_contour.specs.Contour.{at, isTouched};
+ghost use Rattle.weak_contour.specs.Steps.{Coordinate, Coordinates};
 ghost use Rattle.words.specs.Edge.{edgesIn};
-ghost use Rattle.lent.specs.Lent.{edgesOf};
-ghost use Rattle.edges_in.specs.Whole.{Whole};
+ghost use Rattle.words_call.specs.Lent.{edgesOf};
+ghost use Rattle.words_edge.specs.Whole.{Whole};
 ghost use Rattle.strong.specs.Strong.{withEdge, placeOf, strongAt};
 ghost use Rattle.strong_words.specs.Strong.{Placeable, PlacedAll, PlacedEach};
 
 // The position of an edge.
-fn pos_in(words: &[i32], i: usize) -> i32
+fn read_pos(words: &[i32], i: usize) -> i32
     requires { ⌜ Whole (now words) × (i < edgesIn (now words)) ⌝ }
     ensures { λ r. ⌜ r ≡ edgeAt (edgesOf (now (words .entry))) i .pos ⌝ }
 {
-    word_in(words, EDGE_WORDS * i + POS_PLACE)
+    read_word(words, EDGE_WORDS * i + POS_PLACE)
 }
 
 // Where an original comes to with an edge.
@@ -39,8 +39,8 @@ fn with_edge(words: &[i32], i: usize, v: i32) -> Place
     requires { ⌜ Whole (now words) × AxisWithin mostPos (edgesOf (now words)) × (i < edgesIn (now words)) × Coordinate v ⌝ }
     ensures { λ r. ⌜ r ≡ withEdge (edgesOf (now (words .entry))) i v ⌝ }
 {
-    let opos = word_in(words, EDGE_WORDS * i + OPOS_PLACE);
-    moved_with(v, opos, pos_in(words, i))
+    let opos = read_word(words, EDGE_WORDS * i + OPOS_PLACE);
+    moved_with(v, opos, read_pos(words, i))
 }
 
 // Where a point comes to, by its font position and its original.
@@ -52,19 +52,25 @@ fn place_in(words: &[i32], u: i32, v: i32) -> Place
     if n == 0 {
         return Place::Stays;
     }
-    if u <= fpos_in(words, 0) {
+    if u <= read_fpos(words, 0) {
         return with_edge(words, 0, v);
     }
-    if fpos_in(words, n - 1) <= u {
+    if read_fpos(words, n - 1) <= u {
         return with_edge(words, n - 1, v);
     }
     let k = find_edge(words, u);
-    let fpos = fpos_in(words, k);
-    let pos = pos_in(words, k);
+    let fpos = read_fpos(words, k);
+    let pos = read_pos(words, k);
     if u == fpos {
         return Place::At(pos);
     }
-    between(u, fpos_in(words, k - 1), pos_in(words, k - 1), fpos, pos)
+    between(
+        u,
+        read_fpos(words, k - 1),
+        read_pos(words, k - 1),
+        fpos,
+        pos,
+    )
 }
 
 // Whether a point stays where it is: it is touched or weak.

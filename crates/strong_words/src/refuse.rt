@@ -1,17 +1,17 @@
 // What is refused: lists of an outline by their lengths and by their coordinates, and points.
 use super::place::strong_at;
-use outline::accept::range_refusal;
-use outline::limits::MOST_COORDINATE;
-use outline::limits::MOST_POINTS;
 use refusals::order::TOO_LONG;
 use refusals::order::or_refused;
 use strong::place::is_placed;
+use weak::accept::range_refusal;
+use weak::limits::MOST_COORDINATE;
+use weak::limits::MOST_POINTS;
 ghost use mathlib.Core.Path.{_≡_};
 ghost use mathlib.Core.Bool.{_&&_};
 ghost use Rattle.refusals.specs.Refusal.{refusal};
-ghost use Rattle.contours.specs.Limits.{mostCoordinate};
-ghost use Rattle.outline.specs.Weak.{coordinatesHold};
-ghost use Rattle.lent.specs.Lent.{edgesOf};
+ghost use Rattle.weak_contour.specs.Limits.{mostCoordinate};
+ghost use Rattle.weak.specs.Weak.{coordinatesHold};
+ghost use Rattle.words_call.specs.Lent.{edgesOf};
 ghost use Rattle.strong.specs.Strong.{listTests, allPlaced};
 ghost use Rattle.strong_words.specs.Strong.{Placeable};
 

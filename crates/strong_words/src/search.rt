@@ -1,23 +1,23 @@
 // The search for the edge at or behind a font position, where the words of the edges stand.
 use words::edge::EDGE_WORDS;
-use words::word::word_in;
+use words::word::read_word;
 ghost use mathlib.Core.Path.{_≡_};
 ghost use Prim.Native.Nat.{_<_};
 ghost use Rattle.axis.specs.Edge.{edgeAt};
 ghost use Rattle.words.specs.Edge.{edgesIn};
-ghost use Rattle.lent.specs.Lent.{edgesOf};
-ghost use Rattle.edges_in.specs.Whole.{Whole};
+ghost use Rattle.words_call.specs.Lent.{edgesOf};
+ghost use Rattle.words_edge.specs.Whole.{Whole};
 ghost use Rattle.strong.specs.Strong.{oneByOne, byHalving, fposAt, found};
 
 // How many edges are searched one by one: with equal font positions halving finds another edge, so that the number matters.
 const MOST_ONE_BY_ONE: usize = 8;
 
 // The font position of an edge.
-pub fn fpos_in(words: &[i32], i: usize) -> i32
+pub fn read_fpos(words: &[i32], i: usize) -> i32
     requires { ⌜ Whole (now words) × (i < edgesIn (now words)) ⌝ }
     ensures { λ r. ⌜ r ≡ edgeAt (edgesOf (now (words .entry))) i .fpos ⌝ }
 {
-    word_in(words, EDGE_WORDS * i)
+    read_word(words, EDGE_WORDS * i)
 }
 
 // The first edge whose font position is not below u, or the number of edges.
@@ -27,7 +27,7 @@ fn one_by_one(words: &[i32], u: i32) -> usize
 {
     let n = words.len() / EDGE_WORDS;
     for i in 0..n {
-        if u <= fpos_in(words, i) {
+        if u <= read_fpos(words, i) {
             return i;
         }
     }
@@ -43,7 +43,7 @@ fn by_halving(words: &[i32], u: i32) -> usize
     let mut high = words.len() / EDGE_WORDS;
     while low < high {
         let mid = (low + high) / 2;
-        let fpos = fpos_in(words, mid);
+        let fpos = read_fpos(words, mid);
         if u < fpos {
             high = mid;
             continue;

@@ -1,13 +1,13 @@
 // Parts of word lists, read and written. Where there is no room nothing is, so that these ask nothing of who calls them.
 use axis::accept::least;
-use lines::limits::MOST_NUMBERS;
+use tool_lines::limits::MOST_NUMBERS;
 use words::word::count_at;
 use words::word::count_word;
 use words::word::word_at;
 use words::word::write_words;
 ghost use Prim.Native.Nat.{_≤_};
 ghost use lib.ListN.{length};
-ghost use Rattle.lines.specs.Limits.{mostNumbers};
+ghost use Rattle.tool_lines.specs.Limits.{mostNumbers};
 
 // The n words from a place on, and none where there are not as many.
 pub fn part(words: &[i32], at: usize, n: usize) -> &[i32]

@@ -1,4 +1,5 @@
--- What the full alignment reads: the place of a point reads its references' currents, and its own where nothing moves; so the full alignment again changes nothing.
+-- What the full alignment reads: the place of a point reads its references' currents, and its own where nothing moves; so the full alignment again changes
+-- nothing.
 use mathlib.Core.Path.{_≡_, refl, sym, _∙_}
 use mathlib.Core.Bool.{Bool, true, false}
 use mathlib.Core.List.{List}
@@ -9,13 +10,13 @@ use native.Mathlib.Omega.{arith}
 use lib.ListN.{length}
 use lib.IntN.{ℤ}
 use Rattle.refusals.specs.Refusal.{refusal}
-use Rattle.contours.specs.Contour.{at, Contour, isTouched, References, references, followed, weakAt}
-use Rattle.contours.proofs.Searches.{is-touched}
-use Rattle.contours.proofs.References.{refs-on}
-use Rattle.outline.specs.Weak.{contourOf, onContour, alignedAt, weakTests, result}
-use Rattle.outline.proofs.Refusals.{accepted}
-use Rattle.outline.proofs.Contours.{contour-holds}
-use Rattle.outline.proofs.Outcomes.{result-at}
+use Rattle.weak_contour.specs.Contour.{at, Contour, isTouched, References, references, followed, weakAt}
+use Rattle.weak_contour.proofs.Searches.{is-touched}
+use Rattle.weak_contour.proofs.References.{refs-on}
+use Rattle.weak.specs.Weak.{contourOf, onContour, alignedAt, weakTests, result}
+use Rattle.weak.proofs.Refusals.{accepted}
+use Rattle.weak.proofs.Contours.{contour-holds}
+use Rattle.weak.proofs.Determined.{result-at}
 use Rattle.weak_known.proofs.Agreeing.{AgreeAt, followed-same}
 
 -- ---- the cases of a point
@@ -52,9 +53,11 @@ module _ (o c d : List ℤ) (t es : List ℕ) (i : ℕ) (agree : AgreeFor c d t 
       by : (k : Option Contour) → contourOf 0 es i ≡ k → (at d i ≡ at c i) ⊎ (at d i ≡ alignedAt o c t es i) → alignedAt o d t es i ≡ alignedAt o c t es i
       by none e (inl q) = aligned-alone o d t es i e ∙ q ∙ sym (aligned-alone o c t es i e)
       by none e (inr q) = aligned-alone o d t es i e ∙ q
-      by (some k) e (inl q) = aligned-on o d t es i k e free ∙ followed-same o c d i (references t k i) (agree k e) (inl q) ∙ sym (aligned-on o c t es i k e free)
+      by (some k) e (inl q) =
+          aligned-on o d t es i k e free ∙ followed-same o c d i (references t k i) (agree k e) (inl q) ∙ sym (aligned-on o c t es i k e free)
       by (some k) e (inr q) =
-          aligned-on o d t es i k e free ∙ followed-same o c d i (references t k i) (agree k e) (inr (q ∙ aligned-on o c t es i k e free)) ∙ sym (aligned-on o c t es i k e free)
+          aligned-on o d t es i k e free ∙ followed-same o c d i (references t k i) (agree k e) (inr (q ∙ aligned-on o c t es i k e free))
+          ∙ sym (aligned-on o c t es i k e free)
 
 -- ---- (b) the full alignment again changes nothing
 module _ (o c : List ℤ) (t es : List ℕ) (fine : refusal (weakTests o c t es) ≡ 0) where

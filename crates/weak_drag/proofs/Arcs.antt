@@ -10,11 +10,11 @@ use native.Mathlib.Omega.{arith}
 use lib.ListN.{getD}
 use lib.IntN.{ℤ}
 use Rattle.signed.proofs.Signed.{lt-or-le}
-use Rattle.contours.specs.Contour.{at, firstTouched, lastTouched, touchedBefore, touchedBehind, refs, references, betweenAt}
-use Rattle.contours.specs.Steps.{Clear, Wrote, GentleRefs}
-use Rattle.contours.proofs.Searches.{First, first-is, first-clear, Last, last-is, last-clear, found-by}
-use Rattle.contours.proofs.References.{refs-gap, refs-behind, refs-front}
-use Rattle.contours.proofs.Points.{steep-two}
+use Rattle.weak_contour.specs.Contour.{at, firstTouched, lastTouched, touchedBefore, touchedBehind, refs, references, betweenAt}
+use Rattle.weak_contour.specs.Steps.{Clear, Wrote, GentleRefs}
+use Rattle.weak_contour.proofs.Searches.{First, first-is, first-clear, Last, last-is, last-clear, found-by}
+use Rattle.weak_contour.proofs.References.{refs-gap, refs-behind, refs-front}
+use Rattle.weak_contour.proofs.Points.{steep-two}
 use Rattle.weak_known.specs.Walks.{contour, foundOr, GentleOn}
 use Rattle.weak_known.proofs.Agreeing.{between-reads, steep-reads}
 use Rattle.weak_drag.specs.Steps.{InArc, Arc, GentleArc, ArcWrote}
@@ -31,7 +31,8 @@ module _ (t : List ℕ) (s e a b : ℕ) (r : Arc t s e a b) where
   arc-refs i (inl q) =
       let l = r .from-low in
       let h = r .to-high in
-      refs-gap t (contour s e) i (omega (arith, q)) (omega (arith, q)) a b l (q .0) (q .1) h (r .from-mark) (r .to-mark) (λ z x y. r .clear z (inl (omega arith, x)))
+      refs-gap t (contour s e) i (omega (arith, q)) (omega (arith, q)) a b l (q .0) (q .1) h (r .from-mark) (r .to-mark)
+      (λ z x y. r .clear z (inl (omega arith, x)))
   arc-refs i (inr (inl q)) =
       let l = r .from-low in
       refs-behind t (contour s e) i (omega (arith, q)) (q .1 .1) b a (r .to-low) (q .0) (r .from-high) (r .to-mark) (r .from-mark)
@@ -55,17 +56,22 @@ module _ (t : List ℕ) (s e a b : ℕ) (r : Arc t s e a b) where
 module _ (t : List ℕ) (s e i : ℕ) (low : s ≤ i) (high : i < e) (free : getD t i 0 ≡ 0) where
   -- a touched point that is not behind i is in front of it, and the other way
   in-front : (x : ℕ) → 0 < getD t x 0 → (i < x → ⊥) → x < i
-  in-front x m n = ⊎-elim (λ h. h) (λ l. ⊎-elim (λ q. absurd (let z = subst (λ (y : ℕ). getD t y 0 ≡ 0) q free in omega (arith, z))) (λ h. absurd (n h)) (eq-or-lt-of-le l)) (lt-or-le x i)
+  in-front x m n =
+      ⊎-elim (λ h. h) (λ l. ⊎-elim (λ q. absurd (let z = subst (λ (y : ℕ). getD t y 0 ≡ 0) q free in omega (arith, z))) (λ h. absurd (n h))
+      (eq-or-lt-of-le l)) (lt-or-le x i)
 
   behind : (x : ℕ) → 0 < getD t x 0 → (x < i → ⊥) → i < x
-  behind x m n = ⊎-elim (λ h. absurd (n h)) (λ l. ⊎-elim (λ q. absurd (let z = subst (λ (y : ℕ). getD t y 0 ≡ 0) q free in omega (arith, z))) (λ h. h) (eq-or-lt-of-le l)) (lt-or-le x i)
+  behind x m n =
+      ⊎-elim (λ h. absurd (n h)) (λ l. ⊎-elim (λ q. absurd (let z = subst (λ (y : ℕ). getD t y 0 ≡ 0) q free in omega (arith, z))) (λ h. h)
+      (eq-or-lt-of-le l)) (lt-or-le x i)
 
   pub refers-before : (p n : ℕ) → Arc t s e p n → touchedBefore t (contour s e) i ≡ some p → InArc s e p n i
   unfolding touchedBefore
   refers-before p n r q =
       let x : s + (i - s) ≡ i = omega arith in
       let y : s + (e - s) ≡ e = omega arith in
-      ⊎-elim (λ a. near (rw x at (last-is t s (i - s) p a)) (decLt p n)) (λ a. far (rw x at (last-clear t s (i - s) (a .0))) (rw y at (last-is t s (e - s) p (a .1))))
+      ⊎-elim (λ a. near (rw x at (last-is t s (i - s) p a)) (decLt p n))
+      (λ a. far (rw x at (last-clear t s (i - s) (a .0))) (rw y at (last-is t s (e - s) p (a .1))))
       (found-by (lastTouched t s (i - s)) (lastTouched t s (e - s)) p q)
     where
       near : Last t s i p → Dec (p < n) → InArc s e p n i
@@ -82,7 +88,8 @@ module _ (t : List ℕ) (s e i : ℕ) (low : s ≤ i) (high : i < e) (free : get
   refers-behind l p r q =
       let x : suc i + (e - suc i) ≡ e = omega arith in
       let y : s + (e - s) ≡ e = omega arith in
-      ⊎-elim (λ a. near (rw x at (first-is t (suc i) (e - suc i) p a)) (decLt l p)) (λ a. far (rw x at (first-clear t (suc i) (e - suc i) (a .0))) (rw y at (first-is t s (e - s) p (a .1))))
+      ⊎-elim (λ a. near (rw x at (first-is t (suc i) (e - suc i) p a)) (decLt l p))
+      (λ a. far (rw x at (first-clear t (suc i) (e - suc i) (a .0))) (rw y at (first-is t s (e - s) p (a .1))))
       (found-by (firstTouched t (suc i) (e - suc i)) (firstTouched t s (e - s)) p q)
     where
       near : First t (suc i) e p → Dec (l < p) → InArc s e l p i
@@ -113,7 +120,9 @@ module _ (t : List ℕ) (s e p : ℕ) (low : s ≤ p) (high : p < e) (mark : 0 <
         to-low = omega (arith, f .low);
         to-high = h;
         to-mark = f .mark;
-        clear = λ i. ⊎-elim (λ m. f .clear i (m .1) (omega (arith, m .0))) (⊎-elim (λ m. absurd (omega (arith, m .0, f .low))) (λ m. absurd (omega (arith, m .0, f .low))));
+        clear =
+            λ i. ⊎-elim (λ m. f .clear i (m .1) (omega (arith, m .0)))
+            (⊎-elim (λ m. absurd (omega (arith, m .0, f .low))) (λ m. absurd (omega (arith, m .0, f .low))));
       }
 
   -- none there: the first of the contour
@@ -127,7 +136,8 @@ module _ (t : List ℕ) (s e p : ℕ) (low : s ≤ p) (high : p < e) (mark : 0 <
       y : s + (e - s) ≡ e
       y = omega arith
 
-      by : (m : Option ℕ) → firstTouched t (p + 1) (e - (p + 1)) ≡ m → (n : Option ℕ) → firstTouched t s (e - s) ≡ n → x ≡ foundOr e m → r ≡ foundOr e n → Arc t s e p r
+      by : (m : Option ℕ) → firstTouched t (p + 1) (e - (p + 1)) ≡ m → (n : Option ℕ) → firstTouched t s (e - s) ≡ n → x ≡ foundOr e m → r ≡ foundOr e n
+          → Arc t s e p r
       by (some k) em n en a b = let f : First t (p + 1) e k = rw z at (first-is t (p + 1) (e - (p + 1)) k em) in absurd (omega (arith, f .high))
       by none em none en a b = let c : Clear t s e = rw y at (first-clear t s (e - s) en) in absurd (let w = c p high low in omega (arith, w))
       by none em (some k) en a b =
@@ -141,7 +151,9 @@ module _ (t : List ℕ) (s e p : ℕ) (low : s ≤ p) (high : p < e) (mark : 0 <
             to-low = f .low;
             to-high = f .high;
             to-mark = f .mark;
-            clear = λ i. ⊎-elim (λ m. c i (omega (arith, m, f .high)) (omega (arith, m))) (⊎-elim (λ m. c i (m .1 .1) (omega (arith, m .1 .0))) (λ m. f .clear i (m .1 .1) (m .1 .0)));
+            clear =
+                λ i. ⊎-elim (λ m. c i (omega (arith, m, f .high)) (omega (arith, m)))
+                (⊎-elim (λ m. c i (m .1 .1) (omega (arith, m .1 .0))) (λ m. f .clear i (m .1 .1) (m .1 .0)));
           }
 
   -- the next before p behind the start
@@ -184,7 +196,9 @@ module _ (t : List ℕ) (s e p : ℕ) (low : s ≤ p) (high : p < e) (mark : 0 <
             to-low = low;
             to-high = high;
             to-mark = mark;
-            clear = λ i. ⊎-elim (λ m. f .clear i (omega (arith, m)) (omega (arith, m .0))) (⊎-elim (λ m. f .clear i (m .1 .1) (omega (arith, m .1 .0))) (λ m. c i (m .1 .1) (m .1 .0)));
+            clear =
+                λ i. ⊎-elim (λ m. f .clear i (omega (arith, m)) (omega (arith, m .0)))
+                (⊎-elim (λ m. f .clear i (m .1 .1) (omega (arith, m .1 .0))) (λ m. c i (m .1 .1) (m .1 .0)));
           }
 
 -- ---- how one is written

@@ -12,9 +12,9 @@ use lib.Seq.{ext-getD, getD-set-other}
 use lib.IntN.{ℤ, pos}
 use Rattle.refusals.specs.Refusal.{refusal, answered}
 use Rattle.refusals.proofs.Tests.{answered-no, answered-yes}
-use Rattle.contours.specs.Contour.{at, isTouched}
-use Rattle.outline.specs.Weak.{contourOf, alignedAt, listOf, weakTests, result}
-use Rattle.outline.proofs.Outcomes.{result-at, result-length, length-listOf, at-listOf}
+use Rattle.weak_contour.specs.Contour.{at, isTouched}
+use Rattle.weak.specs.Weak.{contourOf, alignedAt, listOf, weakTests, result}
+use Rattle.weak.proofs.Determined.{result-at, result-length, length-listOf, at-listOf}
 use Rattle.weak_drag.specs.Drag.{isReference, refersOn, depends, isThere, dragTests, draggedAt, dragged, Dragged}
 use Rattle.weak_drag.specs.Steps.{DragDone}
 use Rattle.weak_drag.proofs.Refusals.{refused-alike, there-touched}
@@ -35,7 +35,8 @@ module _ (o c : List ℤ) (t es : List ℕ) (p : ℕ) where
       all : d ≡ listOf (draggedAt o c t es p) 0 (length c)
       all =
           ext-getD (pos 0) d (listOf (draggedAt o c t es p) 0 (length c)) (w .len ∙ sym (length-listOf (draggedAt o c t es p) 0 (length c)))
-          (λ i h. let b : i < length c = omega (arith, w .len) in w .each i b ∙ sym (at-listOf (draggedAt o c t es p) 0 (length c) i b ∙ ap (draggedAt o c t es p) (omega arith)))
+          (λ i h. let b : i < length c = omega (arith, w .len) in w .each i b
+          ∙ sym (at-listOf (draggedAt o c t es p) 0 (length c) i b ∙ ap (draggedAt o c t es p) (omega arith)))
 
 -- ---- one touched point's current set, on what an accepted alignment left
 module _ (o c : List ℤ) (t es : List ℕ) (fine : refusal (weakTests o c t es) ≡ 0) (p : ℕ) (there : isTouched t p ≡ true) (z : ℤ) where

@@ -7,12 +7,12 @@ use native.Mathlib.Omega.{arith}
 use lib.ListN.{length}
 use lib.IntN.{ℤ}
 use Rattle.refusals.specs.Refusal.{refusal}
-use Rattle.contours.specs.Contour.{at}
-use Rattle.outline.specs.Weak.{weakTests, result}
-use Rattle.outline.specs.Faithful.{Demand3}
-use Rattle.outline.proofs.Refusals.{accepted}
-use Rattle.outline.proofs.Outcomes.{result-at}
-use Rattle.outline.proofs.Faithful.{demand-3}
+use Rattle.weak_contour.specs.Contour.{at}
+use Rattle.weak.specs.Weak.{weakTests, result}
+use Rattle.weak.specs.Faithful.{Demand3}
+use Rattle.weak.proofs.Refusals.{accepted}
+use Rattle.weak.proofs.Determined.{result-at}
+use Rattle.weak.proofs.Faithful.{demand-3}
 use Rattle.weak_drag.specs.Drag.{depends, Dragged}
 use Rattle.weak_drag.specs.Faithful.{DragDemand3}
 use Rattle.weak_drag.proofs.Refusals.{drag-accepted}

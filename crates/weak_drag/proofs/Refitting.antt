@@ -15,13 +15,29 @@ use lib.Signed.{ltZ, leZ}
 use Rattle.signed.specs.Equality.{eqZ}
 use Rattle.signed.proofs.Signed.{signed}
 use Rattle.refusals.proofs.Tests.{and-first, and-second}
-use Rattle.contours.specs.Contour.{at, Contour, isTouched, touchedBefore, touchedBehind, References, refs, paired, references, firstOf, secondOf, interpolated, betweenAt, shiftedAt, weakAt}
-use Rattle.contours.proofs.Searches.{not-touched, unmarked}
-use Rattle.contours.proofs.References.{refs-on}
-use Rattle.contours.proofs.Points.{weak-one, weak-two}
-use Rattle.outline.specs.Weak.{endsHold, contourOf, steepOn, onContour, alignedAt}
-use Rattle.outline.specs.Steps.{GentleAll}
-use Rattle.outline.proofs.Contours.{Holds, contour-holds}
+use Rattle.weak_contour.specs.Contour.{
+  at,
+  Contour,
+  isTouched,
+  touchedBefore,
+  touchedBehind,
+  References,
+  refs,
+  paired,
+  references,
+  firstOf,
+  secondOf,
+  interpolated,
+  betweenAt,
+  shiftedAt,
+  weakAt,
+}
+use Rattle.weak_contour.proofs.Searches.{not-touched, unmarked}
+use Rattle.weak_contour.proofs.References.{refs-on}
+use Rattle.weak_contour.proofs.Points.{weak-one, weak-two}
+use Rattle.weak.specs.Weak.{endsHold, contourOf, steepOn, onContour, alignedAt}
+use Rattle.weak.specs.Steps.{GentleAll}
+use Rattle.weak.proofs.Contours.{Holds, contour-holds}
 use Rattle.weak_known.specs.Walks.{contour, GentleOn}
 use Rattle.weak_known.proofs.Agreeing.{between-reads}
 use Rattle.weak_drag.specs.Drag.{isReference, refersOn, depends, draggedAt}
@@ -65,7 +81,8 @@ paired-found (some a) (some b) r q =
     let g : refs a b ≡ r = cc in
     (ap (λ (z : References). some (z .before)) g, ap (λ (z : References). some (z .behind)) g)
 
-refs-found : (t : List ℕ) (k : Contour) (i : ℕ) (r : References) → references t k i ≡ some r → (touchedBefore t k i ≡ some (r .before)) × (touchedBehind t k i ≡ some (r .behind))
+refs-found : (t : List ℕ) (k : Contour) (i : ℕ) (r : References) → references t k i ≡ some r
+    → (touchedBefore t k i ≡ some (r .before)) × (touchedBehind t k i ≡ some (r .behind))
 unfolding references
 refs-found t k i r e = paired-found (touchedBefore t k i) (touchedBehind t k i) r e
 
@@ -178,7 +195,8 @@ unfolding endsHold contourOf
 start-from z n i [] k h e = let w : _≡_ {A = ℕ} 0 1 = cc in absurd (omega arith)
 start-from z n i (x ∷ es) k h e =
     let a = and-second (leb z x) (ltb x n && endsHold (suc x) n es) h in
-    by (leb i x) refl (leb-true z x (and-first (leb z x) (ltb x n && endsHold (suc x) n es) h)) (start-from (suc x) n i es k (and-second (ltb x n) (endsHold (suc x) n es) a))
+    by (leb i x) refl (leb-true z x (and-first (leb z x) (ltb x n && endsHold (suc x) n es) h))
+    (start-from (suc x) n i es k (and-second (ltb x n) (endsHold (suc x) n es) a))
   where
     by : (b : Bool) → leb i x ≡ b → z ≤ x → (contourOf (suc x) es i ≡ some k → suc x ≤ k .start) → z ≤ k .start
     by true q m rec =
@@ -188,7 +206,8 @@ start-from z n i (x ∷ es) k h e =
     by false q m rec = let g = rec (rw q at e) in omega arith
 
 -- every point of a contour that was found is on it
-contour-same : (z n p i : ℕ) (es : List ℕ) (k : Contour) → endsHold z n es ≡ true → contourOf z es p ≡ some k → k .start ≤ i → i < k .end → contourOf z es i ≡ some k
+contour-same : (z n p i : ℕ) (es : List ℕ) (k : Contour) → endsHold z n es ≡ true → contourOf z es p ≡ some k → k .start ≤ i → i < k .end
+    → contourOf z es i ≡ some k
 unfolding endsHold contourOf
 contour-same z n p i [] k h e l u = let w : _≡_ {A = ℕ} 0 1 = cc in absurd (omega arith)
 contour-same z n p i (x ∷ es) k h e l u =
@@ -196,7 +215,8 @@ contour-same z n p i (x ∷ es) k h e l u =
     let b = and-second (ltb x n) (endsHold (suc x) n es) a in
     by (leb p x) refl b (contour-same (suc x) n p i es k b)
   where
-    by : (b : Bool) → leb p x ≡ b → endsHold (suc x) n es ≡ true → (contourOf (suc x) es p ≡ some k → k .start ≤ i → i < k .end → contourOf (suc x) es i ≡ some k) → contourOf z (x ∷ es) i ≡ some k
+    by : (b : Bool) → leb p x ≡ b → endsHold (suc x) n es ≡ true
+        → (contourOf (suc x) es p ≡ some k → k .start ≤ i → i < k .end → contourOf (suc x) es i ≡ some k) → contourOf z (x ∷ es) i ≡ some k
     by true q m rec =
         let f : some (record { start = z; end = suc x }) ≡ some k = rw q at e in
         let g : suc x ≡ k .end = cc in
@@ -211,7 +231,8 @@ pub refitted-as : (o c x : List ℤ) (t : List ℕ) (s e p : ℕ) (d : List ℤ)
 refitted-as o c x t s e p d q r = subst (λ (y : List ℤ). Refitted o y t s e p d) q r
 
 -- where no point of the outline is too steep, none of a contour is
-pub gentle-here : (o c : List ℤ) (t es : List ℕ) (s e : ℕ) → GentleAll o c t es → e ≤ length o → ((i : ℕ) → s ≤ i → i < e → contourOf 0 es i ≡ some (contour s e)) → GentleOn o c t s e
+pub gentle-here : (o c : List ℤ) (t es : List ℕ) (s e : ℕ) → GentleAll o c t es → e ≤ length o
+    → ((i : ℕ) → s ≤ i → i < e → contourOf 0 es i ≡ some (contour s e)) → GentleOn o c t s e
 unfolding steepOn
 gentle-here o c t es s e g h on i a b = rw (on i a b) at (g i (omega arith))
 
@@ -226,7 +247,8 @@ module _ (t es : List ℕ) (n p : ℕ) (ends : endsHold 0 n es ≡ true) where
       by : Reference p (references t k i) → contourOf 0 es p ≡ some k
       by r = go (r .which)
         where
-          a : ((k .start ≤ r .by .before) × (r .by .before < k .end) × (0 < getD t (r .by .before) 0)) × ((k .start ≤ r .by .behind) × (r .by .behind < k .end) × (0 < getD t (r .by .behind) 0))
+          a : ((k .start ≤ r .by .before) × (r .by .before < k .end) × (0 < getD t (r .by .before) 0))
+              × ((k .start ≤ r .by .behind) × (r .by .behind < k .end) × (0 < getD t (r .by .behind) 0))
           a = refs-on t k i (h .low) (h .high) (r .by) (r .is)
 
           go : (r .by .before ≡ p) ⊎ (r .by .behind ≡ p) → contourOf 0 es p ≡ some k

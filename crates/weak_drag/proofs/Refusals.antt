@@ -11,8 +11,8 @@ use lib.IntN.{ℤ}
 use native.Mathlib.Omega.{arith}
 use Rattle.refusals.specs.Refusal.{refusal, badIndex}
 use Rattle.refusals.proofs.Tests.{all-hold, and-second}
-use Rattle.contours.specs.Contour.{isTouched}
-use Rattle.outline.specs.Weak.{listTests, numberTests, weakTests}
+use Rattle.weak_contour.specs.Contour.{isTouched}
+use Rattle.weak.specs.Weak.{listTests, numberTests, weakTests}
 use Rattle.weak_known.proofs.Inserted.{test-within}
 use Rattle.weak_drag.specs.Drag.{isThere, dragTests}
 

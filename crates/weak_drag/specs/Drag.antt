@@ -8,8 +8,8 @@ use lib.Dec.{ltb, eqb}
 use lib.ListN.{length}
 use lib.IntN.{ℤ}
 use Rattle.refusals.specs.Refusal.{Test, _unless_, refusal, answered, badIndex}
-use Rattle.contours.specs.Contour.{at, Contour, isTouched, References, references}
-use Rattle.outline.specs.Weak.{listTests, numberTests, contourOf, alignedAt, listOf}
+use Rattle.weak_contour.specs.Contour.{at, Contour, isTouched, References, references}
+use Rattle.weak.specs.Weak.{listTests, numberTests, contourOf, alignedAt, listOf}
 
 -- ---- what depends on p
 -- p is one of the references, or the only touched point of the contour, which is both

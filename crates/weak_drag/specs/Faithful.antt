@@ -5,8 +5,8 @@ use mathlib.Core.List.{List}
 use Prim.Native.Nat.{ℕ}
 use lib.IntN.{ℤ}
 use lib.Signed.{_≤ℤ_}
-use Rattle.contours.specs.Contour.{at, refs, firstOf, secondOf}
-use Rattle.outline.specs.Faithful.{Led, Follows, Amid, InOrder, KeepsOrder}
+use Rattle.weak_contour.specs.Contour.{at, refs, firstOf, secondOf}
+use Rattle.weak.specs.Faithful.{Led, Follows, Amid, InOrder, KeepsOrder}
 use Rattle.weak_drag.specs.Drag.{depends}
 
 -- of the currents d at the end of a drag of the point x

@@ -6,7 +6,7 @@ use mathlib.Core.Logic.{_⊎_}
 use Prim.Native.Nat.{ℕ, _≤_, _<_}
 use lib.ListN.{length, getD}
 use lib.IntN.{ℤ}
-use Rattle.contours.specs.Contour.{at, refs, references, weakAt, steepBy}
+use Rattle.weak_contour.specs.Contour.{at, refs, references, weakAt, steepBy}
 use Rattle.weak_known.specs.Walks.{contour}
 use Rattle.weak_drag.specs.Drag.{isReference, draggedAt}
 

@@ -1,16 +1,16 @@
 // The points that depend on the touched point p, fitted again: those of its contour's two arcs that end at it.
 use super::around::next_around;
 use super::around::prior_around;
-use contours::iup::iup_interpolate;
-use outline::accept::wide;
+use weak::accept::wide;
+use weak_contour::iup::iup_interpolate;
 ghost use mathlib.Core.Path.{_≡_};
 ghost use mathlib.Core.Bool.{true};
 ghost use Prim.Native.Nat.{_≤_, _<_};
 ghost use lib.ListN.{length, getD};
 ghost use Rattle.signed.specs.Equality.{eqZ};
-ghost use Rattle.contours.specs.Contour.{at, refs, betweenAt};
-ghost use Rattle.contours.specs.Steps.{Coordinate, Coordinates};
-ghost use Rattle.outline.specs.Steps.{Accepted, GentleAll};
+ghost use Rattle.weak_contour.specs.Contour.{at, refs, betweenAt};
+ghost use Rattle.weak_contour.specs.Steps.{Coordinate, Coordinates};
+ghost use Rattle.weak.specs.Steps.{Accepted, GentleAll};
 ghost use Rattle.weak_known.specs.Walks.{GentleOn};
 ghost use Rattle.weak_drag.specs.Drag.{isThere};
 ghost use Rattle.weak_drag.specs.Steps.{GentleArc, ArcWrote, Refitted, DragDone};

@@ -1,8 +1,8 @@
 // Which drags are refused.
-use outline::accept::all_near;
-use outline::accept::list_refusal;
-use outline::accept::number_refusal;
 use refusals::order::BAD_INDEX;
+use weak::accept::all_near;
+use weak::accept::list_refusal;
+use weak::accept::number_refusal;
 ghost use mathlib.Core.Path.{_≡_};
 ghost use Rattle.refusals.specs.Refusal.{refusal};
 ghost use Rattle.weak_drag.specs.Drag.{isThere, dragTests};

@@ -9,7 +9,7 @@ use lib.Dec.{eqb}
 use lib.IntN.{ℤ}
 use lib.Signed.{ltZ}
 use Rattle.signed.specs.Equality.{eqZ}
-use Rattle.contours.specs.Contour.{at, References, firstOf, secondOf, betweenAt, shiftedAt, followed, steepBy, steepFollowed}
+use Rattle.weak_contour.specs.Contour.{at, References, firstOf, secondOf, betweenAt, shiftedAt, followed, steepBy, steepFollowed}
 
 -- ---- the currents c and d agree at the references
 abbrev pub AgreeAt : List ℤ → List ℤ → Option References → Type 0
@@ -39,7 +39,8 @@ module _ (o c d : List ℤ) (i : ℕ) where
   steep-same none a = refl
   steep-same (some r) a = steep-reads r (a r refl .0) (a r refl .1)
 
-  -- one reference: where it did not move, the point's own current is read. A point whose current is as it was, or is already where it comes to, comes to the same place
+  -- one reference: where it did not move, the point's own current is read. A point whose current is as it was, or is already where it comes to, comes to the
+  -- same place
   pub shifted-same : (p : ℕ) → at d p ≡ at c p → (at d i ≡ at c i) ⊎ (at d i ≡ shiftedAt o c p i) → shiftedAt o d p i ≡ shiftedAt o c p i
   unfolding shiftedAt
   shifted-same p e w = by (eqZ (at c p) (at o p)) refl w
@@ -55,7 +56,8 @@ module _ (o c d : List ℤ) (i : ℕ) where
   followed-same none a (inr q) = q
   followed-same (some r) a w = by (eqb (r .before) (r .behind)) refl w
     where
-      by : (b : Bool) → eqb (r .before) (r .behind) ≡ b → (at d i ≡ at c i) ⊎ (at d i ≡ followed o c (some r) i) → followed o d (some r) i ≡ followed o c (some r) i
+      by : (b : Bool) → eqb (r .before) (r .behind) ≡ b → (at d i ≡ at c i) ⊎ (at d i ≡ followed o c (some r) i)
+          → followed o d (some r) i ≡ followed o c (some r) i
       by true e (inl q) = rw e (shifted-same (r .before) (a r refl .0) (inl q))
       by true e (inr q) = rw e (shifted-same (r .before) (a r refl .0) (inr (rw e at q)))
       by false e x = rw e (between-reads r (a r refl .0) (a r refl .1))

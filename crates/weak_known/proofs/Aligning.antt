@@ -13,12 +13,12 @@ use borrow.Author.Tests.{lt-ltb, le-ltb}
 use lib.Dec.{ltb}
 use lib.ListN.{getD}
 use lib.IntN.{ℤ}
-use Rattle.contours.specs.Contour.{at, isTouched, firstTouched, lastTouched, touchedBefore, touchedBehind, refs, references, betweenAt, shiftedAt, weakAt}
-use Rattle.contours.specs.Steps.{Clear, Wrote, GentleRefs}
-use Rattle.contours.proofs.Searches.{not-touched, marked, unmarked, First, first-is, first-clear, last-is}
-use Rattle.contours.proofs.References.{refs-on, refs-same}
-use Rattle.contours.proofs.Shifts.{shifted-own}
-use Rattle.contours.proofs.Points.{weak-touched, weak-two, weak-one, weak-none, steep-two}
+use Rattle.weak_contour.specs.Contour.{at, isTouched, firstTouched, lastTouched, touchedBefore, touchedBehind, refs, references, betweenAt, shiftedAt, weakAt}
+use Rattle.weak_contour.specs.Steps.{Clear, Wrote, GentleRefs}
+use Rattle.weak_contour.proofs.Searches.{not-touched, marked, unmarked, First, first-is, first-clear, last-is}
+use Rattle.weak_contour.proofs.References.{refs-on, refs-same}
+use Rattle.weak_contour.proofs.Shifts.{shifted-own}
+use Rattle.weak_contour.proofs.Points.{weak-touched, weak-two, weak-one, weak-none, steep-two}
 use Rattle.weak_known.specs.Known.{touchedNumber}
 use Rattle.weak_known.specs.Walks.{contour, foundOr, priorAt, laterAt, Says, TwoOn, LoneOn, GentleOn}
 use Rattle.weak_known.proofs.Agreeing.{between-reads, steep-reads}
@@ -54,7 +54,8 @@ module _ (t : List ℕ) (s e i : ℕ) (low : s ≤ i) (high : i < e) (w : TwoOn 
   unfolding references touchedBefore touchedBehind foundOr
   refs-are = by (lastTouched t s (i - s)) (firstTouched t (suc i) (e - suc i)) refl refl
     where
-      by : (x y : Option ℕ) → lastTouched t s (i - s) ≡ x → firstTouched t (suc i) (e - suc i) ≡ y → references t (contour s e) i ≡ some (refs (foundOr (w .last) x) (foundOr (w .first) y))
+      by : (x y : Option ℕ) → lastTouched t s (i - s) ≡ x → firstTouched t (suc i) (e - suc i) ≡ y
+          → references t (contour s e) i ≡ some (refs (foundOr (w .last) x) (foundOr (w .first) y))
       by none none ex ey = rw (ex, ey, w .first-is, w .last-is)
       by none (some b) ex ey = rw (ex, ey, w .last-is)
       by (some a) none ex ey = rw (ex, ey, w .first-is)
@@ -78,7 +79,8 @@ module _ (t : List ℕ) (s e i : ℕ) (low : s ≤ i) (high : i < e) (w : TwoOn 
       with-i b c z h l = ⊎-elim (λ q. subst (λ (x : ℕ). getD t x 0 ≡ 0) q unmark) (λ q. c z h q) (eq-or-lt-of-le l)
 
       by : (y : Option ℕ) → firstTouched t (suc i) (e - suc i) ≡ y
-          → (Clear t i (cond (ltb i (foundOr (w .first) y)) (foundOr (w .first) y) e)) × (i < cond (ltb i (foundOr (w .first) y)) (foundOr (w .first) y) e) × (cond (ltb i (foundOr (w .first) y)) (foundOr (w .first) y) e ≤ e)
+          → (Clear t i (cond (ltb i (foundOr (w .first) y)) (foundOr (w .first) y) e)) × (i < cond (ltb i (foundOr (w .first) y)) (foundOr (w .first) y) e)
+          × (cond (ltb i (foundOr (w .first) y)) (foundOr (w .first) y) e ≤ e)
       by none q =
           let c = first-clear t (suc i) (e - suc i) q in
           let f = first-is t s (e - s) (w .first) (w .first-is) in
@@ -108,11 +110,14 @@ module _ (f : ℕ → ℤ) (s e i : ℕ) (c d : List ℤ) where
   to-end h = let a : i - (i - e) ≡ e = omega arith in subst (λ (x : ℕ). Wrote f s x c d) a
 
 -- a touched point is passed
-pub passed : (o c d : List ℤ) (t : List ℕ) (s e i : ℕ) → 0 < getD t i 0 → Wrote (weakAt o c t (contour s e)) s i c d → Wrote (weakAt o c t (contour s e)) s (i + 1) c d
+pub passed : (o c d : List ℤ) (t : List ℕ) (s e i : ℕ) → 0 < getD t i 0 → Wrote (weakAt o c t (contour s e)) s i c d
+    → Wrote (weakAt o c t (contour s e)) s (i + 1) c d
 passed o c d t s e i m so =
     record {
       len = so .len;
-      inside = λ j x y. ⊎-elim (λ z. rw z (so .above i (omega arith) ∙ sym (weak-touched o c t (contour s e) i m))) (λ z. so .inside j x z) (eq-or-lt-of-le (le-of-suc-le-suc (rw add-one at y)));
+      inside =
+          λ j x y. ⊎-elim (λ z. rw z (so .above i (omega arith) ∙ sym (weak-touched o c t (contour s e) i m))) (λ z. so .inside j x z)
+          (eq-or-lt-of-le (le-of-suc-le-suc (rw add-one at y)));
       below = so .below;
       above = λ j x. so .above j (omega arith);
     }
@@ -153,7 +158,9 @@ module _ (o c d : List ℤ) (t b h : List ℕ) (s e i p q : ℕ) (low : s ≤ i)
     q-is = number-behind ∙ ap (λ (x : Bool). cond x touchedNumber (foundOr (w .first) (firstTouched t (suc i) (e - suc i)))) (not-touched t i unmark)
 
     here : references t (contour s e) i ≡ some (refs p q)
-    here = refs-are t s e i low high w unmark ∙ ap (λ (x : ℕ). some (refs x (later t s e i low high w unmark))) (sym p-is) ∙ ap (λ (x : ℕ). some (refs p x)) (sym q-is)
+    here =
+        refs-are t s e i low high w unmark ∙ ap (λ (x : ℕ). some (refs x (later t s e i low high w unmark))) (sym p-is)
+        ∙ ap (λ (x : ℕ). some (refs p x)) (sym q-is)
 
     apart : p ≡ q → ⊥
     apart z = refs-differ t s e i low high w unmark (sym p-is ∙ z ∙ q-is)
@@ -195,7 +202,8 @@ module _ (o c d : List ℤ) (t b h : List ℕ) (s e i p q : ℕ) (low : s ≤ i)
           let a : i + (j - i) ≡ j = omega arith in
           let b : suc i + (j - i) ≡ suc j = omega arith in
           let l : lastTouched t s (j - s) ≡ lastTouched t s (i - s) = rw a at (last-along t s i (j - i) low (λ z u v. clear z (omega arith) v)) in
-          let f : firstTouched t (suc i) (e - suc i) ≡ firstTouched t (suc j) (e - suc j) = rw b at (first-along t e (suc i) (j - i) (omega arith) (λ z u v. clear z (omega arith) (omega arith))) in
+          let f : firstTouched t (suc i) (e - suc i) ≡ firstTouched t (suc j) (e - suc j) = rw b
+          at (first-along t e (suc i) (j - i) (omega arith) (λ z u v. clear z (omega arith) (omega arith))) in
           rw (l, sym f) here
 
       comes : (j : ℕ) → i ≤ j → j < to → weakAt o c t (contour s e) j ≡ betweenAt o c (refs p q) j
@@ -207,7 +215,8 @@ module _ (o c d : List ℤ) (t b h : List ℕ) (s e i p q : ℕ) (low : s ≤ i)
       -- none of them is too steep for these, where none is for its own
       pub stretch-gentle : GentleOn o c t s e → GentleRefs o d (refs p q) i to
       stretch-gentle g j x y =
-          steep-reads o c d j (refs p q) kept-p kept-q ∙ steep-two o c t (contour s e) j p q (clear j y x) (along j x y) (g j (omega arith) (omega (arith, to-high)))
+          steep-reads o c d j (refs p q) kept-p kept-q ∙ steep-two o c t (contour s e) j p q (clear j y x) (along j x y)
+          (g j (omega arith) (omega (arith, to-high)))
 
       turn-stretch : (g : List ℤ) → Wrote (betweenAt o d (refs p q)) i to d g → Wrote (weakAt o c t (contour s e)) s to c g
       turn-stretch g v =
@@ -235,7 +244,8 @@ module _ (o c d : List ℤ) (t b h : List ℕ) (s e i p q : ℕ) (low : s ≤ i)
         where
           by : Dec (to < e) → WroteTo (weakAt o c t (contour s e)) s e (to + 1) c g
           by (yes l) = to-here (weakAt o c t (contour s e)) s e (to + 1) c g (omega arith) (passed o c g t s e to (ends-touched l) (turn-stretch g v))
-          by (no n) = let a : to ≡ to + 1 - (to + 1 - e) = omega (arith, to-high) in subst (λ (x : ℕ). Wrote (weakAt o c t (contour s e)) s x c g) a (turn-stretch g v)
+          by (no n) =
+              let a : to ≡ to + 1 - (to + 1 - e) = omega (arith, to-high) in subst (λ (x : ℕ). Wrote (weakAt o c t (contour s e)) s x c g) a (turn-stretch g v)
 
 -- ---- a contour of which one point is touched or none; p is what the search finds
 module _ (o c : List ℤ) (t : List ℕ) (s e p : ℕ) (lo : s ≤ e) (found : p ≡ foundOr e (firstTouched t s (e - s))) where

@@ -46,11 +46,14 @@ same-more l f i n = same-split l f i n 1 ∙ ap (λ (b : Bool). sameAs l f i n &
 pub same-at : (l : List ℕ) (f : ℕ → ℕ) (i n : ℕ) → sameAs l f i n ≡ true → (j : ℕ) → i ≤ j → j < i + n → getD l j 0 ≡ f j
 unfolding sameAs
 same-at l f i zero e j a b = absurd (omega arith)
-same-at l f i (suc n) e j a b = ⊎-elim (λ q. subst (λ (x : ℕ). getD l x 0 ≡ f x) q (eqb-true (getD l i 0) (f i) (and-first (eqb (getD l i 0) (f i)) (sameAs l f (suc i) n) e)))
+same-at l f i (suc n) e j a b =
+    ⊎-elim (λ q. subst (λ (x : ℕ). getD l x 0 ≡ f x) q (eqb-true (getD l i 0) (f i) (and-first (eqb (getD l i 0) (f i)) (sameAs l f (suc i) n) e)))
     (λ h. same-at l f (suc i) n (and-second (eqb (getD l i 0) (f i)) (sameAs l f (suc i) n) e) j h (omega arith)) (eq-or-lt-of-le a)
 
 -- a walk that is handed forwards: where the entries so far are the same, x is the next one's number
-pub walk-on : (l : List ℕ) (f : ℕ → ℕ) (s n x : ℕ) (before here : Bool) → before ≡ sameAs l f s n → here ≡ eqb (getD l (s + n) 0) x → (before ≡ true → x ≡ f (s + n))
+pub walk-on : (l : List ℕ) (f : ℕ → ℕ) (s n x : ℕ) (before here : Bool) → before ≡ sameAs l f s n → here ≡ eqb (getD l (s + n) 0) x
+    → (before ≡ true → x ≡ f (s + n))
     → (before && here) ≡ sameAs l f s (n + 1)
-walk-on l f s n x true here e q h = q ∙ ap (eqb (getD l (s + n) 0)) (h refl) ∙ ap (λ (b : Bool). b && eqb (getD l (s + n) 0) (f (s + n))) e ∙ sym (same-more l f s n)
+walk-on l f s n x true here e q h =
+    q ∙ ap (eqb (getD l (s + n) 0)) (h refl) ∙ ap (λ (b : Bool). b && eqb (getD l (s + n) 0) (f (s + n))) e ∙ sym (same-more l f s n)
 walk-on l f s n x false here e q h = ap (λ (b : Bool). b && eqb (getD l (s + n) 0) (f (s + n))) e ∙ sym (same-more l f s n)

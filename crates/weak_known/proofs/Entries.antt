@@ -10,11 +10,26 @@ use native.Mathlib.Nat.{le-refl, eq-or-lt-of-le}
 use native.Mathlib.Omega.{arith}
 use borrow.Author.Tests.{eq-eqb, ne-eqb}
 use lib.ListN.{getD}
-use Rattle.contours.specs.Contour.{Contour, isTouched, firstTouched, lastTouched, touchedBefore, touchedBehind, refs, references}
-use Rattle.contours.proofs.Searches.{is-touched, not-touched, unmarked, Last, last-is, last-clear, First, first-is, first-clear}
-use Rattle.contours.proofs.References.{refs-none, refs-front, refs-behind, refs-same}
-use Rattle.outline.specs.Weak.{contourOf}
-use Rattle.weak_known.specs.Known.{touched, noContour, oneOrNone, two, byTwo, free, known, beforeOf, behindOf, beforeAt, behindAt, touchedNumber, noContourNumber, oneOrNoneNumber}
+use Rattle.weak_contour.specs.Contour.{Contour, isTouched, firstTouched, lastTouched, touchedBefore, touchedBehind, refs, references}
+use Rattle.weak_contour.proofs.Searches.{is-touched, not-touched, unmarked, Last, last-is, last-clear, First, first-is, first-clear}
+use Rattle.weak_contour.proofs.References.{refs-none, refs-front, refs-behind, refs-same}
+use Rattle.weak.specs.Weak.{contourOf}
+use Rattle.weak_known.specs.Known.{
+  touched,
+  noContour,
+  oneOrNone,
+  two,
+  byTwo,
+  free,
+  known,
+  beforeOf,
+  behindOf,
+  beforeAt,
+  behindAt,
+  touchedNumber,
+  noContourNumber,
+  oneOrNoneNumber,
+}
 use Rattle.weak_known.specs.Walks.{contour, foundOr, knownOn, beforeOn, behindOn, plainAt, priorAt, laterAt}
 
 -- ---- the point in the whole outline
@@ -54,14 +69,17 @@ module _ (t : List ℕ) (s e i : ℕ) (low : s ≤ i) (high : i < e) where
   lone-none unmark q = refs-none t (contour s e) i low high (λ z h l. first-clear t s (e - s) q z (omega arith) l)
 
   -- one is
-  pub lone-one : (p : ℕ) → getD t i 0 ≡ 0 → firstTouched t s (e - s) ≡ some p → lastTouched t s (e - s) ≡ some p → references t (contour s e) i ≡ some (refs p p)
+  pub lone-one : (p : ℕ) → getD t i 0 ≡ 0 → firstTouched t s (e - s) ≡ some p → lastTouched t s (e - s) ≡ some p
+      → references t (contour s e) i ≡ some (refs p p)
   lone-one p unmark a b = by (first-is t s (e - s) p a) (last-is t s (e - s) p b) (decLt i p)
     where
       by : First t s (s + (e - s)) p → Last t s (s + (e - s)) p → Dec (i < p) → references t (contour s e) i ≡ some (refs p p)
       by f l (yes h) =
-          refs-front t (contour s e) i low high p p (f .low) (le-refl p) (omega (arith, f .high)) (f .mark) (f .mark) (f .clear) (λ z h m. l .clear z (omega arith) m) h
+          refs-front t (contour s e) i low high p p (f .low) (le-refl p) (omega (arith, f .high)) (f .mark) (f .mark) (f .clear)
+          (λ z h m. l .clear z (omega arith) m) h
       by f l (no n) =
-          refs-behind t (contour s e) i low high p p (f .low) (le-refl p) (omega (arith, f .high)) (f .mark) (f .mark) (f .clear) (λ z h m. l .clear z (omega arith) m)
+          refs-behind t (contour s e) i low high p p (f .low) (le-refl p) (omega (arith, f .high)) (f .mark) (f .mark) (f .clear)
+          (λ z h m. l .clear z (omega arith) m)
           (beyond t i p unmark (f .mark) n)
 
   -- where both searches come to the same, it is one or none
@@ -69,12 +87,20 @@ module _ (t : List ℕ) (s e i : ℕ) (low : s ≤ i) (high : i < e) where
   unfolding foundOr byTwo
   lone-two unmark q = by (firstTouched t s (e - s)) (lastTouched t s (e - s)) refl refl q
     where
-      by : (x y : Option ℕ) → firstTouched t s (e - s) ≡ x → lastTouched t s (e - s) ≡ y → foundOr e x ≡ foundOr e y → byTwo (references t (contour s e) i) ≡ oneOrNone
+      by : (x y : Option ℕ) → firstTouched t s (e - s) ≡ x → lastTouched t s (e - s) ≡ y → foundOr e x ≡ foundOr e y
+          → byTwo (references t (contour s e) i) ≡ oneOrNone
       by none y ex ey z = rw (lone-none unmark ex)
-      by (some p) none ex ey z = absurd (omega (arith, first-is t s (e - s) p ex .mark, last-clear t s (e - s) ey p (first-is t s (e - s) p ex .high) (first-is t s (e - s) p ex .low)))
+      by (some p) none ex ey z =
+          absurd (omega (
+            arith,
+            first-is t s (e - s) p ex .mark,
+            last-clear t s (e - s) ey p (first-is t s (e - s) p ex .high)
+                (first-is t s (e - s) p ex .low),
+          ))
       by (some p) (some u) ex ey z = rw (lone-one p unmark ex (ey ∙ ap some (sym z)), eq-eqb p p refl)
 
-  pub lone-known : foundOr e (firstTouched t s (e - s)) ≡ foundOr e (lastTouched t s (e - s)) → knownOn t (contour s e) i ≡ cond (isTouched t i) touched oneOrNone
+  pub lone-known : foundOr e (firstTouched t s (e - s)) ≡ foundOr e (lastTouched t s (e - s))
+      → knownOn t (contour s e) i ≡ cond (isTouched t i) touched oneOrNone
   unfolding knownOn
   lone-known q = by (isTouched t i) refl
     where
@@ -100,7 +126,8 @@ module _ (t : List ℕ) (s e i : ℕ) (low : s ≤ i) (high : i < e) where
 
   -- where they differ, two points are touched: p is found from the front, u from the end
   module _ (p u : ℕ) (ep : firstTouched t s (e - s) ≡ some p) (eu : lastTouched t s (e - s) ≡ some u) (ne : p ≡ u → ⊥) where
-    more-two : getD t i 0 ≡ 0 → byTwo (references t (contour s e) i) ≡ two (foundOr u (lastTouched t s (i - s))) (foundOr p (firstTouched t (suc i) (e - suc i)))
+    more-two : getD t i 0 ≡ 0 → byTwo (references t (contour s e) i)
+        ≡ two (foundOr u (lastTouched t s (i - s))) (foundOr p (firstTouched t (suc i) (e - suc i)))
     unfolding byTwo references touchedBefore touchedBehind foundOr
     more-two unmark = by (lastTouched t s (i - s)) (firstTouched t (suc i) (e - suc i)) refl refl
       where
@@ -152,20 +179,24 @@ both-found t s e ne = by (firstTouched t s (e - s)) (lastTouched t s (e - s)) re
     by : (x y : Option ℕ) → firstTouched t s (e - s) ≡ x → lastTouched t s (e - s) ≡ y → (foundOr e x ≡ foundOr e y → ⊥)
         → (x ≡ some (foundOr e x)) × (y ≡ some (foundOr e y))
     by none none ex ey n = absurd (n refl)
-    by none (some u) ex ey n = absurd (omega (arith, last-is t s (e - s) u ey .mark, first-clear t s (e - s) ex u (last-is t s (e - s) u ey .high) (last-is t s (e - s) u ey .low)))
-    by (some p) none ex ey n = absurd (omega (arith, first-is t s (e - s) p ex .mark, last-clear t s (e - s) ey p (first-is t s (e - s) p ex .high) (first-is t s (e - s) p ex .low)))
+    by none (some u) ex ey n =
+        absurd (omega (arith, last-is t s (e - s) u ey .mark, first-clear t s (e - s) ex u (last-is t s (e - s) u ey .high) (last-is t s (e - s) u ey .low)))
+    by (some p) none ex ey n =
+        absurd (omega (arith, first-is t s (e - s) p ex .mark, last-clear t s (e - s) ey p (first-is t s (e - s) p ex .high) (first-is t s (e - s) p ex .low)))
     by (some p) (some u) ex ey n = (refl, refl)
 
 -- ---- one step of a walk
 -- forwards: the number of the point behind i, by that of i
-pub prior-next : (t : List ℕ) (s last i : ℕ) → s ≤ i → priorAt t s last (suc i) ≡ cond (isTouched t (suc i)) touchedNumber (cond (isTouched t i) i (priorAt t s last i))
+pub prior-next : (t : List ℕ) (s last i : ℕ) → s ≤ i → priorAt t s last (suc i)
+    ≡ cond (isTouched t (suc i)) touchedNumber (cond (isTouched t i) i (priorAt t s last i))
 unfolding priorAt lastTouched foundOr
 prior-next t s last i h =
     let a : suc i - s ≡ suc (i - s) = omega arith in
     let b : s + (i - s) ≡ i = omega arith in
     by a b (isTouched t i) refl
   where
-    by : suc i - s ≡ suc (i - s) → s + (i - s) ≡ i → (b : Bool) → isTouched t i ≡ b → priorAt t s last (suc i) ≡ cond (isTouched t (suc i)) touchedNumber (cond (isTouched t i) i (priorAt t s last i))
+    by : suc i - s ≡ suc (i - s) → s + (i - s) ≡ i → (b : Bool) → isTouched t i ≡ b
+        → priorAt t s last (suc i) ≡ cond (isTouched t (suc i)) touchedNumber (cond (isTouched t i) i (priorAt t s last i))
     by a b true q = rw (a, b, q)
     by a b false q = rw (a, b, q)
 
@@ -174,13 +205,15 @@ unfolding priorAt lastTouched foundOr
 prior-first t s last = let a : s - s ≡ 0 = omega arith in rw a
 
 -- backwards: the number of the point i, by that of the one behind it
-pub later-next : (t : List ℕ) (e first i : ℕ) → suc i < e → laterAt t e first i ≡ cond (isTouched t i) touchedNumber (cond (isTouched t (suc i)) (suc i) (laterAt t e first (suc i)))
+pub later-next : (t : List ℕ) (e first i : ℕ) → suc i < e → laterAt t e first i
+    ≡ cond (isTouched t i) touchedNumber (cond (isTouched t (suc i)) (suc i) (laterAt t e first (suc i)))
 unfolding laterAt firstTouched foundOr
 later-next t e first i h =
     let a : e - suc i ≡ suc (e - suc (suc i)) = omega arith in
     by a (isTouched t (suc i)) refl
   where
-    by : e - suc i ≡ suc (e - suc (suc i)) → (b : Bool) → isTouched t (suc i) ≡ b → laterAt t e first i ≡ cond (isTouched t i) touchedNumber (cond (isTouched t (suc i)) (suc i) (laterAt t e first (suc i)))
+    by : e - suc i ≡ suc (e - suc (suc i)) → (b : Bool) → isTouched t (suc i) ≡ b
+        → laterAt t e first i ≡ cond (isTouched t i) touchedNumber (cond (isTouched t (suc i)) (suc i) (laterAt t e first (suc i)))
     by a true q = rw (a, q)
     by a false q = rw (a, q)
 

@@ -10,11 +10,34 @@ use borrow.Author.Tests.{leb-true, ltb-true, eqb-true, le-leb, lt-leb, lt-ltb, l
 use lib.Dec.{leb, ltb, eqb}
 use lib.ListN.{getD}
 use Rattle.refusals.proofs.Tests.{and-first, and-second}
-use Rattle.contours.specs.Limits.{mostPoints}
-use Rattle.contours.specs.Contour.{isTouched, firstTouched, lastTouched}
-use Rattle.contours.proofs.Searches.{is-touched, not-touched, marked, first-is, last-is, first-clear, last-clear}
+use Rattle.weak_contour.specs.Limits.{mostPoints}
+use Rattle.weak_contour.specs.Contour.{isTouched, firstTouched, lastTouched}
+use Rattle.weak_contour.proofs.Searches.{is-touched, not-touched, marked, first-is, last-is, first-clear, last-clear}
 use Rattle.weak_known.specs.Known.{sameAs, touchedNumber, oneOrNoneNumber}
-use Rattle.weak_known.specs.Walks.{contour, foundOr, beforeOn, behindOn, plainAt, priorAt, laterAt, saidOn, shows, firstShown, lastShown, showTwo, seamHolds, fits, fitsAt, allFrom, weight, weightAt, sumFrom, Says, TwoOn, LoneOn}
+use Rattle.weak_known.specs.Walks.{
+  contour,
+  foundOr,
+  beforeOn,
+  behindOn,
+  plainAt,
+  priorAt,
+  laterAt,
+  saidOn,
+  shows,
+  firstShown,
+  lastShown,
+  showTwo,
+  seamHolds,
+  fits,
+  fitsAt,
+  allFrom,
+  weight,
+  weightAt,
+  sumFrom,
+  Says,
+  TwoOn,
+  LoneOn,
+}
 use Rattle.weak_known.proofs.Comparing.{and-true, same-at}
 use Rattle.weak_known.proofs.Remembering.{same-put}
 use Rattle.weak_known.proofs.Entries.{lone-before, lone-behind, more-before, more-behind, both-found, prior-next, prior-first, later-next, later-last}
@@ -70,7 +93,8 @@ sum-two f i (suc n) j k a b c = by (ℕ-discrete j i) (λ (m : suc i ≤ j). sum
 sum-few : (f : ℕ → ℕ) (i n : ℕ) → ((j : ℕ) → i ≤ j → j < i + n → f j ≤ 1) → ((j k : ℕ) → i ≤ j → j < k → k < i + n → f j + f k ≤ 1) → sumFrom f i n ≤ 1
 unfolding sumFrom
 sum-few f i zero h g = omega arith
-sum-few f i (suc n) h g = by (ℕ-discrete (f i) 0) (sum-few f (suc i) n (λ j a b. h j (omega arith) (omega arith)) (λ j k a b c. g j k (omega arith) b (omega arith)))
+sum-few f i (suc n) h g =
+    by (ℕ-discrete (f i) 0) (sum-few f (suc i) n (λ j a b. h j (omega arith) (omega arith)) (λ j k a b c. g j k (omega arith) b (omega arith)))
   where
     by : Dec (f i ≡ 0) → sumFrom f (suc i) n ≤ 1 → f i + sumFrom f (suc i) n ≤ 1
     by (yes q) rest = omega arith
@@ -99,13 +123,15 @@ weight-touched m p u q = rw q (by (eqb p touchedNumber && eqb u touchedNumber))
 
 weight-right : (m p u v : ℕ) → v ≡ cond (ltb 0 m) touchedNumber oneOrNoneNumber → p ≡ v → u ≡ v → weight m p u ≡ cond (ltb 0 m) 1 0
 unfolding weight
-weight-right m p u v q a c = rw (eq-eqb p (cond (ltb 0 m) touchedNumber oneOrNoneNumber) (a ∙ q), eq-eqb u (cond (ltb 0 m) touchedNumber oneOrNoneNumber) (c ∙ q))
+weight-right m p u v q a c =
+    rw (eq-eqb p (cond (ltb 0 m) touchedNumber oneOrNoneNumber) (a ∙ q), eq-eqb u (cond (ltb 0 m) touchedNumber oneOrNoneNumber) (c ∙ q))
 
 weight-below : (m p u : ℕ) → weight m p u < 2 → (p ≡ cond (ltb 0 m) touchedNumber oneOrNoneNumber) × (u ≡ cond (ltb 0 m) touchedNumber oneOrNoneNumber)
 unfolding weight
 weight-below m p u w = by (eqb p (cond (ltb 0 m) touchedNumber oneOrNoneNumber)) (eqb u (cond (ltb 0 m) touchedNumber oneOrNoneNumber)) refl refl w
   where
-    by : (x y : Bool) → eqb p (cond (ltb 0 m) touchedNumber oneOrNoneNumber) ≡ x → eqb u (cond (ltb 0 m) touchedNumber oneOrNoneNumber) ≡ y → cond (x && y) (cond (ltb 0 m) 1 0) 2 < 2
+    by : (x y : Bool) → eqb p (cond (ltb 0 m) touchedNumber oneOrNoneNumber) ≡ x → eqb u (cond (ltb 0 m) touchedNumber oneOrNoneNumber) ≡ y
+        → cond (x && y) (cond (ltb 0 m) 1 0) 2 < 2
         → (p ≡ cond (ltb 0 m) touchedNumber oneOrNoneNumber) × (u ≡ cond (ltb 0 m) touchedNumber oneOrNoneNumber)
     by true true a c w = (eqb-true p (cond (ltb 0 m) touchedNumber oneOrNoneNumber) a, eqb-true u (cond (ltb 0 m) touchedNumber oneOrNoneNumber) c)
     by true false a c w = absurd (omega arith)
@@ -119,13 +145,19 @@ sum-most f i (suc n) h = omega (arith, h i, sum-most f (suc i) n h)
 -- ---- what both lists say, at every point
 said-says : (t b h : List ℕ) (s e : ℕ) → saidOn t b h s e ≡ true → Says t b h s e
 said-says t b h s e q =
-    let x = same-at b (beforeOn t (contour s e)) s (e - s) (and-first (sameAs b (beforeOn t (contour s e)) s (e - s)) (sameAs h (behindOn t (contour s e)) s (e - s)) q) in
-    let y = same-at h (behindOn t (contour s e)) s (e - s) (and-second (sameAs b (beforeOn t (contour s e)) s (e - s)) (sameAs h (behindOn t (contour s e)) s (e - s)) q) in
+    let x = same-at b (beforeOn t (contour s e)) s (e - s)
+    (and-first (sameAs b (beforeOn t (contour s e)) s (e - s)) (sameAs h (behindOn t (contour s e)) s (e - s)) q) in
+    let y = same-at h (behindOn t (contour s e)) s (e - s)
+    (and-second (sameAs b (beforeOn t (contour s e)) s (e - s)) (sameAs h (behindOn t (contour s e)) s (e - s)) q) in
     record { before = λ i u v. x i u (omega arith); behind = λ i u v. y i u (omega arith) }
 
 says-said : (t b h : List ℕ) (s e : ℕ) → Says t b h s e → saidOn t b h s e ≡ true
 says-said t b h s e w =
-    rw (same-put (beforeOn t (contour s e)) b s (e - s) (λ i u v. w .before i u (omega arith)), same-put (behindOn t (contour s e)) h s (e - s) (λ i u v. w .behind i u (omega arith)))
+    rw (
+      same-put (beforeOn t (contour s e)) b s (e - s) (λ i u v. w .before i u (omega arith)),
+      same-put (behindOn t (contour s e)) h s (e - s)
+          (λ i u v. w .behind i u (omega arith)),
+    )
 
 -- ---- what an entry shows
 shows-touched : (v i : ℕ) → v ≡ touchedNumber → shows v i ≡ i
@@ -184,7 +216,8 @@ module _ (t : List ℕ) (s e : ℕ) (lo : s < e) (hi : e ≤ mostPoints) where
           let a : suc j ≡ i = omega arith in
           let k = prior-all n j (omega arith) (omega arith) in
           subst (λ (x : ℕ). getD b x 0 ≡ priorAt t s last x) a
-          (f j (omega arith) (omega arith) ∙ ap (cond (isTouched t (suc j)) touchedNumber) (prior-shows j (getD b j 0) (omega arith) (omega arith) k) ∙ sym (prior-next t s last j (omega arith)))
+          (f j (omega arith) (omega arith) ∙ ap (cond (isTouched t (suc j)) touchedNumber) (prior-shows j (getD b j 0) (omega arith) (omega arith) k)
+          ∙ sym (prior-next t s last j (omega arith)))
 
       prior-is : (i : ℕ) → s ≤ i → i < e → getD b i 0 ≡ priorAt t s last i
       prior-is i a c = prior-all (i - s) i (omega arith) c
@@ -228,7 +261,8 @@ module _ (t : List ℕ) (s e : ℕ) (lo : s < e) (hi : e ≤ mostPoints) where
           subst (λ (x : ℕ). getD h x 0 ≡ cond (isTouched t x) touchedNumber first) a z ∙ sym (later-last t e first i (omega arith))
       later-all (suc n) i g q =
           let k = later-all n (suc i) (omega arith) (omega arith) in
-          f i g (omega arith) ∙ ap (cond (isTouched t i) touchedNumber) (later-shows (suc i) (getD h (suc i) 0) (omega arith) k) ∙ sym (later-next t e first i (omega arith))
+          f i g (omega arith) ∙ ap (cond (isTouched t i) touchedNumber) (later-shows (suc i) (getD h (suc i) 0) (omega arith) k)
+          ∙ sym (later-next t e first i (omega arith))
 
       later-is : (i : ℕ) → s ≤ i → i < e → getD h i 0 ≡ laterAt t e first i
       later-is i a c = later-all (e - suc i) i a (omega arith)
@@ -264,7 +298,12 @@ module _ (t : List ℕ) (s e : ℕ) (lo : s < e) (hi : e ≤ mostPoints) where
         let y = ltb (firstShown h s) (lastShown b e) in
         let z = ltb (lastShown b e) e in
         let r = and-second x (y && z) q in
-        record { low = leb-true s (firstShown h s) (and-first x (y && z) q); less = ltb-true (firstShown h s) (lastShown b e) (and-first y z r); high = ltb-true (lastShown b e) e (and-second y z r) }
+        record {
+          low = leb-true s (firstShown h s) (and-first x (y && z) q);
+          less = ltb-true (firstShown h s) (lastShown b e) (and-first y z r);
+          high =
+              ltb-true (lastShown b e) e (and-second y z r);
+        }
 
     -- all that fits is known
     module _ (w : Two) (seam : seamHolds t b h s e ≡ true) (all : allFrom (fitsAt t b h) s (e - suc s) ≡ true) where
@@ -290,7 +329,9 @@ module _ (t : List ℕ) (s e : ℕ) (lo : s < e) (hi : e ≤ mostPoints) where
 
       rear-is : getD h (e - 1) 0 ≡ cond (isTouched t (e - 1)) touchedNumber first
       unfolding seamHolds
-      rear-is = eqb-true (getD h (e - 1) 0) (cond (isTouched t (e - 1)) touchedNumber first) (and-second front rear (and-second (isTouched t first) (front && rear) seam))
+      rear-is =
+          eqb-true (getD h (e - 1) 0) (cond (isTouched t (e - 1)) touchedNumber first)
+          (and-second front rear (and-second (isTouched t first) (front && rear) seam))
 
       -- the neighbours j and suc j
       module _ (j : ℕ) (a : s ≤ j) (c : suc j < e) where
@@ -322,13 +363,16 @@ module _ (t : List ℕ) (s e : ℕ) (lo : s < e) (hi : e ≤ mostPoints) where
       behind-is : (i : ℕ) → s ≤ i → i < e → getD h i 0 ≡ laterAt t e first i
       behind-is =
           later-is first first-in h rear-is
-          (λ j a c. behind-next j a c ∙ ap (λ (x : Bool). cond x touchedNumber (shows (getD h (suc j) 0) (suc j))) (prior-mark last last-in j (getD b j 0) a (omega arith) (before-is j a (omega arith))))
+          (λ j a c. behind-next j a c ∙ ap (λ (x : Bool). cond x touchedNumber (shows (getD h (suc j) 0) (suc j)))
+          (prior-mark last last-in j (getD b j 0) a (omega arith) (before-is j a (omega arith))))
 
       first-is-first : firstTouched t s (e - s) ≡ some first
       first-is-first = let l = w .low in first-found first first l first-in is-first (later-start first first-in (getD h s 0) (behind-is s (omega arith) lo))
 
       last-is-last : lastTouched t s (e - s) ≡ some last
-      last-is-last = let l = w .low in last-found last first l first-in is-first (prior-end last last-in (getD b (e - 1) 0) (before-is (e - 1) (omega arith) (omega arith)))
+      last-is-last =
+          let l = w .low in
+          last-found last first l first-in is-first (prior-end last last-in (getD b (e - 1) 0) (before-is (e - 1) (omega arith) (omega arith)))
 
       differ : first ≡ last → ⊥
       differ q = let l = w .less in absurd (omega arith)
@@ -383,7 +427,8 @@ module _ (t : List ℕ) (s e : ℕ) (lo : s < e) (hi : e ≤ mostPoints) where
             shown-last,
             is-touched t f (first-is t s (e - s) f ef .mark),
             eq-eqb (getD b s 0) (cond (isTouched t s) touchedNumber p) (said-before s (omega arith) lo ∙ prior-first t s p),
-            eq-eqb (getD h (e - 1) 0) (cond (isTouched t (e - 1)) touchedNumber f) (said-behind (e - 1) (omega arith) (omega arith) ∙ later-last t e f (e - 1) (omega arith)),
+            eq-eqb (getD h (e - 1) 0) (cond (isTouched t (e - 1)) touchedNumber f)
+                (said-behind (e - 1) (omega arith) (omega arith) ∙ later-last t e f (e - 1) (omega arith)),
           )
 
       fits-two : (j : ℕ) → s ≤ j → suc j < e → fitsAt t b h j ≡ true
@@ -395,7 +440,8 @@ module _ (t : List ℕ) (s e : ℕ) (lo : s < e) (hi : e ≤ mostPoints) where
           let y : getD h j 0 ≡ cond (eqb (getD b j 0) touchedNumber) touchedNumber (shows (getD h (suc j) 0) (suc j)) =
           said-behind j a (omega arith) ∙ later-next t e f j c
           ∙ ap (cond (isTouched t j) touchedNumber) (sym (later-shows f f-in (suc j) (getD h (suc j) 0) c (said-behind (suc j) (omega arith) c)))
-          ∙ ap (λ (z : Bool). cond z touchedNumber (shows (getD h (suc j) 0) (suc j))) (sym (prior-mark p p-in j (getD b j 0) a (omega arith) (said-before j a (omega arith)))) in
+          ∙ ap (λ (z : Bool). cond z touchedNumber (shows (getD h (suc j) 0) (suc j)))
+          (sym (prior-mark p p-in j (getD b j 0) a (omega arith) (said-before j a (omega arith)))) in
           rw (
             eq-eqb (getD b (suc j) 0) (cond (isTouched t (suc j)) touchedNumber (shows (getD b j 0) j)) x,
             eq-eqb (getD h j 0) (cond (eqb (getD b j 0) touchedNumber) touchedNumber (shows (getD h (suc j) 0) (suc j))) y,
@@ -461,14 +507,16 @@ module _ (t : List ℕ) (s e : ℕ) (lo : s < e) (hi : e ≤ mostPoints) where
       two-most : (i j : ℕ) → s ≤ i → i < j → j < e → weightAt t b h i + weightAt t b h j ≤ 1
       two-most i j a l c = by (isTouched t i) (isTouched t j) refl refl (own-weight i a (omega arith)) (own-weight j (omega arith) c)
         where
-          by : (x y : Bool) → isTouched t i ≡ x → isTouched t j ≡ y → weightAt t b h i ≡ cond (isTouched t i) 1 0 → weightAt t b h j ≡ cond (isTouched t j) 1 0 → weightAt t b h i + weightAt t b h j ≤ 1
+          by : (x y : Bool) → isTouched t i ≡ x → isTouched t j ≡ y → weightAt t b h i ≡ cond (isTouched t i) 1 0
+              → weightAt t b h j ≡ cond (isTouched t j) 1 0 → weightAt t b h i + weightAt t b h j ≤ 1
           by true true m n u v = absurd (let o = lone-only q i j a (omega arith) (marked t i m) (omega arith) c (marked t j n) in omega arith)
           by true false m n u v = let z : weightAt t b h j ≡ 0 = v ∙ rw n in let y : weightAt t b h i ≡ 1 = u ∙ rw m in omega arith
           by false y m n u v = let z : weightAt t b h i ≡ 0 = u ∙ rw m in let g = one-most (isTouched t j) in omega arith
 
       lone-weighs : sumFrom (weightAt t b h) s (e - s) < 2
       lone-weighs =
-          let z = sum-few (weightAt t b h) s (e - s) (λ j a c. let w = own-weight j a (omega arith) in let g = one-most (isTouched t j) in omega arith) (λ j k a l c. two-most j k a l (omega arith)) in
+          let z = sum-few (weightAt t b h) s (e - s) (λ j a c. let w = own-weight j a (omega arith) in let g = one-most (isTouched t j) in omega arith)
+          (λ j k a l c. two-most j k a l (omega arith)) in
           omega arith
 
     -- and where they do, all is known
@@ -495,7 +543,8 @@ module _ (t : List ℕ) (s e : ℕ) (lo : s < e) (hi : e ≤ mostPoints) where
               let f = first-is t s (e - s) _ (r .0) in
               let l = last-is t s (e - s) _ (r .1) in
               differ (decLt (foundOr e (firstTouched t s (e - s))) (foundOr e (lastTouched t s (e - s))))
-              (λ g. weighs-two _ _ (f .low) g (let x = l .high in omega arith) (f .mark) (l .mark)) (λ g. absurd (let x = f .clear _ g (l .low) in let y = l .mark in omega arith)) n
+              (λ g. weighs-two _ _ (f .low) g (let x = l .high in omega arith) (f .mark) (l .mark))
+              (λ g. absurd (let x = f .clear _ g (l .low) in let y = l .mark in omega arith)) n
             where
               differ : {x y : ℕ} → Dec (x < y) → (x < y → ⊥) → (y < x → ⊥) → (x ≡ y → ⊥) → {A : Type 0} → A
               differ (yes g) u v o = absurd (u g)
@@ -508,7 +557,8 @@ module _ (t : List ℕ) (s e : ℕ) (lo : s < e) (hi : e ≤ mostPoints) where
       }
 
     -- ---- what the code decides
-    found : Dec (LoneOn t s e) → (LoneOn t s e → Says t b h s e → ⊥) → Says t b h s e → (showTwo b h s e ≡ true) × ((seamHolds t b h s e ≡ true) × (allFrom (fitsAt t b h) s (e - suc s) ≡ true))
+    found : Dec (LoneOn t s e) → (LoneOn t s e → Says t b h s e → ⊥) → Says t b h s e
+        → (showTwo b h s e ≡ true) × ((seamHolds t b h s e ≡ true) × (allFrom (fitsAt t b h) s (e - suc s) ≡ true))
     found (yes q) n w = absurd (n q w)
     found (no q) n w =
         let r = both-found t s e q in
@@ -520,7 +570,8 @@ module _ (t : List ℕ) (s e : ℕ) (lo : s < e) (hi : e ≤ mostPoints) where
     -- by the weights, where the ends show no two points
     pub lone-decides : showTwo b h s e ≡ false → ltb (sumFrom (weightAt t b h) s (e - s)) 2 ≡ saidOn t b h s e
     lone-decides z =
-        both-ways (ltb (sumFrom (weightAt t b h) s (e - s)) 2) (saidOn t b h s e) (λ q. says-said t b h s e (weighs-says (ltb-true (sumFrom (weightAt t b h) s (e - s)) 2 q)))
+        both-ways (ltb (sumFrom (weightAt t b h) s (e - s)) 2) (saidOn t b h s e)
+        (λ q. says-said t b h s e (weighs-says (ltb-true (sumFrom (weightAt t b h) s (e - s)) 2 q)))
         (λ q. by (said-says t b h s e q) lone?)
       where
         by : Says t b h s e → Dec (LoneOn t s e) → ltb (sumFrom (weightAt t b h) s (e - s)) 2 ≡ true
@@ -544,7 +595,8 @@ module _ (t : List ℕ) (s e : ℕ) (lo : s < e) (hi : e ≤ mostPoints) where
       seam-decides q = both-ways false (saidOn t b h s e) (λ y. absurd (never y)) (λ y. absurd (never (sym q ∙ said-found y .0)))
 
       pub fits-decide : seamHolds t b h s e ≡ true → allFrom (fitsAt t b h) s (e - suc s) ≡ saidOn t b h s e
-      fits-decide q = both-ways (allFrom (fitsAt t b h) s (e - suc s)) (saidOn t b h s e) (λ y. says-said t b h s e (fitting-says (two-is z) q y)) (λ y. said-found y .1)
+      fits-decide q =
+          both-ways (allFrom (fitsAt t b h) s (e - suc s)) (saidOn t b h s e) (λ y. says-said t b h s e (fitting-says (two-is z) q y)) (λ y. said-found y .1)
 
       -- and where the lists are right two points are touched
       pub shown-two : Says t b h s e → TwoOn t s e
@@ -560,7 +612,8 @@ module _ (t : List ℕ) (s e : ℕ) (lo : s < e) (hi : e ≤ mostPoints) where
 
 -- ---- the loops
 -- neighbours, from the point j on: i is the one behind it
-pub fits-next : (t b h : List ℕ) (i : ℕ) → 0 < i → fits (getD t i 0) (getD b (i - 1) 0) (getD b i 0) (getD h (i - 1) 0) (getD h i 0) (i - 1) i ≡ fitsAt t b h (i - 1)
+pub fits-next : (t b h : List ℕ) (i : ℕ) → 0 < i → fits (getD t i 0) (getD b (i - 1) 0) (getD b i 0) (getD h (i - 1) 0) (getD h i 0) (i - 1) i
+    ≡ fitsAt t b h (i - 1)
 unfolding fitsAt
 fits-next t b h i o =
     let a : i ≡ suc (i - 1) = omega arith in
@@ -574,7 +627,8 @@ fits-here t b h j = let a : j + 1 ≡ suc j = omega arith in ap (λ (x : ℕ). f
 pub all-none : (f : ℕ → Bool) (s e : ℕ) → allFrom f s (e - suc s) ≡ allFrom f (s + 1 - 1) (e - (s + 1))
 all-none f s e = let a : s + 1 - 1 ≡ s = omega arith in let c : e - (s + 1) ≡ e - suc s = omega arith in rw (a, c)
 
-pub all-next : (f : ℕ → Bool) (e i : ℕ) (here : Bool) → 0 < i → i < e → here ≡ f (i - 1) → here ≡ true → allFrom f (i - 1) (e - i) ≡ allFrom f (i + 1 - 1) (e - (i + 1))
+pub all-next : (f : ℕ → Bool) (e i : ℕ) (here : Bool) → 0 < i → i < e → here ≡ f (i - 1) → here ≡ true
+    → allFrom f (i - 1) (e - i) ≡ allFrom f (i + 1 - 1) (e - (i + 1))
 unfolding allFrom
 all-next f e i here o g q y =
     let a : e - i ≡ suc (e - (i + 1)) = omega arith in
@@ -593,8 +647,13 @@ all-end f e i g = let a : e - i ≡ 0 = omega arith in rw a
 all-joined : (f : ℕ → Bool) (s i a n : ℕ) → s ≤ a → a ≤ i → i ≤ a + n → (allFrom f s (i - s) && allFrom f a n) ≡ allFrom f s (a + n - s)
 all-joined f s i a n l m h =
     both-ways (allFrom f s (i - s) && allFrom f a n) (allFrom f s (a + n - s))
-    (λ q. all-of f s (a + n - s) (λ j x y. by j x y (decLt j i) (and-first (allFrom f s (i - s)) (allFrom f a n) q) (and-second (allFrom f s (i - s)) (allFrom f a n) q)))
-    (λ q. rw (all-of f s (i - s) (λ j x y. all-at f s (a + n - s) q j x (omega arith)), all-of f a n (λ j x y. all-at f s (a + n - s) q j (omega arith) (omega arith))))
+    (λ q. all-of f s (a + n - s) (λ j x y. by j x y (decLt j i) (and-first (allFrom f s (i - s)) (allFrom f a n) q)
+    (and-second (allFrom f s (i - s)) (allFrom f a n) q)))
+    (λ q. rw (
+      all-of f s (i - s) (λ j x y. all-at f s (a + n - s) q j x (omega arith)),
+      all-of f a n
+          (λ j x y. all-at f s (a + n - s) q j (omega arith) (omega arith)),
+    ))
   where
     by : (j : ℕ) → s ≤ j → j < s + (a + n - s) → Dec (j < i) → allFrom f s (i - s) ≡ true → allFrom f a n ≡ true → f j ≡ true
     by j x y (yes z) u v = all-at f s (i - s) u j x (omega arith)
@@ -607,7 +666,8 @@ all-more f a k ok here q r =
     let z : a + k + 1 - a ≡ k + 1 = omega arith in
     let y : a + k - a ≡ k = omega arith in
     let x : allFrom f (a + k) 1 ≡ f (a + k) = and-true (f (a + k)) in
-    (λ o. q o && (r ∙ sym x) o) ∙ ap (λ (n : ℕ). allFrom f a n && allFrom f (a + k) 1) (sym y) ∙ all-joined f a (a + k) (a + k) 1 (omega arith) (omega arith) (omega arith) ∙ ap (allFrom f a) z
+    (λ o. q o && (r ∙ sym x) o) ∙ ap (λ (n : ℕ). allFrom f a n && allFrom f (a + k) 1) (sym y)
+    ∙ all-joined f a (a + k) (a + k) 1 (omega arith) (omega arith) (omega arith) ∙ ap (allFrom f a) z
 
 pub runs-none : (f : ℕ → Bool) (s : ℕ) → true ≡ allFrom f s (s - s)
 unfolding allFrom
@@ -617,7 +677,8 @@ pub runs-more : (f : ℕ → Bool) (s i n : ℕ) (ok here : Bool) → s ≤ i �
 runs-more f s i n ok here l q r = (λ o. q o && r o) ∙ all-joined f s i i n l (omega arith) (omega arith)
 
 -- the last run, up to the point in front of e
-pub runs-end : (f : ℕ → Bool) (s e i a : ℕ) (ok here : Bool) → s ≤ a → a + 9 ≡ e → a ≤ i → i ≤ a + 8 → ok ≡ allFrom f s (i - s) → here ≡ allFrom f a 8 → (ok && here) ≡ allFrom f s (e - suc s)
+pub runs-end : (f : ℕ → Bool) (s e i a : ℕ) (ok here : Bool) → s ≤ a → a + 9 ≡ e → a ≤ i → i ≤ a + 8 → ok ≡ allFrom f s (i - s) → here ≡ allFrom f a 8
+    → (ok && here) ≡ allFrom f s (e - suc s)
 runs-end f s e i a ok here l n g h q r =
     let z : a + 8 - s ≡ e - suc s = omega arith in
     (λ o. q o && r o) ∙ all-joined f s i a 8 l g h ∙ ap (allFrom f s) z
@@ -629,7 +690,8 @@ unfolding sumFrom weightAt
 weights-next t b h e i sum w g q =
     let a : e - i ≡ suc (e - (i + 1)) = omega arith in
     let c : suc i ≡ i + 1 = omega arith in
-    let z : sum + (weight (getD t i 0) (getD b i 0) (getD h i 0) + sumFrom (weightAt t b h) (suc i) (e - (i + 1))) ≡ sum + w + sumFrom (weightAt t b h) (i + 1) (e - (i + 1)) =
+    let z : sum + (weight (getD t i 0) (getD b i 0) (getD h i 0) + sumFrom (weightAt t b h) (suc i) (e - (i + 1)))
+    ≡ sum + w + sumFrom (weightAt t b h) (i + 1) (e - (i + 1)) =
     let k = ap (λ (x : ℕ). sumFrom (weightAt t b h) x (e - (i + 1))) c in omega arith in
     rw a z
 
@@ -638,7 +700,8 @@ unfolding sumFrom
 weights-end f e i sum g = let a : e - i ≡ 0 = omega arith in rw a (omega arith)
 
 -- what is summed up so far, with the weight w of the next point, is no more than twice the points
-pub weights-most : (t b h : List ℕ) (s e i sum w : ℕ) → s ≤ i → i < e → w ≡ weight (getD t i 0) (getD b i 0) (getD h i 0) → sum + sumFrom (weightAt t b h) i (e - i) ≡ sumFrom (weightAt t b h) s (e - s) → sum + w ≤ 2 * (e - s)
+pub weights-most : (t b h : List ℕ) (s e i sum w : ℕ) → s ≤ i → i < e → w ≡ weight (getD t i 0) (getD b i 0) (getD h i 0)
+    → sum + sumFrom (weightAt t b h) i (e - i) ≡ sumFrom (weightAt t b h) s (e - s) → sum + w ≤ 2 * (e - s)
 unfolding weightAt
 weights-most t b h s e i sum w a g q z =
     let m = sum-most (weightAt t b h) s (e - s) (λ j. weight-most (getD t j 0) (getD b j 0) (getD h j 0)) in
@@ -647,7 +710,8 @@ weights-most t b h s e i sum w a g q z =
 
 -- ---- the same, as the code comes to it
 -- two neighbours
-pub fits-by : (m p q u w j i x x′ y y′ : ℕ) (front rear : Bool) → x′ ≡ shows p j → x ≡ cond (ltb 0 m) touchedNumber x′ → y′ ≡ shows w i → y ≡ cond (eqb p touchedNumber) touchedNumber y′ → front ≡ eqb q x → rear ≡ eqb u y
+pub fits-by : (m p q u w j i x x′ y y′ : ℕ) (front rear : Bool) → x′ ≡ shows p j → x ≡ cond (ltb 0 m) touchedNumber x′ → y′ ≡ shows w i
+    → y ≡ cond (eqb p touchedNumber) touchedNumber y′ → front ≡ eqb q x → rear ≡ eqb u y
     → (front && rear) ≡ fits m p q u w j i
 unfolding fits
 fits-by m p q u w j i x x′ y y′ front rear a c d f g k =
@@ -656,16 +720,20 @@ fits-by m p q u w j i x x′ y y′ front rear a c d f g k =
     λ o. l o && r o
 
 -- a weight
-pub weight-wrong : (m p u x : ℕ) (front rear : Bool) → x ≡ cond (ltb 0 m) touchedNumber oneOrNoneNumber → front ≡ eqb p x → rear ≡ eqb u x → (front && rear) ≡ false → 2 ≡ weight m p u
+pub weight-wrong : (m p u x : ℕ) (front rear : Bool) → x ≡ cond (ltb 0 m) touchedNumber oneOrNoneNumber → front ≡ eqb p x → rear ≡ eqb u x
+    → (front && rear) ≡ false → 2 ≡ weight m p u
 unfolding weight
 weight-wrong m p u x front rear a c d f =
-    let z : (eqb p (cond (ltb 0 m) touchedNumber oneOrNoneNumber) && eqb u (cond (ltb 0 m) touchedNumber oneOrNoneNumber)) ≡ false = let n = sym a in let k = sym c in let l = sym d in (λ o. eqb p (n o) && eqb u (n o)) ∙ (λ o. k o && l o) ∙ f in
+    let z : (eqb p (cond (ltb 0 m) touchedNumber oneOrNoneNumber) && eqb u (cond (ltb 0 m) touchedNumber oneOrNoneNumber)) ≡ false = let n = sym a in
+    let k = sym c in let l = sym d in (λ o. eqb p (n o) && eqb u (n o)) ∙ (λ o. k o && l o) ∙ f in
     rw z
 
-pub weight-by : (m p u x : ℕ) (front rear y : Bool) → x ≡ cond (ltb 0 m) touchedNumber oneOrNoneNumber → front ≡ eqb p x → rear ≡ eqb u x → (front && rear) ≡ true → ltb 0 m ≡ y → cond y 1 0 ≡ weight m p u
+pub weight-by : (m p u x : ℕ) (front rear y : Bool) → x ≡ cond (ltb 0 m) touchedNumber oneOrNoneNumber → front ≡ eqb p x → rear ≡ eqb u x
+    → (front && rear) ≡ true → ltb 0 m ≡ y → cond y 1 0 ≡ weight m p u
 unfolding weight
 weight-by m p u x front rear y a c d f g =
-    let z : (eqb p (cond (ltb 0 m) touchedNumber oneOrNoneNumber) && eqb u (cond (ltb 0 m) touchedNumber oneOrNoneNumber)) ≡ true = let n = sym a in let k = sym c in let l = sym d in (λ o. eqb p (n o) && eqb u (n o)) ∙ (λ o. k o && l o) ∙ f in
+    let z : (eqb p (cond (ltb 0 m) touchedNumber oneOrNoneNumber) && eqb u (cond (ltb 0 m) touchedNumber oneOrNoneNumber)) ≡ true = let n = sym a in
+    let k = sym c in let l = sym d in (λ o. eqb p (n o) && eqb u (n o)) ∙ (λ o. k o && l o) ∙ f in
     rw (z, g)
 
 -- what the ends show
@@ -687,7 +755,8 @@ module _ (b h : List ℕ) (s e : ℕ) where
   unfolding seamHolds
   seam-not t f q m = rw (not-touched t (firstShown h s) (sym (ap (λ (x : ℕ). getD t x 0) q) ∙ m))
 
-  pub seam-by : (t : List ℕ) (f l x y : ℕ) (front rear : Bool) → f ≡ firstShown h s → l ≡ lastShown b e → (getD t f 0 ≡ 0 → ⊥) → x ≡ cond (isTouched t s) touchedNumber l → y ≡ cond (isTouched t (e - 1)) touchedNumber f
+  pub seam-by : (t : List ℕ) (f l x y : ℕ) (front rear : Bool) → f ≡ firstShown h s → l ≡ lastShown b e → (getD t f 0 ≡ 0 → ⊥)
+      → x ≡ cond (isTouched t s) touchedNumber l → y ≡ cond (isTouched t (e - 1)) touchedNumber f
       → front ≡ eqb (getD b s 0) x → rear ≡ eqb (getD h (e - 1) 0) y → (front && rear) ≡ seamHolds t b h s e
   unfolding seamHolds
   seam-by t f l x y front rear q r m a c d g =

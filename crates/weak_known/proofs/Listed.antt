@@ -12,13 +12,13 @@ use lib.ListN.{length, getD, drop, length-drop}
 use lib.Seq.{ext-getD, getD-drop}
 use lib.IntN.{ℤ, pos}
 use Rattle.refusals.proofs.Tests.{and-first, and-second}
-use Rattle.contours.specs.Contour.{at, isTouched, references, weakAt, steepAt}
-use Rattle.contours.specs.Steps.{Coordinates, Wrote}
-use Rattle.contours.proofs.References.{refs-on}
-use Rattle.outline.specs.Weak.{contourOf, steepOn, onContour, alignedAt}
-use Rattle.outline.specs.Steps.{GentleAll}
-use Rattle.outline.proofs.Refusals.{EndAt, end-at}
-use Rattle.outline.proofs.Contours.{Sofar, contour-here, contour-later}
+use Rattle.weak_contour.specs.Contour.{at, isTouched, references, weakAt, steepAt}
+use Rattle.weak_contour.specs.Steps.{Coordinates, Wrote}
+use Rattle.weak_contour.proofs.References.{refs-on}
+use Rattle.weak.specs.Weak.{contourOf, steepOn, onContour, alignedAt}
+use Rattle.weak.specs.Steps.{GentleAll}
+use Rattle.weak.proofs.Refusals.{EndAt, end-at}
+use Rattle.weak.proofs.Contours.{Sofar, contour-here, contour-later}
 use Rattle.weak_known.specs.Known.{sameAs, matches, beforeAt, behindAt}
 use Rattle.weak_known.specs.Walks.{contour, beforeOn, behindOn, Says, CoordinatesOn, GentleOn}
 use Rattle.weak_known.proofs.Agreeing.{AgreeAt, followed-same, steep-same}
@@ -26,7 +26,8 @@ use Rattle.weak_known.proofs.Comparing.{same-at}
 use Rattle.weak_known.proofs.Entries.{known-on}
 
 -- a point of a contour reads the currents of the contour alone
-pub weak-reads : (o c d : List ℤ) (t : List ℕ) (s e i : ℕ) → s ≤ i → i < e → ((j : ℕ) → s ≤ j → at d j ≡ at c j) → weakAt o d t (contour s e) i ≡ weakAt o c t (contour s e) i
+pub weak-reads : (o c d : List ℤ) (t : List ℕ) (s e i : ℕ) → s ≤ i → i < e → ((j : ℕ) → s ≤ j → at d j ≡ at c j)
+    → weakAt o d t (contour s e) i ≡ weakAt o c t (contour s e) i
 unfolding weakAt
 weak-reads o c d t s e i low high h = by (isTouched t i) refl
   where

@@ -10,13 +10,14 @@ use native.Mathlib.Omega.{arith}
 use borrow.Author.Tests.{eq-eqb}
 use lib.ListN.{length, getD}
 use lib.Seq.{ext-getD}
-use Rattle.contours.specs.Contour.{Contour, isTouched, firstTouched, lastTouched, touchedBefore, touchedBehind, references}
-use Rattle.outline.specs.Weak.{contourOf}
+use Rattle.weak_contour.specs.Contour.{Contour, isTouched, firstTouched, lastTouched, touchedBefore, touchedBehind, references}
+use Rattle.weak.specs.Weak.{contourOf}
 use Rattle.weak_known.specs.Known.{touched, byTwo, free, known, beforeOf, behindOf, beforeAt, behindAt, sameAs, matches, entriesFrom, befores, behinds}
 use Rattle.weak_known.specs.Walks.{Put}
 
 -- one stretch behind another
-pub put-then : (f g : ℕ → ℕ) (a s e : ℕ) (l m n : List ℕ) → a ≤ s → s ≤ e → Put f a s l m → ((i : ℕ) → s ≤ i → i < e → g i ≡ f i) → Put g s e m n → Put f a e l n
+pub put-then : (f g : ℕ → ℕ) (a s e : ℕ) (l m n : List ℕ) → a ≤ s → s ≤ e → Put f a s l m → ((i : ℕ) → s ≤ i → i < e → g i ≡ f i) → Put g s e m n
+    → Put f a e l n
 put-then f g a s e l m n o p v h w =
     record {
       len = w .len ∙ v .len;
@@ -75,7 +76,13 @@ module _ (t u : List ℕ) (alike : TouchAlike t u) where
   references-alike : (c : Contour) (i : ℕ) → references u c i ≡ references t c i
   unfolding references touchedBefore touchedBehind
   references-alike c i =
-      rw (last-alike (c .start) (i - c .start), last-alike (c .start) (c .end - c .start), first-alike (suc i) (c .end - suc i), first-alike (c .start) (c .end - c .start))
+      rw (
+        last-alike (c .start) (i - c .start),
+        last-alike (c .start) (c .end - c .start),
+        first-alike (suc i) (c .end - suc i),
+        first-alike (c .start)
+            (c .end - c .start),
+      )
 
   free-alike : (c : Option Contour) (i : ℕ) → free u c i ≡ free t c i
   unfolding free
@@ -91,6 +98,8 @@ module _ (t u : List ℕ) (alike : TouchAlike t u) where
   remembered es e =
       rw (
         e,
-        same-put (beforeAt u es) (befores t es) 0 (length t) (λ j x y. entry-at (beforeAt t es) (length t) j (omega arith) ∙ ap beforeOf (sym (known-alike es j))),
-        same-put (behindAt u es) (behinds t es) 0 (length t) (λ j x y. entry-at (behindAt t es) (length t) j (omega arith) ∙ ap behindOf (sym (known-alike es j))),
+        same-put (beforeAt u es) (befores t es) 0 (length t)
+            (λ j x y. entry-at (beforeAt t es) (length t) j (omega arith) ∙ ap beforeOf (sym (known-alike es j))),
+        same-put (behindAt u es) (behinds t es) 0 (length t)
+            (λ j x y. entry-at (behindAt t es) (length t) j (omega arith) ∙ ap behindOf (sym (known-alike es j))),
       )

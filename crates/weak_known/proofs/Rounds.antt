@@ -6,11 +6,11 @@ use mathlib.Core.Option.{Option, some, none}
 use Prim.Native.Nat.{ℕ, suc, _+_, _-_, _≤_, _<_}
 use native.Mathlib.Omega.{arith}
 use lib.ListN.{length, getD, drop, drop-of-length-le}
-use Rattle.contours.specs.Contour.{firstTouched, lastTouched}
-use Rattle.contours.proofs.Searches.{first-is, last-is}
-use Rattle.outline.specs.Weak.{endsHold, contourOf}
-use Rattle.outline.proofs.Refusals.{EndAt, end-at}
-use Rattle.outline.proofs.Contours.{contour-here, contour-later}
+use Rattle.weak_contour.specs.Contour.{firstTouched, lastTouched}
+use Rattle.weak_contour.proofs.Searches.{first-is, last-is}
+use Rattle.weak.specs.Weak.{endsHold, contourOf}
+use Rattle.weak.proofs.Refusals.{EndAt, end-at}
+use Rattle.weak.proofs.Contours.{contour-here, contour-later}
 use Rattle.weak_known.specs.Known.{sameAs, matches, beforeAt, behindAt, oneOrNoneNumber, noContourNumber}
 use Rattle.weak_known.specs.Walks.{contour, foundOr, beforeOn, behindOn, plainAt, priorAt, laterAt, saidOn, Put}
 use Rattle.weak_known.proofs.Comparing.{same-by, same-split}
@@ -82,7 +82,13 @@ module _ (t es : List ℕ) (s k e : ℕ) (h : k < length es) (q : e ≡ getD es 
   passed-next =
       let b = bounds in
       let g : e ≡ suc (getD es k 0) = omega arith in
-      record { count = omega arith; within = turn-high; ends = rw q (b .rest); search = λ i a. j .search i (omega (arith, b .low)) ∙ contour-later s es k i h (omega arith) ∙ rw (← g) }
+      record {
+        count = omega arith;
+        within = turn-high;
+        ends = rw q (b .rest);
+        search = λ i a. j .search i (omega (arith, b .low))
+            ∙ contour-later s es k i h (omega arith) ∙ rw (← g);
+      }
 
   -- its points are on the contour from s up to e
   pub on-contour : (i : ℕ) → s ≤ i → i < e → contourOf 0 es i ≡ some (contour s e)
@@ -129,11 +135,16 @@ module _ (t es b h : List ℕ) (s k e : ℕ) (m : k < length es) (q : e ≡ getD
       let hi = turn-high t es s k e m q j in
       let n : length t - s ≡ (e - s) + (length t - e) = omega arith in
       let z : s + (e - s) ≡ e = omega arith in
-      let u = ap (sameAs b (beforeAt t es) s) n ∙ same-split b (beforeAt t es) s (e - s) (length t - e) ∙ ap (λ (x : ℕ). sameAs b (beforeAt t es) s (e - s) && sameAs b (beforeAt t es) x (length t - e)) z
-      ∙ ap (λ (x : Bool). x && sameAs b (beforeAt t es) e (length t - e)) (sym (same-by b _ _ s (e - s) (λ i c d. before-is t es s k e m q j i c (omega arith)))) in
-      let v = ap (sameAs h (behindAt t es) s) n ∙ same-split h (behindAt t es) s (e - s) (length t - e) ∙ ap (λ (x : ℕ). sameAs h (behindAt t es) s (e - s) && sameAs h (behindAt t es) x (length t - e)) z
-      ∙ ap (λ (x : Bool). x && sameAs h (behindAt t es) e (length t - e)) (sym (same-by h _ _ s (e - s) (λ i c d. behind-is t es s k e m q j i c (omega arith)))) in
-      (λ i. u i && v i) ∙ mix (sameAs b (beforeOn t (contour s e)) s (e - s)) (sameAs b (beforeAt t es) e (length t - e)) (sameAs h (behindOn t (contour s e)) s (e - s)) (sameAs h (behindAt t es) e (length t - e))
+      let u = ap (sameAs b (beforeAt t es) s) n ∙ same-split b (beforeAt t es) s (e - s) (length t - e)
+      ∙ ap (λ (x : ℕ). sameAs b (beforeAt t es) s (e - s) && sameAs b (beforeAt t es) x (length t - e)) z
+      ∙ ap (λ (x : Bool). x && sameAs b (beforeAt t es) e (length t - e))
+      (sym (same-by b _ _ s (e - s) (λ i c d. before-is t es s k e m q j i c (omega arith)))) in
+      let v = ap (sameAs h (behindAt t es) s) n ∙ same-split h (behindAt t es) s (e - s) (length t - e)
+      ∙ ap (λ (x : ℕ). sameAs h (behindAt t es) s (e - s) && sameAs h (behindAt t es) x (length t - e)) z
+      ∙ ap (λ (x : Bool). x && sameAs h (behindAt t es) e (length t - e))
+      (sym (same-by h _ _ s (e - s) (λ i c d. behind-is t es s k e m q j i c (omega arith)))) in
+      (λ i. u i && v i) ∙ mix (sameAs b (beforeOn t (contour s e)) s (e - s)) (sameAs b (beforeAt t es) e (length t - e))
+      (sameAs h (behindOn t (contour s e)) s (e - s)) (sameAs h (behindAt t es) e (length t - e))
 
   pub left-fails : (x : Bool) → x ≡ saidOn t b h s e → x ≡ false → left t es b h s ≡ false
   left-fails x a c = left-is ∙ and-no _ _ (sym a ∙ c)

@@ -10,7 +10,7 @@ use native.Mathlib.Omega.{arith}
 use lib.Dec.{eqb}
 use lib.ListN.{length, getD, set, length-set}
 use lib.Seq.{getD-set-same, getD-set-other}
-use Rattle.contours.specs.Contour.{isTouched, firstTouched, lastTouched}
+use Rattle.weak_contour.specs.Contour.{isTouched, firstTouched, lastTouched}
 use Rattle.weak_known.specs.Known.{sameAs, touchedNumber}
 use Rattle.weak_known.specs.Walks.{foundOr, priorAt, laterAt, Put}
 use Rattle.weak_known.proofs.Comparing.{walk-on}
@@ -22,7 +22,8 @@ unfolding sameAs
 walk-none l f s = let a : s - s ≡ 0 = omega arith in rw a
 
 -- forwards, from s up to i
-pub walk-to : (l : List ℕ) (f : ℕ → ℕ) (s i x : ℕ) (before here : Bool) → s ≤ i → before ≡ sameAs l f s (i - s) → here ≡ eqb (getD l i 0) x → (before ≡ true → x ≡ f i)
+pub walk-to : (l : List ℕ) (f : ℕ → ℕ) (s i x : ℕ) (before here : Bool) → s ≤ i → before ≡ sameAs l f s (i - s) → here ≡ eqb (getD l i 0) x
+    → (before ≡ true → x ≡ f i)
     → (before && here) ≡ sameAs l f s (i + 1 - s)
 walk-to l f s i x before here h e q k =
     let a : s + (i - s) ≡ i = omega arith in
@@ -69,11 +70,13 @@ held-on t s last i h =
     let b : s + (i - s) ≡ i = omega arith in
     by a b (isTouched t i) refl
   where
-    by : i + 1 - s ≡ suc (i - s) → s + (i - s) ≡ i → (x : Bool) → isTouched t i ≡ x → cond (isTouched t i) i (foundOr last (lastTouched t s (i - s))) ≡ foundOr last (lastTouched t s (i + 1 - s))
+    by : i + 1 - s ≡ suc (i - s) → s + (i - s) ≡ i → (x : Bool) → isTouched t i ≡ x
+        → cond (isTouched t i) i (foundOr last (lastTouched t s (i - s))) ≡ foundOr last (lastTouched t s (i + 1 - s))
     by a b true q = rw (a, b, q)
     by a b false q = rw (a, b, q)
 
-pub held-back : (t : List ℕ) (e first i : ℕ) → 0 < i → i ≤ e → cond (isTouched t (i - 1)) (i - 1) (foundOr first (firstTouched t i (e - i))) ≡ foundOr first (firstTouched t (i - 1) (e - (i - 1)))
+pub held-back : (t : List ℕ) (e first i : ℕ) → 0 < i → i ≤ e → cond (isTouched t (i - 1)) (i - 1) (foundOr first (firstTouched t i (e - i)))
+    ≡ foundOr first (firstTouched t (i - 1) (e - (i - 1)))
 unfolding foundOr firstTouched
 held-back t e first i o h =
     let a : e - (i - 1) ≡ suc (e - i) = omega arith in
@@ -94,21 +97,26 @@ unfolding foundOr firstTouched
 held-end t e first = let a : e - e ≡ 0 = omega arith in rw a
 
 -- a number by what is held
-pub later-is : (t : List ℕ) (e first i : ℕ) → 0 < i → cond (isTouched t (i - 1)) touchedNumber (foundOr first (firstTouched t i (e - i))) ≡ laterAt t e first (i - 1)
+pub later-is : (t : List ℕ) (e first i : ℕ) → 0 < i → cond (isTouched t (i - 1)) touchedNumber (foundOr first (firstTouched t i (e - i)))
+    ≡ laterAt t e first (i - 1)
 unfolding laterAt
 later-is t e first i o = let b : suc (i - 1) ≡ i = omega arith in rw b
 
 -- ---- the same, as the code comes to it
-pub prior-number : (t : List ℕ) (s last i x held : ℕ) → x ≡ cond (isTouched t i) touchedNumber held → held ≡ foundOr last (lastTouched t s (i - s)) → x ≡ priorAt t s last i
+pub prior-number : (t : List ℕ) (s last i x held : ℕ) → x ≡ cond (isTouched t i) touchedNumber held → held ≡ foundOr last (lastTouched t s (i - s))
+    → x ≡ priorAt t s last i
 unfolding priorAt
 prior-number t s last i x held a b = a ∙ ap (cond (isTouched t i) touchedNumber) b
 
-pub prior-held : (t : List ℕ) (s last i x held : ℕ) → s ≤ i → x ≡ cond (isTouched t i) i held → held ≡ foundOr last (lastTouched t s (i - s)) → x ≡ foundOr last (lastTouched t s (i + 1 - s))
+pub prior-held : (t : List ℕ) (s last i x held : ℕ) → s ≤ i → x ≡ cond (isTouched t i) i held → held ≡ foundOr last (lastTouched t s (i - s))
+    → x ≡ foundOr last (lastTouched t s (i + 1 - s))
 prior-held t s last i x held h a b = a ∙ ap (cond (isTouched t i) i) b ∙ held-on t s last i h
 
-pub later-number : (t : List ℕ) (e first i x held : ℕ) → 0 < i → x ≡ cond (isTouched t (i - 1)) touchedNumber held → held ≡ foundOr first (firstTouched t i (e - i)) → x ≡ laterAt t e first (i - 1)
+pub later-number : (t : List ℕ) (e first i x held : ℕ) → 0 < i → x ≡ cond (isTouched t (i - 1)) touchedNumber held
+    → held ≡ foundOr first (firstTouched t i (e - i)) → x ≡ laterAt t e first (i - 1)
 later-number t e first i x held o a b = a ∙ ap (cond (isTouched t (i - 1)) touchedNumber) b ∙ later-is t e first i o
 
-pub later-held : (t : List ℕ) (e first i x held : ℕ) → 0 < i → i ≤ e → x ≡ cond (isTouched t (i - 1)) (i - 1) held → held ≡ foundOr first (firstTouched t i (e - i))
+pub later-held : (t : List ℕ) (e first i x held : ℕ) → 0 < i → i ≤ e → x ≡ cond (isTouched t (i - 1)) (i - 1) held
+    → held ≡ foundOr first (firstTouched t i (e - i))
     → x ≡ foundOr first (firstTouched t (i - 1) (e - (i - 1)))
 later-held t e first i x held o h a b = a ∙ ap (cond (isTouched t (i - 1)) (i - 1)) b ∙ held-back t e first i o h

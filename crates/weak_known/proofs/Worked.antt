@@ -3,11 +3,11 @@ use mathlib.Core.Path.{_≡_, refl}
 use mathlib.Core.Bool.{true, false}
 use mathlib.Core.List.{List, [], _∷_}
 use Prim.Native.Nat.{ℕ}
-use Rattle.contours.specs.Contour.{references, touchedBefore, touchedBehind, firstTouched, lastTouched}
-use Rattle.outline.specs.Weak.{contourOf}
+use Rattle.weak_contour.specs.Contour.{references, touchedBefore, touchedBehind, firstTouched, lastTouched}
+use Rattle.weak.specs.Weak.{contourOf}
 use Rattle.weak_known.specs.Known.{free, byTwo, beforeOf, behindOf, sameAs}
 use lib.IntN.{pos}
-use Rattle.contours.specs.Contour.{refs, firstOf}
+use Rattle.weak_contour.specs.Contour.{refs, firstOf}
 use Rattle.weak_known.specs.Known.{touched, noContour, oneOrNone, two, known, beforeAt, behindAt, matches}
 
 -- nine points: a contour of five with 1 and 3 touched, one of two with 5 touched, and two points of none, the last touched

@@ -5,8 +5,8 @@ use mathlib.Core.Option.{Option, some, none}
 use Prim.Native.Nat.{ℕ, zero, suc}
 use lib.Dec.{eqb}
 use lib.ListN.{length, getD}
-use Rattle.contours.specs.Contour.{Contour, isTouched, References, references}
-use Rattle.outline.specs.Weak.{contourOf}
+use Rattle.weak_contour.specs.Contour.{Contour, isTouched, References, references}
+use Rattle.weak.specs.Weak.{contourOf}
 
 -- the point is touched, or of no contour, or its contour has one touched point or none, or these are the nearest touched points before and behind it
 pub data Known : Type 0 where

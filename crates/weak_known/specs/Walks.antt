@@ -7,8 +7,8 @@ use Prim.Native.Nat.{ℕ, zero, suc, _+_, _-_, _≤_, _<_}
 use lib.Dec.{leb, ltb, eqb}
 use lib.ListN.{length, getD}
 use lib.IntN.{ℤ}
-use Rattle.contours.specs.Steps.{Coordinate}
-use Rattle.contours.specs.Contour.{at, Contour, isTouched, firstTouched, lastTouched, references, steepAt}
+use Rattle.weak_contour.specs.Steps.{Coordinate}
+use Rattle.weak_contour.specs.Contour.{at, Contour, isTouched, firstTouched, lastTouched, references, steepAt}
 use Rattle.weak_known.specs.Known.{Known, touched, byTwo, beforeOf, behindOf, sameAs, touchedNumber, oneOrNoneNumber}
 
 abbrev pub contour : ℕ → ℕ → Contour

@@ -2,15 +2,15 @@
 use super::contour::show_two;
 use super::round::align_round;
 use super::search::first_touched;
-use contours::iup::iup_shift;
-use outline::accept::wide;
+use weak::accept::wide;
+use weak_contour::iup::iup_shift;
 ghost use mathlib.Core.Path.{_≡_};
 ghost use mathlib.Core.Bool.{true};
 ghost use Prim.Native.Nat.{_≤_};
 ghost use lib.ListN.{length};
-ghost use Rattle.contours.specs.Contour.{weakAt};
-ghost use Rattle.contours.specs.Steps.{Coordinates, Wrote};
-ghost use Rattle.outline.specs.Steps.{Accepted, GentleAll, AllDone};
+ghost use Rattle.weak_contour.specs.Contour.{weakAt};
+ghost use Rattle.weak_contour.specs.Steps.{Coordinates, Wrote};
+ghost use Rattle.weak.specs.Steps.{Accepted, GentleAll, AllDone};
 ghost use Rattle.weak_known.specs.Known.{matches};
 ghost use Rattle.weak_known.specs.Walks.{contour, LoneOn, CoordinatesOn};
 

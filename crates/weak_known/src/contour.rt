@@ -11,12 +11,12 @@ use super::search::last_touched;
 use super::write::later_write;
 use super::write::plain_write;
 use super::write::prior_write;
-use outline::accept::wide;
+use weak::accept::wide;
 ghost use mathlib.Core.Path.{_≡_};
 ghost use mathlib.Core.Bool.{true};
 ghost use Prim.Native.Nat.{_≤_, _<_};
 ghost use lib.ListN.{length};
-ghost use Rattle.contours.specs.Limits.{mostPoints};
+ghost use Rattle.weak_contour.specs.Limits.{mostPoints};
 ghost use Rattle.weak_known.specs.Walks.{contour, beforeOn, behindOn, saidOn, showTwo, seamHolds, Put};
 
 // Whether the entries at both ends of the contour show two touched points of it: the first and the last, if the lists are right.

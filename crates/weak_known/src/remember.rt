@@ -2,13 +2,13 @@
 use super::contour::contour_write;
 use super::number::NO_CONTOUR;
 use super::write::plain_write;
-use outline::accept::wide;
+use weak::accept::wide;
 ghost use mathlib.Core.Path.{_≡_};
 ghost use mathlib.Core.Bool.{true};
 ghost use Prim.Native.Nat.{_≤_};
 ghost use lib.ListN.{length};
-ghost use Rattle.contours.specs.Limits.{mostPoints};
-ghost use Rattle.outline.specs.Weak.{endsHold};
+ghost use Rattle.weak_contour.specs.Limits.{mostPoints};
+ghost use Rattle.weak.specs.Weak.{endsHold};
 ghost use Rattle.weak_known.specs.Known.{beforeAt, behindAt};
 ghost use Rattle.weak_known.specs.Walks.{Put};
 

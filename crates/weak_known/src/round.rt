@@ -1,15 +1,15 @@
 // The points of a contour with two or more touched points, aligned by the lists: from stretch to stretch, and no walk to find touched points.
 use super::number::TOUCHED_INDEX;
-use contours::iup::iup_interpolate;
-use outline::accept::wide;
+use weak::accept::wide;
+use weak_contour::iup::iup_interpolate;
 ghost use mathlib.Core.Path.{_≡_};
 ghost use mathlib.Core.Bool.{cond};
 ghost use Prim.Native.Nat.{_≤_, _<_};
 ghost use lib.Dec.{ltb};
 ghost use lib.ListN.{length};
-ghost use Rattle.contours.specs.Limits.{mostPoints};
-ghost use Rattle.contours.specs.Contour.{weakAt};
-ghost use Rattle.contours.specs.Steps.{Coordinates, Wrote};
+ghost use Rattle.weak_contour.specs.Limits.{mostPoints};
+ghost use Rattle.weak_contour.specs.Contour.{weakAt};
+ghost use Rattle.weak_contour.specs.Steps.{Coordinates, Wrote};
 ghost use Rattle.weak_known.specs.Walks.{contour, Says, TwoOn, CoordinatesOn, GentleOn};
 
 // Where the stretch of the point i ends, whose reference behind is q: there, or at the contour's end e.

@@ -8,7 +8,7 @@ ghost use mathlib.Core.Path.{_≡_};
 ghost use Prim.Native.Nat.{suc, _+_, _-_, _≤_, _<_};
 ghost use lib.Dec.{ltb};
 ghost use lib.ListN.{length};
-ghost use Rattle.contours.specs.Limits.{mostPoints};
+ghost use Rattle.weak_contour.specs.Limits.{mostPoints};
 ghost use Rattle.weak_known.specs.Known.{sameAs};
 ghost use Rattle.weak_known.specs.Walks.{plainAt, fits, fitsAt, allFrom, weight, weightAt, sumFrom};
 

@@ -2,7 +2,7 @@
 ghost use mathlib.Core.Path.{_≡_};
 ghost use Prim.Native.Nat.{_-_, _≤_};
 ghost use lib.ListN.{length};
-ghost use Rattle.contours.specs.Contour.{firstTouched, lastTouched};
+ghost use Rattle.weak_contour.specs.Contour.{firstTouched, lastTouched};
 ghost use Rattle.weak_known.specs.Walks.{foundOr};
 
 // The first touched point from s on that is in front of e, or e.

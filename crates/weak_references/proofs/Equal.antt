@@ -1,4 +1,5 @@
--- What both calls come to: a refusal, or the work; that their promises determine their outcomes; and that a list that was remembered is never refused by 9, at no
+-- What both calls come to: a refusal, or the work; that their promises determine their outcomes; and that a list that was remembered is never refused by 9, at
+-- no
 -- size: alignment with it is alignment without.
 use mathlib.Core.Path.{_≡_, refl, sym, ap, _∙_}
 use mathlib.Core.List.{List}
@@ -10,11 +11,11 @@ use lib.ListN.{length}
 use lib.IntN.{ℤ}
 use Rattle.refusals.specs.Refusal.{refusal, answered}
 use Rattle.refusals.proofs.Tests.{own-first, answered-no, answered-yes}
-use Rattle.contours.specs.Limits.{mostPoints}
-use Rattle.outline.specs.Weak.{listTests, numberTests, weakTests, result, Outcome}
-use Rattle.outline.specs.Steps.{AllDone}
-use Rattle.outline.proofs.Refusals.{refused-marks, refused-long, refused-currents}
-use Rattle.outline.proofs.Outcomes.{result-refused, result-done}
+use Rattle.weak_contour.specs.Limits.{mostPoints}
+use Rattle.weak.specs.Weak.{listTests, numberTests, weakTests, result, Outcome}
+use Rattle.weak.specs.Steps.{AllDone}
+use Rattle.weak.proofs.Refusals.{refused-marks, refused-long, refused-currents}
+use Rattle.weak.proofs.Determined.{result-refused, result-done}
 use Rattle.weak_known.specs.Known.{beforeAt, behindAt, befores, behinds, matches}
 use Rattle.weak_known.specs.Walks.{Put}
 use Rattle.weak_known.proofs.Remembering.{entries-length, entries-put, TouchAlike, remembered}
@@ -30,7 +31,8 @@ module _ (t es b h : List ℕ) where
     behind = answered-no a _ (λ _. h) (behinds t es) e n;
   }
 
-  pub remember-done : (b′ h′ : List ℕ) → refusal (rememberTests t es b h) ≡ 0 → Put (beforeAt t es) 0 (length t) b b′ → Put (behindAt t es) 0 (length t) h h′ → Remembered t es b h 0 b′ h′
+  pub remember-done : (b′ h′ : List ℕ) → refusal (rememberTests t es b h) ≡ 0 → Put (beforeAt t es) 0 (length t) b b′ → Put (behindAt t es) 0 (length t) h h′
+      → Remembered t es b h 0 b′ h′
   remember-done b′ h′ e v w =
       let r = ready t es b h e in
       record {
@@ -56,7 +58,8 @@ module _ (o c : List ℤ) (t es b h : List ℕ) where
   }
 
 -- two outcomes that the promise of `align_with_references` allows coincide
-pub aligned-determined : (o c : List ℤ) (t es b h : List ℕ) {a a′ : ℕ} {d d′ : List ℤ} → AlignedWith o c t es b h a d → AlignedWith o c t es b h a′ d′ → (a ≡ a′) × (d ≡ d′)
+pub aligned-determined : (o c : List ℤ) (t es b h : List ℕ) {a a′ : ℕ} {d d′ : List ℤ} → AlignedWith o c t es b h a d → AlignedWith o c t es b h a′ d′
+    → (a ≡ a′) × (d ≡ d′)
 aligned-determined o c t es b h p q = (p .answer ∙ sym (q .answer), p .currents ∙ sym (q .currents))
 
 -- ---- a list that matches: what is answered and left is what `align_weak_points` owes, refusals too
@@ -64,11 +67,13 @@ refused-same : (o c : List ℤ) (t es : List ℕ) (k : ℕ) → k ≡ refusal (w
 refused-same o c t es zero e = refl
 refused-same o c t es (suc k) e = result-refused o c t es (suc k) e (omega arith)
 
-pub matching-equal : (o c : List ℤ) (t es b h : List ℕ) (a : ℕ) (d : List ℤ) → refusal (withTests o c t es b h) ≡ refusal (weakTests o c t es) → AlignedWith o c t es b h a d → Outcome o c t es a d
+pub matching-equal : (o c : List ℤ) (t es b h : List ℕ) (a : ℕ) (d : List ℤ) → refusal (withTests o c t es b h) ≡ refusal (weakTests o c t es)
+    → AlignedWith o c t es b h a d → Outcome o c t es a d
 matching-equal o c t es b h a d e w =
     record { answer = w .answer ∙ e; currents = w .currents ∙ refused-same o c t es (refusal (withTests o c t es b h)) e }
 
--- ---- a remembered list: whatever the originals and currents, and whatever marks touch the same points, the answer and the currents are those of `align_weak_points`
+-- ---- a remembered list: whatever the originals and currents, and whatever marks touch the same points, the answer and the currents are those of
+-- `align_weak_points`
 module _ (t es b h b′ h′ : List ℕ) (r : Remembered t es b h 0 b′ h′) (u : List ℕ) (alike : TouchAlike t u) (lu : length u ≡ length t) where
   wrote-before : b′ ≡ befores t es
   wrote-before = r .before ∙ ap (λ (k : ℕ). answered k (λ _. b) (befores t es)) (sym (r .answer))
@@ -90,7 +95,8 @@ module _ (t es b h b′ h′ : List ℕ) (r : Remembered t es b h 0 b′ h′) (
     -- an outline of another length is refused by 1 either way
     other-length : (length u ≡ length o → ⊥) → refusal (weakTests o c u es) ≡ 1
     other-length n =
-        sym (answered-no 1 _ (λ (k : ℕ). k) (refusal (numberTests o c u es)) (sym (by (decLt mostPoints (length o)) (ℕ-discrete (length c) (length o)))) (omega arith) ∙ sym (own-first (listTests o c u es) (numberTests o c u es) refl))
+        sym (answered-no 1 _ (λ (k : ℕ). k) (refusal (numberTests o c u es)) (sym (by (decLt mostPoints (length o)) (ℕ-discrete (length c) (length o))))
+        (omega arith) ∙ sym (own-first (listTests o c u es) (numberTests o c u es) refl))
       where
         by : Dec (mostPoints < length o) → Dec (length c ≡ length o) → refusal (listTests o c u es) ≡ 1
         by (yes h) e = refused-long o c u es h

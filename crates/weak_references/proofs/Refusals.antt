@@ -8,8 +8,8 @@ use lib.ListN.{length}
 use lib.IntN.{ℤ}
 use Rattle.refusals.specs.Refusal.{Test, _unless_, refusal, badIndex, unmatched}
 use Rattle.refusals.proofs.Tests.{all-hold}
-use Rattle.contours.specs.Limits.{mostPoints}
-use Rattle.outline.specs.Weak.{endsHold, listTests, numberTests, weakTests}
+use Rattle.weak_contour.specs.Limits.{mostPoints}
+use Rattle.weak.specs.Weak.{endsHold, listTests, numberTests, weakTests}
 use Rattle.weak_known.specs.Known.{matches}
 use Rattle.weak_known.proofs.Inserted.{test-fails, test-holds, test-within, front-refused, within-refused, behind-decides}
 use Rattle.weak_references.specs.References.{rememberTests, withTests}
@@ -29,11 +29,15 @@ module _ (t es b h : List ℕ) where
     before-other n = test-holds _ _ _ (le-leb (length t) mostPoints l) ∙ test-fails _ _ _ (ne-eqb (length b) (length t) n)
 
     pub behind-other : length b ≡ length t → (length h ≡ length t → ⊥) → refusal (rememberTests t es b h) ≡ 1
-    behind-other e n = test-holds _ _ _ (le-leb (length t) mostPoints l) ∙ test-holds _ _ _ (eq-eqb (length b) (length t) e) ∙ test-fails _ _ _ (ne-eqb (length h) (length t) n)
+    behind-other e n =
+        test-holds _ _ _ (le-leb (length t) mostPoints l) ∙ test-holds _ _ _ (eq-eqb (length b) (length t) e)
+        ∙ test-fails _ _ _ (ne-eqb (length h) (length t) n)
 
-    pub ends-decide : length b ≡ length t → length h ≡ length t → (x : Bool) → endsHold 0 (length t) es ≡ x → refusal (rememberTests t es b h) ≡ cond x 0 badIndex
+    pub ends-decide : length b ≡ length t → length h ≡ length t → (x : Bool) → endsHold 0 (length t) es ≡ x
+        → refusal (rememberTests t es b h) ≡ cond x 0 badIndex
     ends-decide e f x r =
-        test-holds _ _ _ (le-leb (length t) mostPoints l) ∙ test-holds _ _ _ (eq-eqb (length b) (length t) e) ∙ test-holds _ _ _ (eq-eqb (length h) (length t) f) ∙ last badIndex _ x r
+        test-holds _ _ _ (le-leb (length t) mostPoints l) ∙ test-holds _ _ _ (eq-eqb (length b) (length t) e)
+        ∙ test-holds _ _ _ (eq-eqb (length h) (length t) f) ∙ last badIndex _ x r
 
 -- marks and lists that are not refused
 pub record Ready (t es b h : List ℕ) : Type 0 where
@@ -45,7 +49,13 @@ pub record Ready (t es b h : List ℕ) : Type 0 where
 pub ready : (t es b h : List ℕ) → refusal (rememberTests t es b h) ≡ 0 → Ready t es b h
 ready t es b h e =
     let a = all-hold (rememberTests t es b h) refl e in
-    record { points = leb-true (length t) mostPoints (a .0); before = eqb-true (length b) (length t) (a .1 .0); behind = eqb-true (length h) (length t) (a .1 .1 .0); ends = a .1 .1 .1 .0 }
+    record {
+      points = leb-true (length t) mostPoints (a .0);
+      before = eqb-true (length b) (length t) (a .1 .0);
+      behind = eqb-true (length h) (length t)
+          (a .1 .1 .0);
+      ends = a .1 .1 .1 .0;
+    }
 
 -- ---- of aligning
 module _ (o c : List ℤ) (t es b h : List ℕ) where
@@ -90,9 +100,11 @@ placed o c t es e =
     record { points = rw m (leb-true (length o) mostPoints (a .0)); marks = m; ends = rw m (a .1 .1 .1 .0) }
 
 -- lists of the outline's length that match: the refusals are those of `align_weak_points`
-pub refused-alike : (o c : List ℤ) (t es b h : List ℕ) → length b ≡ length o → length h ≡ length o → matches t es b h ≡ true → refusal (withTests o c t es b h) ≡ refusal (weakTests o c t es)
+pub refused-alike : (o c : List ℤ) (t es b h : List ℕ) → length b ≡ length o → length h ≡ length o → matches t es b h ≡ true
+    → refusal (withTests o c t es b h) ≡ refusal (weakTests o c t es)
 refused-alike o c t es b h e f m =
-    test-holds _ _ _ (eq-eqb (length b) (length o) e) ∙ test-holds _ _ _ (eq-eqb (length h) (length o) f) ∙ test-within (listTests o c t es) (numberTests o c t es) unmatched (matches t es b h) m
+    test-holds _ _ _ (eq-eqb (length b) (length o) e) ∙ test-holds _ _ _ (eq-eqb (length h) (length o) f)
+    ∙ test-within (listTests o c t es) (numberTests o c t es) unmatched (matches t es b h) m
 
 -- what is not refused: the lists have the outline's length and match
 pub record Fitting (o : List ℤ) (t es b h : List ℕ) : Type 0 where

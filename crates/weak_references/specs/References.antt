@@ -7,8 +7,8 @@ use lib.Dec.{leb, eqb}
 use lib.ListN.{length}
 use lib.IntN.{ℤ}
 use Rattle.refusals.specs.Refusal.{Test, _unless_, refusal, answered, tooLong, badIndex, unmatched}
-use Rattle.contours.specs.Limits.{mostPoints}
-use Rattle.outline.specs.Weak.{endsHold, listTests, numberTests, result}
+use Rattle.weak_contour.specs.Limits.{mostPoints}
+use Rattle.weak.specs.Weak.{endsHold, listTests, numberTests, result}
 use Rattle.weak_known.specs.Known.{befores, behinds, matches}
 
 -- ---- the refusals

@@ -1,12 +1,12 @@
 // Which marks and lists are refused.
-use outline::accept::all_near;
-use outline::accept::ends_hold;
-use outline::accept::list_refusal;
-use outline::accept::number_refusal;
-use outline::limits::MOST_POINTS;
 use refusals::order::BAD_INDEX;
 use refusals::order::TOO_LONG;
 use refusals::order::UNMATCHED;
+use weak::accept::all_near;
+use weak::accept::ends_hold;
+use weak::accept::list_refusal;
+use weak::accept::number_refusal;
+use weak::limits::MOST_POINTS;
 use weak_known::matching::lists_match;
 ghost use mathlib.Core.Path.{_≡_};
 ghost use Rattle.refusals.specs.Refusal.{refusal};

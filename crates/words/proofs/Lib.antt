@@ -1,4 +1,4 @@
--- Laws on words, fields and tables.
+-- Laws on words, on the fields and records that they are, and on records as words, whatever the record.
 pub mod Fields
 pub mod Writing
 pub mod Tables
@@ -7,3 +7,8 @@ pub mod Segments
 pub mod Places
 pub mod RoundTrip
 pub mod Typed
+pub mod Codecs
+pub mod Wholes
+pub mod Writes
+pub mod Became
+pub mod Layouts

@@ -16,7 +16,22 @@ use Rattle.axis.specs.declared.kinds.Mark.the-variants as Marks
 use Rattle.axis.specs.declared.edge.Edge.{Edge}
 use Rattle.axis.specs.Accepted.{Below}
 use Rattle.axis.specs.Handed.{Short, TypedEdge}
-use Rattle.words.specs.Field.{shortOf, indexOf, linkOf, choiceOf, directionOf, blueOf, flagsOf, markOf, linkWord, directionWord, presentWord, fittedWord, flagsWord, markWord}
+use Rattle.words.specs.Field.{
+  shortOf,
+  indexOf,
+  linkOf,
+  choiceOf,
+  directionOf,
+  blueOf,
+  flagsOf,
+  markOf,
+  linkWord,
+  directionWord,
+  presentWord,
+  fittedWord,
+  flagsWord,
+  markWord,
+}
 use Rattle.words.specs.Edge.{edgeFrom, edgeWords}
 use Rattle.words.proofs.Fields.{short-is}
 
@@ -65,7 +80,8 @@ pub flags-back : (f : Flags) → flagsOf (flagsWord f) ≡ f
 unfolding flagsOf flagsWord
 flags-back f = by (f .round) (f .serif) (f .done) (f .neutral)
   where
-    by : (r s d n : Bool) → flagsOf (flagsWord (record { round = r; serif = s; done = d; neutral = n })) ≡ record { round = r; serif = s; done = d; neutral = n }
+    by : (r s d n : Bool) → flagsOf (flagsWord (record { round = r; serif = s; done = d; neutral = n }))
+        ≡ record { round = r; serif = s; done = d; neutral = n }
     by true true true true = refl
     by true true true false = refl
     by true true false true = refl

@@ -38,13 +38,16 @@ module _ (f : ℕ → List ℤ) (k : ℕ) (sized : (i : ℕ) → length (f i) �
 
   -- one more
   pub joined-more :
-      {out₀ out out′ : List ℤ} {at n i : ℕ} (v : List ℤ) → Joined f out₀ out at n i → i < n → at + k * n ≤ length out₀ → v ≡ f i → out′ ≡ written out (at + k * i) v
+      {out₀ out out′ : List ℤ} {at n i : ℕ} (v : List ℤ) → Joined f out₀ out at n i → i < n → at + k * n ≤ length out₀ → v ≡ f i
+      → out′ ≡ written out (at + k * i) v
       → Joined f out₀ out′ at n (i + 1)
   unfolding joined
   joined-more {out₀} {out} {out′} {at} {n} {i} v j h room p e = record {
     within = omega arith;
     kept = ap length e ∙ written-length out v (at + k * i) (omega (arith, j .kept, ap length p, sized i, mul-le-mul-left k h)) ∙ j .kept;
-    so-far = rw (e, p, j .so-far, ← joined-length i, add-one) (written-more out₀ (joined f i) (f i) at (omega (arith, joined-length i, sized i, mul-le-mul-left k h)));
+    so-far =
+        rw (e, p, j .so-far, ← joined-length i, add-one)
+        (written-more out₀ (joined f i) (f i) at (omega (arith, joined-length i, sized i, mul-le-mul-left k h)));
   }
 
 -- at the end
@@ -83,7 +86,8 @@ firsts-set {A} g h i (suc n) v l new old =
 
 -- one place of a table is another
 pub table-set :
-    {A : Type 0} (size : ℕ) (d : A) (g h : ℕ → A) (i n : ℕ) (v : A) → i < n → h i ≡ v → ((m : ℕ) → (m ≡ i → ⊥) → h m ≡ g m) → set (table size d g n) i v ≡ table size d h n
+    {A : Type 0} (size : ℕ) (d : A) (g h : ℕ → A) (i n : ℕ) (v : A) → i < n → h i ≡ v → ((m : ℕ) → (m ≡ i → ⊥) → h m ≡ g m)
+    → set (table size d g n) i v ≡ table size d h n
 unfolding table
 table-set {A} size d g h i n v l new old =
     set-append-left (firsts g n) _ i v (omega (arith, firsts-length g n)) ∙ ap (λ (xs : List A). xs ++ replicate (size - n) d) (firsts-set g h i n v l new old)

@@ -1,4 +1,5 @@
--- The segments and edges that words are read as are values of the declared types: whatever the words are, coordinates are of 16 bits, and the tables have all their places.
+-- The segments and edges that words are read as are values of the declared types: whatever the words are, coordinates are of 16 bits, and the tables have all
+-- their places.
 use mathlib.Core.Path.{_≡_, subst, _∙_}
 use mathlib.Core.List.{List, [], _∷_, _++_}
 use mathlib.Core.Logic.{⊎-elim}

@@ -38,7 +38,8 @@ pasted-all {ws} {out₀} {out} {at} {i} p h =
 pub written-length : (out ws : List ℤ) (at : ℕ) → at + length ws ≤ length out → length (written out at ws) ≡ length out
 unfolding written
 written-length out ws at h =
-    ap (λ (xs : List ℤ). length (take at out ++ xs ++ drop (at + length ws) out)) (sym (take-all (length ws) ws (omega arith))) ∙ length-paste out at ws (length ws) h (omega arith)
+    ap (λ (xs : List ℤ). length (take at out ++ xs ++ drop (at + length ws) out)) (sym (take-all (length ws) ws (omega arith)))
+    ∙ length-paste out at ws (length ws) h (omega arith)
 
 -- no word
 pub written-none : (out : List ℤ) (at : ℕ) → out ≡ written out at []
@@ -46,7 +47,8 @@ unfolding written
 written-none out at = paste-zero out at []
 
 -- words behind words
-pub written-more : (out xs ys : List ℤ) (at : ℕ) → at + length xs + length ys ≤ length out → written (written out at xs) (at + length xs) ys ≡ written out at (xs ++ ys)
+pub written-more : (out xs ys : List ℤ) (at : ℕ) → at + length xs + length ys ≤ length out
+    → written (written out at xs) (at + length xs) ys ≡ written out at (xs ++ ys)
 unfolding written
 written-more out xs ys at h = rw (take-at front rest (at + length xs) front-length, behind, append-assoc (take at out) xs ys, end)
   where
@@ -60,7 +62,9 @@ written-more out xs ys at h = rw (take-at front rest (at + length xs) front-leng
     front-length = simp (length-append, length-take) (omega arith)
 
     behind : drop (at + length xs + length ys) (front ++ rest) ≡ drop (at + length xs + length ys) out
-    behind = ap (λ (k : ℕ). drop (k + length ys) (front ++ rest)) (sym front-length) ∙ drop-append-add front rest (length ys) ∙ drop-drop (length ys) (at + length xs) out
+    behind =
+        ap (λ (k : ℕ). drop (k + length ys) (front ++ rest)) (sym front-length) ∙ drop-append-add front rest (length ys)
+        ∙ drop-drop (length ys) (at + length xs) out
 
     end : at + length (xs ++ ys) ≡ at + length xs + length ys
     end = simp length-append (omega arith)

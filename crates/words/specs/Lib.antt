@@ -1,5 +1,6 @@
--- What the contracts of `words` cite.
+-- What the contracts over lent edges and segments share.
 pub mod Word
 pub mod Field
 pub mod Edge
 pub mod Segment
+pub mod Record

@@ -17,7 +17,7 @@ pub fn word_at(words: &[i32], i: usize) -> i32
 }
 
 // A word that is there.
-pub fn word_in(words: &[i32], i: usize) -> i32
+pub fn read_word(words: &[i32], i: usize) -> i32
     requires { ⌜ i < length (now words) ⌝ }
     ensures { λ r. ⌜ r ≡ wordAt (now (words .entry)) i ⌝ }
 {

@@ -13,7 +13,8 @@ same-length c = search needs
 returns : tie.Need-returns
 returns c =
     let s = c .before .before .before .before .before in
-    simp (is (s .fits .dim), is (s .fits .group), is (s .fits .stem-adjust), is (s .fits .top-to-bottom), is (s .fits .rule)) at (c .before .lend-joined .ensures)
+    simp (is (s .fits .dim), is (s .fits .group), is (s .fits .stem-adjust), is (s .fits .top-to-bottom), is (s .fits .rule))
+    at (c .before .lend-joined .ensures)
 
 pub khs-align-blues-and-stems-spec : {M : Type 1} → statement M
 khs-align-blues-and-stems-spec = tie.close (tie.spec lend-joined-requires same-length returns)

@@ -13,7 +13,8 @@ same-length c = search needs
 returns : tie.Need-returns
 returns c =
     let s = c .before .before .before .before .before in
-    simp (is (s .fits .dim), is (s .fits .group), is (s .fits .stem-adjust), is (s .fits .top-to-bottom), is (s .fits .anchor), is (s .fits .rule)) at (c .before .lend-stems .ensures)
+    simp (is (s .fits .dim), is (s .fits .group), is (s .fits .stem-adjust), is (s .fits .top-to-bottom), is (s .fits .anchor), is (s .fits .rule))
+    at (c .before .lend-stems .ensures)
 
 pub khs-align-stem-edges-spec : {M : Type 1} → statement M
 khs-align-stem-edges-spec = tie.close (tie.spec lend-stems-requires same-length returns)

@@ -10,7 +10,9 @@ compute-mid-delta-requires : tie.Need-compute-mid-delta-requires
 compute-mid-delta-requires c κs = search needs
 
 returns : tie.Need-returns
-returns c = let s = c .before in is (got w16 (c .compute-mid-delta .result) (c .compute-mid-delta .ok)) ∙ rw (is (s .fits .min), is (s .fits .max)) at (c .compute-mid-delta .ensures)
+returns c =
+    let s = c .before in
+    is (got w16 (c .compute-mid-delta .result) (c .compute-mid-delta .ok)) ∙ rw (is (s .fits .min), is (s .fits .max)) at (c .compute-mid-delta .ensures)
 
 pub khs-compute-mid-delta-spec : {M : Type 1} → statement M
 khs-compute-mid-delta-spec = tie.close (tie.spec compute-mid-delta-requires returns)

@@ -9,7 +9,9 @@ compute-mid-pos-requires : tie.Need-compute-mid-pos-requires
 compute-mid-pos-requires c κs = search needs
 
 returns : tie.Need-returns
-returns c = let s = c .before in cc (is (got w16 (c .compute-mid-pos .result) (c .compute-mid-pos .ok)), c .compute-mid-pos .ensures, is (s .fits .min), is (s .fits .max))
+returns c =
+    let s = c .before in
+    cc (is (got w16 (c .compute-mid-pos .result) (c .compute-mid-pos .ok)), c .compute-mid-pos .ensures, is (s .fits .min), is (s .fits .max))
 
 pub khs-compute-mid-pos-spec : {M : Type 1} → statement M
 khs-compute-mid-pos-spec = tie.close (tie.spec compute-mid-pos-requires returns)

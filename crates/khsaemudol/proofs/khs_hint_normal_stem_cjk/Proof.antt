@@ -13,7 +13,8 @@ same-length c = search needs
 returns : tie.Need-returns
 returns c =
     let s = c .before .before .before .before in
-    simp (is (s .fits .dim), is (s .fits .stem-adjust), is (s .fits .rule), is (s .fits .edge), is (s .fits .edge2), is (s .fits .delta)) at (c .before .lend-stem .ensures)
+    simp (is (s .fits .dim), is (s .fits .stem-adjust), is (s .fits .rule), is (s .fits .edge), is (s .fits .edge2), is (s .fits .delta))
+    at (c .before .lend-stem .ensures)
 
 pub khs-hint-normal-stem-cjk-spec : {M : Type 1} → statement M
 khs-hint-normal-stem-cjk-spec = tie.close (tie.spec lend-stem-requires same-length returns)

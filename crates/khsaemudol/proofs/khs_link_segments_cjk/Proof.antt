@@ -11,7 +11,8 @@ same-length : tie.Need-same-length
 same-length c = search needs
 
 returns : tie.Need-returns
-returns c = let s = c .before .before .before in rw (is (s .fits .major-dir), is (s .fits .units-per-em), is (s .fits .scale)) at (c .before .lend-linking .ensures)
+returns c =
+    let s = c .before .before .before in rw (is (s .fits .major-dir), is (s .fits .units-per-em), is (s .fits .scale)) at (c .before .lend-linking .ensures)
 
 pub khs-link-segments-cjk-spec : {M : Type 1} → statement M
 khs-link-segments-cjk-spec = tie.close (tie.spec lend-linking-requires same-length returns)

@@ -8,7 +8,8 @@ lend-gaps-requires : tie.Need-lend-gaps-requires
 lend-gaps-requires c κs = search needs
 
 returns : tie.Need-returns
-returns c = let s = c .before .before .before .before .before .before .before .before in rw (is (s .fits .least), is (s .fits .linked)) at (c .lend-gaps .ensures)
+returns c =
+    let s = c .before .before .before .before .before .before .before .before in rw (is (s .fits .least), is (s .fits .linked)) at (c .lend-gaps .ensures)
 
 pub khs-lost-gaps-spec : {M : Type 1} → statement M
 khs-lost-gaps-spec = tie.close (tie.spec lend-gaps-requires returns)

@@ -2,7 +2,7 @@
 use borrow.Author.Needs.{needs}
 use mathlib.Core.Path.{_≡_}
 use lib.ListN.{length}
-use Rattle.lines.specs.Limits.{mostWords}
+use Rattle.tool_lines.specs.Limits.{mostWords}
 use Rattle.label.proofs.main.Statement.{statement}
 use Rattle.label.proofs.main.Tie as tie
 

@@ -28,7 +28,8 @@ returns c =
     let a = c .before .before .before .bits-of .ensures ∙ ap (ofZ w32) (is (s .fits .a)) in
     let b = c .before .before .bits-of2 .ensures ∙ ap (ofZ w32) (is (s .fits .b)) in
     let sum = by₂ (λ (x y : ℕ). (x + y) % 4294967296) (c .before .wrapping-add-u32 .ensures) a b in
-    is (got w32 (c .signed-of .result) (c .signed-of .ok)) ∙ c .signed-of .ensures ∙ ap (toZ w32) sum ∙ sym (wrap-sum (s .args .a) (s .args .b) (s .fits .a) (s .fits .b))
+    is (got w32 (c .signed-of .result) (c .signed-of .ok)) ∙ c .signed-of .ensures ∙ ap (toZ w32) sum
+    ∙ sym (wrap-sum (s .args .a) (s .args .b) (s .fits .a) (s .fits .b))
 
 pub wrapping-add-spec : {M : Type 1} → statement M
 wrapping-add-spec =

@@ -32,8 +32,10 @@ returns : tie.Need-returns
 returns c =
     let s = c .before .before .before .before in
     let r = c .before .wrapping-sub-u32 in
-    let sum : (r .result + ofZ w32 (s .args .b)) % 4294967296 ≡ ofZ w32 (s .args .a) = omega (arith, r .ensures, a-is (c .before .before .before), b-is (c .before .before)) in
-    is (got w32 (c .signed-of .result) (c .signed-of .ok)) ∙ c .signed-of .ensures ∙ sym (wrap-difference (s .args .a) (s .args .b) (r .result) (s .fits .a) (s .fits .b) (r .ok) sum)
+    let sum : (r .result + ofZ w32 (s .args .b)) % 4294967296 ≡ ofZ w32 (s .args .a) = omega
+    (arith, r .ensures, a-is (c .before .before .before), b-is (c .before .before)) in
+    is (got w32 (c .signed-of .result) (c .signed-of .ok)) ∙ c .signed-of .ensures
+    ∙ sym (wrap-difference (s .args .a) (s .args .b) (r .result) (s .fits .a) (s .fits .b) (r .ok) sum)
 
 pub wrapping-sub-spec : {M : Type 1} → statement M
 wrapping-sub-spec =

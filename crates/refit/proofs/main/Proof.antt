@@ -3,12 +3,13 @@ use borrow.Author.Needs.{needs}
 use mathlib.Core.Path.{_≡_}
 use Prim.Native.Nat.{_+_, _≤_}
 use lib.ListN.{length}
-use Rattle.frames.specs.Limits.{mostDigits}
+use Rattle.log_frame.specs.Limits.{mostDigits}
 use Rattle.refit.proofs.main.Statement.{statement}
 use Rattle.refit.proofs.main.Tie as tie
 
 abbrev Inv-loop : tie.InvT-loop
-Inv-loop block₀ line₀ out₀ count₀ turns₀ t9 block line out count turns = (length block ≡ 65536) × ((length line ≡ mostDigits + 1) × ((length out ≡ 65536) × (count ≤ length line)))
+Inv-loop block₀ line₀ out₀ count₀ turns₀ t9 block line out count turns =
+    (length block ≡ 65536) × ((length line ≡ mostDigits + 1) × ((length out ≡ 65536) × (count ≤ length line)))
 
 abbrev μ-loop : tie.MeasureT-loop
 μ-loop block₀ line₀ out₀ count₀ turns₀ t9 block line out count turns = turns

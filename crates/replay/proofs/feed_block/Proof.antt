@@ -8,7 +8,8 @@ use Rattle.replay.proofs.feed_block.Statement.{statement}
 use Rattle.replay.proofs.feed_block.Tie as tie
 
 abbrev Inv-loop : tie.InvT-loop
-Inv-loop block n words₀ out₀ text₀ line₀ i₀ words out text line i = (i ≤ n) × ((length words ≡ length words₀) × ((length out ≡ length out₀) × (length text ≡ length text₀)))
+Inv-loop block n words₀ out₀ text₀ line₀ i₀ words out text line i =
+    (i ≤ n) × ((length words ≡ length words₀) × ((length out ≡ length out₀) × (length text ≡ length text₀)))
 
 abbrev μ-loop : tie.MeasureT-loop
 μ-loop block n words₀ out₀ text₀ line₀ i₀ words out text line i = n - i

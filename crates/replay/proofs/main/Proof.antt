@@ -2,14 +2,15 @@
 use borrow.Author.Needs.{needs}
 use mathlib.Core.Path.{_≡_}
 use lib.ListN.{length}
-use Rattle.lines.specs.Limits.{mostWords}
+use Rattle.tool_lines.specs.Limits.{mostWords}
 use Rattle.tool_lists.specs.Limits.{longest}
 use Rattle.replay.specs.Limits.{mostText}
 use Rattle.replay.proofs.main.Statement.{statement}
 use Rattle.replay.proofs.main.Tie as tie
 
 abbrev Inv-loop : tie.InvT-loop
-Inv-loop block₀ words₀ out₀ text₀ line₀ turns₀ t10 block words out text line turns = (length block ≡ 65536) × ((length words ≡ mostWords) × ((length out ≡ longest) × (length text ≡ mostText)))
+Inv-loop block₀ words₀ out₀ text₀ line₀ turns₀ t10 block words out text line turns =
+    (length block ≡ 65536) × ((length words ≡ mostWords) × ((length out ≡ longest) × (length text ≡ mostText)))
 
 abbrev μ-loop : tie.MeasureT-loop
 μ-loop block₀ words₀ out₀ text₀ line₀ turns₀ t10 block words out text line turns = turns

@@ -42,7 +42,8 @@ abbrev at-loop : tie.After-around-at Inv-loop μ-loop → tie.At-loop Inv-loop �
 at-loop w = w .before .before .before .before
 
 -- the place of the contour's start
-started : (h : tie.After-spot-halves Inv-loop μ-loop) → let s = entry (h .before) in h .spot-halves .result ≡ halvesAt (outline s) (s .args .magnify) (round s .start)
+started : (h : tie.After-spot-halves Inv-loop μ-loop) → let s =
+    entry (h .before) in h .spot-halves .result ≡ halvesAt (outline s) (s .args .magnify) (round s .start)
 started h = let s = entry (h .before) in h .spot-halves .ensures .0 ∙ ap (halvesAt (outline s) (s .args .magnify)) (h .before .tour-of .ensures .0)
 
 tour-of-requires : tie.Need-tour-of-requires Inv-loop μ-loop
@@ -105,7 +106,8 @@ loop-again c =
       omega (arith, h),
       n .point-place .ensures .1,
       owing-more _ (straight (l .loop .p) (n .point-place .result) ∷ [])
-          (walkSides (outline s) (s .args .magnify) (round s .start) (n .point-place .result) (drop (l .loop .j + 1) (round s .walk))) (x .cross-straight .ensures)
+          (walkSides (outline s) (s .args .magnify) (round s .start) (n .point-place .result) (drop (l .loop .j + 1) (round s .walk)))
+          (x .cross-straight .ensures)
           (owing-as _ _
           (turn-line (outline s) (s .args .magnify) (round s .start) (l .loop .p) (round s .walk) (s .args .a) (s .args .e)
           (t .tour-of .result .from) (t .tour-of .result .count)
@@ -132,7 +134,8 @@ end-of-requires c κs =
 
 end-halves-requires : tie.Need-end-halves-requires Inv-loop μ-loop
 end-halves-requires c κs =
-    let l = at-loop (c .before .before .before .before .before) in
+    let the-from = c .before .before .before .before .before in
+    let l = at-loop the-from in
     let s = entry (toured l) in
     (s .pre .1 .1, (end-more _ _ (s .pre .1 .0 .inside) (c .end-of .result) (c .end-of .ensures .1), s .pre .0 .ys-length, l .before .spot-halves .ensures .1))
 
@@ -175,7 +178,8 @@ loop-again-2 c =
           (owing-as _ _
           (turn-curve (outline s) (s .args .magnify) (round s .start) (l .loop .p) (round s .walk) (s .args .a) (s .args .e)
           (t .tour-of .result .from) (t .tour-of .result .count)
-          (t .tour-of .ensures .2) (l .loop .j) (w .around-at .result) (n .point-place .result) (g .end-halves .result) (l .before .spot-halves .result) (f .end-of .result) h
+          (t .tour-of .ensures .2) (l .loop .j) (w .around-at .result) (n .point-place .result) (g .end-halves .result) (l .before .spot-halves .result)
+          (f .end-of .result) h
           (w .around-at .ensures .0) (sym (d .before .is-on .ensures) ∙ d .if2 .left) (n .point-place .ensures .0) (started (l .before))
           (f .end-of .ensures .0 ∙ ap (λ (v : List ℕ). endOf (outline s) i (drop (l .loop .j + 1) v)) (walk-same (outline s) (s .args .a) (s .args .e - 1)))
           (g .end-halves .ensures .0))

@@ -5,8 +5,8 @@ use Prim.Native.Nat.{_+_, _-_, _≤_}
 use native.Mathlib.Omega.{arith}
 use borrow.Author.Needs.{needs}
 use lib.ListN.{length, drop}
-use Rattle.outline.specs.Weak.{endsHold}
-use Rattle.outline.proofs.Refusals.{end-at, EndAt}
+use Rattle.weak.specs.Weak.{endsHold}
+use Rattle.weak.proofs.Refusals.{end-at, EndAt}
 use Rattle.path_trip.specs.Path.{points, Points}
 use Rattle.path_trip.specs.Legs.{tourOf}
 use Rattle.shown.specs.Shown.{contourLines, linesOf}
@@ -39,8 +39,12 @@ end w = let l = at-loop w in end-at _ _ _ _ (w .before .before .loop-test .taken
 
 loop-holds : tie.Need-loop-holds Inv-loop μ-loop
 loop-holds c =
-    let s = c .before .before .before in
-    (omega arith, s .pre .1 .0, owing (s .args .left) (s .args .y) (s .args .changes .now) (linesOf fieldHalf (s .args .magnify) (outline s) 0 (s .args .ends .now)))
+    let s = c .before .before .before in (
+      omega arith,
+      s .pre .1 .0,
+      owing (s .args .left) (s .args .y) (s .args .changes .now)
+          (linesOf fieldHalf (s .args .magnify) (outline s) 0 (s .args .ends .now)),
+    )
 
 mul-wide : tie.Need-mul-wide Inv-loop μ-loop
 mul-wide c = search needs

@@ -23,7 +23,9 @@ returns c = rw (c .enum-told .given .1)
 
 returns-2 : tie.Need-returns-2
 unfolding blueHolds
-returns-2 c = rw (c .before .before .blue .given .1) (c .is-inside .ensures ∙ ap (within mostUnits) (is (got w32 (c .before .before .blue .given .0 .0) (c .before .known-told .given .0 .1))))
+returns-2 c =
+    rw (c .before .before .blue .given .1) (c .is-inside .ensures
+    ∙ ap (within mostUnits) (is (got w32 (c .before .before .blue .given .0 .0) (c .before .known-told .given .0 .1))))
 
 pub blue-holds-spec : {M : Type 1} → statement M
 blue-holds-spec =

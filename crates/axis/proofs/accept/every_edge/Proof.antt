@@ -43,7 +43,9 @@ loop-less : tie.Need-loop-less Inv-loop μ-loop
 loop-less c = omega arith
 
 loop-again : tie.Need-loop-again Inv-loop μ-loop
-loop-again c = let o = c .before .before .before .before .loop in (omega arith, o .inv .1, every-more _ _ (o .inv .2) (sym (c .before .edge-passes .ensures) ∙ not-false _ (c .if1 .left)))
+loop-again c =
+    let o = c .before .before .before .before .loop in
+    (omega arith, o .inv .1, every-more _ _ (o .inv .2) (sym (c .before .edge-passes .ensures) ∙ not-false _ (c .if1 .left)))
 
 returns-2 : tie.Need-returns-2 Inv-loop μ-loop
 returns-2 c = let o = c .before .loop .inv in every-done _ _ _ _ (o .0) (omega arith) (o .1) (o .2)

@@ -22,7 +22,8 @@ returns c =
     let o = c .before .before in
     let h = tested (inside (pos 0) (pos mostScore)) (o .before .before .before .args .segment .score) _ _ _
     (is (got w32 _ (o .before .before .struct-told .given .1 .1 .1 .1 .1 .1 .1 .0 .1))) (o .before .is-inside .ensures) (o .if1 .taken) in
-    rw h (c .is-inside2 .ensures ∙ ap (inside (pos 0) (pos mostScore)) (is (got w32 (o .before .before .before .args .segment .len) (c .before .struct-told2 .given .1 .1 .1 .1 .1 .1 .1 .1 .0 .1))))
+    rw h (c .is-inside2 .ensures ∙ ap (inside (pos 0) (pos mostScore))
+    (is (got w32 (o .before .before .before .args .segment .len) (c .before .struct-told2 .given .1 .1 .1 .1 .1 .1 .1 .1 .0 .1))))
 
 returns-2 : tie.Need-returns-2
 unfolding segmentNumbers

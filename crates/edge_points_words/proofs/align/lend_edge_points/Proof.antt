@@ -4,9 +4,9 @@ use mathlib.Core.Path.{_≡_, ap, _∙_}
 use Rattle.signed.proofs.Signed.{is}
 use Rattle.refusals.specs.Refusal.{refusal}
 use Rattle.words.specs.Field.{choiceOf}
-use Rattle.lent.proofs.Lents.{refused-before}
+use Rattle.words_call.proofs.Lents.{refused-before}
 use Rattle.edge_points.specs.EdgePoints.{Points}
-use Rattle.edge_points_walk.specs.Steps.{points}
+use Rattle.edge_points.specs.Steps.{points}
 use Rattle.edge_points_words.specs.Align.{pointsFront}
 use Rattle.edge_points_words.proofs.Lending.{Shown, shown, refuses, accepted, near, moved}
 use Rattle.edge_points_words.proofs.align.lend_edge_points.Statement.{statement}
@@ -25,13 +25,16 @@ lent s = points (s .args .currents .now) (s .args .touched .now)
 -- the refusal in front, and what is known where there is none
 front-is : (c : tie.After-points-front)
     → c .points-front .result
-    ≡ refusal (pointsFront (start c .args .segments .now) (start c .args .edges .now) (start c .args .snap) (start c .args .alone) (start c .args .currents .now) (start c .args .touched .now))
+    ≡ refusal (pointsFront (start c .args .segments .now) (start c .args .edges .now) (start c .args .snap) (start c .args .alone)
+    (start c .args .currents .now) (start c .args .touched .now))
 front-is c =
     let s = start c in
     let a = s .args in
-    c .points-front .ensures ∙ (λ x. refusal (pointsFront (a .segments .now) (a .edges .now) (is (s .fits .snap) x) (is (s .fits .alone) x) (a .currents .now) (a .touched .now)))
+    c .points-front .ensures ∙ (λ x. refusal (pointsFront (a .segments .now) (a .edges .now) (is (s .fits .snap) x) (is (s .fits .alone) x) (a .currents .now)
+    (a .touched .now)))
 
-all-shown : (c : tie.Else1) → Shown (start (c .before) .args .segments .now) (start (c .before) .args .edges .now) (start (c .before) .args .currents .now) (start (c .before) .args .touched .now)
+all-shown : (c : tie.Else1) → Shown (start (c .before) .args .segments .now) (start (c .before) .args .edges .now) (start (c .before) .args .currents .now)
+    (start (c .before) .args .touched .now)
 all-shown c =
     let s = start (c .before) in
     let a = s .args in
@@ -81,7 +84,8 @@ returns-2 c =
     let o = h .before in
     let s = start (o .before) in
     let a = s .args in
-    refuses (a .segments .now) (a .edges .now) (a .snap) (a .alone) (a .ends .now) (lent s) (front-is (o .before)) (o .if1 .left) (alone-is h) (r .points-refusal .ensures) (c .if2 .taken)
+    refuses (a .segments .now) (a .edges .now) (a .snap) (a .alone) (a .ends .now) (lent s) (front-is (o .before)) (o .if1 .left) (alone-is h)
+    (r .points-refusal .ensures) (c .if2 .taken)
 
 choice-of-requires-2 : tie.Need-choice-of-requires-2
 choice-of-requires-2 c κs = search needs
@@ -94,8 +98,10 @@ move-all-requires c κs =
     let o = h .before in
     let s = start (o .before) in
     let a = s .args in
-    let ready = accepted (a .segments .now) (a .edges .now) (a .snap) (a .alone) (a .ends .now) (lent s) (front-is (o .before)) (o .if1 .left) (alone-is h) (r .points-refusal .ensures) (e .if2 .left) in
-    let close = near (a .segments .now) (a .edges .now) (a .snap) (a .alone) (a .ends .now) (lent s) (front-is (o .before)) (o .if1 .left) (alone-is h) (r .points-refusal .ensures) (e .if2 .left) in
+    let ready = accepted (a .segments .now) (a .edges .now) (a .snap) (a .alone) (a .ends .now) (lent s) (front-is (o .before)) (o .if1 .left) (alone-is h)
+    (r .points-refusal .ensures) (e .if2 .left) in
+    let close = near (a .segments .now) (a .edges .now) (a .snap) (a .alone) (a .ends .now) (lent s) (front-is (o .before)) (o .if1 .left) (alone-is h)
+    (r .points-refusal .ensures) (e .if2 .left) in
     (ready, (all-shown o .same, close))
 
 same-length-5 : tie.Need-same-length-5
@@ -114,7 +120,8 @@ returns-3 c =
     let o = h .before in
     let s = start (o .before) in
     let a = s .args in
-    moved (a .segments .now) (a .edges .now) (a .snap) (a .alone) (a .ends .now) (lent s) (front-is (o .before)) (o .if1 .left) (alone-is h) (r .points-refusal .ensures) (e .if2 .left) _
+    moved (a .segments .now) (a .edges .now) (a .snap) (a .alone) (a .ends .now) (lent s) (front-is (o .before)) (o .if1 .left) (alone-is h)
+    (r .points-refusal .ensures) (e .if2 .left) _
     (k .choice-of2 .ensures ∙ ap choiceOf (is (s .fits .snap))) (m .move-all .ensures)
 
 pub lend-edge-points-spec : {M : Type 1} → statement M

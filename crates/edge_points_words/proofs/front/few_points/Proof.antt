@@ -1,7 +1,7 @@
 -- `edge_points_words::front::few_points` meets its contract. Assumes nothing.
 use native.Mathlib.Omega.{arith}
 use borrow.Author.Tests.{lt-leb, le-leb}
-use Rattle.contours.specs.Limits.{mostPoints}
+use Rattle.weak_contour.specs.Limits.{mostPoints}
 use Rattle.edge_points_words.proofs.front.few_points.Statement.{statement}
 use Rattle.edge_points_words.proofs.front.few_points.Tie as tie
 

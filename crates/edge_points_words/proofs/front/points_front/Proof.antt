@@ -9,12 +9,12 @@ use lib.ListN.{length}
 use Rattle.signed.proofs.By.{by₂}
 use Rattle.signed.proofs.Signed.{is}
 use Rattle.axis.specs.Limits.{mostSegments, mostEdges}
-use Rattle.contours.specs.Limits.{mostPoints}
+use Rattle.weak_contour.specs.Limits.{mostPoints}
 use Rattle.words.specs.Edge.{edgeSize, edgesIn}
 use Rattle.words.specs.Segment.{segmentSize, segmentsIn}
-use Rattle.shape.specs.Shape.{choice, edgesShown, segmentsShown}
-use Rattle.lent.specs.Lent.{bothIn}
-use Rattle.lent.proofs.Lents.{not-whole, not-short, not-shown, all-shown}
+use Rattle.words_shape.specs.Shape.{choice, edgesShown, segmentsShown}
+use Rattle.words_call.specs.Lent.{bothIn}
+use Rattle.words_call.proofs.Lents.{not-whole, not-short, not-shown, all-shown}
 use Rattle.edge_points_words.specs.Align.{pointsFront}
 use Rattle.edge_points_words.proofs.front.points_front.Statement.{statement}
 use Rattle.edge_points_words.proofs.front.points_front.Tie as tie
@@ -25,7 +25,8 @@ whole s = eqb (length (s .args .segments .now) % segmentSize) 0 && eqb (length (
 abbrev short : tie.Start → Bool
 short s =
     let a = s .args in
-    (leb (segmentsIn (a .segments .now)) mostSegments && leb (edgesIn (a .edges .now)) mostEdges) && (leb (length (a .currents .now)) mostPoints && eqb (length (a .touched .now)) (length (a .currents .now)))
+    (leb (segmentsIn (a .segments .now)) mostSegments && leb (edgesIn (a .edges .now)) mostEdges)
+    && (leb (length (a .currents .now)) mostPoints && eqb (length (a .touched .now)) (length (a .currents .now)))
 
 abbrev shown : tie.Start → Bool
 shown s = let a = s .args in (segmentsShown (a .segments .now) && edgesShown (a .edges .now)) && bothIn choice (a .snap) (a .alone)
@@ -45,7 +46,8 @@ are-short : (c : tie.After-both3) → c .both3 .result ≡ short (start c)
 are-short c =
     let p = c .before in
     let b = p .before in
-    by₂ _&&_ (c .both3 .ensures) (by₂ _&&_ (b .both2 .ensures) (b .before .before .few-segments .ensures) (b .before .few-edges .ensures)) (p .few-points .ensures)
+    by₂ _&&_ (c .both3 .ensures) (by₂ _&&_ (b .both2 .ensures) (b .before .before .few-segments .ensures) (b .before .few-edges .ensures))
+    (p .few-points .ensures)
 
 abbrev counts : tie.After-both4 → tie.Else2
 counts c = c .before .before .before

@@ -2,14 +2,15 @@
 use native.Mathlib.Omega.{arith}
 use mathlib.Core.Path.{sym, subst, _∙_}
 use Prim.Native.Nat.{ℕ, _-_}
-use Rattle.edge_points_walk.specs.Steps.{points}
+use Rattle.edge_points.specs.Steps.{points}
 use Rattle.edge_points_words.specs.Steps.{Accepted}
 use Rattle.edge_points_words.proofs.Passing.{Passing, passing-starts, passing-next, passing-ends}
 use Rattle.edge_points_words.proofs.pass.move_all.Statement.{statement}
 use Rattle.edge_points_words.proofs.pass.move_all.Tie as tie
 
 abbrev Inv-loop : tie.InvT-loop
-Inv-loop segments edges snap alone currents₀ touched₀ ends n i₀ currents touched i = Passing segments edges snap alone ends (points currents₀ touched₀) (points currents touched) i
+Inv-loop segments edges snap alone currents₀ touched₀ ends n i₀ currents touched i =
+    Passing segments edges snap alone ends (points currents₀ touched₀) (points currents touched) i
 
 abbrev μ-loop : tie.MeasureT-loop
 μ-loop segments edges snap alone currents₀ touched₀ ends n i₀ currents touched i = n - i
@@ -24,15 +25,22 @@ move-segment-requires c κs =
     let s = l .before .before .before in
     let a = s .args in
     let p = l .loop .inv in (
-      (subst (λ (n : ℕ). Accepted (a .segments .now) (a .edges .now) (a .alone) n (a .ends .now)) (sym (p .currents-size)) (s .pre .0), omega (arith, t .loop-test .taken)),
+      (
+        subst (λ (n : ℕ). Accepted (a .segments .now) (a .edges .now) (a .alone) n (a .ends .now)) (sym (p .currents-size)) (s .pre .0),
+        omega
+            (arith, t .loop-test .taken),
+      ),
       (p .marks-size ∙ s .pre .1 .0 ∙ sym (p .currents-size), p .reach),
     )
 
 add-i : tie.Need-add-i Inv-loop μ-loop
-add-i c = let t = c .before .before .before .before .before .before in omega (arith, t .loop-test .taken, t .before .before .before .before .pre .0 .segments .few)
+add-i c =
+    let t = c .before .before .before .before .before .before in omega (arith, t .loop-test .taken, t .before .before .before .before .pre .0 .segments .few)
 
 loop-less : tie.Need-loop-less Inv-loop μ-loop
-loop-less c = omega (arith, c .before .before .before .before .before .before .loop-test .taken)
+loop-less c =
+    let turn = c .before .before .before .before .before .before in
+    omega (arith, turn .loop-test .taken)
 
 loop-again : tie.Need-loop-again Inv-loop μ-loop
 loop-again c =

@@ -6,7 +6,7 @@ use mathlib.Core.Path.{_≡_, refl, sym, _∙_}
 use Prim.Native.Nat.{_<_}
 use Rattle.axis.specs.Segment.{segmentAt}
 use Rattle.words.specs.Segment.{segmentsIn, flatSegments}
-use Rattle.segments_in.specs.Whole.{Whole}
+use Rattle.words_segment.specs.Whole.{Whole}
 use Rattle.edge_points_words.proofs.Read.{named, is-mover}
 use Rattle.edge_points_words.proofs.Visit.{visit-none, visit-still, read-moves, read-mover, segment-ready, segment-moved, reach-most}
 use Rattle.edge_points_words.proofs.pass.move_segment.Statement.{statement}
@@ -33,8 +33,11 @@ last-read : (c : tie.After-last-of) → c .last-of .result ≡ segmentAt (flatSe
 last-read c = c .last-of .ensures
 
 -- the segment, and that it is one of the list
-segment : (c : tie.Else1) → let a = from (c .before .before .before .before .before .before) .args in Whole (a .segments .now) × (a .i < segmentsIn (a .segments .now))
-segment c = let p = from (c .before .before .before .before .before .before) .pre .0 in (p .0 .segments, p .1)
+segment : (c : tie.Else1) → let a =
+    from (c .before .before .before .before .before .before) .args in Whole (a .segments .now) × (a .i < segmentsIn (a .segments .now))
+segment c =
+    let the-from = c .before .before .before .before .before .before in
+    let p = from the-from .pre .0 in (p .0 .segments, p .1)
 
 edge-of-requires : tie.Need-edge-of-requires
 edge-of-requires c κs = let p = c .before .before .pre .0 in (p .0 .segments, p .1)
@@ -50,11 +53,11 @@ returns c =
     let l = c .before .before in
     visit-none _ _ _ _ _ _ _ (sym (linked l) ∙ c .enum-told .given .1)
 
-cast-fit-in : tie.Need-cast-fit-in
-cast-fit-in c = search needs
+cast-read-edge : tie.Need-cast-read-edge
+cast-read-edge c = search needs
 
-fit-in-requires : tie.Need-fit-in-requires
-fit-in-requires c κs =
+read-edge-requires : tie.Need-read-edge-requires
+read-edge-requires c κs =
     let link = c .before in
     let l = link .before .before in
     let s = from l in
@@ -71,7 +74,8 @@ returns-2 c =
     let l = link .before .before in
     let a = from l .args in
     let e = sym (linked l) ∙ link .link .given .1 in
-    visit-still _ _ _ _ _ _ _ _ e (read-moves (a .alone) (a .segments .now) (a .edges .now) (a .i) (f .fit-in .result) _ e (f .fit-in .ensures) (m .moves .ensures) (not-true _ (c .if1 .taken)))
+    visit-still _ _ _ _ _ _ _ _ e (read-moves (a .alone) (a .segments .now) (a .edges .now) (a .i) (f .read-edge .result) _ e (f .read-edge .ensures)
+    (m .moves .ensures) (not-true _ (c .if1 .taken)))
 
 first-of-requires : tie.Need-first-of-requires
 first-of-requires c κs = segment c
@@ -90,10 +94,11 @@ move-walk-requires c κs =
     let s = from l in
     let a = s .pre .0 .0 in
     let e = sym (linked l) ∙ link .link .given .1 in
-    let moving = read-moves (s .args .alone) (s .args .segments .now) (s .args .edges .now) (s .args .i) (f .fit-in .result) _ e (f .fit-in .ensures) (m .moves .ensures) (not-false _ (o .if1 .left)) in (
+    let moving = read-moves (s .args .alone) (s .args .segments .now) (s .args .edges .now) (s .args .i) (f .read-edge .result) _ e (f .read-edge .ensures)
+    (m .moves .ensures) (not-false _ (o .if1 .left)) in (
       (segment-ready _ _ _ _ _ a _ (s .pre .0 .1) _ e _ _ (first-read k) (last-read k) _ refl, s .pre .1 .0),
       (
-        read-mover _ _ (f .fit-in .ensures) (is-mover _ _ _ _ _ a _ (s .pre .0 .1) _ e moving),
+        read-mover _ _ (f .read-edge .ensures) (is-mover _ _ _ _ _ a _ (s .pre .0 .1) _ e moving),
         reach-most (s .args .i) (s .args .currents .now) (omega (arith, s .pre .0 .1, a .segments .few)) (s .pre .1 .1),
       ),
     )
@@ -115,8 +120,10 @@ returns-3 c =
     let l = link .before .before in
     let s = from l in
     let e = sym (linked l) ∙ link .link .given .1 in
-    let moving = read-moves (s .args .alone) (s .args .segments .now) (s .args .edges .now) (s .args .i) (f .fit-in .result) _ e (f .fit-in .ensures) (m .moves .ensures) (not-false _ (o .if1 .left)) in
-    segment-moved _ _ _ _ _ (s .pre .0 .0) _ (s .pre .0 .1) _ e _ _ (first-read k) (last-read k) _ refl _ _ _ _ (f .fit-in .ensures) moving (r .move-walk .ensures)
+    let moving = read-moves (s .args .alone) (s .args .segments .now) (s .args .edges .now) (s .args .i) (f .read-edge .result) _ e (f .read-edge .ensures)
+    (m .moves .ensures) (not-false _ (o .if1 .left)) in
+    segment-moved _ _ _ _ _ (s .pre .0 .0) _ (s .pre .0 .1) _ e _ _ (first-read k) (last-read k) _ refl _ _ _ _ (f .read-edge .ensures) moving
+    (r .move-walk .ensures)
 
 pub move-segment-spec : {M : Type 1} → statement M
 move-segment-spec =
@@ -126,8 +133,8 @@ move-segment-spec =
     enum-known-link
     enum-told
     returns
-    cast-fit-in
-    fit-in-requires
+    cast-read-edge
+    read-edge-requires
     moves-requires
     returns-2
     first-of-requires

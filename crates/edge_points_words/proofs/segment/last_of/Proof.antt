@@ -9,14 +9,14 @@ use Rattle.edge_points_words.proofs.Read.{last-is}
 use Rattle.edge_points_words.proofs.segment.last_of.Statement.{statement}
 use Rattle.edge_points_words.proofs.segment.last_of.Tie as tie
 
-mul-word-in : tie.Need-mul-word-in
-mul-word-in c = omega (arith, c .pre .1, c .pre .0 .few)
+mul-read-word : tie.Need-mul-read-word
+mul-read-word c = omega (arith, c .pre .1, c .pre .0 .few)
 
-add-word-in : tie.Need-add-word-in
-add-word-in c = omega (arith, c .pre .1, c .pre .0 .few)
+add-read-word : tie.Need-add-read-word
+add-read-word c = omega (arith, c .pre .1, c .pre .0 .few)
 
-word-in-requires : tie.Need-word-in-requires
-word-in-requires c κs = omega (arith, c .pre .1)
+read-word-requires : tie.Need-read-word-requires
+read-word-requires c κs = omega (arith, c .pre .1)
 
 index-of-requires : tie.Need-index-of-requires
 index-of-requires c κs = search needs
@@ -29,8 +29,8 @@ returns c =
     let y = c .before in
     let x = y .before in
     let s = x .before in
-    c .wide .ensures ∙ y .index-of .ensures ∙ ap indexOf (is (got w32 (x .word-in .result) (x .word-in .ok)) ∙ x .word-in .ensures)
+    c .wide .ensures ∙ y .index-of .ensures ∙ ap indexOf (is (got w32 (x .read-word .result) (x .read-word .ok)) ∙ x .read-word .ensures)
     ∙ last-is (s .args .segments .now) (s .args .i) (s .pre .0) (s .pre .1)
 
 pub last-of-spec : {M : Type 1} → statement M
-last-of-spec = tie.close (tie.spec mul-word-in add-word-in word-in-requires index-of-requires wide-requires returns)
+last-of-spec = tie.close (tie.spec mul-read-word add-read-word read-word-requires index-of-requires wide-requires returns)

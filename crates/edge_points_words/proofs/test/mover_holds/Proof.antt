@@ -6,7 +6,7 @@ use mir.Syntax.{w32}
 use Rattle.signed.proofs.Signed.{is, got}
 use Rattle.axis.specs.Refusals.{within}
 use Rattle.axis.specs.Segment.{segmentAt}
-use Rattle.contours.specs.Limits.{mostCoordinate}
+use Rattle.weak_contour.specs.Limits.{mostCoordinate}
 use Rattle.words.specs.Segment.{flatSegments}
 use Rattle.edge_points_words.proofs.Read.{edge-below}
 use Rattle.edge_points_words.proofs.Visit.{read-moves}
@@ -35,11 +35,11 @@ returns c =
     let l = c .before .before in
     mover-free _ _ _ (sym (linked l) ∙ c .enum-told .given .1)
 
-cast-fit-in : tie.Need-cast-fit-in
-cast-fit-in c = search needs
+cast-read-edge : tie.Need-cast-read-edge
+cast-read-edge c = search needs
 
-fit-in-requires : tie.Need-fit-in-requires
-fit-in-requires c κs =
+read-edge-requires : tie.Need-read-edge-requires
+read-edge-requires c κs =
     let link = c .before in
     let l = link .before .before in
     let s = from l in
@@ -56,7 +56,8 @@ returns-2 c =
     let l = link .before .before in
     let a = from l .args in
     let e = sym (linked l) ∙ link .link .given .1 in
-    mover-still _ _ _ _ e (read-moves (a .alone) (a .segments .now) (a .edges .now) (a .i) (f .fit-in .result) _ e (f .fit-in .ensures) (m .moves .ensures) (not-true _ (c .if1 .taken)))
+    mover-still _ _ _ _ e (read-moves (a .alone) (a .segments .now) (a .edges .now) (a .i) (f .read-edge .result) _ e (f .read-edge .ensures)
+    (m .moves .ensures) (not-true _ (c .if1 .taken)))
 
 sub-is-inside : tie.Need-sub-is-inside
 sub-is-inside c = search needs
@@ -74,9 +75,10 @@ returns-3 c =
     let l = link .before .before in
     let a = from l .args in
     let e = sym (linked l) ∙ link .link .given .1 in
-    mover-asked _ _ _ _ (f .fit-in .result) _ e (f .fit-in .ensures)
-    (read-moves (a .alone) (a .segments .now) (a .edges .now) (a .i) (f .fit-in .result) _ e (f .fit-in .ensures) (m .moves .ensures) (not-false _ (o .if1 .left)))
-    (c .is-inside .ensures ∙ ap (within mostCoordinate) (is (got w32 (f .fit-in .result .pos) (t .struct-told .given .1 .1 .0 .1))))
+    mover-asked _ _ _ _ (f .read-edge .result) _ e (f .read-edge .ensures)
+    (read-moves (a .alone) (a .segments .now) (a .edges .now) (a .i) (f .read-edge .result) _ e (f .read-edge .ensures) (m .moves .ensures)
+    (not-false _ (o .if1 .left)))
+    (c .is-inside .ensures ∙ ap (within mostCoordinate) (is (got w32 (f .read-edge .result .pos) (t .struct-told .given .1 .1 .0 .1))))
 
 pub mover-holds-spec : {M : Type 1} → statement M
 mover-holds-spec =
@@ -86,8 +88,8 @@ mover-holds-spec =
     enum-known-link
     enum-told
     returns
-    cast-fit-in
-    fit-in-requires
+    cast-read-edge
+    read-edge-requires
     moves-requires
     returns-2
     sub-is-inside

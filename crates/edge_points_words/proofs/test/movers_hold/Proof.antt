@@ -8,15 +8,16 @@ use Rattle.axis.specs.Refusals.{every}
 use Rattle.axis.specs.Segment.{segmentAt}
 use Rattle.axis.proofs.Tests.{every-none, every-more, every-fails, every-done}
 use Rattle.words.specs.Segment.{segmentsIn, flatSegments}
-use Rattle.segments_in.proofs.Wholes.{segments-len}
-use Rattle.lent.specs.Lent.{edgesOf}
+use Rattle.words_segment.proofs.Wholes.{segments-len}
+use Rattle.words_call.specs.Lent.{edgesOf}
 use Rattle.edge_points.specs.EdgePoints.{moverHolds, moversHold}
-use Rattle.tables_test.proofs.Tables.{tested-segment}
+use Rattle.words_tables_test.proofs.Tables.{tested-segment}
 use Rattle.edge_points_words.proofs.test.movers_hold.Statement.{statement}
 use Rattle.edge_points_words.proofs.test.movers_hold.Tie as tie
 
 abbrev Inv-loop : tie.InvT-loop
-Inv-loop segments edges alone n i₀ i = (i ≤ segmentsIn segments) × (every (λ (k : ℕ). moverHolds alone (edgesOf edges) (segmentAt (flatSegments segments) k .edge)) i ≡ true)
+Inv-loop segments edges alone n i₀ i =
+    (i ≤ segmentsIn segments) × (every (λ (k : ℕ). moverHolds alone (edgesOf edges) (segmentAt (flatSegments segments) k .edge)) i ≡ true)
 
 abbrev μ-loop : tie.MeasureT-loop
 μ-loop segments edges alone n i₀ i = n - i
@@ -33,7 +34,8 @@ returns c =
     let t = c .before in
     let l = t .before .before in
     let s = l .before in
-    sym (every-fails _ (l .loop .i) _ (tested-segment (s .args .segments .now) (l .loop .i) (s .pre .0) (omega arith)) (sym (t .mover-holds .ensures) ∙ not-true _ (c .if1 .taken)))
+    sym (every-fails _ (l .loop .i) _ (tested-segment (s .args .segments .now) (l .loop .i) (s .pre .0) (omega arith))
+    (sym (t .mover-holds .ensures) ∙ not-true _ (c .if1 .taken)))
 
 add-i : tie.Need-add-i Inv-loop μ-loop
 add-i c = omega arith

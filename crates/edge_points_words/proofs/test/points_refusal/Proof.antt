@@ -5,9 +5,9 @@ use Rattle.refusals.specs.Refusal.{badIndex, outOfRange}
 use Rattle.refusals.proofs.Tests.{none-tested, then-tested}
 use Rattle.words.specs.Edge.{edgesIn}
 use Rattle.words.specs.Segment.{flatSegments}
-use Rattle.lent.specs.Lent.{edgesOf}
-use Rattle.edges_in.proofs.Wholes.{edges-len}
-use Rattle.edge_points_walk.specs.Steps.{points}
+use Rattle.words_call.specs.Lent.{edgesOf}
+use Rattle.words_edge.proofs.Wholes.{edges-len}
+use Rattle.edge_points.specs.Steps.{points}
 use Rattle.edge_points_words.proofs.Tests.{index-refuses, own-refuses, to-edges}
 use Rattle.edge_points_words.proofs.test.points_refusal.Statement.{statement}
 use Rattle.edge_points_words.proofs.test.points_refusal.Tie as tie
@@ -24,7 +24,8 @@ returns c =
     let r = c .before in
     let s = from r in
     let a = s .args in
-    index-refuses (a .alone) (edgesOf (a .edges .now)) (flatSegments (a .segments .now)) (points (a .currents .now) (a .touched .now)) (a .ends .now) (s .pre .1 .1 .0) (s .pre .1 .1 .1) _ (r .tables-indexed .ensures) (c .if1 .taken)
+    index-refuses (a .alone) (edgesOf (a .edges .now)) (flatSegments (a .segments .now)) (points (a .currents .now) (a .touched .now)) (a .ends .now)
+    (s .pre .1 .1 .0) (s .pre .1 .1 .1) _ (r .tables-indexed .ensures) (c .if1 .taken)
 
 ends-hold-requires : tie.Need-ends-hold-requires
 ends-hold-requires c κs = search needs
@@ -39,13 +40,17 @@ or-refused-requires-2 : tie.Need-or-refused-requires-2
 or-refused-requires-2 c κs = search needs
 
 segments-ranged-requires : tie.Need-segments-ranged-requires
-segments-ranged-requires c κs = from (c .before .before .before .before .before) .pre .0
+segments-ranged-requires c κs =
+    let the-from = c .before .before .before .before .before in
+    from the-from .pre .0
 
 or-refused-requires-3 : tie.Need-or-refused-requires-3
 or-refused-requires-3 c κs = search needs
 
 edges-ranged-requires : tie.Need-edges-ranged-requires
-edges-ranged-requires c κs = from (c .before .before .before .before .before .before .before) .pre .0
+edges-ranged-requires c κs =
+    let the-from = c .before .before .before .before .before .before .before in
+    from the-from .pre .0
 
 or-refused-requires-4 : tie.Need-or-refused-requires-4
 or-refused-requires-4 c κs = search needs
@@ -61,8 +66,14 @@ movers-hold-requires c κs =
     let o = c .before .before .before .before .before .before .before .before .before .before in
     let r = o .before in
     let s = from r in
-    let es = s .args .edges .now in
-    (s .pre .1 .0 .0, (s .pre .1 .0 .1, to-edges (edgesOf es) (flatSegments (s .args .segments .now)) _ (edgesIn es) (r .tables-indexed .ensures) (o .if1 .left) (edges-len es)))
+    let es = s .args .edges .now in (
+      s .pre .1 .0 .0,
+      (
+        s .pre .1 .0 .1,
+        to-edges (edgesOf es) (flatSegments (s .args .segments .now)) _ (edgesIn es) (r .tables-indexed .ensures)
+            (o .if1 .left) (edges-len es),
+      ),
+    )
 
 or-refused-requires-6 : tie.Need-or-refused-requires-6
 or-refused-requires-6 c κs = search needs
@@ -89,7 +100,9 @@ returns-2 c =
     let held4 = then-tested outOfRange held3 refl (four .or-refused4 .ensures) (test4 .edges-ranged .ensures) in
     let held5 = then-tested outOfRange held4 refl (five .or-refused5 .ensures) (test5 .coordinates-hold .ensures) in
     let a = s .args in
-    own-refuses (a .alone) (edgesOf (a .edges .now)) (flatSegments (a .segments .now)) (points (a .currents .now) (a .touched .now)) (a .ends .now) (s .pre .1 .1 .0) (s .pre .1 .1 .1) _ (r .tables-indexed .ensures) (o .if1 .left) _ (then-tested outOfRange held5 refl (c .or-refused6 .ensures) (test6 .movers-hold .ensures) .refused)
+    own-refuses (a .alone) (edgesOf (a .edges .now)) (flatSegments (a .segments .now)) (points (a .currents .now) (a .touched .now)) (a .ends .now)
+    (s .pre .1 .1 .0) (s .pre .1 .1 .1) _ (r .tables-indexed .ensures) (o .if1 .left) _
+    (then-tested outOfRange held5 refl (c .or-refused6 .ensures) (test6 .movers-hold .ensures) .refused)
 
 pub points-refusal-spec : {M : Type 1} → statement M
 points-refusal-spec =

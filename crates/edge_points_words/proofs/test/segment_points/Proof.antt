@@ -47,7 +47,8 @@ returns-2 c =
     let y = k .before in
     let x = y .before in
     let t = x .before in
-    points-on _ _ _ _ _ _ _ (sym (linked (t .before .before)) ∙ t .enum-told .given .1) (x .first-of .ensures) (y .last-of .ensures) (k .contour-of .ensures) (c .is-on .ensures)
+    points-on _ _ _ _ _ _ _ (sym (linked (t .before .before)) ∙ t .enum-told .given .1) (x .first-of .ensures) (y .last-of .ensures) (k .contour-of .ensures)
+    (c .is-on .ensures)
 
 pub segment-points-spec : {M : Type 1} → statement M
 segment-points-spec =

@@ -8,14 +8,16 @@ use Rattle.axis.specs.Refusals.{every}
 use Rattle.axis.specs.Segment.{segmentAt}
 use Rattle.axis.proofs.Tests.{every-none, every-more, every-fails, every-done}
 use Rattle.words.specs.Segment.{segmentsIn, flatSegments}
-use Rattle.segments_in.proofs.Wholes.{segments-len}
+use Rattle.words_segment.proofs.Wholes.{segments-len}
 use Rattle.edge_points.specs.EdgePoints.{segmentPoints, segmentsPoints}
-use Rattle.tables_test.proofs.Tables.{tested-segment}
+use Rattle.words_tables_test.proofs.Tables.{tested-segment}
 use Rattle.edge_points_words.proofs.test.segments_points.Statement.{statement}
 use Rattle.edge_points_words.proofs.test.segments_points.Tie as tie
 
 abbrev Inv-loop : tie.InvT-loop
-Inv-loop segments ends n i₀ i = (i ≤ segmentsIn segments) × (every (λ (k : ℕ). segmentPoints ends (segmentAt (flatSegments segments) k) (segmentAt (flatSegments segments) k .edge)) i ≡ true)
+Inv-loop segments ends n i₀ i =
+    (i ≤ segmentsIn segments) × (every (λ (k : ℕ). segmentPoints ends (segmentAt (flatSegments segments) k) (segmentAt (flatSegments segments) k .edge)) i
+    ≡ true)
 
 abbrev μ-loop : tie.MeasureT-loop
 μ-loop segments ends n i₀ i = n - i
@@ -32,7 +34,8 @@ returns c =
     let t = c .before in
     let l = t .before .before in
     let s = l .before .before in
-    sym (every-fails _ (l .loop .i) _ (tested-segment (s .args .segments .now) (l .loop .i) (s .pre) (omega arith)) (sym (t .segment-points .ensures) ∙ not-true _ (c .if1 .taken)))
+    sym (every-fails _ (l .loop .i) _ (tested-segment (s .args .segments .now) (l .loop .i) (s .pre) (omega arith))
+    (sym (t .segment-points .ensures) ∙ not-true _ (c .if1 .taken)))
 
 add-i : tie.Need-add-i Inv-loop μ-loop
 add-i c = omega arith

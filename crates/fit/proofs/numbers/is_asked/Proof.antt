@@ -24,7 +24,8 @@ unfolding isAsked
 returns c =
     let b = c .before in
     let n = b .before in
-    c .both2 .ensures ∙ ap (λ (t : Bool). b .before .before .before .args .by .«lowercase_m» && t) (by₂ _&&_ (b .both .ensures) (n .before .is-horizontal .ensures) (n .count-holds .ensures))
+    c .both2 .ensures ∙ ap (λ (t : Bool). b .before .before .before .args .by .«lowercase_m» && t)
+    (by₂ _&&_ (b .both .ensures) (n .before .is-horizontal .ensures) (n .count-holds .ensures))
 
 pub is-asked-spec : {M : Type 1} → statement M
 is-asked-spec =

@@ -4,8 +4,8 @@ use mathlib.Core.Bool.{_&&_}
 use mir.Syntax.{w32}
 use Rattle.signed.proofs.By.{by₂, by₃}
 use Rattle.words.proofs.Fields.{kept}
-use Rattle.shape.specs.Shape.{choice}
-use Rattle.lent.specs.Lent.{bothIn, choices}
+use Rattle.words_shape.specs.Shape.{choice}
+use Rattle.words_call.specs.Lent.{bothIn, choices}
 use Rattle.fit.specs.Numbers.{numbersShown}
 use borrow.Author.Needs.{needs}
 use Rattle.fit.proofs.numbers.numbers_shown.Statement.{statement}
@@ -66,9 +66,11 @@ returns c =
     let w2 = f .before .before .word-at2 in
     let w1 = f .before .before .before .word-at in
     by₂ _&&_ (c .both2 .ensures)
-    (by₃ choices (f .are-choices .ensures) (kept w32 (w1 .result) (w1 .ok) ∙ w1 .ensures) (kept w32 (w2 .result) (w2 .ok) ∙ w2 .ensures) (kept w32 (w3 .result) (w3 .ok) ∙ w3 .ensures))
+    (by₃ choices (f .are-choices .ensures) (kept w32 (w1 .result) (w1 .ok) ∙ w1 .ensures) (kept w32 (w2 .result) (w2 .ok) ∙ w2 .ensures)
+    (kept w32 (w3 .result) (w3 .ok) ∙ w3 .ensures))
     (by₂ _&&_ (b .both .ensures)
-    (by₃ choices (s .are-choices2 .ensures) (kept w32 (w4 .result) (w4 .ok) ∙ w4 .ensures) (kept w32 (w5 .result) (w5 .ok) ∙ w5 .ensures) (kept w32 (w6 .result) (w6 .ok) ∙ w6 .ensures))
+    (by₃ choices (s .are-choices2 .ensures) (kept w32 (w4 .result) (w4 .ok) ∙ w4 .ensures) (kept w32 (w5 .result) (w5 .ok) ∙ w5 .ensures)
+    (kept w32 (w6 .result) (w6 .ok) ∙ w6 .ensures))
     (by₂ (bothIn choice) (l .both-in .ensures) (kept w32 (w7 .result) (w7 .ok) ∙ w7 .ensures) (kept w32 (w8 .result) (w8 .ok) ∙ w8 .ensures)))
 
 pub numbers-shown-spec : {M : Type 1} → statement M

@@ -1,6 +1,6 @@
 -- `fit_back_words::back::points_back` meets its contract. Assumes nothing.
 use mathlib.Core.Path.{_∙_}
-use Rattle.edge_points_walk.specs.Steps.{points}
+use Rattle.edge_points.specs.Steps.{points}
 use Rattle.fit_back_words.proofs.Putting.{points-went, points-put}
 use borrow.Author.Needs.{needs}
 use Rattle.fit_back_words.proofs.back.points_back.Statement.{statement}
@@ -58,7 +58,8 @@ returns-2 c =
     let f = e .before .before .before .before in
     let marks = f .before .before .before .before .before in
     let spare = marks .before .before .before .before in
-    points-put (f .fit-points .ensures) (e .if1 .left) (λ j. points ((k .copy2 .ensures ∙ spare .copy .ensures) j) ((m .copy-marks2 .ensures ∙ marks .copy-marks .ensures) j))
+    points-put (f .fit-points .ensures) (e .if1 .left)
+    (λ j. points ((k .copy2 .ensures ∙ spare .copy .ensures) j) ((m .copy-marks2 .ensures ∙ marks .copy-marks .ensures) j))
 
 pub points-back-spec : {M : Type 1} → statement M
 points-back-spec =

@@ -2,7 +2,7 @@
 use native.Mathlib.Omega.{arith}
 use mathlib.Core.Path.{refl}
 use Prim.Native.Nat.{_-_}
-use Rattle.remaining_lent.proofs.Copying.{Copied, copied-none, copied-more, copied-all}
+use Rattle.remaining_words.proofs.Copying.{Copied, copied-none, copied-more, copied-all}
 use Rattle.fit_back_words.proofs.copied.copy_marks.Statement.{statement}
 use Rattle.fit_back_words.proofs.copied.copy_marks.Tie as tie
 

@@ -2,7 +2,7 @@
 use mathlib.Core.Path.{ap}
 use native.Mathlib.Omega.{arith}
 use lib.ListN.{length}
-use Rattle.edge_points_walk.specs.Steps.{points}
+use Rattle.edge_points.specs.Steps.{points}
 use Rattle.fit.specs.Fit.{Given, given, Fitted, fitted}
 use Rattle.fit_back_words.proofs.Tests.{edges-begun}
 use Rattle.fit_back_words.proofs.Rows.{edges-refuse, done, ready, points-refuse, all-done}
@@ -82,7 +82,8 @@ returns-2 c =
     let e = p .before .before .before .before .before .before in
     let b = edged (e .before) in
     let s = start b in
-    points-refuse (s .args .by) (gave s) (lent s) (b .edges-back .ensures) (e .if1 .left) (s .pre .0) (p .points-back .ensures) (t .if2 .taken) (k .copy .ensures)
+    points-refuse (s .args .by) (gave s) (lent s) (b .edges-back .ensures) (e .if1 .left) (s .pre .0) (p .points-back .ensures) (t .if2 .taken)
+    (k .copy .ensures)
 
 tell-requires : tie.Need-tell-requires
 tell-requires c κs =

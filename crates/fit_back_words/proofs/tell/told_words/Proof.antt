@@ -3,7 +3,7 @@ use mathlib.Core.Path.{_∙_}
 use mathlib.Core.List.{[], _∷_}
 use mir.Syntax.{w32}
 use Rattle.words.proofs.Fields.{kept}
-use Rattle.lent.proofs.Counting.{count-is}
+use Rattle.words_call.proofs.Counting.{count-is}
 use borrow.Author.Needs.{needs}
 use Rattle.fit_back_words.proofs.tell.told_words.Statement.{statement}
 use Rattle.fit_back_words.proofs.tell.told_words.Tie as tie

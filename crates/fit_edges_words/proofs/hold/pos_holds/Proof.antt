@@ -5,19 +5,19 @@ use Rattle.axis.specs.declared.kinds.Dimension.the-variants.{Horizontal}
 use Rattle.axis.specs.Limits.{mostPos}
 use Rattle.axis.specs.Refusals.{within}
 use Rattle.words.proofs.Fields.{kept}
-use Rattle.edges_in.proofs.Reading.{pos-in}
+use Rattle.words_edge.proofs.Reading.{pos-in}
 use borrow.Author.Needs.{needs}
 use Rattle.fit_edges_words.proofs.hold.pos_holds.Statement.{statement}
 use Rattle.fit_edges_words.proofs.hold.pos_holds.Tie as tie
 
-mul-word-in : tie.Need-mul-word-in
-mul-word-in c = search needs
+mul-read-word : tie.Need-mul-read-word
+mul-read-word c = search needs
 
-add-word-in : tie.Need-add-word-in
-add-word-in c = search needs
+add-read-word : tie.Need-add-read-word
+add-read-word c = search needs
 
-word-in-requires : tie.Need-word-in-requires
-word-in-requires c κs = search needs
+read-word-requires : tie.Need-read-word-requires
+read-word-requires c κs = search needs
 
 is-inside-requires : tie.Need-is-inside-requires
 is-inside-requires c κs = search needs
@@ -27,8 +27,9 @@ returns c =
     let w = c .before in
     let s = w .before in
     c .is-inside .ensures
-    ∙ ap (within mostPos) (kept w32 (w .word-in .result) (w .word-in .ok) ∙ w .word-in .ensures ∙ sym (pos-in (s .args .words .now) Horizontal (s .args .i) (s .pre .0) (s .pre .1)))
+    ∙ ap (within mostPos) (kept w32 (w .read-word .result) (w .read-word .ok) ∙ w .read-word .ensures
+    ∙ sym (pos-in (s .args .words .now) Horizontal (s .args .i) (s .pre .0) (s .pre .1)))
 
 pub pos-holds-spec : {M : Type 1} → statement M
 pos-holds-spec =
-    tie.close (tie.spec mul-word-in add-word-in word-in-requires is-inside-requires returns)
+    tie.close (tie.spec mul-read-word add-read-word read-word-requires is-inside-requires returns)

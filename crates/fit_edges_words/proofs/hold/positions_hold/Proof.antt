@@ -8,8 +8,8 @@ use Rattle.axis.specs.Edge.{edgeAt}
 use Rattle.axis.specs.Refusals.{every}
 use Rattle.axis.proofs.Tests.{every-none, every-more, every-fails, every-done}
 use Rattle.words.specs.Edge.{edgesIn}
-use Rattle.lent.specs.Lent.{edgesOf}
-use Rattle.edges_in.proofs.Wholes.{edges-len}
+use Rattle.words_call.specs.Lent.{edgesOf}
+use Rattle.words_edge.proofs.Wholes.{edges-len}
 use Rattle.fit_edges_words.specs.Row.{posHolds, positionsHold}
 use Rattle.fit_edges_words.proofs.hold.positions_hold.Statement.{statement}
 use Rattle.fit_edges_words.proofs.hold.positions_hold.Tie as tie
@@ -34,7 +34,8 @@ returns c =
     let s = l .before in
     let w = s .pre in
     let ws = s .args .words .now in
-    sym (every-fails _ (l .loop .i) _ (omega (arith, edges-len ws, w .few, t .before .loop-test .taken)) (sym (t .pos-holds .ensures) ∙ not-true _ (c .if1 .taken)))
+    sym (every-fails _ (l .loop .i) _ (omega (arith, edges-len ws, w .few, t .before .loop-test .taken))
+    (sym (t .pos-holds .ensures) ∙ not-true _ (c .if1 .taken)))
 
 add-i : tie.Need-add-i Inv-loop μ-loop
 add-i c = omega arith

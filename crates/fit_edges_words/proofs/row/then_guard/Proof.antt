@@ -17,7 +17,8 @@ returns c =
     let p = c .before .before in
     let s = p .before in
     let a = s .args in
-    guard-stops (a .by) (a .count) (a .anchor) (a .words .now) (s .pre) (sym (p .positions-hold .ensures) ∙ not-true _ (c .before .if1 .taken)) (c .refused-edges .ensures)
+    guard-stops (a .by) (a .count) (a .anchor) (a .words .now) (s .pre) (sym (p .positions-hold .ensures) ∙ not-true _ (c .before .if1 .taken))
+    (c .refused-edges .ensures)
 
 guarded-requires : tie.Need-guarded-requires
 guarded-requires c κs =

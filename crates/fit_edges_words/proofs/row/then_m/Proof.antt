@@ -4,7 +4,7 @@ use mathlib.Core.Bool.{true}
 use borrow.Author.Tests.{not-true, not-false}
 use borrow.Author.Needs.{needs}
 use Rattle.words.specs.Edge.{edgesIn}
-use Rattle.lent.specs.Lent.{edgesOf}
+use Rattle.words_call.specs.Lent.{edgesOf}
 use Rattle.fit.specs.Numbers.{isAsked}
 use Rattle.fit_edges_words.specs.Row.{positionsHold}
 use Rattle.fit_edges_words.proofs.Steps.{m-passed, m-stops, m-ready, m-behind, m-goes}

@@ -3,7 +3,7 @@ use mathlib.Core.Path.{_≡_, sym, _∙_}
 use mathlib.Core.Bool.{true}
 use borrow.Author.Tests.{not-true, not-false}
 use borrow.Author.Needs.{needs}
-use Rattle.lent.specs.Lent.{edgesOf}
+use Rattle.words_call.specs.Lent.{edgesOf}
 use Rattle.fit.specs.Edges.{isLeft}
 use Rattle.fit_edges_words.specs.Row.{positionsHold}
 use Rattle.fit_edges_words.proofs.Steps.{remaining-passed, remaining-stops, remaining-ready, remaining-beyond, remaining-accepted, remaining-goes}

@@ -1,7 +1,7 @@
 -- `fit_points_words::row::fit_points` meets its contract. Assumes nothing.
 use borrow.Author.Tests.{not-true, not-false}
 use Rattle.edge_points.specs.EdgePoints.{Points}
-use Rattle.edge_points_walk.specs.Steps.{points}
+use Rattle.edge_points.specs.Steps.{points}
 use Rattle.fit_points_words.proofs.Steps.{movers-ready, movers-far, points-accepted, same-marks, points-near, moved-ready, points-go}
 use borrow.Author.Needs.{needs}
 use Rattle.fit_points_words.proofs.row.fit_points.Statement.{statement}
@@ -25,7 +25,8 @@ returns c =
     let k = c .before in
     let s = start k in
     let a = s .args in
-    movers-far (a .by) (a .segments .now) (a .edges .now) (a .fonts .now) (a .originals .now) (a .weak .now) (a .ends .now) (lent s) (s .pre) (k .movers-hold .ensures) (not-true _ (c .if1 .taken))
+    movers-far (a .by) (a .segments .now) (a .edges .now) (a .fonts .now) (a .originals .now) (a .weak .now) (a .ends .now) (lent s) (s .pre)
+    (k .movers-hold .ensures) (not-true _ (c .if1 .taken))
 
 move-all-requires : tie.Need-move-all-requires
 move-all-requires c κs =
@@ -34,10 +35,12 @@ move-all-requires c κs =
     let s = start k in
     let a = s .args in
     let t = not-false _ (e .if1 .left) in (
-      points-accepted (a .by) (a .segments .now) (a .edges .now) (a .fonts .now) (a .originals .now) (a .weak .now) (a .ends .now) (lent s) (s .pre) (k .movers-hold .ensures) t,
+      points-accepted (a .by) (a .segments .now) (a .edges .now) (a .fonts .now) (a .originals .now) (a .weak .now) (a .ends .now) (lent s) (s .pre)
+          (k .movers-hold .ensures) t,
       (
         same-marks (a .by) (a .segments .now) (a .edges .now) (a .fonts .now) (a .originals .now) (a .weak .now) (a .ends .now) (lent s) (s .pre),
-        points-near (a .by) (a .segments .now) (a .edges .now) (a .fonts .now) (a .originals .now) (a .weak .now) (a .ends .now) (lent s) (s .pre) (k .movers-hold .ensures) t,
+        points-near (a .by) (a .segments .now) (a .edges .now) (a .fonts .now) (a .originals .now) (a .weak .now) (a .ends .now) (lent s) (s .pre)
+            (k .movers-hold .ensures) t,
       ),
     )
 
@@ -50,7 +53,8 @@ then-strong-requires c κs =
     let k = e .before in
     let s = start k in
     let a = s .args in
-    moved-ready (a .by) (a .segments .now) (a .edges .now) (a .fonts .now) (a .originals .now) (a .weak .now) (a .ends .now) (lent s) (s .pre) (k .movers-hold .ensures) (not-false _ (e .if1 .left))
+    moved-ready (a .by) (a .segments .now) (a .edges .now) (a .fonts .now) (a .originals .now) (a .weak .now) (a .ends .now) (lent s) (s .pre)
+    (k .movers-hold .ensures) (not-false _ (e .if1 .left))
     (m .move-all .ensures) (v .currents .given) (u .touched .given)
 
 same-length : tie.Need-same-length
@@ -67,7 +71,8 @@ returns-2 c =
     let k = e .before in
     let s = start k in
     let a = s .args in
-    points-go (a .by) (a .segments .now) (a .edges .now) (a .fonts .now) (a .originals .now) (a .weak .now) (a .ends .now) (lent s) (s .pre) (k .movers-hold .ensures) (not-false _ (e .if1 .left))
+    points-go (a .by) (a .segments .now) (a .edges .now) (a .fonts .now) (a .originals .now) (a .weak .now) (a .ends .now) (lent s) (s .pre)
+    (k .movers-hold .ensures) (not-false _ (e .if1 .left))
     (m .move-all .ensures) (r .then-strong .ensures)
 
 pub fit-points-spec : {M : Type 1} → statement M

@@ -3,7 +3,7 @@ use mathlib.Core.Path.{_≡_}
 use lib.ListN.{length}
 use borrow.Author.Tests.{not-true, not-false}
 use Rattle.edge_points.specs.EdgePoints.{Points}
-use Rattle.edge_points_walk.specs.Steps.{points}
+use Rattle.edge_points.specs.Steps.{points}
 use Rattle.strong_words.specs.Strong.{Placeable}
 use Rattle.fit_points_words.proofs.Steps.{strong-far, strong-ready, strong-steep, weak-ready, strong-goes}
 use borrow.Author.Needs.{needs}
@@ -21,7 +21,9 @@ abbrev lent : tie.Start → Points
 lent s = points (s .args .currents .now) (s .args .touched .now)
 
 ready : (k : tie.After-coordinates-hold)
-    → let a = start k .args in Placeable (a .edges .now) (a .fonts .now) (a .originals .now) (a .touched .now) (a .weak .now) × (length (a .currents .now) ≡ length (a .fonts .now))
+    → let a =
+    start k .args in Placeable (a .edges .now) (a .fonts .now) (a .originals .now) (a .touched .now) (a .weak .now)
+    × (length (a .currents .now) ≡ length (a .fonts .now))
 ready k =
     let s = start k in
     let a = s .args in
@@ -38,7 +40,8 @@ returns c =
     let k = c .before in
     let s = start k in
     let a = s .args in
-    strong-far (a .edges .now) (a .fonts .now) (a .originals .now) (a .weak .now) (a .ends .now) (lent s) (s .pre) (k .coordinates-hold .ensures) (not-true _ (c .if1 .taken))
+    strong-far (a .edges .now) (a .fonts .now) (a .originals .now) (a .weak .now) (a .ends .now) (lent s) (s .pre) (k .coordinates-hold .ensures)
+    (not-true _ (c .if1 .taken))
 
 place-each-requires : tie.Need-place-each-requires
 place-each-requires c κs = ready (c .before .before .before)
@@ -56,7 +59,8 @@ returns-2 c =
     let k = e .before in
     let s = start k in
     let a = s .args in
-    strong-steep (a .edges .now) (a .fonts .now) (a .originals .now) (a .weak .now) (a .ends .now) (lent s) (s .pre) (k .coordinates-hold .ensures) (not-false _ (e .if1 .left)) (d .place-each .ensures)
+    strong-steep (a .edges .now) (a .fonts .now) (a .originals .now) (a .weak .now) (a .ends .now) (lent s) (s .pre) (k .coordinates-hold .ensures)
+    (not-false _ (e .if1 .left)) (d .place-each .ensures)
     (not-true _ (c .if2 .taken))
 
 currents-refusal-requires : tie.Need-currents-refusal-requires
@@ -68,7 +72,8 @@ currents-refusal-requires c κs =
     let k = e .before in
     let s = start k in
     let a = s .args in
-    weak-ready (a .edges .now) (a .fonts .now) (a .originals .now) (a .weak .now) (a .ends .now) (lent s) (s .pre) (k .coordinates-hold .ensures) (not-false _ (e .if1 .left)) (d .place-each .ensures)
+    weak-ready (a .edges .now) (a .fonts .now) (a .originals .now) (a .weak .now) (a .ends .now) (lent s) (s .pre) (k .coordinates-hold .ensures)
+    (not-false _ (e .if1 .left)) (d .place-each .ensures)
     (v .currents .given) (u .touched .given)
 
 align-unrefused-requires : tie.Need-align-unrefused-requires
@@ -89,7 +94,8 @@ returns-3 c =
     let k = e .before in
     let s = start k in
     let a = s .args in
-    strong-goes (a .edges .now) (a .fonts .now) (a .originals .now) (a .weak .now) (a .ends .now) (lent s) (s .pre) (k .coordinates-hold .ensures) (not-false _ (e .if1 .left)) (d .place-each .ensures)
+    strong-goes (a .edges .now) (a .fonts .now) (a .originals .now) (a .weak .now) (a .ends .now) (lent s) (s .pre) (k .coordinates-hold .ensures)
+    (not-false _ (e .if1 .left)) (d .place-each .ensures)
     (not-false _ (o .if2 .left)) (u .align-unrefused .ensures)
 
 pub then-strong-spec : {M : Type 1} → statement M

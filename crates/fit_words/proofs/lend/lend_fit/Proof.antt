@@ -1,5 +1,5 @@
 -- `fit_words::lend::lend_fit` meets its contract. Assumes nothing.
-use Rattle.edge_points_walk.specs.Steps.{points}
+use Rattle.edge_points.specs.Steps.{points}
 use Rattle.fit.specs.Fit.{Given, given, Fitted, fitted}
 use Rattle.fit_words.proofs.Lending.{front-refuses, shown, test-refuses, accepted, rows-fit}
 use borrow.Author.Needs.{needs}
@@ -72,7 +72,8 @@ returns-2 c =
     let e = fronted r in
     let f = e .before in
     let s = start f in
-    test-refuses (s .args .numbers .now) (gave s) (lent s) (f .fit-front .ensures) (e .if1 .left) (r .before .before .before .numbers-of .ensures) (r .axis-refusal .ensures) (c .if2 .taken)
+    test-refuses (s .args .numbers .now) (gave s) (lent s) (f .fit-front .ensures) (e .if1 .left) (r .before .before .before .numbers-of .ensures)
+    (r .axis-refusal .ensures) (c .if2 .taken)
 
 fit-accepted-requires : tie.Need-fit-accepted-requires
 fit-accepted-requires c κs =
@@ -81,7 +82,8 @@ fit-accepted-requires c κs =
     let e = fronted r in
     let f = e .before in
     let s = start f in
-    accepted (s .args .numbers .now) (gave s) (lent s) (f .fit-front .ensures) (e .if1 .left) (r .before .before .before .numbers-of .ensures) (r .axis-refusal .ensures) (o .if2 .left)
+    accepted (s .args .numbers .now) (gave s) (lent s) (f .fit-front .ensures) (e .if1 .left) (r .before .before .before .numbers-of .ensures)
+    (r .axis-refusal .ensures) (o .if2 .left)
 
 same-length-9 : tie.Need-same-length-9
 same-length-9 c = search needs
@@ -103,7 +105,8 @@ returns-3 c =
     let e = fronted r in
     let f = e .before in
     let s = start f in
-    rows-fit (s .args .numbers .now) (gave s) (lent s) (f .fit-front .ensures) (e .if1 .left) (r .before .before .before .numbers-of .ensures) (r .axis-refusal .ensures) (o .if2 .left) (t .fit-accepted .ensures)
+    rows-fit (s .args .numbers .now) (gave s) (lent s) (f .fit-front .ensures) (e .if1 .left) (r .before .before .before .numbers-of .ensures)
+    (r .axis-refusal .ensures) (o .if2 .left) (t .fit-accepted .ensures)
 
 pub lend-fit-spec : {M : Type 1} → statement M
 lend-fit-spec =

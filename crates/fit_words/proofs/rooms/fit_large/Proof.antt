@@ -3,11 +3,11 @@ use mathlib.Core.Path.{sym, _∙_}
 use native.Mathlib.Omega.{arith}
 use lib.ListN.{length}
 use lib.IntN.{pos}
-use Rattle.contours.specs.Limits.{mostPoints}
+use Rattle.weak_contour.specs.Limits.{mostPoints}
 use Rattle.words.specs.Edge.{tableSize}
-use Rattle.edge_points_walk.specs.Steps.{points}
+use Rattle.edge_points.specs.Steps.{points}
 use Rattle.fit.specs.Fit.{Given, given, Fitted, fitted}
-use Rattle.remaining_lent.proofs.Copying.{room-long}
+use Rattle.remaining_words.proofs.Copying.{room-long}
 use Rattle.fit_back_words.proofs.Tests.{few-points, same-marks}
 use borrow.Author.Needs.{needs}
 use Rattle.fit_words.proofs.rooms.fit_large.Statement.{statement}

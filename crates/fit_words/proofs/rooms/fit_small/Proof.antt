@@ -2,9 +2,9 @@
 use mathlib.Core.Path.{sym, _∙_}
 use lib.ListN.{length}
 use lib.IntN.{pos}
-use Rattle.edge_points_walk.specs.Steps.{points}
+use Rattle.edge_points.specs.Steps.{points}
 use Rattle.fit.specs.Fit.{Given, given, Fitted, fitted}
-use Rattle.remaining_lent.proofs.Copying.{room-long}
+use Rattle.remaining_words.proofs.Copying.{room-long}
 use Rattle.fit_back_words.proofs.Tests.{same-marks}
 use Rattle.fit_words.specs.Rooms.{fewWords, fewPoints}
 use borrow.Author.Needs.{needs}

@@ -33,7 +33,8 @@ whole : (c : tie.After-with-sign) → toZ w64 (ofZ w64 (c .with-sign .result)) �
 whole c =
     let s = c .before .before .before in
     is (got w64 (c .with-sign .result) (c .with-sign .ok))
-    ∙ by₃ signedLike (c .with-sign .ensures) (size-is (c .before .before)) (is (s .fits .a)) (is (s .fits .b)) ∙ sym (div-sign (s .args .a) (s .args .b) (s .pre))
+    ∙ by₃ signedLike (c .with-sign .ensures) (size-is (c .before .before)) (is (s .fits .a)) (is (s .fits .b))
+    ∙ sym (div-sign (s .args .a) (s .args .b) (s .pre))
 
 cast-answer : tie.Need-cast-answer
 cast-answer c =

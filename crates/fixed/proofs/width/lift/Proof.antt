@@ -23,7 +23,8 @@ sub-result : tie.Need-sub-result
 sub-result c = search needs
 
 returns-4 : tie.Need-returns-4
-returns-4 c = let s = c .before .before .before .before in sym (lifted-neg (s .args .width) (omega (arith, signed)) (omega (arith, signed, one-zero (s .args .width))))
+returns-4 c =
+    let s = c .before .before .before .before in sym (lifted-neg (s .args .width) (omega (arith, signed)) (omega (arith, signed, one-zero (s .args .width))))
 
 returns-5 : tie.Need-returns-5
 returns-5 c =

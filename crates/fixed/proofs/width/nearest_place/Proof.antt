@@ -31,7 +31,8 @@ abbrev old : tie.After-distance2 Inv-loop μ-loop → ℤ
 old c = getD (at-loop c .before .args .standards .now) (at-loop c .loop .best) (pos 0)
 
 new-is : (c : tie.After-distance Inv-loop μ-loop) → c .distance .result ≡ away (c .before .before .before .before .args .width) (new c)
-new-is c = c .distance .ensures ∙ ap (λ (z : ℤ). away (c .before .before .before .before .args .width) z) (is (got w32 (new c) (c .before .distance-arg .given)))
+new-is c =
+    c .distance .ensures ∙ ap (λ (z : ℤ). away (c .before .before .before .before .args .width) z) (is (got w32 (new c) (c .before .distance-arg .given)))
 
 old-is : (c : tie.After-distance2 Inv-loop μ-loop) → c .distance2 .result ≡ away (at-loop c .before .args .width) (old c)
 old-is c = c .distance2 .ensures ∙ ap (λ (z : ℤ). away (at-loop c .before .args .width) z) (is (got w32 (old c) (c .before .distance-arg2 .given)))
@@ -70,7 +71,8 @@ loop-again c =
     let n = new-is (c .before .before .before) in
     let o = old-is (c .before) in (
       omega arith,
-      ⊎-elim (λ w. subst (NearestOf (l .i + 1) (a .standards .now) (a .width)) (sym (w .1)) (nearest-new (l .i) (a .standards .now) (a .width) (l .best) (l .inv .1) (omega arith)))
+      ⊎-elim (λ w. subst (NearestOf (l .i + 1) (a .standards .now) (a .width)) (sym (w .1))
+          (nearest-new (l .i) (a .standards .now) (a .width) (l .best) (l .inv .1) (omega arith)))
           (λ w. subst (NearestOf (l .i + 1) (a .standards .now) (a .width)) (sym (w .1))
           (nearest-old (l .i) (a .standards .now) (a .width) (l .best) (at-loop (c .before) .before .pre .1) (omega arith) (l .inv .1) (omega arith)))
           (c .if1 .came),

@@ -38,7 +38,8 @@ returns-2 : tie.Need-returns-2
 returns-2 c =
     let s = c .before .before .before in
     let w = s .args .width in
-    is (s .fits .width) ∙ sym (snapped-some (list s) w (c .before .before .if1 .left) ∙ settled-zero w (nearest (natAbs w) (list s)) (sym (size-is (c .before)) ∙ c .if2 .taken))
+    is (s .fits .width) ∙ sym (snapped-some (list s) w (c .before .before .if1 .left)
+    ∙ settled-zero w (nearest (natAbs w) (list s)) (sym (size-is (c .before)) ∙ c .if2 .taken))
 
 nearest-place-requires : tie.Need-nearest-place-requires
 nearest-place-requires c κs = ((omega (arith, c .before .before .if1 .left), size-most (c .before)), c .before .before .before .pre)

@@ -65,7 +65,8 @@ loop-again c =
     let k = whole a in (
       omega arith,
       l .inv .1
-          ∙ rises-on (toZ w32 (l .last)) (a .before .before .before .before .args .standards .now) (l .i) (omega arith) (omega (arith, signed)) (omega (arith, signed))
+          ∙ rises-on (toZ w32 (l .last)) (a .before .before .before .before .args .standards .now) (l .i) (omega arith) (omega (arith, signed))
+          (omega (arith, signed))
           ∙ ap (λ (z : ℤ). risesFrom z (drop (l .i + 1) (a .before .before .before .before .args .standards .now))) (sym (is k)),
     )
 

@@ -58,7 +58,8 @@ loop-less : tie.Need-loop-less Inv-loop μ-loop
 loop-less c = omega (arith, c .before .before .before .before .loop-test .taken)
 
 loop-again : tie.Need-loop-again Inv-loop μ-loop
-loop-again c = let t = c .before .before .before .before in search-undone _ _ _ _ _ _ (t .before .loop .inv) (t .loop-test .taken) (not-true _ (c .before .if1 .taken))
+loop-again c =
+    let t = c .before .before .before .before in search-undone _ _ _ _ _ _ (t .before .loop .inv) (t .loop-test .taken) (not-true _ (c .before .if1 .taken))
 
 asked-for-requires : tie.Need-asked-for-requires Inv-loop μ-loop
 asked-for-requires c κs = search needs
@@ -73,7 +74,8 @@ loop-again-2 : tie.Need-loop-again-2 Inv-loop μ-loop
 loop-again-2 c =
     let a = c .before in
     let t = known a in
-    search-skips _ _ _ _ _ _ (t .before .loop .inv) (t .loop-test .taken) (not-false _ (a .before .if1 .left)) _ (a .asked-for .ensures) (not-true _ (c .if2 .taken))
+    search-skips _ _ _ _ _ _ (t .before .loop .inv) (t .loop-test .taken) (not-false _ (a .before .if1 .left)) _ (a .asked-for .ensures)
+    (not-true _ (c .if2 .taken))
 
 index-or-requires : tie.Need-index-or-requires Inv-loop μ-loop
 index-or-requires c κs = search needs
@@ -105,7 +107,8 @@ loop-again-3 c =
     let o = from .before in
     let a = o .before in
     let t = turn from in
-    search-steps _ _ _ _ _ _ (t .before .loop .inv) (t .loop-test .taken) (not-false _ (a .before .if1 .left)) _ (a .asked-for .ensures) (not-false _ (o .if2 .left)) _ _ (from .index-or .ensures)
+    search-steps _ _ _ _ _ _ (t .before .loop .inv) (t .loop-test .taken) (not-false _ (a .before .if1 .left)) _ (a .asked-for .ensures)
+    (not-false _ (o .if2 .left)) _ _ (from .index-or .ensures)
     (c .with-pair .ensures)
 
 returns : tie.Need-returns Inv-loop μ-loop

@@ -38,7 +38,8 @@ unfolding lostGaps
 returns-2 c =
     let o = c .before in
     let s = o .before .before in
-    answered-yes _ _ refusedBy _ _ (refused (o .before)) (o .if1 .left) (c .find-lost .ensures ∙ ap (λ (z : ℤ). foundIn z (s .args .linked) (s .args .axis)) (is (s .fits .least)))
+    answered-yes _ _ refusedBy _ _ (refused (o .before)) (o .if1 .left)
+    (c .find-lost .ensures ∙ ap (λ (z : ℤ). foundIn z (s .args .linked) (s .args .axis)) (is (s .fits .least)))
 
 pub lost-gaps-spec : {M : Type 1} → statement M
 lost-gaps-spec = tie.close (tie.spec gaps-refusal-requires returns find-lost-requires returns-2)

@@ -30,14 +30,17 @@ tested : (c : tie.After-is-gone) {v : Bool} → c .is-gone .result ≡ v → gon
 tested c h =
     let made = c .before .before .before in
     let s = start c in
-    sym (by₃ gone (c .is-gone .ensures) (back w32 (made .before .pair-of .result .before) (made .struct-told .given .1 .1 .0 .1) ∙ ap (λ (p : Pair). p .before) (made .before .pair-of .ensures))
+    sym (by₃ gone (c .is-gone .ensures) (back w32 (made .before .pair-of .result .before) (made .struct-told .given .1 .1 .0 .1)
+    ∙ ap (λ (p : Pair). p .before) (made .before .pair-of .ensures))
     (is (fits-in w32 (s .pre .1 .pos) tt tt)) (is (fits-in w32 (s .pre .2 .pos) tt tt)))
     ∙ h
 
 -- the pair that is named
 pair-is : (c : tie.After-named)
     → c .named .result ≡ namedOf (from c .args .found .pair) (pairOf (from c .args .i) (from c .args .first) (from c .args .j) (from c .args .second))
-pair-is c = c .named .ensures ∙ ap (namedOf (from c .args .found .pair)) (c .before .before .before .before .before .before .pair-of .ensures)
+pair-is c =
+    let at-pair-of = c .before .before .before .before .before .before in
+    c .named .ensures ∙ ap (namedOf (from c .args .found .pair)) (at-pair-of .pair-of .ensures)
 
 pair-of-requires : tie.Need-pair-of-requires
 pair-of-requires c κs = search needs
@@ -46,7 +49,8 @@ is-gone-requires : tie.Need-is-gone-requires
 is-gone-requires c κs = search needs
 
 returns : tie.Need-returns
-returns c = let a = start (c .before) .args in adds-kept (a .least) (a .found) (a .i) (a .first) (a .j) (a .second) (tested (c .before) (not-true _ (c .if1 .taken)))
+returns c =
+    let a = start (c .before) .args in adds-kept (a .least) (a .found) (a .i) (a .first) (a .j) (a .second) (tested (c .before) (not-true _ (c .if1 .taken)))
 
 named-requires : tie.Need-named-requires
 named-requires c κs = search needs
@@ -63,7 +67,8 @@ returns-2 c =
     let n = t .before in
     let lost = n .before in
     let a = from n .args in
-    adds-stem (a .least) (a .found) (a .i) (a .first) (a .j) (a .second) (tested (lost .before) (not-false _ (lost .if1 .left))) _ (pair-is n) (sym (t .is-stem .ensures) ∙ c .before .if2 .taken)
+    adds-stem (a .least) (a .found) (a .i) (a .first) (a .j) (a .second) (tested (lost .before) (not-false _ (lost .if1 .left))) _ (pair-is n)
+    (sym (t .is-stem .ensures) ∙ c .before .if2 .taken)
 
 returns-3 : tie.Need-returns-3
 returns-3 c =
@@ -73,11 +78,15 @@ returns-3 c =
     let n = t .before in
     let lost = n .before in
     let a = from n .args in
-    adds-narrow (a .least) (a .found) (a .i) (a .first) (a .j) (a .second) (tested (lost .before) (not-false _ (lost .if1 .left))) _ (pair-is n) (sym (t .is-stem .ensures) ∙ o .if2 .left)
-    (sym (by₂ ltZ (sym (c .if3 .taken)) (back w32 _ (w .struct-told4 .given .1 .1 .0 .1) ∙ ap (λ (p : Pair). p .before) (lost .before .before .before .before .before .pair-of .ensures)) (is (from n .fits .least))))
+    adds-narrow (a .least) (a .found) (a .i) (a .first) (a .j) (a .second) (tested (lost .before) (not-false _ (lost .if1 .left))) _ (pair-is n)
+    (sym (t .is-stem .ensures) ∙ o .if2 .left)
+    (sym (by₂ ltZ (sym (c .if3 .taken)) (back w32 _ (w .struct-told4 .given .1 .1 .0 .1)
+    ∙ ap (λ (p : Pair). p .before) (lost .before .before .before .before .before .pair-of .ensures)) (is (from n .fits .least))))
 
 add-count : tie.Need-add-count
-add-count c = let s = from (c .before .before .before .before .before .before) in omega (arith, s .pre .0 .gaps)
+add-count c =
+    let the-from = c .before .before .before .before .before .before in
+    let s = from the-from in omega (arith, s .pre .0 .gaps)
 
 returns-4 : tie.Need-returns-4
 returns-4 c =
@@ -88,8 +97,10 @@ returns-4 c =
     let n = t .before in
     let lost = n .before in
     let a = from n .args in
-    adds-gap (a .least) (a .found) (a .i) (a .first) (a .j) (a .second) (tested (lost .before) (not-false _ (lost .if1 .left))) _ (pair-is n) (sym (t .is-stem .ensures) ∙ o .if2 .left)
-    (sym (by₂ ltZ (sym (e .if3 .left)) (back w32 _ (w .struct-told4 .given .1 .1 .0 .1) ∙ ap (λ (p : Pair). p .before) (lost .before .before .before .before .before .pair-of .ensures)) (is (from n .fits .least))))
+    adds-gap (a .least) (a .found) (a .i) (a .first) (a .j) (a .second) (tested (lost .before) (not-false _ (lost .if1 .left))) _ (pair-is n)
+    (sym (t .is-stem .ensures) ∙ o .if2 .left)
+    (sym (by₂ ltZ (sym (e .if3 .left)) (back w32 _ (w .struct-told4 .given .1 .1 .0 .1)
+    ∙ ap (λ (p : Pair). p .before) (lost .before .before .before .before .before .pair-of .ensures)) (is (from n .fits .least))))
 
 pub with-pair-spec : {M : Type 1} → statement M
 with-pair-spec =

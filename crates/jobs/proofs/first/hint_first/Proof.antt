@@ -1,5 +1,6 @@
 -- `jobs::first::hint_first` meets its contract: a walk of its MIR, by hand. All that it knows of `hint_lowercase_m` is that it meets its contract.
--- The front of the local table is lent as a `&mut [Edge]` for a lifetime that is made for the call, and is taken back holding the last list; the rest of the table stays aside.
+-- The front of the local table is lent as a `&mut [Edge]` for a lifetime that is made for the call, and is taken back holding the last list; the rest of the
+-- table stays aside.
 -- Assumes nothing.
 use mathlib.Core.Path.{_≡_, refl, sym, _∙_, ap, subst}
 use Prim.Native.Nat.{ℕ, _≤_, _<_, _^_}
@@ -19,9 +20,60 @@ use prog.Wp.{Heap, Calls, Loops, WpFn, Tables}
 use ghost.Atoms.{Atoms, sem}
 use contract.Monad.{Fun, fact}
 use contract.Running.{givenOf, tables, tablesOf}
-use types.Kit.{Given, Item, ‵, raw, some, later, _⊛_, _$_, _∵_, !, qed, by, move, keep, use1, use2, use3, split, join, pick, rewrite, fsplit, fjoin, feqL, suffices, frame, await, done}
+use types.Kit.{
+  Given,
+  Item,
+  ‵,
+  raw,
+  some,
+  later,
+  _⊛_,
+  _$_,
+  _∵_,
+  !,
+  qed,
+  by,
+  move,
+  keep,
+  use1,
+  use2,
+  use3,
+  split,
+  join,
+  pick,
+  rewrite,
+  fsplit,
+  fjoin,
+  feqL,
+  suffices,
+  frame,
+  await,
+  done,
+}
 use types.Tokens.{lft-new, lft-end}
-use types.Run.{look, init, forget, stop, from, load, addr, of-opd, and-then, no-more, assigns, land, returns, enter, alloc1, alloc0, params1, pass1, pass0, free1, free0}
+use types.Run.{
+  look,
+  init,
+  forget,
+  stop,
+  from,
+  load,
+  addr,
+  of-opd,
+  and-then,
+  no-more,
+  assigns,
+  land,
+  returns,
+  enter,
+  alloc1,
+  alloc0,
+  params1,
+  pass1,
+  pass0,
+  free1,
+  free0,
+}
 use types.Part.{agg}
 use types.SemTy.{cells, Arr}
 use sound.WpLaws.{FmC, fmOf, WpFn-mono}
@@ -81,7 +133,8 @@ module _ {M : Type 1} (𝓤 : URA M) (H : Heap 𝓤) (A : Atoms 𝓤) (mem₀ : 
   abbrev Hint : Contract 𝓤
   Hint = tripleOf 𝓤 H A hint.signature (hint.spec 𝓤 H A mem₀ run)
 
-module _ {M : Type 1} (𝓤 : URA M) (H : Heap 𝓤) (A : Atoms 𝓤) (W : Given 𝓤 H A) (mem₀ : Memory → SProp 𝓤) (run : Routine → Fun 𝓤) (xs : List Edge) (n : ℕ) (c : Group)
+module _ {M : Type 1} (𝓤 : URA M) (H : Heap 𝓤) (A : Atoms 𝓤) (W : Given 𝓤 H A) (mem₀ : Memory → SProp 𝓤) (run : Routine → Fun 𝓤) (xs : List Edge) (n : ℕ)
+    (c : Group)
     (is-table : Is (Edges mostLent) xs (arr xs)) (n-fits : n < 2 ^ 64) (is-group : Is G.the-row c (grp c ∷ [])) (few : n ≤ mostLent) where
   abbrev a : List Edge × (ℕ × (Group × Unit {0}))
   a = (xs, (n, (c, tt)))
@@ -133,10 +186,12 @@ module _ {M : Type 1} (𝓤 : URA M) (H : Heap 𝓤) (A : Atoms 𝓤) (W : Given
   abbrev to-hint : ℕ → ℕ → GName → Hint 𝓤 H A mem₀ run .Ghost
   to-hint α b γ = (((α ∷ [], tt), (fullShare, tt), tt, (x b γ, (c, tt)), (s b ∷ [], (grp c ∷ [], tt))), tt)
 
-  goes-hint : (α b : ℕ) (γ : GName) → ent 𝓤 (sep 𝓤 (A .lft (α ∷ []) fullShare) (sem 𝓤 H A (MutSlice (named 0) (α ∷ []) T.the-row .own (x b γ) (s b ∷ [])))) (Hint 𝓤 H A mem₀ run .pre (to-hint α b γ))
+  goes-hint : (α b : ℕ) (γ : GName) → ent 𝓤 (sep 𝓤 (A .lft (α ∷ []) fullShare) (sem 𝓤 H A (MutSlice (named 0) (α ∷ []) T.the-row .own (x b γ) (s b ∷ []))))
+      (Hint 𝓤 H A mem₀ run .pre (to-hint α b γ))
   goes-hint α b γ =
       qed W (‵ (flft (α ∷ []) fullShare) ∷ ‵ (MutSlice (named 0) (α ∷ []) T.the-row .own (x b γ) (s b ∷ [])) ∷ []) ∵ nothing ! $ move ! (1 ∷ 0 ∷ []) $ join ! $
-      nothing ! $ owned ! G.the-row (Is G.the-row) (EL.makes G.the-type G′.the-plain 𝓤 H A) c _ is-group $ fjoin ! $ move ! (2 ∷ 0 ∷ []) $ fjoin ! $ move ! (1 ∷ 0 ∷ []) $ join ! $ frame ! $ done !
+      nothing ! $ owned ! G.the-row (Is G.the-row) (EL.makes G.the-type G′.the-plain 𝓤 H A) c _ is-group $ fjoin ! $ move ! (2 ∷ 0 ∷ []) $ fjoin ! $ move !
+      (1 ∷ 0 ∷ []) $ join ! $ frame ! $ done !
 
   -- the struct that is handed back, from its fields
   is-out : h .answer < 2 ^ 8 → Is (Edges mostLent) (h .edges ++ rest) (arr (h .edges ++ rest)) → Is D.the-row d (out ∷ [])
@@ -145,8 +200,10 @@ module _ {M : Type 1} (𝓤 : URA M) (H : Heap 𝓤) (A : Atoms 𝓤) (W : Given
 
   exits : Is D.the-row d (out ∷ []) → ent 𝓤 (emp 𝓤) (Post out)
   exits g =
-      qed W [] ∵ suffices ! _ (ends-at 𝓤 H A f.ended stayed (f.clauses 𝓤 H A mem₀ run) W ((tt, tt, tt, a, vals), tt) out d (tt, (tt, (tt, tt))) (tt, (tt, (tt, tt)))) $ says ! is-first $
-      nothing ! $ owned ! G.the-row (Is G.the-row) (EL.makes G.the-type G′.the-plain 𝓤 H A) c _ is-group $ fjoin ! $ owned ! usize (Is usize) (uint-makes 𝓤 H A W w64) n _ (refl, n-fits) $ fjoin ! $
+      qed W [] ∵ suffices ! _ (ends-at 𝓤 H A f.ended stayed (f.clauses 𝓤 H A mem₀ run) W ((tt, tt, tt, a, vals), tt) out d (tt, (tt, (tt, tt)))
+      (tt, (tt, (tt, tt)))) $ says ! is-first $
+      nothing ! $ owned ! G.the-row (Is G.the-row) (EL.makes G.the-type G′.the-plain 𝓤 H A) c _ is-group $ fjoin ! $ owned ! usize (Is usize)
+      (uint-makes 𝓤 H A W w64) n _ (refl, n-fits) $ fjoin ! $
       owned ! (Edges mostLent) (Is (Edges mostLent)) (makes 𝓤 H A W mostLent) xs (arr xs) is-table $ fjoin ! $
       owned ! D.the-row (Is D.the-row) (LL.makes D.the-type D′.the-plain 𝓤 H A) d _ g $ move ! (1 ∷ 0 ∷ []) $ nothing ! $ done !
 
@@ -156,26 +213,33 @@ module _ {M : Type 1} (𝓤 : URA M) (H : Heap 𝓤) (A : Atoms 𝓤) (W : Given
   module _ (C : Calls 𝓤 H) (Λ : Loops 𝓤 H) (fm : FmC 𝓤 H (W .laws) C) (known : Triple 𝓤 (C #hint) (Hint 𝓤 H A mem₀ run)) where
     walk : ent 𝓤 (onEntry 𝓤 H A f.signature tt tt a vals) (WpFn 𝓤 H C Λ code.function (only (arr xs) ∷ vint w64 n ∷ grp c ∷ []) Post)
     walk =
-        qed W (‵ ftrue ∷ ‵ (owns (Edges mostLent ∷ usize ∷ G.the-row ∷ []) a vals) ∷ []) ∵ enter ! C Λ code.function (only (arr xs) ∷ vint w64 n ∷ grp c ∷ []) _ $
-        alloc1 ! (λ l₀. alloc1 ! (λ l₁. alloc1 ! (λ l₂. alloc1 ! (λ l₃. alloc1 ! (λ l₄. alloc1 ! (λ l₅. alloc1 ! (λ l₆. alloc1 ! (λ l₇. alloc1 ! (λ l₈. alloc0 ! $ params1 ! $
+        qed W (‵ ftrue ∷ ‵ (owns (Edges mostLent ∷ usize ∷ G.the-row ∷ []) a vals) ∷ []) ∵ enter ! C Λ code.function (only (arr xs) ∷ vint w64 n ∷ grp c ∷ [])
+        _ $
+        alloc1 ! (λ l₀. alloc1 ! (λ l₁. alloc1 ! (λ l₂. alloc1 !
+        (λ l₃. alloc1 ! (λ l₄. alloc1 ! (λ l₅. alloc1 ! (λ l₆. alloc1 ! (λ l₇. alloc1 ! (λ l₈. alloc0 ! $ params1 ! $
         pass1 ! (init ! 14 refl (typed 𝓤 H A W mostLent xs (only (arr xs)) is-table)) $ pass1 ! (init ! 12 refl (tt, record { fits = n-fits })) $
         pass1 ! (init ! 10 refl (EL.lawful G.the-type G′.the-laws 𝓤 H A W tt .typed c (grp c ∷ []) is-group .0)) $ pass0 ! $
         -- [_8; …; _7; …; _6; …; _5; …; _4; …; _3; …; _2; …; _1; …; room for _0; …; true; what edges, n and group own]
-        assigns ! (of-opd ! (load ! (from ! (stop !)) (look ! 14 refl))) (from ! (stop !)) (init ! 8 refl (typed 𝓤 H A W mostLent xs (only (arr xs)) is-table)) $
+        assigns ! (of-opd ! (load ! (from ! (stop !)) (look ! 14 refl))) (from ! (stop !))
+        (init ! 8 refl (typed 𝓤 H A W mostLent xs (only (arr xs)) is-table)) $
         assigns ! (addr ! (from ! (stop !))) (from ! (stop !)) (init ! 4 refl (tt, tt)) $
-        assigns ! (agg ! (and-then ! (load ! (from ! (stop !)) (look ! 4 refl)) (and-then ! (load ! (from ! (stop !)) (look ! 12 refl)) (no-more !)))) (from ! (stop !))
+        assigns ! (agg ! (and-then ! (load ! (from ! (stop !)) (look ! 4 refl)) (and-then ! (load ! (from ! (stop !)) (look ! 12 refl)) (no-more !))))
+        (from ! (stop !))
         (init ! 2 refl (tt, (tt, (record { fits = n-fits }, tt)))) $
         rewrite ! 2 (λ (m : ℕ). ‵ (fat fullShare (sliceTy (tyRef erased mut (pointee (T.the-row .written)))) l₇ 0 (sliceVal (l₄, 0) m))) (sym len) refl $
         -- the table is a row, in two parts
-        move ! (8 ∷ []) $ use1 W (Row xs l₄ 0) (as-row 𝓤 H A W mostLent xs l₄ is-table) $ rewrite ! 0 (λ (l : List Edge). Row l l₄ 0) (sym (take-append-drop n xs)) refl $
+        move ! (8 ∷ []) $ use1 W (Row xs l₄ 0) (as-row 𝓤 H A W mostLent xs l₄ is-table) $ rewrite ! 0 (λ (l : List Edge). Row l l₄ 0)
+        (sym (take-append-drop n xs)) refl $
         use1 W (Row ys l₄ 0 ⊛ Row rest l₄ (place (mem T.the-row .size) 0 (length ys))) (row-apart 𝓤 H A W ys rest l₄ 0) $ split ! $
         -- its front is lent for a new lifetime
         use1 W (‵ (cells (mem T.the-row) ys l₄ 0)) (whole-in 𝓤 H A W T.the-row ys l₄ 0) $ lft-new ! tt (λ α. move ! (1 ∷ []) $
-        use1 W (later (some (λ (γ : GName). ‵ (MutSlice (named 0) (α ∷ []) T.the-row .own (x l₄ γ) (s l₄ ∷ [])) ⊛ ‵ (flent (α ∷ []) (Held T.the-row (length ys) l₄ 0 γ)))))
+        use1 W (later (some (λ (γ : GName). ‵ (MutSlice (named 0) (α ∷ []) T.the-row .own (x l₄ γ) (s l₄ ∷ [])) ⊛ ‵
+        (flent (α ∷ []) (Held T.the-row (length ys) l₄ 0 γ)))))
         (lends-slice 𝓤 H A W T.the-row (named 0) (α ∷ []) ys l₄ 0 room) $ await ! tt $ pick ! (λ γ. split ! $
         -- [the list; the lender's part; the token; the rest of the table; _8; …]
         move ! (2 ∷ 0 ∷ []) $ use2 W (raw (Hint 𝓤 H A mem₀ run .pre (to-hint α l₄ γ))) (goes-hint α l₄ γ) $
-        calls-at ! fm (Hint 𝓤 H A mem₀ run) known (to-hint α l₄ γ) (and-then ! (load ! (from ! (stop !)) (look ! 5 refl)) (and-then ! (load ! (from ! (stop !)) (look ! 12 refl)) (no-more !))) (λ w.
+        calls-at ! fm (Hint 𝓤 H A mem₀ run) known (to-hint α l₄ γ)
+        (and-then ! (load ! (from ! (stop !)) (look ! 5 refl)) (and-then ! (load ! (from ! (stop !)) (look ! 12 refl)) (no-more !))) (λ w.
         use1 W (later (some (λ (r : ℕ). ((‵ (flft (α ∷ []) fullShare) ⊛ ‵ ftrue) ⊛ ‵ (u8 .own r (w ∷ []))) ⊛ raw
         (ensured 𝓤 H A hint.ended (hint.clauses 𝓤 H A mem₀ run) (α ∷ [], tt) (x l₄ γ, (c, tt)) tt r)))) (id⊢ 𝓤 _) $ await ! tt $ pick ! (λ r.
         split ! $ move ! (1 ∷ []) $ use1 W (some (λ (us : List Edge × (Unit {0} × Unit {0})). ‵ (lasts hint.ended (α ∷ [], tt) (x l₄ γ, (c, tt)) us) ⊛ raw
@@ -183,7 +247,8 @@ module _ {M : Type 1} (𝓤 : URA M) (H : Heap 𝓤) (A : Atoms 𝓤) (W : Given
         split ! $ move ! (1 ∷ []) $ heard ! (HintsLowercaseMList ys c r (us .0)) (λ e. fsplit ! $ fsplit ! $ move ! (1 ∷ []) $
         feqL ! (λ l. rewrite ! 0 (λ (ls : List Edge). ‵ (finally T.the-row γ ls)) (e .edges) refl $
         -- [the last list; its length; the token and the answer; the lender's part; the rest of the table; _8; …]
-        move ! (2 ∷ []) $ split ! $ move ! (1 ∷ []) $ facts ! u8 (Is u8) (shows 𝓤 H A u8) r (w ∷ []) (λ is. land ! (from ! (stop !)) (init ! 11 refl (uint-lawful 𝓤 H A W w8 .typed r _ is .0)) $
+        move ! (2 ∷ []) $ split ! $ move ! (1 ∷ []) $ facts ! u8 (Is u8) (shows 𝓤 H A u8) r (w ∷ [])
+        (λ is. land ! (from ! (stop !)) (init ! 11 refl (uint-lawful 𝓤 H A W w8 .typed r _ is .0)) $
         rewrite ! 11 (λ (v : Val). ‵ (fat fullShare (tyInt w8) l₅ 0 v)) (ap only (is .0) ∙ ap (vint w8) (e .answer)) refl $
         -- the lifetime ends, and the front is back
         split ! $ lft-end ! tt $ move ! (0 ∷ 4 ∷ 2 ∷ []) $ use3 W (later (‵ (Arr (mem T.the-row) (length ys) .lies (h .edges) l₄ 0)))
@@ -197,12 +262,16 @@ module _ {M : Type 1} (𝓤 : URA M) (H : Heap 𝓤) (A : Atoms 𝓤) (W : Given
         facts ! (Edges mostLent) (Is (Edges mostLent)) (shows 𝓤 H A (Edges mostLent)) (h .edges ++ rest) (arr (h .edges ++ rest)) (λ g.
         let handed = is-out (subst (λ (m : ℕ). m < 2 ^ 8) (e .answer) (is .1)) g in
         -- [_4; true; the length; _8; …; _7; …; _6; …; _5; …; …; _3; …; _2; …; _1; …; room for _0; …]
-        assigns ! (of-opd ! (load ! (from ! (stop !)) (look ! 0 refl))) (from ! (stop !)) (init ! 3 refl (typed 𝓤 H A W mostLent (h .edges ++ rest) (only (arr (h .edges ++ rest))) g)) $
-        assigns ! (agg ! (and-then ! (load ! (from ! (stop !)) (look ! 9 refl)) (and-then ! (load ! (from ! (stop !)) (look ! 3 refl)) (no-more !)))) (from ! (stop !))
+        assigns ! (of-opd ! (load ! (from ! (stop !)) (look ! 0 refl))) (from ! (stop !))
+        (init ! 3 refl (typed 𝓤 H A W mostLent (h .edges ++ rest) (only (arr (h .edges ++ rest))) g)) $
+        assigns ! (agg ! (and-then ! (load ! (from ! (stop !)) (look ! 9 refl)) (and-then ! (load ! (from ! (stop !)) (look ! 3 refl)) (no-more !))))
+        (from ! (stop !))
         (init ! 18 refl (LL.lawful D.the-type D′.the-laws 𝓤 H A W .typed d (out ∷ []) handed .0)) $
-        returns ! (look ! 18 refl) $ forget ! 0 refl $ forget ! 3 refl $ forget ! 5 refl $ forget ! 7 refl $ forget ! 9 refl $ forget ! 12 refl $ forget ! 14 refl $ forget ! 16 refl $
+        returns ! (look ! 18 refl) $ forget ! 0 refl $ forget ! 3 refl $ forget ! 5 refl $ forget ! 7 refl $ forget ! 9 refl $ forget ! 12 refl $ forget ! 14
+        refl $ forget ! 16 refl $
         forget ! 18 refl $
-        move ! (18 ∷ 19 ∷ []) $ free1 ! $ move ! (16 ∷ 17 ∷ []) $ free1 ! $ move ! (14 ∷ 15 ∷ []) $ free1 ! $ move ! (12 ∷ 13 ∷ []) $ free1 ! $ move ! (0 ∷ 11 ∷ []) $ free1 ! $
+        move ! (18 ∷ 19 ∷ []) $ free1 ! $ move ! (16 ∷ 17 ∷ []) $ free1 ! $ move ! (14 ∷ 15 ∷ []) $ free1 ! $ move ! (12 ∷ 13 ∷ []) $ free1 ! $ move !
+        (0 ∷ 11 ∷ []) $ free1 ! $
         move ! (8 ∷ 9 ∷ []) $ free1 ! $ move ! (6 ∷ 7 ∷ []) $ free1 ! $ move ! (4 ∷ 5 ∷ []) $ free1 ! $ move ! (2 ∷ 3 ∷ []) $ free1 ! $ free0 ! $
         keep ! [] $ by ! (exits handed))))))))))))))))))))
 
@@ -228,4 +297,5 @@ hint-first-spec 𝓤 H 𝓜 𝓖 𝓡 =
     entered 𝓤 H (tripleOf 𝓤 H (𝓖 .A) f.signature (f.spec 𝓤 H (𝓖 .A) (𝓜 .mem) (𝓡 .run)))
     (tables 𝓤 H 𝓜 𝓡 code.env .C) (tables 𝓤 H 𝓜 𝓡 code.env .Λ) #first code.function (code.unfolded 𝓤 H 𝓜 𝓡)
     (first-meets 𝓤 H (𝓖 .A) (givenOf 𝓤 H 𝓜 𝓖) (𝓜 .mem) (𝓡 .run) (tablesOf 𝓤 H 𝓜 (tables 𝓤 H 𝓜 𝓡 code.env))
-    (cited 𝓤 H (Hint 𝓤 H (𝓖 .A) (𝓜 .mem) (𝓡 .run)) 𝓜 𝓡 code.env #hint hint-def.routine code.calls-lowercase-m-list·hint·hint-lowercase-m (hint-thm.met 𝓤 H 𝓜 𝓖 𝓡)))
+    (cited 𝓤 H (Hint 𝓤 H (𝓖 .A) (𝓜 .mem) (𝓡 .run)) 𝓜 𝓡 code.env #hint hint-def.routine code.calls-lowercase-m-list·hint·hint-lowercase-m
+    (hint-thm.met 𝓤 H 𝓜 𝓖 𝓡)))

@@ -40,4 +40,5 @@ returns-3 : tie.Need-returns-3 Inv-loop μ-loop
 returns-3 c = search needs
 
 pub same-marks-spec : {M : Type 1} → statement M
-same-marks-spec = tie.close (tie.spec Inv-loop μ-loop returns loop-holds shared-slice-read-if2 shared-slice-read-if2-2 returns-2 add-i loop-less loop-again returns-3)
+same-marks-spec =
+    tie.close (tie.spec Inv-loop μ-loop returns loop-holds shared-slice-read-if2 shared-slice-read-if2-2 returns-2 add-i loop-less loop-again returns-3)

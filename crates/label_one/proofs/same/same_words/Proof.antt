@@ -46,4 +46,6 @@ returns-3 : tie.Need-returns-3 Inv-loop μ-loop
 returns-3 c = search needs
 
 pub same-words-spec : {M : Type 1} → statement M
-same-words-spec = tie.close (tie.spec Inv-loop μ-loop returns loop-holds mul-if2 shared-slice-copy-out-if2 mul-if2-2 shared-slice-copy-out-if2-2 returns-2 add-i loop-less loop-again returns-3)
+same-words-spec =
+    tie.close (tie.spec Inv-loop μ-loop returns loop-holds mul-if2 shared-slice-copy-out-if2 mul-if2-2 shared-slice-copy-out-if2-2 returns-2 add-i loop-less
+    loop-again returns-3)

@@ -18,13 +18,24 @@ reply-to-requires : tie.Need-reply-to-requires
 reply-to-requires c κs = search needs
 
 add-result : tie.Need-add-result
-add-result c = let a = c .before .before .before .before .before .before .args in omega (arith, appended-fits (a .line .now) (a .ended) (a .out .now) (a .size) (c .before .before .before .before .before .before .pre) (c .before .before .reply-to .ensures), c .before .before .before .before .before .before .good)
+add-result c =
+    let start = c .before .before .before .before .before .before in
+    let a = c .before .before .before .before .before .before .args in
+    omega (
+      arith,
+      appended-fits (a .line .now) (a .ended) (a .out .now) (a .size) (start .pre)
+          (c .before .before .reply-to .ensures),
+      start .good,
+    )
 
 same-length : tie.Need-same-length
 same-length c = search needs
 
 returns : tie.Need-returns
-returns c = let a = c .before .before .before .before .before .before .args in appended (a .line .now) (a .ended) (a .out .now) (a .size) (c .before .before .before .before .before .before .pre) (c .before .before .reply-to .ensures)
+returns c =
+    let start = c .before .before .before .before .before .before in
+    let a = c .before .before .before .before .before .before .args in
+    appended (a .line .now) (a .ended) (a .out .now) (a .size) (start .pre) (c .before .before .reply-to .ensures)
 
 pub append-reply-spec : {M : Type 1} → statement M
 append-reply-spec =

@@ -19,7 +19,12 @@ same-length : tie.Need-same-length
 same-length c = search needs
 
 returns-2 : tie.Need-returns-2
-returns-2 c = let a = c .before .before .before .before .before .before .before .before .args in rest-some (a .line .now) (a .count) (a .out .now) _ _ (c .before .before .before .before .before .if1 .left) (c .before .before .before .before .before .before .before .before .pre .0) (c .before .out .given) (c .before .before .append-reply .ensures)
+returns-2 c =
+    let start = c .before .before .before .before .before .before .before .before in
+    let tested = c .before .before .before .before .before in
+    let a = c .before .before .before .before .before .before .before .before .args in
+    rest-some (a .line .now) (a .count) (a .out .now) _ _ (tested .if1 .left)
+    (start .pre .0) (c .before .out .given) (c .before .before .append-reply .ensures)
 
 pub refit-rest-spec : {M : Type 1} → statement M
 refit-rest-spec =

@@ -12,7 +12,11 @@ same-length : tie.Need-same-length
 same-length c = search needs
 
 returns : tie.Need-returns
-returns c = puts-same (with-feed (c .before .before .before .before .before .before .before .args .line .now) (c .before .before .before .before .before .before .before .args .ended) (c .before .before .before .before .if1 .taken)) (c .before .before .answer-line .ensures)
+returns c =
+    let start = c .before .before .before .before .before .before .before in
+    puts-same (with-feed (start .args .line .now)
+    (start .args .ended) (c .before .before .before .before .if1 .taken))
+    (c .before .before .answer-line .ensures)
 
 put-refusal-requires : tie.Need-put-refusal-requires
 put-refusal-requires c κs = search needs
@@ -21,7 +25,11 @@ same-length-2 : tie.Need-same-length-2
 same-length-2 c = search needs
 
 returns-2 : tie.Need-returns-2
-returns-2 c = puts-same (without-feed (c .before .before .before .before .before .before .before .args .line .now) (c .before .before .before .before .before .before .before .args .ended) (c .before .before .before .before .if1 .left)) (c .before .before .put-refusal .ensures)
+returns-2 c =
+    let start = c .before .before .before .before .before .before .before in
+    puts-same (without-feed (start .args .line .now)
+    (start .args .ended) (c .before .before .before .before .if1 .left))
+    (c .before .before .put-refusal .ensures)
 
 pub answer-any-spec : {M : Type 1} → statement M
 answer-any-spec =

@@ -6,8 +6,8 @@ use Prim.Native.Nat.{_≤_}
 use lib.ListN.{replicate, length-take}
 use lib.IntN.{pos}
 use lib.Seq.{length-take-le}
-use Rattle.frames.specs.Limits.{mostCounted}
-use Rattle.frames.specs.Frame.{Frame, frameOf}
+use Rattle.log_frame.specs.Limits.{mostCounted}
+use Rattle.log_frame.specs.Frame.{Frame, frameOf}
 use Rattle.log_text.proofs.Jobs.{puts-same}
 use Rattle.log_reply.proofs.Reading.{Rooms, read-bad, points-few, contours-few, rooms-kept, read-good}
 use Rattle.log_reply.proofs.reply.answer_line.Statement.{statement}
@@ -39,7 +39,12 @@ same-length : tie.Need-same-length
 same-length c = search needs
 
 returns : tie.Need-returns
-returns c = puts-same (read-bad (c .before .before .before .before .before .before .before .before .before .before .before .before .before .before .before .before .args .line .now) (c .before .before .before .before .before .before .before .before .before .read-frame .ensures) rooms-made (c .before .before .before .before .if1 .taken)) (c .before .before .put-refusal .ensures)
+returns c =
+    let start = c .before .before .before .before .before .before .before .before .before .before .before .before .before .before .before .before in
+    let at-read-frame = c .before .before .before .before .before .before .before .before .before in
+    puts-same (read-bad (start
+    .args .line .now) (at-read-frame .read-frame .ensures) rooms-made
+    (c .before .before .before .before .if1 .taken)) (c .before .before .put-refusal .ensures)
 
 -- the rooms as they were read into
 abbrev read-rooms : tie.Else1 → Frame
@@ -47,14 +52,20 @@ read-rooms c = let l = c .before .before .before .before .before .read-frame .la
 
 -- the counts that were read are those of a frame
 few-points : (c : tie.Else1) → c .before .before .before .before .before .read-frame .result .points ≤ mostCounted
-few-points c = points-few _ (c .before .before .before .before .before .read-frame .ensures) rooms-made (c .if1 .left)
+few-points c =
+    let at-read-frame = c .before .before .before .before .before in
+    points-few _ (at-read-frame .read-frame .ensures) rooms-made (c .if1 .left)
 
 few-contours : (c : tie.Else1) → c .before .before .before .before .before .read-frame .result .contours ≤ mostCounted
-few-contours c = contours-few _ (c .before .before .before .before .before .read-frame .ensures) rooms-made (c .if1 .left)
+few-contours c =
+    let at-read-frame = c .before .before .before .before .before in
+    contours-few _ (at-read-frame .read-frame .ensures) rooms-made (c .if1 .left)
 
 -- and the rooms as long as they were
 kept : (c : tie.Else1) → Rooms (read-rooms c)
-kept c = rooms-kept _ (c .before .before .before .before .before .read-frame .ensures) rooms-made (c .if1 .left)
+kept c =
+    let at-read-frame = c .before .before .before .before .before in
+    rooms-kept _ (at-read-frame .read-frame .ensures) rooms-made (c .if1 .left)
 
 array-share-prefix-originals : tie.Need-array-share-prefix-originals
 array-share-prefix-originals c = omega (arith, few-points c, kept c .originals)
@@ -78,16 +89,28 @@ array-share-prefix-ends : tie.Need-array-share-prefix-ends
 array-share-prefix-ends c = omega (arith, few-contours (c .before .before .before), kept (c .before .before .before) .ends)
 
 slice-aggregate-answer-job-4 : tie.Need-slice-aggregate-answer-job-4
-slice-aggregate-answer-job-4 c = sym (length-take-le _ _ (omega (arith, few-contours (c .before .before .before .before), kept (c .before .before .before .before) .ends)))
+slice-aggregate-answer-job-4 c =
+    sym (length-take-le _ _ (omega (arith, few-contours (c .before .before .before .before), kept (c .before .before .before .before) .ends)))
 
 answer-job-requires : tie.Need-answer-job-requires
-answer-job-requires c κs = (simp length-take (omega (arith, few-points (c .before .before .before .before .before))), c .before .before .before .before .before .before .before .before .before .before .before .before .before .before .before .before .before .pre)
+answer-job-requires c κs =
+    let start = c .before .before .before .before .before .before .before .before .before .before .before .before .before .before .before .before .before in
+    let from = c .before .before .before .before .before in (
+      simp length-take (omega (arith, few-points from)),
+      start .pre,
+    )
 
 same-length-2 : tie.Need-same-length-2
 same-length-2 c = search needs
 
 returns-2 : tie.Need-returns-2
-returns-2 c = puts-same (read-good (c .before .before .before .before .before .before .before .before .before .before .before .before .before .before .before .before .before .before .before .before .before .args .line .now) (c .before .before .before .before .before .before .before .before .before .before .before .before .before .before .read-frame .ensures) rooms-made (c .before .before .before .before .before .before .before .before .before .if1 .left)) (c .before .before .before .answer-job .ensures)
+returns-2 c =
+    let start = c .before .before .before .before .before .before .before .before .before .before .before .before .before .before .before .before .before .before .before .before .before in
+    let at-read-frame = c .before .before .before .before .before .before .before .before .before .before .before .before .before .before in
+    let tested = c .before .before .before .before .before .before .before .before .before in
+    puts-same (read-good (start .args .line .now)
+    (at-read-frame .read-frame .ensures) rooms-made
+    (tested .if1 .left)) (c .before .before .before .answer-job .ensures)
 
 pub answer-line-spec : {M : Type 1} → statement M
 answer-line-spec =

@@ -10,10 +10,13 @@ use Rattle.log_reply.proofs.reply.reply_to.Tie as tie
 
 -- how many bytes the answer has
 few : (c : tie.After-slice-known2) → c .before .before .answer-any .result ≤ doneSize mostResults
-few c = let a = c .before .before .before .before .before .before .before .args in omega (arith, c .before .before .answer-any .ensures .count, bytes-few (a .line .now) (a .ended))
+few c =
+    let a = c .before .before .before .before .before .before .before .args in
+    omega (arith, c .before .before .answer-any .ensures .count, bytes-few (a .line .now) (a .ended))
 
 returns : tie.Need-returns
-returns c = no-room (c .before .before .before .args .line .now) (c .before .before .before .args .ended) (c .before .before .before .args .out .now) (c .if1 .taken)
+returns c =
+    no-room (c .before .before .before .args .line .now) (c .before .before .before .args .ended) (c .before .before .before .args .out .now) (c .if1 .taken)
 
 answer-any-requires : tie.Need-answer-any-requires
 answer-any-requires c κs = search needs
@@ -31,7 +34,11 @@ same-length : tie.Need-same-length
 same-length c = search needs
 
 returns-2 : tie.Need-returns-2
-returns-2 c = with-room (c .before .before .before .before .before .before .before .args .line .now) (c .before .before .before .before .before .before .before .args .ended) (c .before .before .before .before .before .before .before .args .out .now) (c .before .before .before .before .if1 .left) (c .before .before .answer-any .ensures)
+returns-2 c =
+    let start = c .before .before .before .before .before .before .before in
+    with-room (start .args .line .now)
+    (start .args .ended) (start .args .out .now)
+    (c .before .before .before .before .if1 .left) (c .before .before .answer-any .ensures)
 
 pub reply-to-spec : {M : Type 1} → statement M
 reply-to-spec =

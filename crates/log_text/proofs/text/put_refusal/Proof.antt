@@ -16,7 +16,16 @@ same-length : tie.Need-same-length
 same-length c = search needs
 
 returns : tie.Need-returns
-returns c = record { count = refl; leaves = two-written (c .before .before .before .before .before .before .before .before .before .args .out .now) 0 refusedByte (c .before .before .before .before .before .before .before .before .before .args .number) (c .before .before .before .before .before .before .before .before .before .pre) (c .before .before .before .before .before .before .put-byte .ensures) (c .before .before .put-byte2 .ensures) }
+returns c =
+    let start = c .before .before .before .before .before .before .before .before .before in
+    let at-put-byte = c .before .before .before .before .before .before in
+    record {
+      count = refl;
+      leaves = two-written (start .args .out .now) 0 refusedByte
+          (start .args .number)
+          (start .pre)
+          (at-put-byte .put-byte .ensures) (c .before .before .put-byte2 .ensures);
+    }
 
 pub put-refusal-spec : {M : Type 1} → statement M
 put-refusal-spec = tie.close (tie.spec put-byte-requires put-byte-requires-2 same-length returns)

@@ -39,7 +39,19 @@ same-length : tie.Need-same-length
 same-length c = search needs
 
 returns : tie.Need-returns
-returns c = let a = c .before .before .before .before .before .before .before .before .before .before .before .before .before .before .args in result-written (a .out .now) (a .at) (a .result) (c .before .before .before .before .before .before .before .before .before .before .before .before .bits-of .result) (c .before .before .before .before .before .before .before .before .before .before .before .before .bits-of .ensures ∙ ap (ofZ w32) (is (c .before .before .before .before .before .before .before .before .before .before .before .before .before .before .fits .result))) (c .before .before .before .before .before .before .before .before .before .before .before .before .before .before .pre) (c .before .before .before .before .before .before .before .before .before .before .put-byte .ensures) (c .before .before .before .before .before .before .put-byte2 .ensures) (c .before .before .put-byte3 .ensures)
+returns c =
+    let start = c .before .before .before .before .before .before .before .before .before .before .before .before .before .before in
+    let at-bits-of = c .before .before .before .before .before .before .before .before .before .before .before .before in
+    let at-put-byte = c .before .before .before .before .before .before .before .before .before .before in
+    let at-put-byte2 = c .before .before .before .before .before .before in
+    let a = c .before .before .before .before .before .before .before .before .before .before .before .before .before .before .args in
+    result-written (a .out .now) (a .at) (a .result)
+    (at-bits-of .bits-of .result)
+    (at-bits-of .bits-of .ensures
+    ∙ ap (ofZ w32) (is (start .fits .result)))
+    (start .pre)
+    (at-put-byte .put-byte .ensures)
+    (at-put-byte2 .put-byte2 .ensures) (c .before .before .put-byte3 .ensures)
 
 pub put-result-spec : {M : Type 1} → statement M
 put-result-spec =

@@ -8,8 +8,8 @@ use lib.ListN.{length, getD}
 use lib.IntN.{pos}
 use mir.Syntax.{w32}
 use Rattle.signed.proofs.Signed.{is, got}
-use Rattle.frame_digits.specs.Digits.{digitsFor}
-use Rattle.frame_digits.proofs.Writing.{written-length}
+use Rattle.log_digits.specs.Digits.{digitsFor}
+use Rattle.log_digits.proofs.Writing.{written-length}
 use Rattle.log_text.specs.Answer.{doneByte, doneSize}
 use Rattle.log_text.proofs.Putting.{two-written}
 use Rattle.log_text.proofs.Results.{Told, told-none, told-more, told-all}
@@ -23,14 +23,22 @@ abbrev μ-loop : tie.MeasureT-loop
 μ-loop out₀ results count i₀ out i = length results - i
 
 -- the text keeps its length under the first two bytes
-begun : (c : tie.After-slice-known3 Inv-loop μ-loop) → length (c .before .before .put-byte2 .last .0) ≡ length (c .before .before .before .before .before .before .before .before .before .args .out .now)
-begun c = let s = c .before .before .before .before .before .before .before .before .before in
-    ap length (two-written (s .args .out .now) 0 doneByte (length (s .args .results .now)) (omega (arith, s .pre .1)) (c .before .before .before .before .before .before .put-byte .ensures) (c .before .before .put-byte2 .ensures))
+begun : (c : tie.After-slice-known3 Inv-loop μ-loop) → length (c .before .before .put-byte2 .last .0)
+    ≡ length (c .before .before .before .before .before .before .before .before .before .args .out .now)
+begun c =
+    let at-put-byte = c .before .before .before .before .before .before in
+    let s = c .before .before .before .before .before .before .before .before .before in
+    ap length (two-written (s .args .out .now) 0 doneByte (length (s .args .results .now)) (omega (arith, s .pre .1))
+    (at-put-byte .put-byte .ensures) (c .before .before .put-byte2 .ensures))
     ∙ written-length (s .args .out .now) (doneByte ∷ length (s .args .results .now) ∷ []) 0 (omega (arith, s .pre .1))
 
 -- so that there is room for the results
-room : (c : tie.After-slice-known3 Inv-loop μ-loop) → digitsFor (doneSize (length (c .before .before .before .before .before .before .before .before .before .args .results .now))) ≤ length (c .before .before .put-byte2 .last .0)
-room c = omega (arith, begun c, c .before .before .before .before .before .before .before .before .before .pre .1)
+room : (c : tie.After-slice-known3 Inv-loop μ-loop) → digitsFor
+    (doneSize (length (c .before .before .before .before .before .before .before .before .before .args .results .now)))
+    ≤ length (c .before .before .put-byte2 .last .0)
+room c =
+    let start = c .before .before .before .before .before .before .before .before .before in
+    omega (arith, begun c, start .pre .1)
 
 cast-count : tie.Need-cast-count Inv-loop μ-loop
 cast-count c = search needs
@@ -42,7 +50,9 @@ put-byte-requires-2 : tie.Need-put-byte-requires-2 Inv-loop μ-loop
 put-byte-requires-2 c κs = omega arith
 
 loop-holds : tie.Need-loop-holds Inv-loop μ-loop
-loop-holds c = told-none (c .before .before .before .before .before .before .before .before .before .args .results .now) _
+loop-holds c =
+    let start = c .before .before .before .before .before .before .before .before .before in
+    told-none (start .args .results .now) _
 
 mul-put-result : tie.Need-mul-put-result Inv-loop μ-loop
 mul-put-result c = omega arith
@@ -66,7 +76,13 @@ loop-less : tie.Need-loop-less Inv-loop μ-loop
 loop-less c = omega arith
 
 loop-again : tie.Need-loop-again Inv-loop μ-loop
-loop-again c = let l = c .before .before .before .before .before .before in let a = c .before .before .before .before .before .before .before .before .before .before .before .before .before .before .before .before .args in told-more (a .results .now) (l .loop .i) _ (room (c .before .before .before .before .before .before .before)) (l .loop .inv) (omega arith) (is (got w32 (getD (a .results .now) (l .loop .i) (pos 0)) (c .before .before .before .put-result-arg2 .given))) (c .before .before .put-result .ensures)
+loop-again c =
+    let from = c .before .before .before .before .before .before .before in
+    let l = c .before .before .before .before .before .before in
+    let a = c .before .before .before .before .before .before .before .before .before .before .before .before .before .before .before .before .args in
+    told-more (a .results .now) (l .loop .i) _ (room from) (l .loop .inv) (omega arith)
+    (is (got w32 (getD (a .results .now) (l .loop .i) (pos 0)) (c .before .before .before .put-result-arg2 .given)))
+    (c .before .before .put-result .ensures)
 
 mul-result : tie.Need-mul-result Inv-loop μ-loop
 mul-result c = omega (arith, c .before .loop .inv)
@@ -78,7 +94,14 @@ same-length : tie.Need-same-length Inv-loop μ-loop
 same-length c = c .before .loop .inv .kept ∙ begun (c .before .before)
 
 returns : tie.Need-returns Inv-loop μ-loop
-returns c = let a = c .before .before .before .before .before .before .before .before .before .before .before .args in told-all (a .results .now) (a .out .now) (c .before .loop .i) (c .before .before .before .before .before .before .before .before .before .before .before .pre .1) (c .before .before .before .before .before .before .before .before .put-byte .ensures) (c .before .before .before .before .put-byte2 .ensures) (c .before .loop .inv) (omega arith)
+returns c =
+    let start = c .before .before .before .before .before .before .before .before .before .before .before in
+    let at-put-byte = c .before .before .before .before .before .before .before .before in
+    let a = c .before .before .before .before .before .before .before .before .before .before .before .args in
+    told-all (a .results .now) (a .out .now) (c .before .loop .i)
+    (start .pre .1)
+    (at-put-byte .put-byte .ensures) (c .before .before .before .before .put-byte2 .ensures)
+    (c .before .loop .inv) (omega arith)
 
 pub put-results-spec : {M : Type 1} → statement M
 put-results-spec =

@@ -38,7 +38,9 @@ abbrev before-test : tie.After-applies → tie.Start
 before-test c = c .before .before .before .before
 
 abbrev before-delta : tie.After-delta-of → tie.Start
-before-delta c = before-test (c .before .before .before .before .before)
+before-delta c =
+    let the-from = c .before .before .before .before .before in
+    before-test the-from
 
 -- what the third stem is moved by
 delta-is : (c : tie.After-delta-of) → c .delta-of .result ≡ delta (first (before-delta c) .pos) (second (before-delta c) .pos) (third (before-delta c) .pos)

@@ -38,7 +38,8 @@ unfolding moveOnly
 first-places c =
     let s = start c in
     let q = twelve (c .before .before) in
-    subst (λ (e : Edge). Places thriceMoved (putEdge (s .args .axis) 8 e)) (sym (first-moved c)) (only-places twiceMoved 8 (s .args .axis) (s .args .delta) (s .pre .0) (omega arith) (s .pre .1))
+    subst (λ (e : Edge). Places thriceMoved (putEdge (s .args .axis) 8 e)) (sym (first-moved c))
+    (only-places twiceMoved 8 (s .args .axis) (s .args .delta) (s .pre .0) (omega arith) (s .pre .1))
 
 -- edges 8 and 11, moved
 both-moved : (c : tie.After-moved-back2)
@@ -59,7 +60,8 @@ element-copy-out-moved-back : tie.Need-element-copy-out-moved-back
 element-copy-out-moved-back c = search needs
 
 moved-back-requires : tie.Need-moved-back-requires
-moved-back-requires c κs = let s = c .before .before .before in let q = twelve (c .before) in (further twiceMoved _ (omega arith) (s .pre .0 .at 8 (omega arith)), delta-held s)
+moved-back-requires c κs =
+    let s = c .before .before .before in let q = twelve (c .before) in (further twiceMoved _ (omega arith) (s .pre .0 .at 8 (omega arith)), delta-held s)
 
 element-set-from-moved : tie.Need-element-set-from-moved
 element-set-from-moved c = search needs

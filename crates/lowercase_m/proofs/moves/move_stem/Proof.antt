@@ -72,8 +72,11 @@ link-places c =
 
 -- the axis once the serifs behind a link are moved: a second time, where one of them is the link
 serifs-moved : (c : tie.After-move-serifs2)
-    → c .move-serifs2 .result ≡ moveSerifs (linkDone (c .before .before .before .before .before)) (start (c .before .before .before .before .before .before .before) .args .delta)
-serifs-moved c = by₂ moveSerifs (c .move-serifs2 .ensures) (link-moved (c .before)) (is (start (c .before .before .before .before .before .before .before) .fits .delta))
+    → c .move-serifs2 .result ≡ moveSerifs (linkDone (c .before .before .before .before .before))
+    (start (c .before .before .before .before .before .before .before) .args .delta)
+serifs-moved c =
+    let the-from = c .before .before .before .before .before .before .before in
+    by₂ moveSerifs (c .move-serifs2 .ensures) (link-moved (c .before)) (is (start the-from .fits .delta))
 
 -- delta is within its limit when read back
 delta-held : (c : tie.Start) → Between mostDelta mostDelta (toZ w32 (ofZ w32 (c .args .delta)))
@@ -104,7 +107,9 @@ enum-told : tie.Need-enum-told
 enum-told c = search needs
 
 move-serifs-requires : tie.Need-move-serifs-requires
-move-serifs-requires c κs = let w = c .before .before in (subst (Places twiceMoved) (sym (stem-moved w)) (wider-places onceMoved twiceMoved _ (omega arith) (stem-places w)), delta-held (start w))
+move-serifs-requires c κs =
+    let w = c .before .before in
+    (subst (Places twiceMoved) (sym (stem-moved w)) (wider-places onceMoved twiceMoved _ (omega arith) (stem-places w)), delta-held (start w))
 
 returns : tie.Need-returns
 unfolding moveStem moveLink
@@ -112,7 +117,8 @@ returns c =
     let e = c .before in
     let w = e .before .before in
     let d = start w .args .delta in
-    by₂ moveSerifs (c .move-serifs .ensures) (stem-moved w) (is (start w .fits .delta)) ∙ ap (λ (l : Link). moveSerifs (moveLink (stemDone w) l d) d) (sym (e .enum-told .given .1))
+    by₂ moveSerifs (c .move-serifs .ensures) (stem-moved w) (is (start w .fits .delta))
+    ∙ ap (λ (l : Link). moveSerifs (moveLink (stemDone w) l d) d) (sym (e .enum-told .given .1))
 
 cast-at : tie.Need-cast-at
 cast-at c = search needs
@@ -127,8 +133,11 @@ moved-back-requires-2 : tie.Need-moved-back-requires-2
 moved-back-requires-2 c κs =
     let l = c .before .before in
     let w = l .before .before in
-    let k = l .link .given .0 .0 in
-    (subst (λ (a : Axis). Between thriceMoved thriceMoved (edgeAt a k .pos)) (sym (stem-moved w)) (further onceMoved _ (omega arith) (stem-places w .at _ (linked-place l))), delta-held (start w))
+    let k = l .link .given .0 .0 in (
+      subst (λ (a : Axis). Between thriceMoved thriceMoved (edgeAt a k .pos)) (sym (stem-moved w))
+          (further onceMoved _ (omega arith) (stem-places w .at _ (linked-place l))),
+      delta-held (start w),
+    )
 
 with-done-flag-requires-2 : tie.Need-with-done-flag-requires-2
 with-done-flag-requires-2 c κs = search needs
@@ -140,7 +149,9 @@ element-set-from-moved : tie.Need-element-set-from-moved
 element-set-from-moved c = linked-below (c .before .before .before .before)
 
 move-serifs-requires-2 : tie.Need-move-serifs-requires-2
-move-serifs-requires-2 c κs = let l = c .before .before .before .before in let w = l .before .before in (subst (Places twiceMoved) (sym (link-moved c)) (link-places l), delta-held (start w))
+move-serifs-requires-2 c κs =
+    let l = c .before .before .before .before in
+    let w = l .before .before in (subst (Places twiceMoved) (sym (link-moved c)) (link-places l), delta-held (start w))
 
 returns-2 : tie.Need-returns-2
 unfolding moveStem moveLink

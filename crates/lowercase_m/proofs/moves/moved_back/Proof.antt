@@ -20,7 +20,8 @@ returns : tie.Need-returns
 returns c =
     let p = c .before in
     let s = p .before in
-    c .with-pos .ensures ∙ ap (λ (p : ℤ). placed (s .args .edge) p (s .args .mark)) (by₂ _-ℤ_ (is (sub-with-pos p)) (is (fits-in w32 (s .pre .0) tt tt)) (is (s .fits .delta)))
+    c .with-pos .ensures ∙ ap (λ (p : ℤ). placed (s .args .edge) p (s .args .mark))
+    (by₂ _-ℤ_ (is (sub-with-pos p)) (is (fits-in w32 (s .pre .0) tt tt)) (is (s .fits .delta)))
 
 pub moved-back-spec : {M : Type 1} → statement M
 moved-back-spec = tie.close (tie.spec sub-with-pos with-pos-requires returns)

@@ -17,7 +17,8 @@ unfolding applies
 returns c =
     let t = c .before .before .before .before in
     let u = t .before .before .pre .1 in
-    rw (sym (t .before .group-holds .ensures) ∙ t .if1 .taken) (c .is-even .ensures ∙ λ i. even (units-read _ (u .0) i) (units-read _ (u .1) i) (units-read _ (u .2) i))
+    rw (sym (t .before .group-holds .ensures) ∙ t .if1 .taken)
+    (c .is-even .ensures ∙ λ i. even (units-read _ (u .0) i) (units-read _ (u .1) i) (units-read _ (u .2) i))
 
 returns-2 : tie.Need-returns-2
 unfolding applies

@@ -18,7 +18,9 @@ links-on-requires-2 c κs = search needs
 
 returns-2 : tie.Need-returns-2
 unfolding linkedOn
-returns-2 c = let b = c .before .before in rw (sym (b .before .links-on .ensures) ∙ not-false _ (b .if1 .left), sym (c .before .links-on2 .ensures) ∙ not-true _ (c .if2 .taken))
+returns-2 c =
+    let b = c .before .before in
+    rw (sym (b .before .links-on .ensures) ∙ not-false _ (b .if1 .left), sym (c .before .links-on2 .ensures) ∙ not-true _ (c .if2 .taken))
 
 links-on-requires-3 : tie.Need-links-on-requires-3
 links-on-requires-3 c κs = search needs
@@ -28,7 +30,8 @@ unfolding linkedOn
 returns-3 c =
     let d = c .before in
     let b = d .before .before in
-    rw (sym (b .before .links-on .ensures) ∙ not-false _ (b .if1 .left), sym (d .before .links-on2 .ensures) ∙ not-false _ (d .if2 .left)) (c .links-on3 .ensures)
+    rw (sym (b .before .links-on .ensures) ∙ not-false _ (b .if1 .left), sym (d .before .links-on2 .ensures) ∙ not-false _ (d .if2 .left))
+    (c .links-on3 .ensures)
 
 pub linked-on-spec : {M : Type 1} → statement M
 linked-on-spec =

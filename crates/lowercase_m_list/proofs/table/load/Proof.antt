@@ -1,5 +1,7 @@
--- `lowercase_m_list::table::load` meets its contract: a walk of its MIR, by hand, with a loop. All that it knows of `least` and `empty_table` is that each meets its contract.
--- The loop's invariant, where t edges are left: i is n - t, and the table is `copied i` of the list. In each turn the list is looked into and shut again; the table lies open as a row.
+-- `lowercase_m_list::table::load` meets its contract: a walk of its MIR, by hand, with a loop. All that it knows of `least` and `empty_table` is that each
+-- meets its contract.
+-- The loop's invariant, where t edges are left: i is n - t, and the table is `copied i` of the list. In each turn the list is looked into and shut again; the
+-- table lies open as a row.
 -- Assumes nothing.
 use mathlib.Core.Path.{_≡_, refl, sym, _∙_, ap, subst}
 use Prim.Native.Nat.{ℕ, zero, suc, _+_, _≤_, _<_, _^_, min}
@@ -170,7 +172,8 @@ module _ {M : Type 1} (𝓤 : URA M) (H : Heap 𝓤) (A : Atoms 𝓤) (mem : Mem
   empty-of : (r : List Edge) → ent 𝓤 (ensured 𝓤 H A empty.ended (empty.clauses 𝓤 H A mem run) tt tt tt r) (fact 𝓤 (r ≡ emptyTable))
   empty-of r = exE 𝓤 _ (λ ws. snd∗ 𝓤 (sem 𝓤 H A (lasts empty.ended tt tt ws)) (fact 𝓤 (r ≡ emptyTable)))
 
-module _ {M : Type 1} (𝓤 : URA M) (H : Heap 𝓤) (A : Atoms 𝓤) (W : Given 𝓤 H A) (mem : Memory → SProp 𝓤) (run : Routine → Fun 𝓤) (κ : Lft) (q : Share) (b o : ℕ) (γ : GName)
+module _ {M : Type 1} (𝓤 : URA M) (H : Heap 𝓤) (A : Atoms 𝓤) (W : Given 𝓤 H A) (mem : Memory → SProp 𝓤) (run : Routine → Fun 𝓤) (κ : Lft) (q : Share)
+    (b o : ℕ) (γ : GName)
     (ys : List Edge) (room : Room T.the-row (length ys)) where
   abbrev x : RefT (List Edge) × Unit {0}
   x = (record { ptr = (b, o); name = γ; now = ys }, tt)
@@ -227,12 +230,16 @@ module _ {M : Type 1} (𝓤 : URA M) (H : Heap 𝓤) (A : Atoms 𝓤) (W : Given
   abbrev Row : List Edge → ℕ → Item 𝓤
   Row l c = ‵ (row T.the-row fullShare l c 0)
 
-  exits : Is (Edges mostEdges) (zs n) (arr (zs n)) → ent 𝓤 (⋆ 𝓤 H A (‵ (flft κ q) ∷ ‵ (fshr-bor κ (λ t. arr-parts (shares T.the-row) (length ys) .part t ys b o))
+  exits : Is (Edges mostEdges) (zs n) (arr (zs n)) → ent 𝓤
+      (⋆ 𝓤 H A (‵ (flft κ q) ∷ ‵ (fshr-bor κ (λ t. arr-parts (shares T.the-row) (length ys) .part t ys b o))
       ∷ ‵ (fres γ (codedHoleys T.the-row .code (heres T.the-row ys))) ∷ [])) (Post (only (arr (zs n))))
   exits g =
-      qed W (‵ (flft κ q) ∷ ‵ (fshr-bor κ (λ t. arr-parts (shares T.the-row) (length ys) .part t ys b o)) ∷ ‵ (fres γ (codedHoleys T.the-row .code (heres T.the-row ys))) ∷ []) ∵
-      suffices ! _ (ends-at 𝓤 H A f.ended stayed (f.clauses 𝓤 H A mem run) W (((κ, tt), (q, tt), tt, x, (s ∷ [], tt)), tt) (only (arr (zs n))) (zs n) (tt, tt) (tt, tt)) $ says ! refl $
-      nothing ! $ move ! (1 ∷ 0 ∷ []) $ join ! $ frame ! $ move ! (1 ∷ 0 ∷ []) $ fjoin ! $ pureI ! (at-slice T.the-row (x .0) (s ∷ [])) (tt, (tt, tt)) (refl, room) $ fjoin ! $
+      qed W (‵ (flft κ q) ∷ ‵ (fshr-bor κ (λ t. arr-parts (shares T.the-row) (length ys) .part t ys b o))
+      ∷ ‵ (fres γ (codedHoleys T.the-row .code (heres T.the-row ys))) ∷ []) ∵
+      suffices ! _ (ends-at 𝓤 H A f.ended stayed (f.clauses 𝓤 H A mem run) W (((κ, tt), (q, tt), tt, x, (s ∷ [], tt)), tt) (only (arr (zs n))) (zs n) (tt, tt)
+      (tt, tt)) $ says ! refl $
+      nothing ! $ move ! (1 ∷ 0 ∷ []) $ join ! $ frame ! $ move ! (1 ∷ 0 ∷ []) $ fjoin ! $ pureI ! (at-slice T.the-row (x .0) (s ∷ [])) (tt, (tt, tt))
+      (refl, room) $ fjoin ! $
       nothing ! $ move ! (1 ∷ 0 ∷ []) $ fjoin ! $ frame ! $ owned ! (Edges mostEdges) (Is (Edges mostEdges)) (makes 𝓤 H A W mostEdges) (zs n) _ g $ done !
 
   module _ (𝓣 : Tables 𝓤 H) (l₀ l₁ l₂ l₃ l₄ l₅ l₆ l₇ l₈ l₉ l₁₀ l₁₁ l₁₂ l₁₃ : ℕ) where
@@ -243,20 +250,28 @@ module _ {M : Type 1} (𝓤 : URA M) (H : Heap 𝓤) (A : Atoms 𝓤) (W : Given
     Λ = 𝓣 .Λ
 
     abbrev En : Env 𝓤 H
-    En = (tab, l₀) ∷ (slice, l₁) ∷ (word, l₂) ∷ (tab, l₃) ∷ (word, l₄) ∷ (word, l₅) ∷ (tab, l₆) ∷ (tyBool, l₇) ∷ (word, l₈) ∷ (tyPtr, l₉) ∷ (T′.mir, l₁₀) ∷ (word, l₁₁) ∷ (tyPtr, l₁₂)
+    En =
+        (tab, l₀) ∷ (slice, l₁) ∷ (word, l₂) ∷ (tab, l₃) ∷ (word, l₄) ∷ (word, l₅) ∷ (tab, l₆) ∷ (tyBool, l₇) ∷ (word, l₈) ∷ (tyPtr, l₉) ∷ (T′.mir, l₁₀)
+        ∷ (word, l₁₁) ∷ (tyPtr, l₁₂)
         ∷ (tyPtr, l₁₃) ∷ []
 
     -- what no turn changes
     abbrev Frame : List (Item 𝓤)
-    Frame = ‵ (fat fullShare slice l₁ 0 s) ∷ ‵ (fat fullShare word l₂ 0 (vint w64 n)) ∷ ‵ (fat fullShare word l₅ 0 (vint w64 (length ys))) ∷ ‵ (froom tab l₆ 0) ∷ ‵ (froom tab l₀ 0)
-        ∷ ‵ (flft κ q) ∷ ‵ (fshr-bor κ (λ t. arr-parts (shares T.the-row) (length ys) .part t ys b o)) ∷ ‵ (fres γ (codedHoleys T.the-row .code (heres T.the-row ys)))
-        ∷ ‵ (fdies tab l₀) ∷ ‵ (fdies slice l₁) ∷ ‵ (fdies word l₂) ∷ ‵ (fdies tab l₃) ∷ ‵ (fdies word l₄) ∷ ‵ (fdies word l₅) ∷ ‵ (fdies tab l₆) ∷ ‵ (fdies tyBool l₇)
+    Frame =
+        ‵ (fat fullShare slice l₁ 0 s) ∷ ‵ (fat fullShare word l₂ 0 (vint w64 n)) ∷ ‵ (fat fullShare word l₅ 0 (vint w64 (length ys))) ∷ ‵ (froom tab l₆ 0)
+        ∷ ‵ (froom tab l₀ 0)
+        ∷ ‵ (flft κ q) ∷ ‵ (fshr-bor κ (λ t. arr-parts (shares T.the-row) (length ys) .part t ys b o))
+        ∷ ‵ (fres γ (codedHoleys T.the-row .code (heres T.the-row ys)))
+        ∷ ‵ (fdies tab l₀) ∷ ‵ (fdies slice l₁) ∷ ‵ (fdies word l₂) ∷ ‵ (fdies tab l₃) ∷ ‵ (fdies word l₄) ∷ ‵ (fdies word l₅) ∷ ‵ (fdies tab l₆)
+        ∷ ‵ (fdies tyBool l₇)
         ∷ ‵ (fdies word l₈) ∷ ‵ (fdies tyPtr l₉)
         ∷ ‵ (fdies T′.mir l₁₀) ∷ ‵ (fdies word l₁₁) ∷ ‵ (fdies tyPtr l₁₂) ∷ ‵ (fdies tyPtr l₁₃) ∷ []
 
     -- i edges are loaded
     abbrev At : ℕ → List (Item 𝓤)
-    At i = ‵ (fat fullShare word l₄ 0 (vint w64 i)) ∷ Row (zs i) l₃ ∷ ‵ (froom tyBool l₇ 0) ∷ ‵ (froom word l₈ 0) ∷ ‵ (froom tyPtr l₉ 0) ∷ ‵ (froom T′.mir l₁₀ 0) ∷ ‵ (froom word l₁₁ 0)
+    At i =
+        ‵ (fat fullShare word l₄ 0 (vint w64 i)) ∷ Row (zs i) l₃ ∷ ‵ (froom tyBool l₇ 0) ∷ ‵ (froom word l₈ 0) ∷ ‵ (froom tyPtr l₉ 0) ∷ ‵ (froom T′.mir l₁₀ 0)
+        ∷ ‵ (froom word l₁₁ 0)
         ∷ ‵ (froom tyPtr l₁₂ 0) ∷ ‵ (froom tyPtr l₁₃ 0) ∷ Frame
 
     -- the invariant, where t edges are left
@@ -284,9 +299,11 @@ module _ {M : Type 1} (𝓤 : URA M) (H : Heap 𝓤) (A : Atoms 𝓤) (W : Given
         -- the place of edges[i], and what lies there
         assigns ! (bin ! (load ! (from ! (stop !)) (look ! 0 refl)) (lit ! tt) (scaled-fits i (length ys) edgeBytes (in-list i h) (room .1))) (from ! (stop !))
         (init ! 3 refl (tt, scaled-fits i (length ys) edgeBytes (in-list i h) (room .1))) $
-        assigns ! (bin ! (load ! (from ! (fld ! refl (stop !))) (look-in ! 9 (sub ! 0 refl (whole !)))) (load ! (from ! (stop !)) (look ! 3 refl)) tt) (from ! (stop !)) (init ! 4 refl (tt, tt)) $
+        assigns ! (bin ! (load ! (from ! (fld ! refl (stop !))) (look-in ! 9 (sub ! 0 refl (whole !)))) (load ! (from ! (stop !)) (look ! 3 refl)) tt)
+        (from ! (stop !)) (init ! 4 refl (tt, tt)) $
         rewrite ! 4 (λ (p : ℕ). ‵ (fat fullShare tyPtr l₉ 0 (vptr b p))) (sym (place-is edgeBytes o i)) refl $
-        move ! (15 ∷ 14 ∷ []) $ looks-slice ! tt T.the-row (Is T.the-row) (shows 𝓤 H A T.the-row) vals (LL.tells T.the-type T′.the-laws) (LL.copy T.the-type T′.the-copy 𝓤 H A W) ys b o (λ q′.
+        move ! (15 ∷ 14 ∷ []) $ looks-slice ! tt T.the-row (Is T.the-row) (shows 𝓤 H A T.the-row) vals (LL.tells T.the-type T′.the-laws)
+        (LL.copy T.the-type T′.the-copy 𝓤 H A W) ys b o (λ q′.
         elem-out ! T.the-row (Is T.the-row) (shows 𝓤 H A T.the-row) vals (LL.tells T.the-type T′.the-laws) q′ ys i emptyEdge b o (in-list i h) (λ e.
         -- [edges[i]; what it owns; the others; what shuts; the fractured borrow; _4; the row; _7; _8; _9; _10; …]
         assigns ! (of-opd ! (load ! (from ! (hop ! (look ! 9 refl) (stop !))) (look-raw ! 0 refl))) (from ! (stop !))
@@ -298,7 +315,8 @@ module _ {M : Type 1} (𝓤 : URA M) (H : Heap 𝓤) (A : Atoms 𝓤) (W : Given
         assigns ! (addr ! (from ! (stop !))) (from ! (stop !)) (init ! 9 refl (tt, tt)) $
         assigns ! (bin ! (load ! (from ! (stop !)) (look ! 9 refl)) (load ! (from ! (stop !)) (look ! 8 refl)) tt) (from ! (stop !)) (init ! 10 refl (tt, tt)) $
         rewrite ! 10 (λ (p : ℕ). ‵ (fat fullShare tyPtr l₁₃ 0 (vptr l₃ p))) (sym (place-is edgeBytes 0 i)) refl $
-        move ! (3 ∷ []) $ elem-out ! T.the-row (Is T.the-row) (shows 𝓤 H A T.the-row) vals (LL.tells T.the-type T′.the-laws) fullShare (zs i) i emptyEdge l₃ 0 (in-now i h) (λ _.
+        move ! (3 ∷ []) $ elem-out ! T.the-row (Is T.the-row) (shows 𝓤 H A T.the-row) vals (LL.tells T.the-type T′.the-laws) fullShare (zs i) i emptyEdge l₃ 0
+        (in-now i h) (λ _.
         -- [table[i]; what it owns; the others; the token; the fractured borrow; _4; _7; _8; _9; _10; _11; _12; _13; …]
         assigns ! (of-opd ! (load ! (from ! (stop !)) (look ! 9 refl))) (from ! (hop ! (look ! 12 refl) (stop !)))
         (store-raw ! 0 refl (LL.lawful T.the-type T′.the-laws 𝓤 H A W .typed (elem i) (vals (elem i)) e .0)) $
@@ -306,10 +324,12 @@ module _ {M : Type 1} (𝓤 : URA M) (H : Heap 𝓤) (A : Atoms 𝓤) (W : Given
         elem-put ! T.the-row fullShare (zs i) i (elem i) (vals (elem i)) l₃ 0 (in-now i h) $
         rewrite ! 0 (λ (l : List Edge). Row l l₃) (table-more i h) refl $
         -- [the row; the token; the fractured borrow; _4; _7; _8; _9; _10; _11; _12; _13; …]
-        assigns-last ! (bin ! (load ! (from ! (stop !)) (look ! 3 refl)) (lit ! tt) (record { fits = next-fits i h })) (from ! (stop !)) (store ! 3 refl (tt, record { fits = next-fits i h })) $
+        assigns-last ! (bin ! (load ! (from ! (stop !)) (look ! 3 refl)) (lit ! tt) (record { fits = next-fits i h })) (from ! (stop !))
+        (store ! 3 refl (tt, record { fits = next-fits i h })) $
         rewrite ! 3 (λ (j : ℕ). ‵ (fat fullShare word l₄ 0 (vint w64 j))) (add-one i) refl $
         forget ! 4 refl $ forget ! 5 refl $ forget ! 6 refl $ forget ! 7 refl $ forget ! 8 refl $ forget ! 9 refl $ forget ! 10 refl $
-        keep ! (3 ∷ 0 ∷ 4 ∷ 5 ∷ 6 ∷ 7 ∷ 8 ∷ 9 ∷ 10 ∷ 11 ∷ 12 ∷ 13 ∷ 14 ∷ 15 ∷ 1 ∷ 2 ∷ 16 ∷ 17 ∷ 18 ∷ 19 ∷ 20 ∷ 21 ∷ 22 ∷ 23 ∷ 24 ∷ 25 ∷ 26 ∷ 27 ∷ 28 ∷ 29 ∷ 30 ∷ []) $ by ! k)))
+        keep ! (3 ∷ 0 ∷ 4 ∷ 5 ∷ 6 ∷ 7 ∷ 8 ∷ 9 ∷ 10 ∷ 11 ∷ 12 ∷ 13 ∷ 14 ∷ 15 ∷ 1 ∷ 2 ∷ 16 ∷ 17 ∷ 18 ∷ 19 ∷ 20 ∷ 21 ∷ 22 ∷ 23 ∷ 24 ∷ 25 ∷ 26 ∷ 27 ∷ 28 ∷ 29 ∷ 30
+        ∷ []) $ by ! k)))
 
     -- the turn that leaves the loop, and the rest of the body
     ends : (X : SProp 𝓤) → ent 𝓤 (⋆ 𝓤 H A (At n)) (Wp 𝓤 H C Λ En m.turn-1 (afterTurn 𝓤 H X Left))
@@ -323,21 +343,31 @@ module _ {M : Type 1} (𝓤 : URA M) (H : Heap 𝓤) (A : Atoms 𝓤) (W : Given
         move ! (1 ∷ []) $ use1 W (‵ (Edges mostEdges .own (zs n) (arr (zs n))) ⊛ ‵ (fat fullShare tab l₃ 0 (only (arr (zs n)))))
         (as-array 𝓤 H A W mostEdges (zs n) l₃ (table-length n (omega arith))) $ split ! $
         facts ! (Edges mostEdges) (Is (Edges mostEdges)) (shows 𝓤 H A (Edges mostEdges)) (zs n) (arr (zs n)) (λ g.
-        assigns ! (of-opd ! (load ! (from ! (stop !)) (look ! 0 refl))) (from ! (stop !)) (init ! 13 refl (typed 𝓤 H A W mostEdges (zs n) (only (arr (zs n))) g)) $
-        returns ! (look ! 13 refl) $ forget ! 0 refl $ forget ! 1 refl $ forget ! 2 refl $ forget ! 9 refl $ forget ! 10 refl $ forget ! 11 refl $ forget ! 13 refl $
-        move ! (13 ∷ 17 ∷ []) $ free1 ! $ move ! (9 ∷ 16 ∷ []) $ free1 ! $ move ! (9 ∷ 15 ∷ []) $ free1 ! $ move ! (0 ∷ 14 ∷ []) $ free1 ! $ move ! (0 ∷ 13 ∷ []) $ free1 ! $
-        move ! (7 ∷ 12 ∷ []) $ free1 ! $ move ! (7 ∷ 11 ∷ []) $ free1 ! $ move ! (0 ∷ 10 ∷ []) $ free1 ! $ move ! (0 ∷ 9 ∷ []) $ free1 ! $ move ! (0 ∷ 8 ∷ []) $ free1 ! $
-        move ! (0 ∷ 7 ∷ []) $ free1 ! $ move ! (0 ∷ 6 ∷ []) $ free1 ! $ move ! (0 ∷ 5 ∷ []) $ free1 ! $ move ! (0 ∷ 4 ∷ []) $ free1 ! $ free0 ! $ by ! (exits g))
+        assigns ! (of-opd ! (load ! (from ! (stop !)) (look ! 0 refl))) (from ! (stop !))
+        (init ! 13 refl (typed 𝓤 H A W mostEdges (zs n) (only (arr (zs n))) g)) $
+        returns ! (look ! 13 refl) $ forget ! 0 refl $ forget ! 1 refl $ forget ! 2 refl $ forget ! 9 refl $ forget ! 10 refl $ forget ! 11 refl $ forget ! 13
+        refl $
+        move ! (13 ∷ 17 ∷ []) $ free1 ! $ move ! (9 ∷ 16 ∷ []) $ free1 ! $ move ! (9 ∷ 15 ∷ []) $ free1 ! $ move ! (0 ∷ 14 ∷ []) $ free1 ! $ move !
+        (0 ∷ 13 ∷ []) $ free1 ! $
+        move ! (7 ∷ 12 ∷ []) $ free1 ! $ move ! (7 ∷ 11 ∷ []) $ free1 ! $ move ! (0 ∷ 10 ∷ []) $ free1 ! $ move ! (0 ∷ 9 ∷ []) $ free1 ! $ move ! (0 ∷ 8 ∷ [])
+        $ free1 ! $
+        move ! (0 ∷ 7 ∷ []) $ free1 ! $ move ! (0 ∷ 6 ∷ []) $ free1 ! $ move ! (0 ∷ 5 ∷ []) $ free1 ! $ move ! (0 ∷ 4 ∷ []) $ free1 ! $ free0 ! $ by !
+        (exits g))
 
     put-in : (t i : ℕ) → Facts t i → ent 𝓤 (⋆ 𝓤 H A (At i)) (Inv t)
-    put-in t i p = via 𝓤 (guard 𝓤 (Facts t i) (⋆ 𝓤 H A (At i))) (guardI 𝓤 (Facts t i) (⋆ 𝓤 H A (At i)) p) (exI 𝓤 (λ (j : ℕ). guard 𝓤 (Facts t j) (⋆ 𝓤 H A (At j))) i)
+    put-in t i p =
+        via 𝓤 (guard 𝓤 (Facts t i) (⋆ 𝓤 H A (At i))) (guardI 𝓤 (Facts t i) (⋆ 𝓤 H A (At i)) p) (exI 𝓤 (λ (j : ℕ). guard 𝓤 (Facts t j) (⋆ 𝓤 H A (At j))) i)
 
     below : (t i : ℕ) → Facts t i → ent 𝓤 (⋆ 𝓤 H A (At i)) (Below (suc t))
-    below t i p = via 𝓤 (Inv t) (put-in t i p) (via 𝓤 (guard 𝓤 (t < suc t) (Inv t)) (guardI 𝓤 (t < suc t) (Inv t) (omega arith)) (exI 𝓤 (λ (u : ℕ). guard 𝓤 (u < suc t) (Inv u)) t))
+    below t i p =
+        via 𝓤 (Inv t) (put-in t i p) (via 𝓤 (guard 𝓤 (t < suc t) (Inv t)) (guardI 𝓤 (t < suc t) (Inv t) (omega arith))
+        (exI 𝓤 (λ (u : ℕ). guard 𝓤 (u < suc t) (Inv u)) t))
 
     -- a turn from the invariant at t leaves the loop, or ends in the invariant below t
     turn-at : (t i : ℕ) → Facts t i → ent 𝓤 (⋆ 𝓤 H A (At i)) (Wp 𝓤 H C Λ En m.turn-1 (afterTurn 𝓤 H (Below t) Left))
-    turn-at zero i p = let e : n ≡ i = omega (arith, p) in subst (λ (j : ℕ). ent 𝓤 (⋆ 𝓤 H A (At j)) (Wp 𝓤 H C Λ En m.turn-1 (afterTurn 𝓤 H (Below zero) Left))) e (ends (Below zero))
+    turn-at zero i p =
+        let e : n ≡ i = omega (arith, p) in
+        subst (λ (j : ℕ). ent 𝓤 (⋆ 𝓤 H A (At j)) (Wp 𝓤 H C Λ En m.turn-1 (afterTurn 𝓤 H (Below zero) Left))) e (ends (Below zero))
     turn-at (suc t) i p = more i (Below (suc t)) (omega (arith, p)) (below t (suc i) (omega (arith, p)))
 
     turns : (t : ℕ) → ent 𝓤 (Inv t) (Wp 𝓤 H C Λ En m.turn-1 (afterTurn 𝓤 H (Below t) Left))
@@ -358,33 +388,41 @@ module _ {M : Type 1} (𝓤 : URA M) (H : Heap 𝓤) (A : Atoms 𝓤) (W : Given
     walk =
         qed W ((‵ (flft κ q) ⊛ ‵ ftrue) ∷ ‵ (owns (ShrSlice (named 0) κ T.the-row ∷ []) x (s ∷ [], tt)) ∷ []) ∵ enter ! (𝓣 .C) (𝓣 .Λ) code.function (s ∷ []) _ $
         alloc1 ! (λ l₀. alloc1 ! (λ l₁. alloc1 ! (λ l₂. alloc1 ! (λ l₃. alloc1 !
-        (λ l₄. alloc1 ! (λ l₅. alloc1 ! (λ l₆. alloc1 ! (λ l₇. alloc1 ! (λ l₈. alloc1 ! (λ l₉. alloc1 ! (λ l₁₀. alloc1 ! (λ l₁₁. alloc1 ! (λ l₁₂. alloc1 ! (λ l₁₃. alloc0 ! $ params1 ! $
+        (λ l₄. alloc1 ! (λ l₅. alloc1 ! (λ l₆. alloc1 !
+        (λ l₇. alloc1 ! (λ l₈. alloc1 ! (λ l₉. alloc1 ! (λ l₁₀. alloc1 ! (λ l₁₁. alloc1 ! (λ l₁₂. alloc1 ! (λ l₁₃. alloc0 ! $ params1 ! $
         pass1 ! (init ! 24 refl (tt, (tt, (record { fits = room .0 }, tt)))) $ pass0 ! $
         -- [_13; …; _12; …; _11; …; _10; …; _9; …; _8; …; _7; …; _6; …; _5; …; _4; …; _3; …; _2; …; _1; …; room for _0; …; the token; what edges owns]
-        assigns ! (of-opd ! (load ! (from ! (fld ! refl (stop !))) (look-in ! 24 (sub ! 1 refl (whole !))))) (from ! (stop !)) (init ! 16 refl (tt, record { fits = room .0 })) $
+        assigns ! (of-opd ! (load ! (from ! (fld ! refl (stop !))) (look-in ! 24 (sub ! 1 refl (whole !))))) (from ! (stop !))
+        (init ! 16 refl (tt, record { fits = room .0 })) $
         use0 W (raw (Least 𝓤 H A mem run .pre to-least)) goes-least $
-        calls-at ! (fmOf 𝓤 H (W .laws) 𝓣) (Least 𝓤 H A mem run) known-least to-least (and-then ! (load ! (from ! (stop !)) (look ! 17 refl)) (and-then ! (lit ! tt) (no-more !))) (λ w.
-        use1 W (later (some (λ (r : ℕ). (‵ ftrue ⊛ ‵ (usize .own r (w ∷ []))) ⊛ raw (ensured 𝓤 H A least.ended (least.clauses 𝓤 H A mem run) tt (length ys, (mostEdges, tt)) tt r))))
+        calls-at ! (fmOf 𝓤 H (W .laws) 𝓣) (Least 𝓤 H A mem run) known-least to-least
+        (and-then ! (load ! (from ! (stop !)) (look ! 17 refl)) (and-then ! (lit ! tt) (no-more !))) (λ w.
+        use1 W (later (some (λ (r : ℕ). (‵ ftrue ⊛ ‵ (usize .own r (w ∷ []))) ⊛ raw
+        (ensured 𝓤 H A least.ended (least.clauses 𝓤 H A mem run) tt (length ys, (mostEdges, tt)) tt r))))
         (id⊢ 𝓤 _) $ await ! tt $ pick ! (λ r.
         split ! $ move ! (1 ∷ []) $ use1 W (raw (fact 𝓤 (r ≡ n))) (least-of 𝓤 H A mem run (length ys) mostEdges r) $
         heard ! (r ≡ n) (λ e. split ! $ drop ! $ facts ! usize (Is usize) (shows 𝓤 H A usize) r (w ∷ []) (λ is.
-        land ! (from ! (stop !)) (init ! 22 refl (uint-lawful 𝓤 H A W w64 .typed r _ is .0)) $ rewrite ! 22 (λ (v : Val). ‵ (fat fullShare word l₂ 0 v)) (ap only (is .0) ∙ ap (vint w64) e) refl $
+        land ! (from ! (stop !)) (init ! 22 refl (uint-lawful 𝓤 H A W w64 .typed r _ is .0)) $ rewrite ! 22 (λ (v : Val). ‵ (fat fullShare word l₂ 0 v))
+        (ap only (is .0) ∙ ap (vint w64) e) refl $
         use0 W (raw (Empty 𝓤 H A mem run .pre to-empty)) goes-empty $
         calls-at ! (fmOf 𝓤 H (W .laws) 𝓣) (Empty 𝓤 H A mem run) known-empty to-empty (no-more !) (λ v.
-        use1 W (later (some (λ (t : List Edge). (‵ ftrue ⊛ ‵ (Edges mostEdges .own t (v ∷ []))) ⊛ raw (ensured 𝓤 H A empty.ended (empty.clauses 𝓤 H A mem run) tt tt tt t)))) (id⊢ 𝓤 _) $
+        use1 W (later (some (λ (t : List Edge). (‵ ftrue ⊛ ‵ (Edges mostEdges .own t (v ∷ []))) ⊛ raw
+        (ensured 𝓤 H A empty.ended (empty.clauses 𝓤 H A mem run) tt tt tt t)))) (id⊢ 𝓤 _) $
         await ! tt $ pick ! (λ t.
         split ! $ move ! (1 ∷ []) $ use1 W (raw (fact 𝓤 (t ≡ emptyTable))) (empty-of 𝓤 H A mem run t) $ heard ! (t ≡ emptyTable) (λ d. split ! $ drop ! $
         rewrite ! 0 (λ (u : List Edge). ‵ (Edges mostEdges .own u (v ∷ []))) (d ∙ sym (copied-none ys emptyTable)) refl $
         facts ! (Edges mostEdges) (Is (Edges mostEdges)) (shows 𝓤 H A (Edges mostEdges)) (zs 0) (v ∷ []) (λ g.
         land ! (from ! (stop !)) (init ! 14 refl (typed 𝓤 H A W mostEdges (zs 0) v g)) $
         rewrite ! 14 (λ (u : Val). ‵ (fat fullShare tab l₆ 0 u)) (ap only (tells mostEdges (zs 0) (v ∷ []) g)) refl $
-        assigns ! (of-opd ! (load ! (from ! (stop !)) (look ! 14 refl))) (from ! (stop !)) (init ! 20 refl (typed 𝓤 H A W mostEdges (zs 0) (only (arr (zs 0))) (told (v ∷ []) g))) $
+        assigns ! (of-opd ! (load ! (from ! (stop !)) (look ! 14 refl))) (from ! (stop !))
+        (init ! 20 refl (typed 𝓤 H A W mostEdges (zs 0) (only (arr (zs 0))) (told (v ∷ []) g))) $
         assigns ! (of-opd ! (lit ! tt)) (from ! (stop !)) (init ! 18 refl (tt, record { fits = lit< tt })) $
         move ! (29 ∷ []) $ fsplit ! $ fsplit ! $ drop ! $ fsplit ! $ move ! (31 ∷ []) $ split ! $
         -- the local array is a row: [the token; true; res; the fractured borrow; true; _13; …]
         move ! (25 ∷ []) $ use1 W (Row (zs 0) l₃) (as-row 𝓤 H A W mostEdges (zs 0) l₃ (told (v ∷ []) g)) $ forget ! 20 refl $
         -- [the row; the token; true; res; the fractured borrow; true; _13; …]
-        keep ! (24 ∷ 0 ∷ 18 ∷ 16 ∷ 14 ∷ 12 ∷ 10 ∷ 8 ∷ 6 ∷ 29 ∷ 27 ∷ 22 ∷ 20 ∷ 31 ∷ 1 ∷ 4 ∷ 3 ∷ 32 ∷ 30 ∷ 28 ∷ 26 ∷ 25 ∷ 23 ∷ 21 ∷ 19 ∷ 17 ∷ 15 ∷ 13 ∷ 11 ∷ 9 ∷ 7 ∷ []) $
+        keep ! (24 ∷ 0 ∷ 18 ∷ 16 ∷ 14 ∷ 12 ∷ 10 ∷ 8 ∷ 6 ∷ 29 ∷ 27 ∷ 22 ∷ 20 ∷ 31 ∷ 1 ∷ 4 ∷ 3 ∷ 32 ∷ 30 ∷ 28 ∷ 26 ∷ 25 ∷ 23 ∷ 21 ∷ 19 ∷ 17 ∷ 15 ∷ 13 ∷ 11 ∷ 9
+        ∷ 7 ∷ []) $
         resumes 𝓣 l₀ l₁ l₂ l₃ l₄ l₅ l₆ l₇ l₈ l₉ l₁₀ l₁₁ l₁₂ l₁₃))))))))))))))))))))))
       where
         told : (vs : List Val) → Is (Edges mostEdges) (zs 0) vs → Is (Edges mostEdges) (zs 0) (arr (zs 0))
@@ -393,8 +431,11 @@ module _ {M : Type 1} (𝓤 : URA M) (H : Heap 𝓤) (A : Atoms 𝓤) (W : Given
 module _ {M : Type 1} (𝓤 : URA M) (H : Heap 𝓤) (A : Atoms 𝓤) (W : Given 𝓤 H A) (mem : Memory → SProp 𝓤) (run : Routine → Fun 𝓤) (𝓣 : Tables 𝓤 H)
     (known-least : Triple 𝓤 (𝓣 .C #least) (Least 𝓤 H A mem run)) (known-empty : Triple 𝓤 (𝓣 .C #empty) (Empty 𝓤 H A mem run)) where
   walks : Walks 𝓤 H A f.ended stayed (WpFn 𝓤 H (𝓣 .C) (𝓣 .Λ) code.function) (f.clauses 𝓤 H A mem run)
-  walks = walked 𝓤 H A f.ended stayed (f.clauses 𝓤 H A mem run) (WpFn 𝓤 H (𝓣 .C) (𝓣 .Λ) code.function) (λ κs. (slice-vals, tt)) (λ κs. (shr-slice-tells (named 0) (κs .0) T.the-row, tt))
-      (λ κs qs bounds a g are. via 𝓤 _ (fst∗ 𝓤 _ (emp 𝓤)) (walk 𝓤 H A W mem run (κs .0) (qs .0) (a .0 .ptr .0) (a .0 .ptr .1) (a .0 .name) (a .0 .now) (are .0 .0 .1) 𝓣 known-least known-empty))
+  walks =
+      walked 𝓤 H A f.ended stayed (f.clauses 𝓤 H A mem run) (WpFn 𝓤 H (𝓣 .C) (𝓣 .Λ) code.function) (λ κs. (slice-vals, tt))
+      (λ κs. (shr-slice-tells (named 0) (κs .0) T.the-row, tt))
+      (λ κs qs bounds a g are. via 𝓤 _ (fst∗ 𝓤 _ (emp 𝓤))
+      (walk 𝓤 H A W mem run (κs .0) (qs .0) (a .0 .ptr .0) (a .0 .ptr .1) (a .0 .name) (a .0 .now) (are .0 .0 .1) 𝓣 known-least known-empty))
 
   load-meets : Meets 𝓤 H A f.signature (WpFn 𝓤 H (𝓣 .C) (𝓣 .Λ) code.function) (f.spec 𝓤 H A mem run)
   load-meets = walk-meets 𝓤 H A f.ended stayed W (goes-none-slice 𝓤 H A W 1 (0 ∷ []) tt (plain (λ _. T.the-row)) yes, tt) (f.clauses 𝓤 H A mem run)
@@ -407,4 +448,5 @@ load-spec 𝓤 H 𝓜 𝓖 𝓡 =
     (tables 𝓤 H 𝓜 𝓡 code.env .C) (tables 𝓤 H 𝓜 𝓡 code.env .Λ) #load code.function (code.unfolded 𝓤 H 𝓜 𝓡)
     (load-meets 𝓤 H (𝓖 .A) (givenOf 𝓤 H 𝓜 𝓖) (𝓜 .mem) (𝓡 .run) (tablesOf 𝓤 H 𝓜 (tables 𝓤 H 𝓜 𝓡 code.env))
     (cited 𝓤 H (Least 𝓤 H (𝓖 .A) (𝓜 .mem) (𝓡 .run)) 𝓜 𝓡 code.env #least least-def.routine code.calls-axis·accept·least (least-thm.met 𝓤 H 𝓜 𝓖 𝓡))
-    (cited 𝓤 H (Empty 𝓤 H (𝓖 .A) (𝓜 .mem) (𝓡 .run)) 𝓜 𝓡 code.env #empty empty-def.routine code.calls-lowercase-m-list·table·empty-table (empty-thm.met 𝓤 H 𝓜 𝓖 𝓡)))
+    (cited 𝓤 H (Empty 𝓤 H (𝓖 .A) (𝓜 .mem) (𝓡 .run)) 𝓜 𝓡 code.env #empty empty-def.routine code.calls-lowercase-m-list·table·empty-table
+    (empty-thm.met 𝓤 H 𝓜 𝓖 𝓡)))

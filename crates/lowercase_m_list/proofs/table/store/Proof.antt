@@ -1,5 +1,6 @@
 -- `lowercase_m_list::table::store` meets its contract: a walk of its MIR, by hand, with a loop.
--- The loop's invariant, where k edges are left: i is n - k, and the list is `copied i` of the table. In each turn the borrow is opened and closed again; the table lies open as a row.
+-- The loop's invariant, where k edges are left: i is n - k, and the list is `copied i` of the table. In each turn the borrow is opened and closed again; the
+-- table lies open as a row.
 -- Assumes nothing.
 use mathlib.Core.Path.{_≡_, refl, sym, ap, subst}
 use Prim.Native.Nat.{ℕ, zero, suc, _+_, _≤_, _<_, _^_}
@@ -23,7 +24,35 @@ use prog.Wp.{Heap, Out, Env, afterSeq, afterBlock, afterTurn, Calls, Loops, Wp, 
 use ghost.Atoms.{Atoms}
 use contract.Monad.{Fun}
 use contract.Running.{givenOf, tables, tablesOf}
-use types.Kit.{Given, Item, Sq, runs, ‵, _⊛_, ⋆, anyQ, atRet, _$_, _∵_, !, qed, by, move, keep, drop, use1, split, join, rewrite, fsplit, fjoin, feqI, suffices, frame, done}
+use types.Kit.{
+  Given,
+  Item,
+  Sq,
+  runs,
+  ‵,
+  _⊛_,
+  ⋆,
+  anyQ,
+  atRet,
+  _$_,
+  _∵_,
+  !,
+  qed,
+  by,
+  move,
+  keep,
+  drop,
+  use1,
+  split,
+  join,
+  rewrite,
+  fsplit,
+  fjoin,
+  feqI,
+  suffices,
+  frame,
+  done,
+}
 use types.Part.{whole, sub, look-in}
 use types.Run.{
   look,
@@ -105,7 +134,8 @@ slice = sliceTy (tyRef (named 0) mut (pointee (T.the-row .written)))
 abbrev tab : Ty
 tab = array mostEdges
 
-module _ {M : Type 1} (𝓤 : URA M) (H : Heap 𝓤) (A : Atoms 𝓤) (W : Given 𝓤 H A) (mem : Memory → SProp 𝓤) (run : Routine → Fun 𝓤) (κ : Lft) (q : Share) (b o : ℕ) (γ : GName) (ys es : List Edge) (n : ℕ)
+module _ {M : Type 1} (𝓤 : URA M) (H : Heap 𝓤) (A : Atoms 𝓤) (W : Given 𝓤 H A) (mem : Memory → SProp 𝓤) (run : Routine → Fun 𝓤) (κ : Lft) (q : Share)
+    (b o : ℕ) (γ : GName) (ys es : List Edge) (n : ℕ)
     (room : Room T.the-row (length ys)) (is-tab : Is (Edges mostEdges) es (arr es)) (n-fits : n < 2 ^ 64) (few : (n ≤ length ys) × (n ≤ mostEdges)) where
   abbrev x : RefT (List Edge) × (List Edge × (ℕ × Unit {0}))
   x = (record { ptr = (b, o); name = γ; now = ys }, (es, (n, tt)))
@@ -162,7 +192,8 @@ module _ {M : Type 1} (𝓤 : URA M) (H : Heap 𝓤) (A : Atoms 𝓤) (W : Given
   exits : ent 𝓤 (⋆ 𝓤 H A (Obs (zs n) ∷ Bor (zs n) ∷ ‵ (flft κ q) ∷ [])) (Post vunit)
   exits =
       qed W (Obs (zs n) ∷ Bor (zs n) ∷ ‵ (flft κ q) ∷ []) ∵
-      suffices ! _ (ends-at 𝓤 H A f.ended stayed (f.clauses 𝓤 H A mem run) W (((κ, tt), (q, tt), tt, x, at), tt) vunit tt (zs n, (tt, (tt, tt))) (same, (tt, (tt, tt)))) $ says ! refl $
+      suffices ! _ (ends-at 𝓤 H A f.ended stayed (f.clauses 𝓤 H A mem run) W (((κ, tt), (q, tt), tt, x, at), tt) vunit tt (zs n, (tt, (tt, tt)))
+      (same, (tt, (tt, tt)))) $ says ! refl $
       nothing ! $ move ! (3 ∷ 0 ∷ []) $ join ! $ frame ! $
       fjoin ! $ pureI ! (at-slice T.the-row (record { ptr = (b, o); name = γ; now = zs n }) (s ∷ [])) (tt, (tt, tt))
       (ap (λ (m : ℕ). sliceVal (b, o) m ∷ []) (sym same), subst (Room T.the-row) (sym same) room) $ fjoin ! $
@@ -181,19 +212,23 @@ module _ {M : Type 1} (𝓤 : URA M) (H : Heap 𝓤) (A : Atoms 𝓤) (W : Given
     Λ = 𝓣 .Λ
 
     abbrev En : Env 𝓤 H
-    En = (tyUnit, l₀) ∷ (slice, l₁) ∷ (tab, l₂) ∷ (word, l₃) ∷ (tab, l₄) ∷ (word, l₅) ∷ (tyBool, l₆) ∷ (word, l₇) ∷ (tyPtr, l₈) ∷ (tyPtr, l₉) ∷ (T′.mir, l₁₀) ∷ (word, l₁₁) ∷ (tyPtr, l₁₂) ∷ []
+    En =
+        (tyUnit, l₀) ∷ (slice, l₁) ∷ (tab, l₂) ∷ (word, l₃) ∷ (tab, l₄) ∷ (word, l₅) ∷ (tyBool, l₆) ∷ (word, l₇) ∷ (tyPtr, l₈) ∷ (tyPtr, l₉) ∷ (T′.mir, l₁₀)
+        ∷ (word, l₁₁) ∷ (tyPtr, l₁₂) ∷ []
 
     -- what no turn changes
     abbrev Frame : List (Item 𝓤)
     Frame = ‵ (fat fullShare slice l₁ 0 s) ∷ ‵ (froom tab l₂ 0) ∷ ‵ (fat fullShare word l₃ 0 (vint w64 n)) ∷ ‵ (froom tyUnit l₀ 0)
-        ∷ ‵ (fdies tyUnit l₀) ∷ ‵ (fdies slice l₁) ∷ ‵ (fdies tab l₂) ∷ ‵ (fdies word l₃) ∷ ‵ (fdies tab l₄) ∷ ‵ (fdies word l₅) ∷ ‵ (fdies tyBool l₆) ∷ ‵ (fdies word l₇)
+        ∷ ‵ (fdies tyUnit l₀) ∷ ‵ (fdies slice l₁) ∷ ‵ (fdies tab l₂) ∷ ‵ (fdies word l₃) ∷ ‵ (fdies tab l₄) ∷ ‵ (fdies word l₅) ∷ ‵ (fdies tyBool l₆)
+        ∷ ‵ (fdies word l₇)
         ∷ ‵ (fdies tyPtr l₈) ∷ ‵ (fdies tyPtr l₉)
         ∷ ‵ (fdies T′.mir l₁₀) ∷ ‵ (fdies word l₁₁) ∷ ‵ (fdies tyPtr l₁₂) ∷ []
 
     -- i edges are stored
     abbrev At : ℕ → List (Item 𝓤)
     At i = ‵ (fat fullShare word l₅ 0 (vint w64 i)) ∷ Obs (zs i) ∷ Bor (zs i) ∷ ‵ (flft κ q) ∷ Row l₄
-        ∷ ‵ (froom tyBool l₆ 0) ∷ ‵ (froom word l₇ 0) ∷ ‵ (froom tyPtr l₈ 0) ∷ ‵ (froom tyPtr l₉ 0) ∷ ‵ (froom T′.mir l₁₀ 0) ∷ ‵ (froom word l₁₁ 0) ∷ ‵ (froom tyPtr l₁₂ 0) ∷ Frame
+        ∷ ‵ (froom tyBool l₆ 0) ∷ ‵ (froom word l₇ 0) ∷ ‵ (froom tyPtr l₈ 0) ∷ ‵ (froom tyPtr l₉ 0) ∷ ‵ (froom T′.mir l₁₀ 0) ∷ ‵ (froom word l₁₁ 0)
+        ∷ ‵ (froom tyPtr l₁₂ 0) ∷ Frame
 
     -- the invariant, where k edges are left
     abbrev Facts : ℕ → ℕ → Type 0
@@ -223,7 +258,8 @@ module _ {M : Type 1} (𝓤 : URA M) (H : Heap 𝓤) (A : Atoms 𝓤) (W : Given
         assigns ! (addr ! (from ! (stop !))) (from ! (stop !)) (init ! 7 refl (tt, tt)) $
         assigns ! (bin ! (load ! (from ! (stop !)) (look ! 7 refl)) (load ! (from ! (stop !)) (look ! 6 refl)) tt) (from ! (stop !)) (init ! 8 refl (tt, tt)) $
         rewrite ! 8 (λ (p : ℕ). ‵ (fat fullShare tyPtr l₉ 0 (vptr l₄ p))) (sym (place-is edgeBytes 0 i)) refl $
-        move ! (4 ∷ []) $ elem-out ! T.the-row (Is T.the-row) (shows 𝓤 H A T.the-row) vals (LL.tells T.the-type T′.the-laws) fullShare es i emptyEdge l₄ 0 (at-table i h) (λ e.
+        move ! (4 ∷ []) $ elem-out ! T.the-row (Is T.the-row) (shows 𝓤 H A T.the-row) vals (LL.tells T.the-type T′.the-laws) fullShare es i emptyEdge l₄ 0
+        (at-table i h) (λ e.
         -- [table[i]; what it owns; the others; _5; obs; the borrow; the token; _6; _7; _8; _9; _10; …]
         assigns ! (of-opd ! (load ! (from ! (hop ! (look ! 10 refl) (stop !))) (look-raw ! 0 refl))) (from ! (stop !))
         (init ! 11 refl (LL.lawful T.the-type T′.the-laws 𝓤 H A W .typed (elem i) (vals (elem i)) e .0)) $
@@ -231,7 +267,8 @@ module _ {M : Type 1} (𝓤 : URA M) (H : Heap 𝓤) (A : Atoms 𝓤) (W : Given
         -- the place of edges[i]: [the row; _5; obs; the borrow; the token; _6; _7; _8; _9; _10; _11; _12; _1; …]
         assigns ! (bin ! (load ! (from ! (stop !)) (look ! 1 refl)) (lit ! tt) (scaled-fits i (length ys) edgeBytes (in-list i h) (room .1))) (from ! (stop !))
         (init ! 10 refl (tt, scaled-fits i (length ys) edgeBytes (in-list i h) (room .1))) $
-        assigns ! (bin ! (load ! (from ! (fld ! refl (stop !))) (look-in ! 12 (sub ! 0 refl (whole !)))) (load ! (from ! (stop !)) (look ! 10 refl)) tt) (from ! (stop !)) (init ! 11 refl (tt, tt)) $
+        assigns ! (bin ! (load ! (from ! (fld ! refl (stop !))) (look-in ! 12 (sub ! 0 refl (whole !)))) (load ! (from ! (stop !)) (look ! 10 refl)) tt)
+        (from ! (stop !)) (init ! 11 refl (tt, tt)) $
         rewrite ! 11 (λ (p : ℕ). ‵ (fat fullShare tyPtr l₁₂ 0 (vptr b p))) (sym (place-is edgeBytes o i)) refl $
         move ! (2 ∷ 3 ∷ 4 ∷ []) $ opens-slice ! tt T.the-row (zs i) b o $
         elem-out ! T.the-row (Is T.the-row) (shows 𝓤 H A T.the-row) vals (LL.tells T.the-type T′.the-laws) fullShare (zs i) i emptyEdge b o (in-now i h) (λ _.
@@ -243,7 +280,8 @@ module _ {M : Type 1} (𝓤 : URA M) (H : Heap 𝓤) (A : Atoms 𝓤) (W : Given
         closes-slice ! tt T.the-row (zs i) (set (zs i) i (elem i)) (length-set (zs i) i (elem i)) b o $
         rewrite ! 0 Obs (list-more i h) refl $ rewrite ! 1 Bor (list-more i h) refl $
         -- [obs; the borrow; the token; the row; _5; _6; _7; _8; _9; _10; _11; _12; …]
-        assigns-last ! (bin ! (load ! (from ! (stop !)) (look ! 4 refl)) (lit ! tt) (record { fits = next-fits i h })) (from ! (stop !)) (store ! 4 refl (tt, record { fits = next-fits i h })) $
+        assigns-last ! (bin ! (load ! (from ! (stop !)) (look ! 4 refl)) (lit ! tt) (record { fits = next-fits i h })) (from ! (stop !))
+        (store ! 4 refl (tt, record { fits = next-fits i h })) $
         rewrite ! 4 (λ (j : ℕ). ‵ (fat fullShare word l₅ 0 (vint w64 j))) (add-one i) refl $
         forget ! 5 refl $ forget ! 6 refl $ forget ! 7 refl $ forget ! 8 refl $ forget ! 9 refl $ forget ! 10 refl $ forget ! 11 refl $
         move ! (4 ∷ 0 ∷ 1 ∷ 2 ∷ 3 ∷ []) $ by ! k))
@@ -257,22 +295,30 @@ module _ {M : Type 1} (𝓤 : URA M) (H : Heap 𝓤) (A : Atoms 𝓤) (W : Given
         rewrite ! 5 (λ (u : Bool). ‵ (fat fullShare tyBool l₆ 0 (vbool u))) (fails (ltb n n) (λ a. lt-irrefl n (ltb→lt n n a))) refl $
         leaves-loop ! (load ! (from ! (stop !)) (look ! 5 refl)) $ exec ! C Λ En m.t-4 (atRet En Post) $
         -- the row is a local array again: [_4; _5; obs; the borrow; the token; _6; …]
-        move ! (4 ∷ []) $ use1 W (‵ (Edges mostEdges .own es (arr es)) ⊛ ‵ (fat fullShare tab l₄ 0 (only (arr es)))) (as-array 𝓤 H A W mostEdges es l₄ table-length) $ split ! $ drop ! $
+        move ! (4 ∷ []) $ use1 W (‵ (Edges mostEdges .own es (arr es)) ⊛ ‵ (fat fullShare tab l₄ 0 (only (arr es))))
+        (as-array 𝓤 H A W mostEdges es l₄ table-length) $ split ! $ drop ! $
         assigns ! (of-opd ! (unit-lit !)) (from ! (stop !)) (init ! 15 refl (tt, tt)) $
         returns ! (look ! 15 refl) $ forget ! 0 refl $ forget ! 1 refl $ forget ! 5 refl $ forget ! 12 refl $ forget ! 14 refl $ forget ! 15 refl $
-        move ! (15 ∷ 16 ∷ []) $ free1 ! $ move ! (12 ∷ 15 ∷ []) $ free1 ! $ move ! (12 ∷ 14 ∷ []) $ free1 ! $ move ! (12 ∷ 13 ∷ []) $ free1 ! $ move ! (0 ∷ 12 ∷ []) $ free1 ! $
-        move ! (0 ∷ 11 ∷ []) $ free1 ! $ move ! (3 ∷ 10 ∷ []) $ free1 ! $ move ! (3 ∷ 9 ∷ []) $ free1 ! $ move ! (3 ∷ 8 ∷ []) $ free1 ! $ move ! (3 ∷ 7 ∷ []) $ free1 ! $
+        move ! (15 ∷ 16 ∷ []) $ free1 ! $ move ! (12 ∷ 15 ∷ []) $ free1 ! $ move ! (12 ∷ 14 ∷ []) $ free1 ! $ move ! (12 ∷ 13 ∷ []) $ free1 ! $ move !
+        (0 ∷ 12 ∷ []) $ free1 ! $
+        move ! (0 ∷ 11 ∷ []) $ free1 ! $ move ! (3 ∷ 10 ∷ []) $ free1 ! $ move ! (3 ∷ 9 ∷ []) $ free1 ! $ move ! (3 ∷ 8 ∷ []) $ free1 ! $ move ! (3 ∷ 7 ∷ [])
+        $ free1 ! $
         move ! (3 ∷ 6 ∷ []) $ free1 ! $ move ! (3 ∷ 5 ∷ []) $ free1 ! $ move ! (3 ∷ 4 ∷ []) $ free1 ! $ free0 ! $ by ! exits
 
     put-in : (k i : ℕ) → Facts k i → ent 𝓤 (⋆ 𝓤 H A (At i)) (Inv k)
-    put-in k i p = via 𝓤 (guard 𝓤 (Facts k i) (⋆ 𝓤 H A (At i))) (guardI 𝓤 (Facts k i) (⋆ 𝓤 H A (At i)) p) (exI 𝓤 (λ (j : ℕ). guard 𝓤 (Facts k j) (⋆ 𝓤 H A (At j))) i)
+    put-in k i p =
+        via 𝓤 (guard 𝓤 (Facts k i) (⋆ 𝓤 H A (At i))) (guardI 𝓤 (Facts k i) (⋆ 𝓤 H A (At i)) p) (exI 𝓤 (λ (j : ℕ). guard 𝓤 (Facts k j) (⋆ 𝓤 H A (At j))) i)
 
     below : (k i : ℕ) → Facts k i → ent 𝓤 (⋆ 𝓤 H A (At i)) (Below (suc k))
-    below k i p = via 𝓤 (Inv k) (put-in k i p) (via 𝓤 (guard 𝓤 (k < suc k) (Inv k)) (guardI 𝓤 (k < suc k) (Inv k) (omega arith)) (exI 𝓤 (λ (u : ℕ). guard 𝓤 (u < suc k) (Inv u)) k))
+    below k i p =
+        via 𝓤 (Inv k) (put-in k i p) (via 𝓤 (guard 𝓤 (k < suc k) (Inv k)) (guardI 𝓤 (k < suc k) (Inv k) (omega arith))
+        (exI 𝓤 (λ (u : ℕ). guard 𝓤 (u < suc k) (Inv u)) k))
 
     -- a turn from the invariant at k leaves the loop, or ends in the invariant below k
     turn-at : (k i : ℕ) → Facts k i → ent 𝓤 (⋆ 𝓤 H A (At i)) (Wp 𝓤 H C Λ En m.turn-1 (afterTurn 𝓤 H (Below k) Left))
-    turn-at zero i p = let e : n ≡ i = omega (arith, p) in subst (λ (j : ℕ). ent 𝓤 (⋆ 𝓤 H A (At j)) (Wp 𝓤 H C Λ En m.turn-1 (afterTurn 𝓤 H (Below zero) Left))) e (ends (Below zero))
+    turn-at zero i p =
+        let e : n ≡ i = omega (arith, p) in
+        subst (λ (j : ℕ). ent 𝓤 (⋆ 𝓤 H A (At j)) (Wp 𝓤 H C Λ En m.turn-1 (afterTurn 𝓤 H (Below zero) Left))) e (ends (Below zero))
     turn-at (suc k) i p = more i (Below (suc k)) (omega (arith, p)) (below k (suc i) (omega (arith, p)))
 
     turns : (k : ℕ) → ent 𝓤 (Inv k) (Wp 𝓤 H C Λ En m.turn-1 (afterTurn 𝓤 H (Below k) Left))
@@ -291,14 +337,17 @@ module _ {M : Type 1} (𝓤 : URA M) (H : Heap 𝓤) (A : Atoms 𝓤) (W : Given
     -- the MIR, up to the loop
     walk : ent 𝓤 (onEntry 𝓤 H A f.signature (κ, tt) (q, tt) x at) (WpFn 𝓤 H (𝓣 .C) (𝓣 .Λ) code.function (s ∷ only (arr es) ∷ vint w64 n ∷ []) Post)
     walk =
-        qed W ((‵ (flft κ q) ⊛ ‵ ftrue) ∷ ‵ (owns (MutSlice (named 0) κ T.the-row ∷ Edges mostEdges ∷ usize ∷ []) x at) ∷ []) ∵ enter ! (𝓣 .C) (𝓣 .Λ) code.function
+        qed W ((‵ (flft κ q) ⊛ ‵ ftrue) ∷ ‵ (owns (MutSlice (named 0) κ T.the-row ∷ Edges mostEdges ∷ usize ∷ []) x at) ∷ []) ∵ enter ! (𝓣 .C) (𝓣 .Λ)
+        code.function
         (s ∷ only (arr es) ∷ vint w64 n ∷ []) _ $
         alloc1 ! (λ l₀. alloc1 ! (λ l₁. alloc1 ! (λ l₂. alloc1 ! (λ l₃. alloc1 !
-        (λ l₄. alloc1 ! (λ l₅. alloc1 ! (λ l₆. alloc1 ! (λ l₇. alloc1 ! (λ l₈. alloc1 ! (λ l₉. alloc1 ! (λ l₁₀. alloc1 ! (λ l₁₁. alloc1 ! (λ l₁₂. alloc0 ! $ params1 ! $
+        (λ l₄. alloc1 ! (λ l₅. alloc1 ! (λ l₆. alloc1 !
+        (λ l₇. alloc1 ! (λ l₈. alloc1 ! (λ l₉. alloc1 ! (λ l₁₀. alloc1 ! (λ l₁₁. alloc1 ! (λ l₁₂. alloc0 ! $ params1 ! $
         pass1 ! (init ! 22 refl (tt, (tt, (record { fits = room .0 }, tt)))) $ pass1 ! (init ! 20 refl (typed 𝓤 H A W mostEdges es (only (arr es)) is-tab)) $
         pass1 ! (init ! 18 refl (tt, record { fits = n-fits })) $ pass0 ! $
         -- [_12; …; _11; …; _10; …; _9; …; _8; …; _7; …; _6; …; _5; …; _4; …; _3; …; _2; …; _1; …; room for _0; …; the token; what edges, table and n own]
-        assigns ! (of-opd ! (load ! (from ! (stop !)) (look ! 20 refl))) (from ! (stop !)) (init ! 16 refl (typed 𝓤 H A W mostEdges es (only (arr es)) is-tab)) $
+        assigns ! (of-opd ! (load ! (from ! (stop !)) (look ! 20 refl))) (from ! (stop !))
+        (init ! 16 refl (typed 𝓤 H A W mostEdges es (only (arr es)) is-tab)) $
         assigns ! (of-opd ! (lit ! tt)) (from ! (stop !)) (init ! 14 refl (tt, record { fits = lit< tt })) $
         move ! (27 ∷ []) $ fsplit ! $ fsplit ! $ drop ! $ fsplit ! $ move ! (29 ∷ []) $ split ! $
         rewrite ! 2 Obs (sym (copied-none es ys)) refl $ rewrite ! 3 Bor (sym (copied-none es ys)) refl $
@@ -313,7 +362,8 @@ module _ {M : Type 1} (𝓤 : URA M) (H : Heap 𝓤) (A : Atoms 𝓤) (W : Given
   walks = walked 𝓤 H A f.ended stayed (f.clauses 𝓤 H A mem run) (WpFn 𝓤 H (𝓣 .C) (𝓣 .Λ) code.function)
       (λ κs. (slice-vals, (arr, (uint-vals w64, tt)))) (λ κs. (mut-slice-tells (named 0) (κs .0) T.the-row, (tells mostEdges, (uint-tells w64, tt))))
       (λ κs qs bounds a g are. needs 𝓤 ((a .1 .1 .0 ≤ length (a .0 .now)) × (a .1 .1 .0 ≤ mostEdges)) _
-      (λ few. walk 𝓤 H A W mem run (κs .0) (qs .0) (a .0 .ptr .0) (a .0 .ptr .1) (a .0 .name) (a .0 .now) (a .1 .0) (a .1 .1 .0) (are .0 .0 .1) (are .1 .0) (are .1 .1 .0 .1) few 𝓣))
+      (λ few. walk 𝓤 H A W mem run (κs .0) (qs .0) (a .0 .ptr .0) (a .0 .ptr .1) (a .0 .name) (a .0 .now) (a .1 .0) (a .1 .1 .0) (are .0 .0 .1) (are .1 .0)
+      (are .1 .1 .0 .1) few 𝓣))
 
   store-meets : Meets 𝓤 H A f.signature (WpFn 𝓤 H (𝓣 .C) (𝓣 .Λ) code.function) (f.spec 𝓤 H A mem run)
   store-meets =

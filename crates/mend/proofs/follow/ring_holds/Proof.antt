@@ -40,7 +40,8 @@ returns-2 : tie.Need-returns-2 Inv-loop μ-loop
 returns-2 c =
     let place = c .before .before .before in
     let test = place .before in
-    sym (step-other _ _ _ _ _ _ _ (test .loop-test .taken) (ne-eqb _ _ (c .if2 .taken))) ∙ from-place _ _ _ _ _ _ _ _ _ (place .place .ensures) (test .before .loop .inv .1)
+    sym (step-other _ _ _ _ _ _ _ (test .loop-test .taken) (ne-eqb _ _ (c .if2 .taken)))
+    ∙ from-place _ _ _ _ _ _ _ _ _ (place .place .ensures) (test .before .loop .inv .1)
 
 mul-after : tie.Need-mul-after Inv-loop μ-loop
 mul-after c = omega arith
@@ -53,7 +54,8 @@ returns-3 c =
     let own = c .before .before .before in
     let place = own .before .before .before in
     let e = place .place .ensures in
-    sym (step-early _ _ _ _ _ _ _ (c .if4 .taken) (eq-eqb _ _ (own .if2 .left)) (e ∙ c .before .if3 .taken)) ∙ from-place _ _ _ _ _ _ _ _ _ e (place .before .before .loop .inv .1)
+    sym (step-early _ _ _ _ _ _ _ (c .if4 .taken) (eq-eqb _ _ (own .if2 .left)) (e ∙ c .before .if3 .taken))
+    ∙ from-place _ _ _ _ _ _ _ _ _ e (place .before .before .loop .inv .1)
 
 returns-4 : tie.Need-returns-4 Inv-loop μ-loop
 returns-4 c =

@@ -39,8 +39,12 @@ loop-again : tie.Need-loop-again Inv-loop μ-loop
 loop-again c =
     let place = c .before in
     let test = place .before .before in
-    let l = test .before .loop in
-    (omega arith, l .inv .1, led-beyond _ _ _ _ _ _ (l .inv .2) (test .loop-test .taken) (l .inv .0) (l .inv .1) (omega (arith, c .if1 .taken, place .place .ensures)))
+    let l = test .before .loop in (
+      omega arith,
+      l .inv .1,
+      led-beyond _ _ _ _ _ _ (l .inv .2) (test .loop-test .taken) (l .inv .0) (l .inv .1)
+          (omega (arith, c .if1 .taken, place .place .ensures)),
+    )
 
 element-copy-out-if2 : tie.Need-element-copy-out-if2 Inv-loop μ-loop
 element-copy-out-if2 c = omega arith
@@ -52,8 +56,12 @@ loop-again-2 : tie.Need-loop-again-2 Inv-loop μ-loop
 loop-again-2 c =
     let place = c .before .before .before in
     let test = place .before .before in
-    let l = test .before .loop in
-    (omega arith, l .inv .1, led-sound _ _ _ _ _ _ (l .inv .2) (test .loop-test .taken) (l .inv .0) (l .inv .1) _ (place .place .ensures) (not-true _ (c .if2 .taken)))
+    let l = test .before .loop in (
+      omega arith,
+      l .inv .1,
+      led-sound _ _ _ _ _ _ (l .inv .2) (test .loop-test .taken) (l .inv .0) (l .inv .1) _ (place .place .ensures)
+          (not-true _ (c .if2 .taken)),
+    )
 
 mul-next : tie.Need-mul-next Inv-loop μ-loop
 mul-next c = omega arith
@@ -83,8 +91,12 @@ loop-again-3 : tie.Need-loop-again-3 Inv-loop μ-loop
 loop-again-3 c =
     let place = c .before .before .before .before in
     let test = place .before .before in
-    let l = test .before .loop in
-    (omega arith, l .inv .1, led-more _ _ _ _ _ _ (l .inv .2) (test .loop-test .taken) (l .inv .0) (l .inv .1) _ (place .place .ensures) (c .before .before .before .if1 .left) (not-false _ (c .before .if2 .left)))
+    let l = test .before .loop in (
+      omega arith,
+      l .inv .1,
+      led-more _ _ _ _ _ _ (l .inv .2) (test .loop-test .taken) (l .inv .0) (l .inv .1) _ (place .place .ensures)
+          (c .before .before .before .if1 .left) (not-false _ (c .before .if2 .left)),
+    )
 
 returns : tie.Need-returns Inv-loop μ-loop
 returns c = let l = c .before .loop .inv in led-all _ _ _ _ _ (c .loop-test .left) (l .2)

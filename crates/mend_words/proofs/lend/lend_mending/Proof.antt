@@ -2,7 +2,7 @@
 use native.Mathlib.Omega.{arith}
 use mathlib.Core.Path.{_∙_}
 use borrow.Author.Needs.{needs}
-use Rattle.lent.proofs.Lents.{refused-before}
+use Rattle.words_call.proofs.Lents.{refused-before}
 use Rattle.mend_words.proofs.Lending.{room-refuses, front-is, table-refuses, ready, mends}
 use Rattle.mend_words.proofs.lend.lend_mending.Statement.{statement}
 use Rattle.mend_words.proofs.lend.lend_mending.Tie as tie
@@ -11,7 +11,7 @@ use Rattle.mend_words.proofs.lend.lend_mending.Tie as tie
 abbrev roomy : tie.After-turning-front → tie.Else1
 roomy t = t .before .before .before
 
-abbrev passed : tie.After-refusal-in → tie.Else2
+abbrev passed : tie.After-mend-refusal → tie.Else2
 passed r = r .before .before .before
 
 mul-if1 : tie.Need-mul-if1
@@ -32,8 +32,8 @@ same-length-2 c = search needs
 returns-2 : tie.Need-returns-2
 returns-2 c = let t = c .before in refused-before (t .turning-front .ensures ∙ front-is _ _ _ (roomy t .if1 .left)) (c .if2 .taken)
 
-refusal-in-requires : tie.Need-refusal-in-requires
-refusal-in-requires c κs = search needs
+mend-refusal-requires : tie.Need-mend-refusal-requires
+mend-refusal-requires c κs = search needs
 
 same-length-3 : tie.Need-same-length-3
 same-length-3 c = search needs
@@ -45,7 +45,7 @@ returns-3 : tie.Need-returns-3
 returns-3 c =
     let r = c .before in
     let p = passed r in
-    table-refuses _ _ _ _ (roomy (p .before) .if1 .left) (p .before .turning-front .ensures) (p .if2 .left) (r .refusal-in .ensures) (c .if3 .taken)
+    table-refuses _ _ _ _ (roomy (p .before) .if1 .left) (p .before .turning-front .ensures) (p .if2 .left) (r .mend-refusal .ensures) (c .if3 .taken)
 
 mend-in-requires : tie.Need-mend-in-requires
 mend-in-requires c κs =
@@ -53,8 +53,11 @@ mend-in-requires c κs =
     let r = l .before in
     let p = passed r in
     let o = roomy (p .before) in
-    let a = o .before .args in
-    (ready (a .segments .now) (a .edges .now) (a .altered .now) (a .count .now) (o .if1 .left) (p .before .turning-front .ensures) (p .if2 .left) (r .refusal-in .ensures) (l .if3 .left), o .if1 .left)
+    let a = o .before .args in (
+      ready (a .segments .now) (a .edges .now) (a .altered .now) (a .count .now) (o .if1 .left) (p .before .turning-front .ensures) (p .if2 .left)
+          (r .mend-refusal .ensures) (l .if3 .left),
+      o .if1 .left,
+    )
 
 same-length-5 : tie.Need-same-length-5
 same-length-5 c = search needs
@@ -71,7 +74,8 @@ returns-4 c =
     let l = m .before .before .before .before .before in
     let r = l .before in
     let p = passed r in
-    mends _ _ _ _ (roomy (p .before) .if1 .left) (p .before .turning-front .ensures) (p .if2 .left) (r .refusal-in .ensures) (l .if3 .left) (m .mend-in .ensures)
+    mends _ _ _ _ (roomy (p .before) .if1 .left) (p .before .turning-front .ensures) (p .if2 .left) (r .mend-refusal .ensures) (l .if3 .left)
+    (m .mend-in .ensures)
 
 pub lend-mending-spec : {M : Type 1} → statement M
 lend-mending-spec =
@@ -83,7 +87,7 @@ lend-mending-spec =
     same-length
     same-length-2
     returns-2
-    refusal-in-requires
+    mend-refusal-requires
     same-length-3
     same-length-4
     returns-3

@@ -58,7 +58,8 @@ returns-2 c =
     let a = e .before .before .before .before .before .before .before .before in
     let l = planned a in
     let s = start (l .before) in
-    all-mended _ _ _ _ (s .pre .0 .0) (s .pre .0 .1) (s .pre .1) (l .before .plan-in .ensures) (not-false _ (l .if1 .left)) (a .amend-segments .ensures) (e .amend-edges .ensures)
+    all-mended _ _ _ _ (s .pre .0 .0) (s .pre .0 .1) (s .pre .1) (l .before .plan-in .ensures) (not-false _ (l .if1 .left)) (a .amend-segments .ensures)
+    (e .amend-edges .ensures)
     (is (got w32 (c .count-word .result) (c .count-word .ok)) ∙ c .count-word .ensures)
 
 pub mend-in-spec : {M : Type 1} → statement M

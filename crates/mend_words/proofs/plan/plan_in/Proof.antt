@@ -34,7 +34,8 @@ returns c =
     let t = a .before .before in
     let g = gathered t in
     let s = start g in
-    not-planned _ _ (s .pre .0 .0) (s .pre .0 .1) (s .pre .0 .2) _ _ _ _ _ (g .gather-in .ensures .gathered) (t .tally .ensures) _ (a .all-named .ensures) (not-true _ (c .if1 .taken))
+    not-planned _ _ (s .pre .0 .0) (s .pre .0 .1) (s .pre .0 .2) _ _ _ _ _ (g .gather-in .ensures .gathered) (t .tally .ensures) _ (a .all-named .ensures)
+    (not-true _ (c .if1 .taken))
 
 find-broken-requires : tie.Need-find-broken-requires
 find-broken-requires c κs = search needs
@@ -52,7 +53,8 @@ returns-2 c =
     let t = tallied e in
     let g = gathered t in
     let s = start g in
-    planned _ _ (s .pre .0 .0) (s .pre .0 .1) (s .pre .0 .2) _ _ _ _ _ (g .gather-in .ensures .gathered) (t .tally .ensures) _ (e .before .all-named .ensures) (not-false _ (e .if1 .left)) _ _ _
+    planned _ _ (s .pre .0 .0) (s .pre .0 .1) (s .pre .0 .2) _ _ _ _ _ (g .gather-in .ensures .gathered) (t .tally .ensures) _ (e .before .all-named .ensures)
+    (not-false _ (e .if1 .left)) _ _ _
     (f .find-broken .ensures) (c .rebuild .ensures)
 
 pub plan-in-spec : {M : Type 1} → statement M

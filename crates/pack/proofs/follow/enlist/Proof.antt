@@ -56,7 +56,8 @@ loop-again-2 c =
     (omega arith, listing-takes _ _ (l .loop .len) (l .loop .k) (l .loop .inv .1) (c .before .before .loop-test .taken) (not-false _ (c .if1 .left)))
 
 returns : tie.Need-returns Inv-loop μ-loop
-returns c = let l = c .before in listing-ends _ _ (l .loop .len) (l .loop .k) (l .before .pre .0) (omega (arith, l .loop .inv .0, c .loop-test .left)) (l .loop .inv .1)
+returns c =
+    let l = c .before in listing-ends _ _ (l .loop .len) (l .loop .k) (l .before .pre .0) (omega (arith, l .loop .inv .0, c .loop-test .left)) (l .loop .inv .1)
 
 pub enlist-spec : {M : Type 1} → statement M
 enlist-spec =

@@ -49,26 +49,37 @@ reach-requires : tie.Need-reach-requires Inv-loop μ-loop
 reach-requires c κs = let t = c .before .before .before in (t .before .loop .inv .listed, t .before .before .before .before .before .pre .1 .at _)
 
 mul-reach-2 : tie.Need-mul-reach-2 Inv-loop μ-loop
-mul-reach-2 c = omega (arith, inside (c .before .before .before .before .before .before))
+mul-reach-2 c =
+    let from = c .before .before .before .before .before .before in
+    omega (arith, inside from)
 
 element-copy-out-reach-2 : tie.Need-element-copy-out-reach-2 Inv-loop μ-loop
-element-copy-out-reach-2 c = inside (c .before .before .before .before .before .before)
+element-copy-out-reach-2 c =
+    let from = c .before .before .before .before .before .before in
+    inside from
 
 reach-requires-2 : tie.Need-reach-requires-2 Inv-loop μ-loop
-reach-requires-2 c κs = let t = c .before .before .before .before .before .before .before in (c .before .before .before .reach .ensures .listed, t .before .before .before .before .before .pre .2 .at _)
+reach-requires-2 c κs =
+    let t = c .before .before .before .before .before .before .before in
+    (c .before .before .before .reach .ensures .listed, t .before .before .before .before .before .pre .2 .at _)
 
 add-at : tie.Need-add-at Inv-loop μ-loop
-add-at c = omega (arith, placed (c .before .before .before .before .before .before .before .before))
+add-at c =
+    let from = c .before .before .before .before .before .before .before .before in
+    omega (arith, placed from)
 
 loop-less : tie.Need-loop-less Inv-loop μ-loop
-loop-less c = omega (arith, placed (c .before .before .before .before .before .before .before .before))
+loop-less c =
+    let from = c .before .before .before .before .before .before .before .before in
+    omega (arith, placed from)
 
 loop-again : tie.Need-loop-again Inv-loop μ-loop
 loop-again c =
     let t = c .before .before .before .before .before .before .before .before in
     let l = t .before .loop in
     let r = c .before .before .before .before in
-    follow-next _ _ _ _ _ (l .len) (l .at) (l .inv) (t .loop-test .taken) _ _ (r .reach .result) (r .reach .ensures) _ _ (c .reach2 .result) (c .reach2 .ensures)
+    follow-next _ _ _ _ _ (l .len) (l .at) (l .inv) (t .loop-test .taken) _ _ (r .reach .result) (r .reach .ensures) _ _ (c .reach2 .result)
+    (c .reach2 .ensures)
 
 returns : tie.Need-returns Inv-loop μ-loop
 returns c = let l = c .before .loop in follow-ends _ _ _ _ _ (l .len) (l .at) (l .inv) (c .loop-test .left)

@@ -34,7 +34,9 @@ one-if-requires : tie.Need-one-if-requires Inv-loop μ-loop
 one-if-requires c κs = search needs
 
 add-count : tie.Need-add-count Inv-loop μ-loop
-add-count c = let l = c .before .before .before .loop in omega (arith, numbering-few (l .inv .1), l .inv .0, c .one-if .ensures, one-at-most (isIn (c .before .before .before .before .args .kept .now) (l .k)))
+add-count c =
+    let l = c .before .before .before .loop in
+    omega (arith, numbering-few (l .inv .1), l .inv .0, c .one-if .ensures, one-at-most (isIn (c .before .before .before .before .args .kept .now) (l .k)))
 
 add-k : tie.Need-add-k Inv-loop μ-loop
 add-k c = omega arith
@@ -44,8 +46,11 @@ loop-less c = omega arith
 
 loop-again : tie.Need-loop-again Inv-loop μ-loop
 loop-again c =
-    let l = c .before .before .before in
-    (omega arith, numbering-next _ _ (l .loop .count) (l .loop .k) (c .one-if .result) (l .loop .inv .1) (c .before .before .loop-test .taken) (c .one-if .ensures))
+    let l = c .before .before .before in (
+      omega arith,
+      numbering-next _ _ (l .loop .count) (l .loop .k) (c .one-if .result) (l .loop .inv .1) (c .before .before .loop-test .taken)
+          (c .one-if .ensures),
+    )
 
 returns : tie.Need-returns Inv-loop μ-loop
 returns c = let l = c .before in numbering-ends _ _ (l .loop .count) (l .loop .k) (omega (arith, l .loop .inv .0, c .loop-test .left)) (l .loop .inv .1)

@@ -3,7 +3,7 @@ use borrow.Author.Needs.{needs}
 use mir.Syntax.{w32}
 use mathlib.Core.Path.{_∙_}
 use Rattle.words.proofs.Fields.{kept}
-use Rattle.lent.proofs.Lents.{refused-before}
+use Rattle.words_call.proofs.Lents.{refused-before}
 use Rattle.pack_words.proofs.Lending.{few-both, refuses, pack-ready, packs}
 use Rattle.pack_words.proofs.lend.lend_packing.Statement.{statement}
 use Rattle.pack_words.proofs.lend.lend_packing.Tie as tie
@@ -52,7 +52,8 @@ pack-in-requires c κs =
     let r = l .before in
     let p = passed r in
     let a = from p .args in
-    pack-ready (a .segments .now) (a .edges .now) (a .count .now) (p .before .turning-front .ensures) (p .if1 .left) (r .packing-refusal .ensures) (l .if2 .left)
+    pack-ready (a .segments .now) (a .edges .now) (a .count .now) (p .before .turning-front .ensures) (p .if1 .left) (r .packing-refusal .ensures)
+    (l .if2 .left)
 
 count-word-requires : tie.Need-count-word-requires
 count-word-requires c κs = search needs
@@ -70,7 +71,8 @@ returns-3 c =
     let r = l .before in
     let p = passed r in
     let a = from p .args in
-    packs (a .segments .now) (a .edges .now) (a .count .now) (p .before .turning-front .ensures) (p .if1 .left) (r .packing-refusal .ensures) (l .if2 .left) (b .pack-in .ensures)
+    packs (a .segments .now) (a .edges .now) (a .count .now) (p .before .turning-front .ensures) (p .if1 .left) (r .packing-refusal .ensures) (l .if2 .left)
+    (b .pack-in .ensures)
     (kept w32 (c .count-word .result) (c .count-word .ok) ∙ c .count-word .ensures)
 
 pub lend-packing-spec : {M : Type 1} → statement M

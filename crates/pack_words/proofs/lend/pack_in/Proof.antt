@@ -42,7 +42,8 @@ clear-in-requires c κs =
     let n = numbering m in
     let k = keeping n in
     let s = start n in
-    fewer (s .args .segments .now) (s .args .edges .now) (s .pre .0) (s .pre .1) (s .pre .2) _ _ _ (k .kept-in .ensures) (n .number .ensures) (m .move-in .ensures)
+    fewer (s .args .segments .now) (s .args .edges .now) (s .pre .0) (s .pre .1) (s .pre .2) _ _ _ (k .kept-in .ensures) (n .number .ensures)
+    (m .move-in .ensures)
 
 ends-in-requires : tie.Need-ends-in-requires
 ends-in-requires c κs =
@@ -68,7 +69,8 @@ returns c =
     let n = numbering m in
     let k = keeping n in
     let s = start n in
-    packs-both (s .args .segments .now) (s .args .edges .now) (s .pre .0) (s .pre .1) (s .pre .2) _ _ _ (k .kept-in .ensures) (n .number .ensures) (m .move-in .ensures) (l .clear-in .ensures)
+    packs-both (s .args .segments .now) (s .args .edges .now) (s .pre .0) (s .pre .1) (s .pre .2) _ _ _ (k .kept-in .ensures) (n .number .ensures)
+    (m .move-in .ensures) (l .clear-in .ensures)
     (e .ends-in .ensures)
 
 pub pack-in-spec : {M : Type 1} → statement M

@@ -4,9 +4,9 @@ use Rattle.axis.specs.declared.kinds.Dimension.the-variants as Dimensions
 use Rattle.axis.specs.declared.kinds.Direction.the-variants as Directions
 use Rattle.words.specs.Edge.{axisRun, flatAxis}
 use Rattle.words.specs.Segment.{segmentsRun, flatSegments}
-use Rattle.lent.specs.Lent.{edgesOf}
-use Rattle.mend_rings.proofs.Follows.{followed-told}
-use Rattle.edges_in.proofs.Wholes.{edges-len}
+use Rattle.words_call.specs.Lent.{edgesOf}
+use Rattle.mend_rings_words.proofs.Follows.{followed-told}
+use Rattle.words_edge.proofs.Wholes.{edges-len}
 use Rattle.pack_words.proofs.Sounding.{none-sound}
 use Rattle.pack_words.proofs.ring.rings_sound_in.Statement.{statement}
 use Rattle.pack_words.proofs.ring.rings_sound_in.Tie as tie
@@ -45,7 +45,8 @@ returns c =
     let es = s .args .edges .now in
     c .none-broken .ensures
     ∙ none-sound (edgesOf es) (flatSegments (s .args .segments .now)) _ _ (sym (edges-len es))
-    (followed-told es Dimensions.Horizontal Directions.None (flatSegments (s .args .segments .now)) _ _ _ _ _ _ (s .pre .0) (s .pre .1) (g .gather-in .ensures .gathered) (t .tally .ensures)
+    (followed-told es Dimensions.Horizontal Directions.None (flatSegments (s .args .segments .now)) _ _ _ _ _ _ (s .pre .0) (s .pre .1)
+    (g .gather-in .ensures .gathered) (t .tally .ensures)
     (f .find-broken .ensures))
 
 pub rings-sound-in-spec : {M : Type 1} → statement M

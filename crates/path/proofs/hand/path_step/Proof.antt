@@ -23,7 +23,8 @@ taken : (c : tie.Else1) → let s = entry (c .before) in refusal (pathTests (s .
 taken c = omega (arith, c .before .path-refusal .ensures, c .if1 .left)
 
 -- what was found is what the cursor names
-found : (c : tie.After-path-at) → let s = entry (c .before .before .before) in c .path-at .result ≡ seek (path (outline s) (s .args .ends .now)) (s .args .cursor .at)
+found : (c : tie.After-path-at) → let s =
+    entry (c .before .before .before) in c .path-at .result ≡ seek (path (outline s) (s .args .ends .now)) (s .args .cursor .at)
 found c = let s = entry (c .before .before .before) in c .path-at .ensures ∙ ap (seek (path (outline s) (s .args .ends .now))) (c .before .number-of .ensures)
 
 path-refusal-requires : tie.Need-path-refusal-requires
@@ -39,7 +40,8 @@ number-of-requires : tie.Need-number-of-requires
 number-of-requires c κs = search needs
 
 path-at-requires : tie.Need-path-at-requires
-path-at-requires c κs = let s = entry (c .before .before) in accepted (s .args .xs .now) (s .args .ys .now) (s .args .marks .now) (s .args .ends .now) (taken (c .before))
+path-at-requires c κs =
+    let s = entry (c .before .before) in accepted (s .args .xs .now) (s .args .ys .now) (s .args .marks .now) (s .args .ends .now) (taken (c .before))
 
 enum-known-sought : tie.Need-enum-known-sought
 enum-known-sought c = search needs
@@ -52,7 +54,8 @@ returns-2 c =
     let p = c .before .before in
     let f = p .before .before in
     let s = entry (f .before) in
-    handed-named (s .args .xs .now) (s .args .ys .now) (s .args .marks .now) (s .args .ends .now) (s .args .cursor .at) _ (f .before .path-refusal .ensures) (f .if1 .left) _
+    handed-named (s .args .xs .now) (s .args .ys .now) (s .args .marks .now) (s .args .ends .now) (s .args .cursor .at) _ (f .before .path-refusal .ensures)
+    (f .if1 .left) _
     (named-past _ _ _ (sym (found p) ∙ c .enum-told .given .1))
 
 add-t12 : tie.Need-add-t12
@@ -67,7 +70,8 @@ returns-3 c =
     let p = c .before .before .before in
     let f = p .before .before in
     let s = entry (f .before) in
-    handed-named (s .args .xs .now) (s .args .ys .now) (s .args .marks .now) (s .args .ends .now) (s .args .cursor .at) _ (f .before .path-refusal .ensures) (f .if1 .left) _
+    handed-named (s .args .xs .now) (s .args .ys .now) (s .args .marks .now) (s .args .ends .now) (s .args .cursor .at) _ (f .before .path-refusal .ensures)
+    (f .if1 .left) _
     (named-here _ _ _ (sym (found p) ∙ c .before .sought .given .1))
 
 pub path-step-spec : {M : Type 1} → statement M

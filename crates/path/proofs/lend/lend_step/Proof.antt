@@ -44,7 +44,8 @@ returns-2 : tie.Need-returns-2
 returns-2 c =
     let f = c .before .before in
     let g = f .before .before .before .before in
-    finished _ _ _ _ _ _ (g .path-step .ensures) _ _ _ _ _ _ (f .before .before .enum-told .given .1) (f .no-place .ensures) (c .before .no-place2 .ensures) (c .put-four .ensures)
+    finished _ _ _ _ _ _ (g .path-step .ensures) _ _ _ _ _ _ (f .before .before .enum-told .given .1) (f .no-place .ensures) (c .before .no-place2 .ensures)
+    (c .put-four .ensures)
 
 returns-3 : tie.Need-returns-3
 returns-3 c =
@@ -52,7 +53,8 @@ returns-3 c =
     let k = f .before .before in
     let t = k .before .before in
     let g = t .before .before in
-    stepped _ _ _ _ _ _ (g .path-step .ensures) _ _ _ _ _ _ _ _ _ (t .given2 .given .1) (k .kind-of .ensures) (f .first-of .ensures) (c .before .second-of .ensures) (c .put-four2 .ensures)
+    stepped _ _ _ _ _ _ (g .path-step .ensures) _ _ _ _ _ _ _ _ _ (t .given2 .given .1) (k .kind-of .ensures) (f .first-of .ensures)
+    (c .before .second-of .ensures) (c .put-four2 .ensures)
 
 pub lend-step-spec : {M : Type 1} → statement M
 lend-step-spec =

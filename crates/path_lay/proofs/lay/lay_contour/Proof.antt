@@ -35,7 +35,8 @@ begun t = let s = entry t in laying-as _ _ (steps-are (outline s) (round s) _ (t
 
 -- the move is laid
 moved : (m : tie.After-lay-step) → let t = tripped m in let s = entry t in
-    Laying (at-first s) (stepsOf (outline s) (round s)) (lent (m .lay-step .last .0) (m .lay-step .last .1 .0) (m .lay-step .result)) (walked (outline s) (t .trip-of .result .start) true (drop 0 (round s .walk)))
+    Laying (at-first s) (stepsOf (outline s) (round s)) (lent (m .lay-step .last .0) (m .lay-step .last .1 .0) (m .lay-step .result))
+    (walked (outline s) (t .trip-of .result .start) true (drop 0 (round s .walk)))
 moved m = laying-one _ _ _ (m .lay-step .ensures) (begun (tripped m))
 
 trip-of-requires : tie.Need-trip-of-requires
@@ -45,7 +46,9 @@ lay-step-requires : tie.Need-lay-step-requires
 lay-step-requires c κs = laying-room _ _ (begun (c .before .before .before))
 
 lay-walk-requires : tie.Need-lay-walk-requires
-lay-walk-requires c κs = let m = c .before .before .before .before .before .before in let s = entry (tripped m) in (s .pre .0, (s .pre .1 .0, (tripped m .trip-of .ensures .1, moved m .room)))
+lay-walk-requires c κs =
+    let m = c .before .before .before .before .before .before in
+    let s = entry (tripped m) in (s .pre .0, (s .pre .1 .0, (tripped m .trip-of .ensures .1, moved m .room)))
 
 same-length : tie.Need-same-length
 same-length c = search needs

@@ -7,9 +7,9 @@ use Prim.Native.Nat.{_+_, _-_, _≤_}
 use native.Mathlib.Omega.{arith}
 use lib.ListN.{length, drop, length-append}
 use Rattle.path_trip.specs.Path.{points, Points, roundOf, stepsOf, path, pathFrom}
-use Rattle.outline.specs.Weak.{endsHold}
+use Rattle.weak.specs.Weak.{endsHold}
 use Rattle.path_lay.specs.Laying.{lent}
-use Rattle.outline.proofs.Refusals.{end-at, EndAt}
+use Rattle.weak.proofs.Refusals.{end-at, EndAt}
 use Rattle.path_lay.proofs.Lays.{Laying, laying, laying-as, laying-more, laying-done, room-less}
 use Rattle.path_walk.proofs.Seeks.{path-start, path-turn, path-end}
 use Rattle.path_lay.proofs.lay.lay_path.Statement.{statement}
@@ -39,14 +39,18 @@ end w = let l = at-loop w in end-at _ _ _ _ (w .before .before .loop-test .taken
 -- what is left: the turn's contour, and the others
 turn : (w : tie.After-wide Inv-loop μ-loop) → let l = at-loop w in let s = entry l in
     Laying (lent (s .args .kinds .now) (s .args .places .now) 0) (path (outline s) (s .args .ends .now)) (lent (l .loop .kinds) (l .loop .places) (l .loop .n))
-    (stepsOf (outline s) (roundOf (outline s) (l .loop .a) (w .wide .result + 1 - 1)) ++ pathFrom (outline s) (w .wide .result + 1) (drop (l .loop .c + 1) (s .args .ends .now)))
+    (stepsOf (outline s) (roundOf (outline s) (l .loop .a) (w .wide .result + 1 - 1))
+    ++ pathFrom (outline s) (w .wide .result + 1) (drop (l .loop .c + 1) (s .args .ends .now)))
 turn w =
     let l = at-loop w in
     let s = entry l in
-    laying-as _ _ (path-turn (outline s) (l .loop .a) (s .args .ends .now) (l .loop .c) (w .wide .result) (w .before .before .loop-test .taken) (w .wide .ensures)) (l .loop .inv .2)
+    laying-as _ _ (path-turn (outline s) (l .loop .a) (s .args .ends .now) (l .loop .c) (w .wide .result) (w .before .before .loop-test .taken)
+    (w .wide .ensures)) (l .loop .inv .2)
 
 loop-holds : tie.Need-loop-holds Inv-loop μ-loop
-loop-holds c = let s = c .before .before .before .before in (omega arith, s .pre .1 .0, laying-as _ _ (path-start (outline s) (s .args .ends .now)) (laying _ _ (s .pre .1 .1)))
+loop-holds c =
+    let s = c .before .before .before .before in
+    (omega arith, s .pre .1 .0, laying-as _ _ (path-start (outline s) (s .args .ends .now)) (laying _ _ (s .pre .1 .1)))
 
 mul-wide : tie.Need-mul-wide Inv-loop μ-loop
 mul-wide c = search needs
@@ -94,7 +98,9 @@ same-length-2 : tie.Need-same-length-2 Inv-loop μ-loop
 same-length-2 c = c .before .loop .inv .2 .places-length
 
 returns : tie.Need-returns Inv-loop μ-loop
-returns c = let l = c .before in let s = entry l in laying-done (laying-as _ _ (path-end (outline s) (l .loop .a) (s .args .ends .now) (l .loop .c) (c .loop-test .left)) (l .loop .inv .2))
+returns c =
+    let l = c .before in
+    let s = entry l in laying-done (laying-as _ _ (path-end (outline s) (l .loop .a) (s .args .ends .now) (l .loop .c) (c .loop-test .left)) (l .loop .inv .2))
 
 pub lay-path-spec : {M : Type 1} → statement M
 lay-path-spec =

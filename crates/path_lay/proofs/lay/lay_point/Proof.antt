@@ -6,7 +6,7 @@ use mathlib.Core.List.{List, _∷_}
 use Prim.Native.Nat.{ℕ, _+_, _-_, _<_}
 use native.Mathlib.Omega.{arith}
 use lib.ListN.{drop}
-use Rattle.pixels.specs.declared.PixelPoint.{PixelPoint}
+use Rattle.path_places.specs.declared.PixelPoint.{PixelPoint}
 use Rattle.path_trip.specs.declared.step.PathStep.the-variants.{Line, Curve}
 use Rattle.path_trip.specs.Path.{points, Points, place, roundOf, walked}
 use Rattle.path_walk.specs.declared.walk.End.{End}
@@ -51,11 +51,13 @@ room f = entry (turn f) .pre .1 .1 .1 .1
 -- what its end leaves
 left-by : (f : tie.After-end-of) (x : End) → f .end-of .result ≡ x → let n = turn f in let s = entry n in
     walked (outline s) (s .args .trip .start) true (drop (s .args .j) (walk s))
-    ≡ Curve (place (outline s) (point n)) (endPlace (outline s) (s .args .trip .start) x) ∷ walked (outline s) (s .args .trip .start) true (drop (passed x) (drop (s .args .j + 1) (walk s)))
+    ≡ Curve (place (outline s) (point n)) (endPlace (outline s) (s .args .trip .start) x)
+    ∷ walked (outline s) (s .args .trip .start) true (drop (passed x) (drop (s .args .j + 1) (walk s)))
 left-by f x q =
     let n = turn f in
     let s = entry n in
-    curve-left (outline s) (s .args .trip .start) (walk s) (s .args .a) (s .args .e) (s .args .trip .from) (s .args .trip .count) (s .pre .1 .1 .0) (s .args .j) (point n) (s .pre .1 .1 .1 .0)
+    curve-left (outline s) (s .args .trip .start) (walk s) (s .args .a) (s .args .e) (s .args .trip .from) (s .args .trip .count) (s .pre .1 .1 .0)
+    (s .args .j) (point n) (s .pre .1 .1 .1 .0)
     (n .before .before .before .around-at .ensures .0) x (sym (n .is-on .ensures) ∙ f .before .if1 .left) (sym q ∙ f .end-of .ensures .0)
 
 add-around-at : tie.Need-add-around-at
@@ -94,7 +96,9 @@ returns c =
     record {
       step = Line (place (outline s) (point n));
       wrote = m .lay-line .ensures ∙ ap (λ (p : PixelPoint). laid (at-first s) (Line p)) (n .before .before .place-of .ensures);
-      left = line-left (outline s) (s .args .trip .start) (walk s) (s .args .a) (s .args .e) (s .args .trip .from) (s .args .trip .count) (s .pre .1 .1 .0) (s .args .j) (point n) (s .pre .1 .1 .1 .0)
+      left =
+          line-left (outline s) (s .args .trip .start) (walk s) (s .args .a) (s .args .e) (s .args .trip .from) (s .args .trip .count) (s .pre .1 .1 .0)
+          (s .args .j) (point n) (s .pre .1 .1 .1 .0)
           (n .before .before .before .around-at .ensures .0) (sym (n .is-on .ensures) ∙ t .if1 .taken);
       further = omega arith;
     }
@@ -106,10 +110,14 @@ enum-told : tie.Need-enum-told
 enum-told c = search needs
 
 lay-curve-requires : tie.Need-lay-curve-requires
-lay-curve-requires c κs = room (c .before .before .before .before .before)
+lay-curve-requires c κs =
+    let the-from = c .before .before .before .before .before in
+    room the-from
 
 add-result-2 : tie.Need-add-result-2
-add-result-2 c = omega (arith, small (c .before .before .before .before .before .before .before .before .before .before))
+add-result-2 c =
+    let the-from = c .before .before .before .before .before .before .before .before .before .before in
+    omega (arith, small the-from)
 
 enum-known-end : tie.Need-enum-known-end
 enum-known-end c = search needs
@@ -122,10 +130,14 @@ place-of-requires-2 c κs =
     (s .pre .0, omega (arith, s .pre .1 .0 .inside, subst (EndInside (s .args .e)) (k .end .given .1) (f .end-of .ensures .1)))
 
 lay-curve-requires-2 : tie.Need-lay-curve-requires-2
-lay-curve-requires-2 c κs = room (c .before .before .before .before .before .before)
+lay-curve-requires-2 c κs =
+    let the-from = c .before .before .before .before .before .before in
+    room the-from
 
 add-result-3 : tie.Need-add-result-3
-add-result-3 c = omega (arith, small (c .before .before .before .before .before .before .before .before .before .before .before))
+add-result-3 c =
+    let the-from = c .before .before .before .before .before .before .before .before .before .before .before in
+    omega (arith, small the-from)
 
 enum-known-end-2 : tie.Need-enum-known-end-2
 enum-known-end-2 c = search needs
@@ -139,10 +151,14 @@ middle-of-requires c κs =
     (s .pre .0, (omega (arith, s .pre .1 .0 .inside, p .0), omega (arith, s .pre .1 .0 .inside, p .1)))
 
 lay-curve-requires-3 : tie.Need-lay-curve-requires-3
-lay-curve-requires-3 c κs = room (c .before .before .before .before .before .before)
+lay-curve-requires-3 c κs =
+    let the-from = c .before .before .before .before .before .before in
+    room the-from
 
 add-result-4 : tie.Need-add-result-4
-add-result-4 c = omega (arith, small (c .before .before .before .before .before .before .before .before .before .before .before))
+add-result-4 c =
+    let the-from = c .before .before .before .before .before .before .before .before .before .before .before in
+    omega (arith, small the-from)
 
 same-length-3 : tie.Need-same-length-3
 same-length-3 c = search needs
@@ -182,7 +198,8 @@ returns-3 c =
       step = Curve (place (outline s) (point n)) (q .result);
       wrote = m .lay-curve2 .ensures ∙ ap (λ (p : PixelPoint). laid (at-first s) (Curve p (q .result))) (n .before .before .place-of .ensures);
       left = left-by f _ (k .end .given .1)
-          ∙ λ i. Curve (place (outline s) (point n)) (sym (q .ensures) i) ∷ walked (outline s) (s .args .trip .start) true (one-further (s .args .j) (walk s) i);
+          ∙ λ i. Curve (place (outline s) (point n)) (sym (q .ensures) i)
+          ∷ walked (outline s) (s .args .trip .start) true (one-further (s .args .j) (walk s) i);
       further = omega arith;
     }
 

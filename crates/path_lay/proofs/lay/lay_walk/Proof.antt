@@ -50,7 +50,8 @@ closing : (c : tie.Else1 Inv-loop μ-loop) → let l = c .before .before in Layi
 closing c =
     let l = c .before .before in
     let s = entry l in
-    laying-as _ _ (walk-closed (outline s) (s .args .trip .start) (walk s) (s .args .a) (s .args .e) (s .args .trip .from) (s .args .trip .count) (s .pre .1 .1 .0)
+    laying-as _ _ (walk-closed (outline s) (s .args .trip .start) (walk s) (s .args .a) (s .args .e) (s .args .trip .from) (s .args .trip .count)
+    (s .pre .1 .1 .0)
     (l .loop .j) (c .if1 .left) true) (l .loop .inv)
 
 closed : (c : tie.After-slice-known6 Inv-loop μ-loop) → let m = c .before .before .before .before in let l = m .before .before .before .before .before in
@@ -68,7 +69,9 @@ lay-point-requires c κs =
     (s .pre .0, (s .pre .1 .0, (s .pre .1 .1 .0, (t .if1 .taken, room l))))
 
 add-n : tie.Need-add-n Inv-loop μ-loop
-add-n c = let l = c .before .before .before .before .before .before .before .before .before in omega (arith, room l .kinds-room, l .loop .inv .kinds-length, entry l .good)
+add-n c =
+    let l = c .before .before .before .before .before .before .before .before .before in
+    omega (arith, room l .kinds-room, l .loop .inv .kinds-length, entry l .good)
 
 loop-less : tie.Need-loop-less Inv-loop μ-loop
 loop-less c = let p = c .before .before .before .before .lay-point .ensures in omega (arith, p .further)

@@ -29,7 +29,8 @@ returns : tie.Need-returns
 returns c =
     let m = c .before .before .before .before in
     let q = m .before .before .before in
-    laid-is _ _ _ _ _ (q .before .first-of .result) (q .second-of .result) _ _ (m .put-step .ensures) (q .before .before .kind-of .ensures) (q .before .first-of .ensures) (q .second-of .ensures)
+    laid-is _ _ _ _ _ (q .before .first-of .result) (q .second-of .result) _ _ (m .put-step .ensures) (q .before .before .kind-of .ensures)
+    (q .before .first-of .ensures) (q .second-of .ensures)
 
 pub lay-step-spec : {M : Type 1} → statement M
 lay-step-spec =

@@ -35,8 +35,11 @@ same-length-2 c = search needs
 returns : tie.Need-returns
 returns c =
     let m = c .before .before in
-    let s = m .before .before .before .before .before .before .before .before in
-    (refl, m .put-place2 .ensures ∙ ap (λ (l : List Float). pairAt l (4 * s .args .count + 2) (s .args .u) (s .args .v)) (m .before .before .before .before .put-place .ensures))
+    let s = m .before .before .before .before .before .before .before .before in (
+      refl,
+      m .put-place2 .ensures ∙ ap (λ (l : List Float). pairAt l (4 * s .args .count + 2) (s .args .u) (s .args .v))
+          (m .before .before .before .before .put-place .ensures),
+    )
 
 pub put-step-spec : {M : Type 1} → statement M
 put-step-spec =

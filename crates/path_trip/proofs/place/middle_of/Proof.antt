@@ -43,7 +43,8 @@ halfway-point-requires c κs =
     )
 
 returns : tie.Need-returns
-returns c = let a = c .before .before .before .before .before .before in middle-is (outline a) (a .pre .0) (a .args .i) (a .args .j) _ (c .halfway-point .ensures)
+returns c =
+    let a = c .before .before .before .before .before .before in middle-is (outline a) (a .pre .0) (a .args .i) (a .args .j) _ (c .halfway-point .ensures)
 
 pub middle-of-spec : {M : Type 1} → statement M
 middle-of-spec =

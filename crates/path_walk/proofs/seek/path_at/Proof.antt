@@ -6,9 +6,9 @@ use Prim.Native.Nat.{_-_, _≤_}
 use native.Mathlib.Omega.{arith}
 use lib.ListN.{length, drop}
 use Rattle.path_trip.specs.Path.{points, Points, path, pathFrom}
-use Rattle.outline.specs.Weak.{endsHold}
+use Rattle.weak.specs.Weak.{endsHold}
 use Rattle.path_walk.specs.Steps.{seek}
-use Rattle.outline.proofs.Refusals.{end-at, EndAt}
+use Rattle.weak.proofs.Refusals.{end-at, EndAt}
 use Rattle.path_walk.proofs.Seeks.{path-start, path-none, contour-here, contour-past}
 use Rattle.path_walk.proofs.seek.path_at.Statement.{statement}
 use Rattle.path_walk.proofs.seek.path_at.Tie as tie
@@ -50,7 +50,8 @@ add-e : tie.Need-add-e Inv-loop μ-loop
 add-e c = let l = at-loop c in omega (arith, end c .high, c .wide .ensures, entry l .pre .0 .few)
 
 contour-step-requires : tie.Need-contour-step-requires Inv-loop μ-loop
-contour-step-requires c κs = let l = at-loop c in (entry l .pre .0, record { some = omega (arith, end c .low, c .wide .ensures); inside = omega (arith, end c .high, c .wide .ensures) })
+contour-step-requires c κs =
+    let l = at-loop c in (entry l .pre .0, record { some = omega (arith, end c .low, c .wide .ensures); inside = omega (arith, end c .high, c .wide .ensures) })
 
 enum-known-sought : tie.Need-enum-known-sought Inv-loop μ-loop
 enum-known-sought c = search needs
@@ -86,7 +87,9 @@ loop-again c =
     )
 
 returns-2 : tie.Need-returns-2 Inv-loop μ-loop
-returns-2 c = let l = c .before in let s = entry l in sym (l .loop .inv .2 ∙ path-none (outline s) (l .loop .a) (s .args .ends .now) (l .loop .c) (l .loop .left) (c .loop-test .left))
+returns-2 c =
+    let l = c .before in
+    let s = entry l in sym (l .loop .inv .2 ∙ path-none (outline s) (l .loop .a) (s .args .ends .now) (l .loop .c) (l .loop .left) (c .loop-test .left))
 
 pub path-at-spec : {M : Type 1} → statement M
 path-at-spec =

@@ -48,13 +48,15 @@ trip-of-requires : tie.Need-trip-of-requires Inv-loop μ-loop
 trip-of-requires c κs = search needs
 
 returns : tie.Need-returns Inv-loop μ-loop
-returns c = let s = c .before .before .before .before in seek-move (outline s) (round s) _ (s .args .k) (c .before .before .trip-of .ensures .0) (c .before .if1 .taken)
+returns c =
+    let s = c .before .before .before .before in seek-move (outline s) (round s) _ (s .args .k) (c .before .before .trip-of .ensures .0) (c .before .if1 .taken)
 
 sub-left : tie.Need-sub-left Inv-loop μ-loop
 sub-left c = search needs
 
 loop-holds : tie.Need-loop-holds Inv-loop μ-loop
-loop-holds c = let s = c .before .before .before in (omega arith, seek-walk (outline s) (round s) _ (s .args .k) (c .before .trip-of .ensures .0) (c .if1 .left))
+loop-holds c =
+    let s = c .before .before .before in (omega arith, seek-walk (outline s) (round s) _ (s .args .k) (c .before .trip-of .ensures .0) (c .if1 .left))
 
 add-around-at : tie.Need-add-around-at Inv-loop μ-loop
 add-around-at c = search needs
@@ -80,7 +82,8 @@ returns-2 c =
     let l = at-loop (n .before .before .before) in
     let s = entry l in
     ap Here (c .step-here .ensures)
-    ∙ sym (walk-first (outline s) (trip l .start) (round s .walk) (s .args .a) (s .args .e) (trip l .from) (trip l .count) (l .before .before .trip-of .ensures .1)
+    ∙ sym (walk-first (outline s) (trip l .start) (round s .walk) (s .args .a) (s .args .e) (trip l .from) (trip l .count)
+    (l .before .before .trip-of .ensures .1)
     (l .loop .j) (n .before .before .before .before .before .if2 .taken) (n .before .is-on .result) (l .loop .joined) (l .loop .left) (on-curve n)
     (subst (λ (m : ℕ). l .loop .left < m) (n .count-of .ensures) (c .before .if3 .taken)))
     ∙ sym (l .loop .inv .1)
@@ -100,9 +103,11 @@ loop-again c =
     let e = n .count-of .ensures in (
       omega (arith, h),
       l .loop .inv .1
-          ∙ walk-next (outline s) (trip l .start) (round s .walk) (s .args .a) (s .args .e) (trip l .from) (trip l .count) (l .before .before .trip-of .ensures .1)
+          ∙ walk-next (outline s) (trip l .start) (round s .walk) (s .args .a) (s .args .e) (trip l .from) (trip l .count)
+          (l .before .before .trip-of .ensures .1)
           (l .loop .j) h (n .before .is-on .result) (l .loop .joined) (l .loop .left) (on-curve n) (subst (λ (m : ℕ). m ≤ l .loop .left) e (c .if3 .left))
-          ∙ ap (λ (m : ℕ). seek (walked (outline s) (trip l .start) (n .before .is-on .result) (drop (l .loop .j + 1) (round s .walk))) (l .loop .left - m)) (sym e),
+          ∙ ap (λ (m : ℕ). seek (walked (outline s) (trip l .start) (n .before .is-on .result) (drop (l .loop .j + 1) (round s .walk))) (l .loop .left - m))
+          (sym e),
     )
 
 returns-3 : tie.Need-returns-3 Inv-loop μ-loop

@@ -4,7 +4,7 @@ use mathlib.Core.Path.{_≡_, sym, ap, subst, _∙_}
 use Prim.Native.Nat.{ℕ, _+_, _-_}
 use native.Mathlib.Omega.{arith}
 use lib.ListN.{drop}
-use Rattle.pixels.specs.declared.PixelPoint.{PixelPoint}
+use Rattle.path_places.specs.declared.PixelPoint.{PixelPoint}
 use Rattle.path_trip.specs.Path.{points, Points, roundOf, curveEnd}
 use Rattle.path_trip.specs.Trips.{around}
 use Rattle.path_walk.specs.declared.walk.End.{End}
@@ -23,7 +23,8 @@ place-at a =
     (drop (a .args .j + 1) (roundOf (outline a) (a .args .a) (a .args .e - 1) .walk))
 
 -- the place of the end that was found
-found : (c : tie.After-end-of) (x : End) → c .end-of .result ≡ x → endPlace (outline (c .before .before)) (c .before .before .args .trip .start) x ≡ place-at (c .before .before)
+found : (c : tie.After-end-of) (x : End) → c .end-of .result ≡ x
+    → endPlace (outline (c .before .before)) (c .before .before .args .trip .start) x ≡ place-at (c .before .before)
 found c x q =
     let a = c .before .before in
     ap (endPlace (outline a) (a .args .trip .start)) (sym q ∙ c .end-of .ensures .0) ∙ sym (end-place (outline a) (a .args .trip .start) _ _)

@@ -25,7 +25,8 @@ sub-if1 c = search needs
 returns : tie.Need-returns
 returns c =
     let a = c .before .before in (
-      sym (end-last (walk a) (a .args .a) (a .args .e) (a .args .from) (a .args .count) (a .pre .1 .1 .0) (outline a) (around (a .args .a) (a .args .e) (a .args .from + a .args .j)) (a .args .j) (c .if1 .taken)),
+      sym (end-last (walk a) (a .args .a) (a .args .e) (a .args .from) (a .args .count) (a .pre .1 .1 .0) (outline a)
+          (around (a .args .a) (a .args .e) (a .args .from + a .args .j)) (a .args .j) (c .if1 .taken)),
       omega arith,
     )
 
@@ -50,7 +51,8 @@ returns-2 c =
     let a = w .before .before .before in
     let p = w .around-at .ensures in (
       ap Point (p .0)
-          ∙ sym (end-on (walk a) (a .args .a) (a .args .e) (a .args .from) (a .args .count) (a .pre .1 .1 .0) (outline a) (around (a .args .a) (a .args .e) (a .args .from + a .args .j)) (a .args .j)
+          ∙ sym (end-on (walk a) (a .args .a) (a .args .e) (a .args .from) (a .args .count) (a .pre .1 .1 .0) (outline a)
+          (around (a .args .a) (a .args .e) (a .args .from + a .args .j)) (a .args .j)
           (a .pre .1 .1 .1) (w .before .if1 .left)
           (ap (λ (k : ℕ). ltb 0 (getD (a .args .marks .now) k 0)) (sym (p .0)) ∙ sym (c .before .is-on .ensures) ∙ c .if2 .taken)),
       p .1,
@@ -69,7 +71,8 @@ returns-3 c =
     let p = w .around-at .ensures in
     let q = c .around-at2 .ensures in (
       (λ z. Between (q .0 z) (p .0 z))
-          ∙ sym (end-off (walk a) (a .args .a) (a .args .e) (a .args .from) (a .args .count) (a .pre .1 .1 .0) (outline a) (around (a .args .a) (a .args .e) (a .args .from + a .args .j)) (a .args .j)
+          ∙ sym (end-off (walk a) (a .args .a) (a .args .e) (a .args .from) (a .args .count) (a .pre .1 .1 .0) (outline a)
+          (around (a .args .a) (a .args .e) (a .args .from + a .args .j)) (a .args .j)
           (a .pre .1 .1 .1) (w .before .if1 .left)
           (ap (λ (k : ℕ). ltb 0 (getD (a .args .marks .now) k 0)) (sym (p .0)) ∙ sym (c .before .before .is-on .ensures) ∙ c .before .if2 .left)),
       (q .1, p .1),

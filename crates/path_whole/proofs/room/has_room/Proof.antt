@@ -20,7 +20,8 @@ returns-2 : tie.Need-returns-2
 returns-2 c =
     let t = c .before in
     let a = t .before .before .args in
-    by-second _ _ _ (sym (t .before .fits-in .ensures) ∙ not-false _ (t .if1 .left)) (c .fits-in2 .ensures ∙ by-quarters (mostSteps (a .points) (a .contours)) (a .places))
+    by-second _ _ _ (sym (t .before .fits-in .ensures) ∙ not-false _ (t .if1 .left))
+    (c .fits-in2 .ensures ∙ by-quarters (mostSteps (a .points) (a .contours)) (a .places))
 
 pub has-room-spec : {M : Type 1} → statement M
 has-room-spec = tie.close (tie.spec fits-in-requires returns fits-in-requires-2 returns-2)

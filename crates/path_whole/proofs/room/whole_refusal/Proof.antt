@@ -12,7 +12,8 @@ has-room-requires c κs = search needs
 returns : tie.Need-returns
 returns c =
     let a = c .before .before .before .before .args in
-    sym (refused-room (a .xs .now) (a .ys .now) (a .marks .now) (a .ends .now) (a .kinds) (a .places) (sym (c .before .has-room .ensures) ∙ not-true _ (c .if1 .taken)))
+    sym (refused-room (a .xs .now) (a .ys .now) (a .marks .now) (a .ends .now) (a .kinds) (a .places)
+    (sym (c .before .has-room .ensures) ∙ not-true _ (c .if1 .taken)))
 
 path-refusal-requires : tie.Need-path-refusal-requires
 path-refusal-requires c κs = search needs

@@ -67,7 +67,8 @@ returns-2 c =
     let m = laid (c .before) in
     let t = tested m in
     let r = t .before in
-    wrote (xs r) (ys r) (marks r) (ends r) (kinds r) (places r) _ _ (r .whole-refusal .ensures) (t .if1 .left) _ _ _ (m .lay-path .ensures) _ (c .counted .ensures)
+    wrote (xs r) (ys r) (marks r) (ends r) (kinds r) (places r) _ _ (r .whole-refusal .ensures) (t .if1 .left) _ _ _ (m .lay-path .ensures) _
+    (c .counted .ensures)
 
 pub path-spec : {M : Type 1} → statement M
 path-spec = tie.close (tie.spec whole-refusal-requires returns lay-path-requires counted-requires same-length same-length-2 returns-2)

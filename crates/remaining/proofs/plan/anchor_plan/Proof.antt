@@ -6,7 +6,7 @@ use mir.Syntax.{w32, w64}
 use Rattle.signed.proofs.Signed.{is, got}
 use Rattle.fixed.specs.Pixel.{pixRound}
 use Rattle.axis.specs.declared.kinds.Mark.the-variants as Marks
-use Rattle.placing.proofs.Reach.{units-read}
+use Rattle.place.proofs.Reach.{units-read}
 use Rattle.remaining.specs.declared.kinds.Way.the-variants as Ways
 use Rattle.remaining.specs.Plan.{anchoredAt}
 use Rattle.remaining.proofs.plan.anchor_plan.Statement.{statement}

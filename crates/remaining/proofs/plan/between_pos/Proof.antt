@@ -55,7 +55,8 @@ part-is c =
     let e = c .before in
     let f = e .before .fits in
     is (got w64 (c .fixed-mul-div .result) (c .fixed-mul-div .ok)) ∙ c .fixed-mul-div .ensures
-    ∙ λ i. mulDiv ((is (sub-fixed-mul-div e) ∙ λ j. is (f .at) j -ℤ is (f .before-at) j) i) ((is (sub-fixed-mul-div-2 e) ∙ λ j. is (f .after-pos) j -ℤ is (f .before-pos) j) i)
+    ∙ λ i. mulDiv ((is (sub-fixed-mul-div e) ∙ λ j. is (f .at) j -ℤ is (f .before-at) j) i)
+    ((is (sub-fixed-mul-div-2 e) ∙ λ j. is (f .after-pos) j -ℤ is (f .before-pos) j) i)
     ((is (sub-fixed-mul-div-3 e) ∙ λ j. is (f .after-at) j -ℤ is (f .before-at) j) i)
 
 start-is : (c : tie.After-wide2) → toZ w64 (ofZ w64 (c .wide2 .result)) ≡ c .before .before .before .args .before-pos
@@ -68,7 +69,8 @@ add-result c =
     let a = s .args in
     let p = s .pre in
     let r = partOf s in
-    let most = part-most (a .at) (a .before-at) (a .after-at) (a .before-pos) (a .after-pos) (p .0 .0) (p .0 .1) (p .1 .0) (p .1 .1) (apart-abs (a .after-at) (a .before-at) (not-same e)) in
+    let most = part-most (a .at) (a .before-at) (a .after-at) (a .before-pos) (a .after-pos) (p .0 .0) (p .0 .1) (p .1 .0) (p .1 .1)
+    (apart-abs (a .after-at) (a .before-at) (not-same e)) in
     rw (start-is c, part-is (c .before)) (fits (omega (arith, signed, natAbs-is r, most, p .1 .0)))
 
 returns-2 : tie.Need-returns-2
@@ -76,7 +78,8 @@ unfolding betweenPos
 returns-2 c =
     let e = c .before .before in
     let a = e .before .args in
-    is (add-result c) ∙ (λ i. start-is c i +ℤ part-is (c .before) i) ∙ sym (cond-false (eqZ (a .after-at) (a .before-at)) _ _ (eqZ-no (a .after-at) (a .before-at) (not-same e)))
+    is (add-result c) ∙ (λ i. start-is c i +ℤ part-is (c .before) i)
+    ∙ sym (cond-false (eqZ (a .after-at) (a .before-at)) _ _ (eqZ-no (a .after-at) (a .before-at) (not-same e)))
 
 pub between-pos-spec : {M : Type 1} → statement M
 between-pos-spec =

@@ -17,7 +17,9 @@ magnitude-requires : tie.Need-magnitude-requires
 magnitude-requires c κs = let k = sub-apart c also cast-magnitude c in omega (arith, signed)
 
 returns : tie.Need-returns
-returns c = let s = c .before in ap (λ (n : ℕ). ltb n 80) (rw (is (cast-magnitude s), is (sub-apart s), is (s .fits .opos), is (s .fits .base)) at (c .magnitude .ensures))
+returns c =
+    let s = c .before in
+    ap (λ (n : ℕ). ltb n 80) (rw (is (cast-magnitude s), is (sub-apart s), is (s .fits .opos), is (s .fits .base)) at (c .magnitude .ensures))
 
 pub is-close-spec : {M : Type 1} → statement M
 is-close-spec = tie.close (tie.spec sub-apart cast-magnitude magnitude-requires returns)

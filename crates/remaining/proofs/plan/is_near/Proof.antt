@@ -1,7 +1,7 @@
 -- `remaining::plan::is_near` meets its contract. Assumes nothing.
 use borrow.Author.Needs.{needs}
 use mathlib.Core.Path.{_∙_}
-use Rattle.placing.proofs.Reach.{units-read}
+use Rattle.place.proofs.Reach.{units-read}
 use Rattle.remaining.specs.Plan.{isClose}
 use Rattle.remaining.proofs.plan.is_near.Statement.{statement}
 use Rattle.remaining.proofs.plan.is_near.Tie as tie

@@ -4,7 +4,7 @@ use mathlib.Core.Path.{_∙_}
 use mir.Syntax.{w64}
 use Rattle.signed.proofs.Signed.{is, got}
 use Rattle.axis.specs.declared.kinds.Mark.the-variants as Marks
-use Rattle.placing.proofs.Reach.{units-read, reach-read}
+use Rattle.place.proofs.Reach.{units-read, reach-read}
 use Rattle.remaining.specs.declared.kinds.Way.the-variants as Ways
 use Rattle.remaining.specs.Plan.{betweenPos}
 use Rattle.remaining.proofs.plan.latin_between.Statement.{statement}
@@ -21,7 +21,8 @@ returns c =
     let a = s .pre .1 in
     λ i. record {
       pos = (is (got w64 (r .result) (r .ok)) ∙ r .ensures
-          ∙ λ j. betweenPos (units-read _ (s .pre .2 .opos) j) (units-read _ (b .opos) j) (reach-read _ (b .pos) j) (units-read _ (a .opos) j) (reach-read _ (a .pos) j)) i;
+          ∙ λ j. betweenPos (units-read _ (s .pre .2 .opos) j) (units-read _ (b .opos) j) (reach-read _ (b .pos) j) (units-read _ (a .opos) j)
+          (reach-read _ (a .pos) j)) i;
       mark = Marks.Between;
       way = Ways.Held;
       next = s .args .past;

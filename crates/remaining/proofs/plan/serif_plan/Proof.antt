@@ -20,7 +20,9 @@ returns c =
     let edge = told .before in
     let s = edge .before in
     λ i. record {
-      pos = (is (got w64 (c .wide .result) (c .wide .ok)) ∙ c .wide .ensures ∙ is (got w32 _ (told .struct-told .given .1 .1 .0 .1)) ∙ ap (λ (e : Edge). e .pos) (edge .serif-edge .ensures)) i;
+      pos =
+          (is (got w64 (c .wide .result) (c .wide .ok)) ∙ c .wide .ensures ∙ is (got w32 _ (told .struct-told .given .1 .1 .0 .1))
+          ∙ ap (λ (e : Edge). e .pos) (edge .serif-edge .ensures)) i;
       mark = Marks.Serif;
       way = s .args .way;
       next = s .args .past;

@@ -3,7 +3,7 @@ use borrow.Author.Needs.{needs}
 use native.Mathlib.Nat.{div-le-self}
 use native.Mathlib.Omega.{arith}
 use Rattle.signed.proofs.Signed.{signed, fits, is}
-use Rattle.contours.specs.Limits.{mostCoordinate}
+use Rattle.weak_contour.specs.Limits.{mostCoordinate}
 use Rattle.shown_count.proofs.accept.most_before.Statement.{statement}
 use Rattle.shown_count.proofs.accept.most_before.Tie as tie
 

@@ -12,8 +12,8 @@ use mir.Val.{toZ, ofZ}
 use Rattle.signed.proofs.Signed.{is, got, to-≤ℤ}
 use Rattle.refusals.specs.Refusal.{refusal}
 use Rattle.axis.specs.Refusals.{inside}
-use Rattle.contours.specs.Limits.{mostCoordinate}
-use Rattle.outline.specs.Weak.{rangeTests}
+use Rattle.weak_contour.specs.Limits.{mostCoordinate}
+use Rattle.weak.specs.Weak.{rangeTests}
 use Rattle.shown.specs.Field.{mostMagnify}
 use Rattle.shown_count.proofs.Accepting.{refused-lists, refused-magnification, refused-ends, refused-else, range-magnified, above-none, times-some}
 use Rattle.shown_count.proofs.accept.shown_refusal.Statement.{statement}
@@ -46,7 +46,10 @@ list-refusal-requires : tie.Need-list-refusal-requires
 list-refusal-requires c κs = search needs
 
 returns : tie.Need-returns
-returns c = let l = c .before in let a = start l .args in sym (refused-lists (a .xs .now) (a .ys .now) (a .marks .now) (a .ends .now) (a .magnify) (l .list-refusal .ensures) (c .if1 .taken))
+returns c =
+    let l = c .before in
+    let a = start l .args in
+    sym (refused-lists (a .xs .now) (a .ys .now) (a .marks .now) (a .ends .now) (a .magnify) (l .list-refusal .ensures) (c .if1 .taken))
 
 is-inside-requires : tie.Need-is-inside-requires
 is-inside-requires c κs = search needs
@@ -57,7 +60,8 @@ returns-2 c =
     let e = i .before in
     let l = e .before in
     let a = start l .args in
-    sym (refused-magnification (a .xs .now) (a .ys .now) (a .marks .now) (a .ends .now) (a .magnify) (l .list-refusal .ensures) (e .if1 .left) (sym (inside-is i) ∙ not-true _ (c .if2 .taken)))
+    sym (refused-magnification (a .xs .now) (a .ys .now) (a .marks .now) (a .ends .now) (a .magnify) (l .list-refusal .ensures) (e .if1 .left)
+    (sym (inside-is i) ∙ not-true _ (c .if2 .taken)))
 
 returns-3 : tie.Need-returns-3
 returns-3 c =
@@ -65,7 +69,8 @@ returns-3 c =
     let e = o .before .before in
     let l = e .before in
     let a = start l .args in
-    sym (refused-ends (a .xs .now) (a .ys .now) (a .marks .now) (a .ends .now) (a .magnify) (l .list-refusal .ensures) (e .if1 .left) (passes o) (c .if3 .taken))
+    sym (refused-ends (a .xs .now) (a .ys .now) (a .marks .now) (a .ends .now) (a .magnify) (l .list-refusal .ensures) (e .if1 .left) (passes o)
+    (c .if3 .taken))
 
 times-of-requires : tie.Need-times-of-requires
 times-of-requires c κs =
@@ -77,7 +82,8 @@ most-before-requires : tie.Need-most-before-requires
 most-before-requires c κs = some c
 
 range-refusal-requires : tie.Need-range-refusal-requires
-range-refusal-requires c κs = subst (λ (z : ℤ). pos 0 ≤ℤ z) (sym (limit-is c)) (to-≤ℤ (pos 0) (pos (mostCoordinate / c .before .times-of .result)) (omega arith))
+range-refusal-requires c κs =
+    subst (λ (z : ℤ). pos 0 ≤ℤ z) (sym (limit-is c)) (to-≤ℤ (pos 0) (pos (mostCoordinate / c .before .times-of .result)) (omega arith))
 
 returns-4 : tie.Need-returns-4
 returns-4 c =
@@ -90,7 +96,8 @@ returns-4 c =
     c .range-refusal .ensures
     ∙ ap (λ (z : ℤ). refusal (rangeTests (natAbs z) (a .xs .now) (a .ys .now))) (limit-is m)
     ∙ range-magnified (a .magnify) (t .times-of .result) (times-is t) (some t) (a .xs .now) (a .ys .now)
-    ∙ sym (refused-else (a .xs .now) (a .ys .now) (a .marks .now) (a .ends .now) (a .magnify) (l .list-refusal .ensures) (e .if1 .left) (passes (f .before)) (f .if3 .left))
+    ∙ sym (refused-else (a .xs .now) (a .ys .now) (a .marks .now) (a .ends .now) (a .magnify) (l .list-refusal .ensures) (e .if1 .left) (passes (f .before))
+    (f .if3 .left))
 
 pub shown-refusal-spec : {M : Type 1} → statement M
 shown-refusal-spec =

@@ -19,14 +19,16 @@ abbrev start : tie.After-shown-refusal → tie.Start
 start c = c .before .before .before
 
 -- the refusal is that of the magnification as it was given
-refusal-is : (c : tie.After-shown-refusal) → let a = start c .args in c .shown-refusal .result ≡ refusal (shownTests (a .xs .now) (a .ys .now) (a .marks .now) (a .ends .now) (a .magnify))
+refusal-is : (c : tie.After-shown-refusal) → let a =
+    start c .args in c .shown-refusal .result ≡ refusal (shownTests (a .xs .now) (a .ys .now) (a .marks .now) (a .ends .now) (a .magnify))
 refusal-is c =
     let a = start c .args in
     c .shown-refusal .ensures ∙ ap (λ (z : ℤ). refusal (shownTests (a .xs .now) (a .ys .now) (a .marks .now) (a .ends .now) z)) (is (start c .fits .magnify))
 
 -- where the code goes on, the outline is accepted
 passes : (c : tie.Else1) → let a = start (c .before) .args in Passed (a .xs .now) (a .ys .now) (a .marks .now) (a .ends .now) (a .magnify)
-passes c = let a = start (c .before) .args in accepted (a .xs .now) (a .ys .now) (a .marks .now) (a .ends .now) (a .magnify) (refusal-is (c .before)) (c .if1 .left)
+passes c =
+    let a = start (c .before) .args in accepted (a .xs .now) (a .ys .now) (a .marks .now) (a .ends .now) (a .magnify) (refusal-is (c .before)) (c .if1 .left)
 
 times-is : (c : tie.After-times-of) → c .times-of .result ≡ natAbs (start (c .before .before) .args .magnify)
 times-is c = c .times-of .ensures ∙ ap natAbs (is (start (c .before .before) .fits .magnify))
@@ -58,7 +60,8 @@ returns-2 c =
     let t = p .before in
     let o = t .before in
     let a = start (o .before) .args in
-    counted (a .xs .now) (a .ys .now) (a .marks .now) (a .ends .now) (a .magnify) (refusal-is (o .before)) (o .if1 .left) (times-is t) (p .count-picture .ensures)
+    counted (a .xs .now) (a .ys .now) (a .marks .now) (a .ends .now) (a .magnify) (refusal-is (o .before)) (o .if1 .left) (times-is t)
+    (p .count-picture .ensures)
     (is (got w32 (c .euler-of .result) (c .euler-of .ok)) ∙ c .euler-of .ensures)
 
 pub count-shown-spec : {M : Type 1} → statement M

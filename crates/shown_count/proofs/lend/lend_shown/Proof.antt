@@ -12,7 +12,8 @@ abbrev start : tie.After-count-shown → tie.Start
 start c = c .before .before .before
 
 -- what is counted is that of the magnification as it was given
-counts : (c : tie.After-count-shown) → let a = start c .args in CountsShown (a .xs .now) (a .ys .now) (a .marks .now) (a .ends .now) (a .magnify) (c .count-shown .result)
+counts : (c : tie.After-count-shown) → let a =
+    start c .args in CountsShown (a .xs .now) (a .ys .now) (a .marks .now) (a .ends .now) (a .magnify) (c .count-shown .result)
 counts c = let a = start c .args in c .count-shown .ensures ∙ ap (shown (a .xs .now) (a .ys .now) (a .marks .now) (a .ends .now)) (is (start c .fits .magnify))
 
 count-shown-requires : tie.Need-count-shown-requires

@@ -16,7 +16,8 @@ with-ends s x x′ = side (placed x (s .args .low)) (placed x′ (s .args .high)
 -- it is the curve's
 is-line : (s : tie.Start) (x x′ : ℕ)
     → x ≡ placeOn (s .args .p) (s .args .c) (s .args .q) (s .args .k) .x → x′ ≡ placeOn (s .args .p) (s .args .c) (s .args .q) (s .args .k + 1) .x
-    → with-ends s x x′ ≡ side (placeOn (s .args .p) (s .args .c) (s .args .q) (s .args .k)) (placeOn (s .args .p) (s .args .c) (s .args .q) (s .args .k + 1)) ∷ []
+    → with-ends s x x′ ≡ side (placeOn (s .args .p) (s .args .c) (s .args .q) (s .args .k)) (placeOn (s .args .p) (s .args .c) (s .args .q) (s .args .k + 1))
+    ∷ []
 is-line s x x′ e f = λ i. side (placed (e i) (s .pre .1 .1 i)) (placed (f i) (s .pre .1 .2 i)) ∷ []
 
 stays-requires : tie.Need-stays-requires

@@ -6,8 +6,8 @@ use lib.IntN.{ℤ, pos, natAbs, _+ℤ_, _*ℤ_}
 use mir.Syntax.{w32}
 use mir.Val.{toZ, ofZ}
 use Rattle.signed.proofs.Signed.{is, got}
-use Rattle.contours.specs.Contour.{at}
-use Rattle.contours.specs.Limits.{mostCoordinate}
+use Rattle.weak_contour.specs.Contour.{at}
+use Rattle.weak_contour.specs.Limits.{mostCoordinate}
 use Rattle.shown_lines.specs.Lines.{fieldHalf}
 use Rattle.shown_lines.proofs.place.doubled_at.Statement.{statement}
 use Rattle.shown_lines.proofs.place.doubled_at.Tie as tie
@@ -42,8 +42,11 @@ magnified-requires c κs =
 
 returns : tie.Need-returns
 returns c =
-    let s = c .before .before .before in
-    (c .magnified .ensures .0 ∙ (λ k. natAbs (pos (s .args .magnify) *ℤ (first (c .before) k +ℤ second (c .before) k) +ℤ pos (2 * fieldHalf))), c .magnified .ensures .1)
+    let s = c .before .before .before in (
+      c .magnified .ensures .0 ∙ (λ k. natAbs (pos (s .args .magnify) *ℤ (first (c .before) k +ℤ second (c .before) k) +ℤ pos (2 * fieldHalf))),
+      c .magnified
+          .ensures .1,
+    )
 
 pub doubled-at-spec : {M : Type 1} → statement M
 doubled-at-spec = tie.close (tie.spec mul-x shared-slice-copy-out-x mul-u shared-slice-copy-out-u magnified-requires returns)

@@ -26,7 +26,8 @@ cast-m c = search needs
 add-result : tie.Need-add-result
 add-result c = subst (SFits w32) (sym (plain-sum c)) (sum-fits (c .args .magnify) (c .args .x) (c .args .u) (c .pre .0) (c .pre .2) (c .pre .3))
 
-plain-product : (s : tie.Start) → toZ w32 (ofZ w32 (pos (s .args .magnify))) *ℤ toZ w32 (ofZ w32 (toZ w32 (ofZ w32 (s .args .x)) +ℤ toZ w32 (ofZ w32 (s .args .u))))
+plain-product : (s : tie.Start) → toZ w32 (ofZ w32 (pos (s .args .magnify))) *ℤ toZ w32
+    (ofZ w32 (toZ w32 (ofZ w32 (s .args .x)) +ℤ toZ w32 (ofZ w32 (s .args .u))))
     ≡ pos (s .args .magnify) *ℤ (s .args .x +ℤ s .args .u)
 plain-product s = λ i. is (cast-m s) i *ℤ (is (add-result s) ∙ plain-sum s) i
 
@@ -34,7 +35,8 @@ mul-result : tie.Need-mul-result
 mul-result c = subst (SFits w32) (sym (plain-product c)) (product-fits (c .args .magnify) (c .args .x) (c .args .u) (c .pre .0) (c .pre .2) (c .pre .3))
 
 plain-whole : (s : tie.Start)
-    → toZ w32 (ofZ w32 (toZ w32 (ofZ w32 (pos (s .args .magnify))) *ℤ toZ w32 (ofZ w32 (toZ w32 (ofZ w32 (s .args .x)) +ℤ toZ w32 (ofZ w32 (s .args .u)))))) +ℤ pos 131072
+    → toZ w32 (ofZ w32 (toZ w32 (ofZ w32 (pos (s .args .magnify))) *ℤ toZ w32 (ofZ w32 (toZ w32 (ofZ w32 (s .args .x)) +ℤ toZ w32 (ofZ w32 (s .args .u))))))
+    +ℤ pos 131072
     ≡ total s
 plain-whole s = ap (λ (z : ℤ). z +ℤ pos 131072) (is (mul-result s) ∙ plain-product s)
 

@@ -42,4 +42,5 @@ returns : tie.Need-returns
 returns c = (refl, place-less (c .args .p) (c .args .c) (c .args .q) (c .args .k) (c .pre .0) (c .pre .1) (c .pre .2) (c .pre .3))
 
 pub place-at-spec : {M : Type 1} → statement M
-place-at-spec = tie.close (tie.spec sub-u mul-result mul-result-2 mul-result-3 mul-result-4 mul-result-5 add-result mul-result-6 mul-result-7 add-result-2 returns)
+place-at-spec =
+    tie.close (tie.spec sub-u mul-result mul-result-2 mul-result-3 mul-result-4 mul-result-5 add-result mul-result-6 mul-result-7 add-result-2 returns)

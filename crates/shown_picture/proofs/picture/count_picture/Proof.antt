@@ -47,7 +47,8 @@ returns c =
     let r = c .before .before in
     let w = r .before .before .before .before in
     let a = w .before .before .before .args in
-    picture-counted (picture (a .magnify) (points (a .xs .now) (a .ys .now) (a .marks .now)) (a .ends .now)) (w .window-of .result) (w .window-of .ensures) (r .count-rows .ensures)
+    picture-counted (picture (a .magnify) (points (a .xs .now) (a .ys .now) (a .marks .now)) (a .ends .now)) (w .window-of .result) (w .window-of .ensures)
+    (r .count-rows .ensures)
 
 pub count-picture-spec : {M : Type 1} → statement M
 count-picture-spec =

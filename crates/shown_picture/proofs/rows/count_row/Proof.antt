@@ -34,7 +34,8 @@ returns c =
     let e = w .before .before .before .before in
     let s = e .before .before .before .before .before .before in
     let a = s .args in (
-      row-read (a .magnify) (points (a .xs .now) (a .ys .now) (a .marks .now)) (a .ends .now) (s .pre .0 .few) (s .pre .1 .0) (a .left) (a .row) _ _ _ (e .clear .ensures) (w .cross-outline .ensures) (k .close-row .ensures),
+      row-read (a .magnify) (points (a .xs .now) (a .ys .now) (a .marks .now)) (a .ends .now) (s .pre .0 .few) (s .pre .1 .0) (a .left) (a .row) _ _ _
+          (e .clear .ensures) (w .cross-outline .ensures) (k .close-row .ensures),
       w .cross-outline .ensures .as-long ∙ e .clear .ensures .as-long,
     )
 

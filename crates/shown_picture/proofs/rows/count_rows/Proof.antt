@@ -39,10 +39,12 @@ abbrev at-row : tie.After-count-row Inv-loop μ-loop → tie.At-loop Inv-loop μ
 at-row c = c .before .before .before .before .before .before
 
 counted : (c : tie.After-count-row Inv-loop μ-loop)
-    → RowRead (λ i. from (entry (at-row c)) i (at-row c .loop .j)) (at-row c .loop .below) (places (entry (at-row c))) (c .count-row .result) (c .count-row .last .1 .1 .1 .1 .1 .1 .1 .0)
+    → RowRead (λ i. from (entry (at-row c)) i (at-row c .loop .j)) (at-row c .loop .below) (places (entry (at-row c))) (c .count-row .result)
+    (c .count-row .last .1 .1 .1 .1 .1 .1 .1 .0)
 counted c =
     let l = at-row c in
-    subst (λ (n : ℕ). RowRead (λ i. from (entry l) i (l .loop .j)) (l .loop .below) n (c .count-row .result) (c .count-row .last .1 .1 .1 .1 .1 .1 .1 .0)) (l .loop .inv .2) (c .count-row .ensures .0)
+    subst (λ (n : ℕ). RowRead (λ i. from (entry l) i (l .loop .j)) (l .loop .below) n (c .count-row .result) (c .count-row .last .1 .1 .1 .1 .1 .1 .1 .0))
+    (l .loop .inv .2) (c .count-row .ensures .0)
 
 -- and from behind the white row above
 abbrev at-top : tie.After-close-row Inv-loop μ-loop → tie.At-loop Inv-loop μ-loop
@@ -53,16 +55,26 @@ passed : (c : tie.After-close-row Inv-loop μ-loop) → at-top c .loop .j ≡ en
 passed c = let t = c .before .before .before .before .before .before .before in omega (arith, t .if1 .left, at-top c .loop .inv .0)
 
 topmost : (c : tie.After-close-row Inv-loop μ-loop)
-    → RowRead (λ i. from (entry (at-top c)) i (at-top c .loop .j)) (at-top c .loop .below) (places (entry (at-top c))) (c .close-row .result) (c .close-row .last .0)
+    → RowRead (λ i. from (entry (at-top c)) i (at-top c .loop .j)) (at-top c .loop .below) (places (entry (at-top c))) (c .close-row .result)
+    (c .close-row .last .0)
 topmost c =
     let l = at-top c in
     let s = entry l in
     let e = c .before .before .before .before .before .clear .ensures in
     subst (λ (n : ℕ). RowRead (λ i. from s i (l .loop .j)) (l .loop .below) n (c .close-row .result) (c .close-row .last .0)) (l .loop .inv .2)
-    (white-read (λ i. from s i (l .loop .j)) (λ i. s .pre .1 .1 .1 .0 .white .above (s .args .window .left + i) (s .args .window .low + l .loop .j) (omega (arith, passed c))) e (c .close-row .ensures))
+    (white-read (λ i. from s i (l .loop .j)) (λ i. s .pre .1 .1 .1 .0 .white .above (s .args .window .left + i) (s .args .window .low + l .loop .j)
+    (omega (arith, passed c))) e (c .close-row .ensures))
 
 loop-holds : tie.Need-loop-holds Inv-loop μ-loop
-loop-holds c = let s = c .before .before .before .before in (omega arith, s .pre .1 .1 .1 .1 .0, s .pre .1 .1 .1 .1 .1, lower-none (from s) (places s) (s .args .below .now) (s .pre .1 .1 .1 .1 .2), rows-none (from s) (places s))
+loop-holds c =
+    let s = c .before .before .before .before in (
+      omega arith,
+      s .pre .1 .1 .1 .1 .0,
+      s .pre .1 .1 .1 .1 .1,
+      lower-none (from s) (places s) (s .args .below .now) (s .pre .1 .1 .1 .1 .2),
+      rows-none
+          (from s) (places s),
+    )
 
 add-count-row : tie.Need-add-count-row Inv-loop μ-loop
 add-count-row c = let s = entry (c .before .before .before) in record { fits = omega (arith, s .pre .1 .1 .1 .0 .high) }
@@ -84,7 +96,9 @@ plus-requires c κs =
     )
 
 add-j : tie.Need-add-j Inv-loop μ-loop
-add-j c = let l = at-row (c .before .before .before .before .before) in record { fits = omega (arith, entry l .pre .1 .1 .1 .0 .high) }
+add-j c =
+    let the-from = c .before .before .before .before .before in
+    let l = at-row the-from in record { fits = omega (arith, entry l .pre .1 .1 .1 .0 .high) }
 
 loop-less : tie.Need-loop-less Inv-loop μ-loop
 loop-less c = omega arith
@@ -126,7 +140,9 @@ same-length : tie.Need-same-length Inv-loop μ-loop
 same-length c = let r = c .before .before .before in let l = at-top r in topmost r .as-long ∙ l .loop .inv .1 ∙ sym (entry l .pre .1 .1 .1 .1 .0)
 
 same-length-2 : tie.Need-same-length-2 Inv-loop μ-loop
-same-length-2 c = let r = c .before .before .before in let l = at-top r in r .before .before .before .before .before .clear .ensures .as-long ∙ l .loop .inv .2 ∙ sym (entry l .pre .1 .1 .1 .1 .1)
+same-length-2 c =
+    let r = c .before .before .before in
+    let l = at-top r in r .before .before .before .before .before .clear .ensures .as-long ∙ l .loop .inv .2 ∙ sym (entry l .pre .1 .1 .1 .1 .1)
 
 returns : tie.Need-returns Inv-loop μ-loop
 returns c =

@@ -5,7 +5,7 @@ use lib.Signed.{ltZ}
 use mir.Syntax.{w32}
 use mir.Val.{toZ, ofZ}
 use Rattle.signed.proofs.Signed.{is, got}
-use Rattle.contours.specs.Contour.{at}
+use Rattle.weak_contour.specs.Contour.{at}
 use Rattle.shown_picture.proofs.Extremes.{lesser-second, lesser-first}
 use Rattle.shown_picture.proofs.window.lesser.Statement.{statement}
 use Rattle.shown_picture.proofs.window.lesser.Tie as tie
@@ -23,8 +23,10 @@ shared-slice-copy-out-y : tie.Need-shared-slice-copy-out-y
 shared-slice-copy-out-y c = search needs
 
 -- the test of the two numbers
-compared : (c : tie.After-y) → ltZ (at (c .before .before .args .list .now) (c .before .before .args .j)) (at (c .before .before .args .list .now) (c .before .before .args .i))
-    ≡ ltZ (toZ w32 (ofZ w32 (at (c .before .before .args .list .now) (c .before .before .args .j)))) (toZ w32 (ofZ w32 (at (c .before .before .args .list .now) (c .before .before .args .i))))
+compared : (c : tie.After-y) → ltZ (at (c .before .before .args .list .now) (c .before .before .args .j))
+    (at (c .before .before .args .list .now) (c .before .before .args .i))
+    ≡ ltZ (toZ w32 (ofZ w32 (at (c .before .before .args .list .now) (c .before .before .args .j))))
+    (toZ w32 (ofZ w32 (at (c .before .before .args .list .now) (c .before .before .args .i))))
 compared c =
     let a = c .before .before .args in
     let p = is (got w32 (at (a .list .now) (a .i)) (c .before .x .given)) in

@@ -7,7 +7,7 @@ use Prim.Native.Nat.{ℕ, _+_, _<_}
 use native.Mathlib.Omega.{arith}
 use lib.ListN.{length}
 use lib.IntN.{ℤ}
-use Rattle.outline.specs.Weak.{endsHold}
+use Rattle.weak.specs.Weak.{endsHold}
 use Rattle.path_trip.specs.Path.{points}
 use Rattle.path_trip.specs.declared.tour.Spot.the-variants.{Point}
 use Rattle.shown.specs.Shown.{halves}
@@ -44,7 +44,9 @@ held : (c : tie.After-wide) → endsHold 0 (c .wide .result + 1) (ends c) ≡ tr
 held c = last-holds (length (xs c)) (ends c) (start c .pre .1 .0) (omega arith) _ (ap (λ (n : ℕ). n + 1) (c .wide .ensures))
 
 returns : tie.Need-returns
-returns c = let s = c .before .before .before in bounds-none (s .args .magnify) (points (s .args .xs .now) (s .args .ys .now) (s .args .marks .now)) (s .args .ends .now) (c .if1 .taken)
+returns c =
+    let s = c .before .before .before in
+    bounds-none (s .args .magnify) (points (s .args .xs .now) (s .args .ys .now) (s .args .marks .now)) (s .args .ends .now) (c .if1 .taken)
 
 sub-wide : tie.Need-sub-wide
 sub-wide c = search needs
@@ -65,19 +67,25 @@ extremes-of-requires : tie.Need-extremes-of-requires
 extremes-of-requires c κs = (omega arith, omega (arith, inside c))
 
 point-place-requires : tie.Need-point-place-requires
-point-place-requires c κs = let s = start (c .before) in (s .pre .1 .1, (omega (arith, inside (c .before), c .extremes-of .ensures .least-in), s .pre .0 .ys-length))
+point-place-requires c κs =
+    let s = start (c .before) in (s .pre .1 .1, (omega (arith, inside (c .before), c .extremes-of .ensures .least-in), s .pre .0 .ys-length))
 
 point-place-requires-2 : tie.Need-point-place-requires-2
-point-place-requires-2 c κs = let e = c .before in let s = start (e .before) in (s .pre .1 .1, (omega (arith, inside (e .before), e .extremes-of .ensures .largest-in), s .pre .0 .ys-length))
+point-place-requires-2 c κs =
+    let e = c .before in
+    let s = start (e .before) in (s .pre .1 .1, (omega (arith, inside (e .before), e .extremes-of .ensures .largest-in), s .pre .0 .ys-length))
 
 extremes-of-requires-2 : tie.Need-extremes-of-requires-2
 extremes-of-requires-2 c κs = let w = at-across c in (omega arith, omega (arith, inside w, start w .pre .0 .ys-length))
 
 point-place-requires-3 : tie.Need-point-place-requires-3
-point-place-requires-3 c κs = let w = at-across (c .before) in let s = start w in (s .pre .1 .1, (omega (arith, inside w, c .extremes-of2 .ensures .least-in), s .pre .0 .ys-length))
+point-place-requires-3 c κs =
+    let w = at-across (c .before) in let s = start w in (s .pre .1 .1, (omega (arith, inside w, c .extremes-of2 .ensures .least-in), s .pre .0 .ys-length))
 
 point-place-requires-4 : tie.Need-point-place-requires-4
-point-place-requires-4 c κs = let e = c .before in let w = at-across (e .before) in let s = start w in (s .pre .1 .1, (omega (arith, inside w, e .extremes-of2 .ensures .largest-in), s .pre .0 .ys-length))
+point-place-requires-4 c κs =
+    let e = c .before in
+    let w = at-across (e .before) in let s = start w in (s .pre .1 .1, (omega (arith, inside w, e .extremes-of2 .ensures .largest-in), s .pre .0 .ys-length))
 
 cell-of-requires : tie.Need-cell-of-requires
 cell-of-requires c κs = search needs
@@ -118,13 +126,17 @@ module _ (c : tie.After-cell-of4) where
   high-is = c .cell-of4 .ensures ∙ ap (λ (z : Halves). cellOf (z .y)) (p4 .point-place4 .ensures .0)
 
 sub-t24 : tie.Need-sub-t24
-sub-t24 c = let f = start (w c) .pre .1 .1 in omega (arith, left-is c, right-is c, cells-rise (m c) (xs (w c)) (f .some) (f .wide) _ _ _ (p2 c .before .before .extremes-of .ensures))
+sub-t24 c =
+    let f = start (w c) .pre .1 .1 in
+    omega (arith, left-is c, right-is c, cells-rise (m c) (xs (w c)) (f .some) (f .wide) _ _ _ (p2 c .before .before .extremes-of .ensures))
 
 cast-t17 : tie.Need-cast-t17
 cast-t17 c = search needs
 
 sub-t25 : tie.Need-sub-t25
-sub-t25 c = let f = start (w c) .pre .1 .1 in omega (arith, low-is c, high-is c, cells-rise (m c) (ys (w c)) (f .some) (f .high) _ _ _ (p4 c .before .before .extremes-of2 .ensures))
+sub-t25 c =
+    let f = start (w c) .pre .1 .1 in
+    omega (arith, low-is c, high-is c, cells-rise (m c) (ys (w c)) (f .some) (f .high) _ _ _ (p4 c .before .before .extremes-of2 .ensures))
 
 returns-2 : tie.Need-returns-2
 returns-2 c =

@@ -26,7 +26,8 @@ add-result c = search needs
 returns : tie.Need-returns
 returns c =
     let s = c .before .before in
-    subst (λ (k : ℕ). Starts (s .args .lx) (s .args .ly) (s .args .hx) (s .args .hy) (s .args .y) ((s .args .lx + k + 16383) / 32768)) (sym (c .part-of .ensures .0))
+    subst (λ (k : ℕ). Starts (s .args .lx) (s .args .ly) (s .args .hx) (s .args .hy) (s .args .y) ((s .args .lx + k + 16383) / 32768))
+    (sym (c .part-of .ensures .0))
     (starts-right (s .args .lx) (s .args .ly) (s .args .hx) (s .args .hy) (s .args .y) (omega arith) (omega arith) (omega arith))
 
 sub-part-of-2 : tie.Need-sub-part-of-2
@@ -47,7 +48,8 @@ add-result-2 c = search needs
 returns-2 : tie.Need-returns-2
 returns-2 c =
     let s = c .before .before in
-    subst (λ (k : ℕ). Starts (s .args .lx) (s .args .ly) (s .args .hx) (s .args .hy) (s .args .y) ((s .args .hx + k + 16383) / 32768)) (sym (c .part-of2 .ensures .0))
+    subst (λ (k : ℕ). Starts (s .args .lx) (s .args .ly) (s .args .hx) (s .args .hy) (s .args .y) ((s .args .hx + k + 16383) / 32768))
+    (sym (c .part-of2 .ensures .0))
     (starts-left (s .args .lx) (s .args .ly) (s .args .hx) (s .args .hy) (s .args .y) (omega arith) (omega arith) (omega arith))
 
 pub first-column-spec : {M : Type 1} → statement M

@@ -24,7 +24,8 @@ div-result c = search needs
 few : (c : tie.After-product) → ceiling (c .product .result) (c .before .args .d) ≤ c .before .args .x
 few c =
     let s = c .before in
-    subst (λ (n : ℕ). ceiling n (s .args .d) ≤ s .args .x) (sym (c .product .ensures)) (part-most (s .args .x) (s .args .y) (s .args .d) (omega arith) (omega arith))
+    subst (λ (n : ℕ). ceiling n (s .args .d) ≤ s .args .x) (sym (c .product .ensures))
+    (part-most (s .args .x) (s .args .y) (s .args .d) (omega arith) (omega arith))
 
 cast-result : tie.Need-cast-result
 cast-result c = record { fits = omega (arith, few c) }

@@ -1,4 +1,5 @@
--- `shown_rows::turns::close_row` meets its contract. The invariant: the pixels of the columns passed are written and counted with their turns, a and c are the pixels in front, and the winding
+-- `shown_rows::turns::close_row` meets its contract. The invariant: the pixels of the columns passed are written and counted with their turns, a and c are the
+-- pixels in front, and the winding
 -- is what the changes of the columns passed come to. Assumes nothing.
 use borrow.Author.Needs.{needs}
 use mathlib.Core.Path.{_≡_, refl, ap, subst, _∙_}
@@ -49,10 +50,12 @@ lower-is : (c : tie.After-is-black Inv-loop μ-loop) → c .is-black .result ≡
 lower-is c = let l = at-read c in c .is-black .ensures ∙ ap (ltb 0) (l .loop .inv .7 .behind (l .loop .i) (omega arith))
 
 -- what winds around its centre, and its pixel
-winding-is : (c : tie.After-gained Inv-loop μ-loop) → c .gained .result ≡ total (λ k. getD (changed (at-read (c .before .before))) k 0) (at-read (c .before .before) .loop .i + 1) % 65536
+winding-is : (c : tie.After-gained Inv-loop μ-loop) → c .gained .result
+    ≡ total (λ k. getD (changed (at-read (c .before .before))) k 0) (at-read (c .before .before) .loop .i + 1) % 65536
 winding-is c = let l = at-read (c .before .before) in winding-more (changed l) (l .loop .i) _ _ (l .loop .inv .3) (c .gained .ensures .sum)
 
-pixel-is : (c : tie.After-is-wound Inv-loop μ-loop) → c .is-wound .result ≡ wound (changed (at-read (c .before .before .before))) (at-read (c .before .before .before) .loop .i)
+pixel-is : (c : tie.After-is-wound Inv-loop μ-loop) → c .is-wound .result
+    ≡ wound (changed (at-read (c .before .before .before))) (at-read (c .before .before .before) .loop .i)
 pixel-is c = let l = at-read (c .before .before .before) in pixel-here (changed l) (l .loop .i) _ _ (c .is-wound .ensures) (winding-is (c .before))
 
 loop-holds : tie.Need-loop-holds Inv-loop μ-loop
@@ -89,7 +92,13 @@ cast-blacks c = search needs
 add-blacks : tie.Need-add-blacks Inv-loop μ-loop
 add-blacks c =
     let l = at-pixel c in
-    few-more _ _ (omega (arith, l .loop .inv .4, total-few (window pixel (blackAt (lower l)) (wound (changed l))) (λ i. pixel-one (wound (changed l) i)) (l .loop .i), entry l .pre))
+    few-more _ _ (omega (
+      arith,
+      l .loop .inv .4,
+      total-few (window pixel (blackAt (lower l)) (wound (changed l))) (λ i. pixel-one (wound (changed l) i))
+          (l .loop .i),
+      entry l .pre,
+    ))
     (omega (arith, c .pixel-of .ensures, pixel-one (c .before .is-wound .result)))
 
 outer-turn-requires : tie.Need-outer-turn-requires Inv-loop μ-loop
@@ -97,20 +106,44 @@ outer-turn-requires c κs = search needs
 
 add-outers : tie.Need-add-outers Inv-loop μ-loop
 add-outers c =
+    let at-is-black = c .before .before .before .before .before in
     let l = at-pixel (c .before) in
     few-more _ _
-    (omega (arith, l .loop .inv .5, total-few (window outer (blackAt (lower l)) (wound (changed l))) (λ i. outer-one (before (blackAt (lower l)) i) (blackAt (lower l) i) (before (wound (changed l)) i) (wound (changed l) i)) (l .loop .i), entry l .pre))
-    (omega (arith, c .outer-turn .ensures, outer-one (l .loop .a) (c .before .before .before .before .before .is-black .result) (l .loop .c) (c .before .before .is-wound .result)))
+    (omega (
+      arith,
+      l .loop .inv .5,
+      total-few (window outer (blackAt (lower l)) (wound (changed l)))
+          (λ i. outer-one (before (blackAt (lower l)) i) (blackAt (lower l) i) (before (wound (changed l)) i) (wound (changed l) i)) (l .loop .i),
+      entry l .pre,
+    ))
+    (omega (
+      arith,
+      c .outer-turn .ensures,
+      outer-one (l .loop .a) (at-is-black .is-black .result) (l .loop .c)
+          (c .before .before .is-wound .result),
+    ))
 
 inner-turn-requires : tie.Need-inner-turn-requires Inv-loop μ-loop
 inner-turn-requires c κs = search needs
 
 add-inners : tie.Need-add-inners Inv-loop μ-loop
 add-inners c =
+    let at-is-black = c .before .before .before .before .before .before in
     let l = at-pixel (c .before .before) in
     few-more _ _
-    (omega (arith, l .loop .inv .6, total-few (window (λ _. inner) (blackAt (lower l)) (wound (changed l))) (λ i. inner-one (blackAt (lower l) i) (before (wound (changed l)) i) (wound (changed l) i)) (l .loop .i), entry l .pre))
-    (omega (arith, c .inner-turn .ensures, inner-one (c .before .before .before .before .before .before .is-black .result) (l .loop .c) (c .before .before .before .is-wound .result)))
+    (omega (
+      arith,
+      l .loop .inv .6,
+      total-few (window (λ _. inner) (blackAt (lower l)) (wound (changed l)))
+          (λ i. inner-one (blackAt (lower l) i) (before (wound (changed l)) i) (wound (changed l) i)) (l .loop .i),
+      entry l .pre,
+    ))
+    (omega (
+      arith,
+      c .inner-turn .ensures,
+      inner-one (at-is-black .is-black .result) (l .loop .c)
+          (c .before .before .before .is-wound .result),
+    ))
 
 add-i : tie.Need-add-i Inv-loop μ-loop
 add-i c = search needs
@@ -131,9 +164,12 @@ loop-again c =
       b ∙ before-more (blackAt (lower l)) (l .loop .i),
       d ∙ before-more (wound (changed l)) (l .loop .i),
       winding-is (w .before),
-      total-more (window pixel (blackAt (lower l)) (wound (changed l))) (l .loop .i) _ _ (v .4) (p .pixel-of .ensures ∙ λ i. pixel (v .1 i) (b i) (v .2 i) (d i)),
-      total-more (window outer (blackAt (lower l)) (wound (changed l))) (l .loop .i) _ _ (v .5) (c .before .outer-turn .ensures ∙ λ i. outer (v .1 i) (b i) (v .2 i) (d i)),
-      total-more (window (λ _. inner) (blackAt (lower l)) (wound (changed l))) (l .loop .i) _ _ (v .6) (c .inner-turn .ensures ∙ λ i. inner (b i) (v .2 i) (d i)),
+      total-more (window pixel (blackAt (lower l)) (wound (changed l))) (l .loop .i) _ _ (v .4)
+          (p .pixel-of .ensures ∙ λ i. pixel (v .1 i) (b i) (v .2 i) (d i)),
+      total-more (window outer (blackAt (lower l)) (wound (changed l))) (l .loop .i) _ _ (v .5)
+          (c .before .outer-turn .ensures ∙ λ i. outer (v .1 i) (b i) (v .2 i) (d i)),
+      total-more (window (λ _. inner) (blackAt (lower l)) (wound (changed l))) (l .loop .i) _ _ (v .6)
+          (c .inner-turn .ensures ∙ λ i. inner (b i) (v .2 i) (d i)),
       over-more (lower l) (changed l) _ (l .loop .i) _ _ (v .7) (omega (arith, entry l .pre)) (p .pixel-of .ensures) d,
     )
 

@@ -94,7 +94,8 @@ product : (c : tie.After-fixed-mul) → toZ w32 (ofZ w32 (c .fixed-mul .result))
 product c = is (got w32 (c .fixed-mul .result) (c .fixed-mul .ok)) ∙ by₂ mulFix (c .fixed-mul .ensures) (gap (c .before)) (scale (c .before))
 
 -- the sum, read back, is one of positions
-sum-is : (c : tie.After-fixed-mul) → toZ w32 (ofZ w32 (start (c .before) .args .p1)) +ℤ toZ w32 (ofZ w32 (c .fixed-mul .result)) ≡ start (c .before) .args .p1 +ℤ far (start (c .before))
+sum-is : (c : tie.After-fixed-mul) → toZ w32 (ofZ w32 (start (c .before) .args .p1)) +ℤ toZ w32 (ofZ w32 (c .fixed-mul .result))
+    ≡ start (c .before) .args .p1 +ℤ far (start (c .before))
 sum-is c = by₂ _+ℤ_ refl (is (start (c .before) .fits .p1)) (product c)
 
 sum-fits : (s : tie.Start) → SFits w32 (s .args .p1 +ℤ far s)

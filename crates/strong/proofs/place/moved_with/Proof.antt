@@ -21,7 +21,8 @@ add-z : tie.Need-add-z
 add-z c = let f = c .fits also sub-z c in fits (omega (arith, signed))
 
 -- the sum as the machine reads it
-sum : (c : tie.Start) → toZ w32 (ofZ w32 (toZ w32 (ofZ w32 (c .args .pos)) +ℤ toZ w32 (ofZ w32 (toZ w32 (ofZ w32 (c .args .v)) -ℤ toZ w32 (ofZ w32 (c .args .opos)))))) ≡ c .args .pos +ℤ (c .args .v -ℤ c .args .opos)
+sum : (c : tie.Start) → toZ w32 (ofZ w32 (toZ w32 (ofZ w32 (c .args .pos)) +ℤ toZ w32
+    (ofZ w32 (toZ w32 (ofZ w32 (c .args .v)) -ℤ toZ w32 (ofZ w32 (c .args .opos)))))) ≡ c .args .pos +ℤ (c .args .v -ℤ c .args .opos)
 sum c = by₂ _+ℤ_ (is (add-z c)) (is (c .fits .pos)) (by₂ _-ℤ_ (is (sub-z c)) (is (c .fits .v)) (is (c .fits .opos)))
 
 is-inside-requires : tie.Need-is-inside-requires

@@ -5,8 +5,8 @@ use mathlib.Core.Path.{_≡_, sym, _∙_}
 use mathlib.Core.Bool.{_&&_}
 use lib.ListN.{length}
 use Rattle.refusals.specs.Refusal.{refusal}
-use Rattle.contours.specs.Limits.{mostCoordinate}
-use Rattle.outline.specs.Weak.{coordinatesHold}
+use Rattle.weak_contour.specs.Limits.{mostCoordinate}
+use Rattle.weak.specs.Weak.{coordinatesHold}
 use Rattle.strong.specs.Strong.{listTests}
 use Rattle.strong_words.specs.Strong.{Placeable}
 use Rattle.strong_words.proofs.Lending.{test-refuses, placeable, point-refuses, all-placed}
@@ -18,7 +18,8 @@ start c = c .before .before .before .before .before .before .before .before
 
 -- what the tests of the lists tell
 lists-tell : (c : tie.After-edges-test) → let a = start c .args in
-    c .before .before .before .list-refusal .result ≡ refusal (listTests (a .fonts .now) (a .originals .now) (a .currents .now) (a .touched .now) (a .weak .now))
+    c .before .before .before .list-refusal .result ≡ refusal
+    (listTests (a .fonts .now) (a .originals .now) (a .currents .now) (a .touched .now) (a .weak .now))
 lists-tell c = c .before .before .before .list-refusal .ensures
 
 ranges-tell : (c : tie.After-edges-test) → let a = start c .args in
@@ -44,7 +45,8 @@ returns : tie.Need-returns
 returns c =
     let t = c .before in
     let a = start t .args in
-    test-refuses (a .edges .now) (a .fonts .now) (a .originals .now) (a .currents .now) (a .touched .now) (a .weak .now) (lists-tell t) (ranges-tell t) (t .edges-test .ensures) (c .if1 .taken)
+    test-refuses (a .edges .now) (a .fonts .now) (a .originals .now) (a .currents .now) (a .touched .now) (a .weak .now) (lists-tell t) (ranges-tell t)
+    (t .edges-test .ensures) (c .if1 .taken)
 
 -- where the code goes on, the points can be placed
 ready : (c : tie.Else1) → let a = start (c .before) .args in
@@ -52,7 +54,8 @@ ready : (c : tie.Else1) → let a = start (c .before) .args in
 ready c =
     let t = c .before in
     let a = start t .args in
-    placeable (a .edges .now) (a .fonts .now) (a .originals .now) (a .currents .now) (a .touched .now) (a .weak .now) (lists-tell t) (ranges-tell t) (t .edges-test .ensures) (c .if1 .left)
+    placeable (a .edges .now) (a .fonts .now) (a .originals .now) (a .currents .now) (a .touched .now) (a .weak .now) (lists-tell t) (ranges-tell t)
+    (t .edges-test .ensures) (c .if1 .left)
 
 all-placed-requires : tie.Need-all-placed-requires
 all-placed-requires c κs = ready (c .before) .0
@@ -69,11 +72,14 @@ returns-2 c =
     let e = p .before .before in
     let t = e .before in
     let a = start t .args in
-    point-refuses (a .edges .now) (a .fonts .now) (a .originals .now) (a .currents .now) (a .touched .now) (a .weak .now) (lists-tell t) (ranges-tell t) (t .edges-test .ensures) (e .if1 .left)
+    point-refuses (a .edges .now) (a .fonts .now) (a .originals .now) (a .currents .now) (a .touched .now) (a .weak .now) (lists-tell t) (ranges-tell t)
+    (t .edges-test .ensures) (e .if1 .left)
     (p .all-placed .ensures) (not-true _ (c .if2 .taken))
 
 place-each-requires : tie.Need-place-each-requires
-place-each-requires c κs = ready (c .before .before .before .before .before)
+place-each-requires c κs =
+    let from = c .before .before .before .before .before in
+    ready from
 
 same-length-5 : tie.Need-same-length-5
 same-length-5 c = search needs
@@ -89,8 +95,10 @@ returns-3 c =
     let e = p .before .before in
     let t = e .before in
     let a = start t .args in
-    all-placed (a .edges .now) (a .fonts .now) (a .originals .now) (a .currents .now) (a .touched .now) (a .weak .now) (lists-tell t) (ranges-tell t) (t .edges-test .ensures) (e .if1 .left)
-    (p .all-placed .ensures) (not-false _ (l .if2 .left)) (d .place-each .ensures .placed (d .place-each .ensures .told ∙ sym (p .all-placed .ensures) ∙ not-false _ (l .if2 .left)))
+    all-placed (a .edges .now) (a .fonts .now) (a .originals .now) (a .currents .now) (a .touched .now) (a .weak .now) (lists-tell t) (ranges-tell t)
+    (t .edges-test .ensures) (e .if1 .left)
+    (p .all-placed .ensures) (not-false _ (l .if2 .left))
+    (d .place-each .ensures .placed (d .place-each .ensures .told ∙ sym (p .all-placed .ensures) ∙ not-false _ (l .if2 .left)))
 
 pub align-strong-points-spec : {M : Type 1} → statement M
 align-strong-points-spec =

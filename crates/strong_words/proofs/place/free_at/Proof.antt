@@ -5,9 +5,9 @@ use mir.Val.{toZ, ofZ}
 use Rattle.signed.proofs.Signed.{is, got}
 use Rattle.signed.proofs.Reading.{cast-16, back-16}
 use Rattle.signed.proofs.By.{by₂}
-use Rattle.contours.specs.Contour.{at}
-use Rattle.contours.specs.Steps.{Coordinate}
-use Rattle.lent.specs.Lent.{edgesOf}
+use Rattle.weak_contour.specs.Contour.{at}
+use Rattle.weak_contour.specs.Steps.{Coordinate}
+use Rattle.words_call.specs.Lent.{edgesOf}
 use Rattle.strong.specs.Strong.{placeOf}
 use borrow.Author.Needs.{needs}
 use Rattle.strong_words.proofs.place.free_at.Statement.{statement}

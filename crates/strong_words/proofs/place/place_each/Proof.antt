@@ -1,4 +1,5 @@
--- `strong_words::place::place_each` meets its contract. The invariant: the points passed are at their places, none of them refused, the others as they were. Assumes nothing.
+-- `strong_words::place::place_each` meets its contract. The invariant: the points passed are at their places, none of them refused, the others as they were.
+-- Assumes nothing.
 use borrow.Author.Needs.{needs}
 use native.Mathlib.Omega.{arith}
 use borrow.Author.Tests.{not-true, not-false}
@@ -13,8 +14,8 @@ use mir.Syntax.{w32}
 use mir.Val.{toZ, ofZ}
 use Rattle.signed.proofs.By.{by₂}
 use Rattle.signed.proofs.Signed.{is, got}
-use Rattle.contours.specs.Contour.{at, isTouched}
-use Rattle.lent.specs.Lent.{edgesOf}
+use Rattle.weak_contour.specs.Contour.{at, isTouched}
+use Rattle.words_call.specs.Lent.{edgesOf}
 use Rattle.signed.proofs.Choices.{clash}
 use Rattle.axis.specs.Refusals.{every}
 use Rattle.axis.proofs.Tests.{every-none, every-more, every-fails, every-done}
@@ -69,7 +70,8 @@ stays : (c : tie.Then1 Inv-loop μ-loop)
 stays c =
     let l = c .before .before .before .before in
     let a = start l .args in
-    strong-held (a .touched .now) (a .weak .now) (l .loop .i) (edgesOf (a .words .now)) (a .fonts .now) (a .originals .now) (sym (held-is (c .before)) ∙ c .if1 .taken)
+    strong-held (a .touched .now) (a .weak .now) (l .loop .i) (edgesOf (a .words .now)) (a .fonts .now) (a .originals .now)
+    (sym (held-is (c .before)) ∙ c .if1 .taken)
 
 add-i : tie.Need-add-i Inv-loop μ-loop
 add-i c = let t = c .before .before .before in omega (arith, t .loop-test .taken, start (t .before) .pre .0 .points)
@@ -108,7 +110,8 @@ placed c =
     let l = e .before .before .before .before in
     let a = start l .args in
     c .free-at .ensures
-    ∙ sym (strong-free (a .touched .now) (a .weak .now) (l .loop .i) (edgesOf (a .words .now)) (a .fonts .now) (a .originals .now) (sym (held-is (e .before)) ∙ e .if1 .left))
+    ∙ sym (strong-free (a .touched .now) (a .weak .now) (l .loop .i) (edgesOf (a .words .now)) (a .fonts .now) (a .originals .now)
+    (sym (held-is (e .before)) ∙ e .if1 .left))
 
 -- what the test of the point tells
 told : (c : tie.After-is-placed Inv-loop μ-loop) {v : Bool} → c .is-placed .result ≡ v
@@ -121,10 +124,14 @@ is-placed-requires : tie.Need-is-placed-requires Inv-loop μ-loop
 is-placed-requires c κs = search needs
 
 same-length : tie.Need-same-length Inv-loop μ-loop
-same-length c = c .before .before .before .before .before .before .before .loop .inv .1 .len
+same-length c =
+    let the-turn = c .before .before .before .before .before .before .before in
+    the-turn .loop .inv .1 .len
 
 same-length-2 : tie.Need-same-length-2 Inv-loop μ-loop
-same-length-2 c = c .before .before .before .before .before .before .before .loop .inv .2 .len
+same-length-2 c =
+    let the-turn = c .before .before .before .before .before .before .before in
+    the-turn .loop .inv .2 .len
 
 returns : tie.Need-returns Inv-loop μ-loop
 unfolding allPlaced
@@ -179,18 +186,24 @@ loop-less-2 c = omega (arith, turn c .loop-test .taken)
 current-is : (c : tie.After-mark-after Inv-loop μ-loop)
     → let l = turn c .before in
     let a = start l .args in
-    toZ w32 (ofZ w32 (c .before .before .current-after .result)) ≡ newCurrent (a .words .now) (a .fonts .now) (a .originals .now) (a .currents .now) (a .touched .now) (a .weak .now) (l .loop .i)
+    toZ w32 (ofZ w32 (c .before .before .current-after .result)) ≡ newCurrent (a .words .now) (a .fonts .now) (a .originals .now) (a .currents .now)
+    (a .touched .now) (a .weak .now) (l .loop .i)
 current-is c =
     let f = c .before .before in
     let l = turn c .before in
     is (got w32 (f .current-after .result) (f .current-after .ok))
-    ∙ by₂ currentAfter (f .current-after .ensures) (is (got w32 (at (l .loop .currents) (l .loop .i)) (f .before .current-after-arg .given)) ∙ l .loop .inv .1 .ahead (l .loop .i) (omega arith)) (placed (f .before .before .before .before))
+    ∙ by₂ currentAfter (f .current-after .ensures)
+    (is (got w32 (at (l .loop .currents) (l .loop .i)) (f .before .current-after-arg .given)) ∙ l .loop .inv .1 .ahead (l .loop .i) (omega arith))
+    (placed (f .before .before .before .before))
 
 mark-is : (c : tie.After-mark-after Inv-loop μ-loop)
     → let l = turn c .before in
     let a = start l .args in
     c .mark-after .result ≡ newMark (a .words .now) (a .fonts .now) (a .originals .now) (a .touched .now) (a .weak .now) (l .loop .i)
-mark-is c = let l = turn c .before in by₂ markAfter (c .mark-after .ensures) (l .loop .inv .2 .ahead (l .loop .i) (omega arith)) (placed (c .before .before .before .before .before .before))
+mark-is c =
+    let the-from = c .before .before .before .before .before .before in
+    let l = turn c .before in
+    by₂ markAfter (c .mark-after .ensures) (l .loop .inv .2 .ahead (l .loop .i) (omega arith)) (placed the-from)
 
 loop-again-2 : tie.Need-loop-again-2 Inv-loop μ-loop
 loop-again-2 c =

@@ -14,11 +14,11 @@ use Rattle.signed.proofs.By.{by₅}
 use Rattle.axis.specs.Edge.{edgeAt}
 use Rattle.axis.specs.Handed.{Short}
 use Rattle.axis.specs.Limits.{mostPos}
-use Rattle.contours.specs.Steps.{Coordinate}
+use Rattle.weak_contour.specs.Steps.{Coordinate}
 use Rattle.words.specs.Edge.{edgesIn}
 use Rattle.words.proofs.Fields.{kept}
-use Rattle.lent.specs.Lent.{edgesOf}
-use Rattle.edges_in.proofs.Wholes.{edges-len}
+use Rattle.words_call.specs.Lent.{edgesOf}
+use Rattle.words_edge.proofs.Wholes.{edges-len}
 use Rattle.strong.specs.declared.place.Place.the-variants.{At}
 use Rattle.strong.specs.Steps.{Around}
 use Rattle.strong.specs.Strong.{fposAt, found, between, withEdge, onOrBefore, placeOf}
@@ -32,14 +32,14 @@ use Rattle.strong_words.proofs.place.place_in.Tie as tie
 returns : tie.Need-returns
 returns c = let s = c .before in sym (none-placed (s .args .words .now) (s .args .u) (s .args .v) (c .if1 .taken))
 
-fpos-in-requires : tie.Need-fpos-in-requires
-fpos-in-requires c κs = (c .before .pre .0, omega (arith, c .if1 .left))
+read-fpos-requires : tie.Need-read-fpos-requires
+read-fpos-requires c κs = (c .before .pre .0, omega (arith, c .if1 .left))
 
 -- what the test of the first tells
-first : (c : tie.After-fpos-in) {t : Bool} → leZ (toZ w32 (ofZ w32 (c .before .before .args .u))) (toZ w32 (ofZ w32 (c .fpos-in .result))) ≡ t
+first : (c : tie.After-read-fpos) {t : Bool} → leZ (toZ w32 (ofZ w32 (c .before .before .args .u))) (toZ w32 (ofZ w32 (c .read-fpos .result))) ≡ t
     → leZ (c .before .before .args .u) (fposAt (edgesOf (c .before .before .args .words .now)) 0) ≡ t
 first c e =
-    let q = kept w32 (c .fpos-in .result) (c .fpos-in .ok) ∙ c .fpos-in .ensures in
+    let q = kept w32 (c .read-fpos .result) (c .read-fpos .ok) ∙ c .read-fpos .ensures in
     sym (λ x. leZ (is (c .before .before .fits .u) x) (q x)) ∙ e
 
 with-edge-requires : tie.Need-with-edge-requires
@@ -58,19 +58,19 @@ returns-2 c =
     ∙ sym (low-placed (s .args .words .now) (s .args .u) (s .args .v) (e .if1 .left) (first f (c .before .if2 .taken)))
 
 -- ---- the last one
-sub-fpos-in : tie.Need-sub-fpos-in
-sub-fpos-in c = omega (arith, c .before .before .if1 .left)
+sub-read-fpos : tie.Need-sub-read-fpos
+sub-read-fpos c = omega (arith, c .before .before .if1 .left)
 
-fpos-in-requires-2 : tie.Need-fpos-in-requires-2
-fpos-in-requires-2 c κs = let e = c .before .before in (e .before .pre .0, omega (arith, e .if1 .left))
+read-fpos-requires-2 : tie.Need-read-fpos-requires-2
+read-fpos-requires-2 c κs = let e = c .before .before in (e .before .pre .0, omega (arith, e .if1 .left))
 
-abbrev start2 : tie.After-fpos-in2 → tie.Start
+abbrev start2 : tie.After-read-fpos2 → tie.Start
 start2 c = c .before .before .before .before
 
-last : (c : tie.After-fpos-in2) {t : Bool} → leZ (toZ w32 (ofZ w32 (c .fpos-in2 .result))) (toZ w32 (ofZ w32 (start2 c .args .u))) ≡ t
+last : (c : tie.After-read-fpos2) {t : Bool} → leZ (toZ w32 (ofZ w32 (c .read-fpos2 .result))) (toZ w32 (ofZ w32 (start2 c .args .u))) ≡ t
     → leZ (fposAt (edgesOf (start2 c .args .words .now)) (edgesIn (start2 c .args .words .now) - 1)) (start2 c .args .u) ≡ t
 last c e =
-    let q = kept w32 (c .fpos-in2 .result) (c .fpos-in2 .ok) ∙ c .fpos-in2 .ensures in
+    let q = kept w32 (c .read-fpos2 .result) (c .read-fpos2 .ok) ∙ c .read-fpos2 .ensures in
     sym (λ x. leZ (q x) (is (start2 c .fits .u) x)) ∙ e
 
 sub-with-edge : tie.Need-sub-with-edge
@@ -133,45 +133,46 @@ module _ (c : tie.After-find-edge) where
   placed : placeOf (edgesOf ws) (start .args .u) (start .args .v) ≡ onOrBefore (edgesOf ws) (start .args .u) (c .find-edge .result)
   placed = inner-placed ws (start .args .u) (start .args .v) none above-first below-last ∙ ap (onOrBefore (edgesOf ws) (start .args .u)) (sym found-is)
 
-fpos-in-requires-3 : tie.Need-fpos-in-requires-3
-fpos-in-requires-3 c κs = (start c .pre .0, below c)
+read-fpos-requires-3 : tie.Need-read-fpos-requires-3
+read-fpos-requires-3 c κs = (start c .pre .0, below c)
 
-pos-in-requires : tie.Need-pos-in-requires
-pos-in-requires c κs = (start (c .before) .pre .0, below (c .before))
+read-pos-requires : tie.Need-read-pos-requires
+read-pos-requires c κs = (start (c .before) .pre .0, below (c .before))
 
 -- its font position and its position as they are read
-module _ (c : tie.After-pos-in) where
+module _ (c : tie.After-read-pos) where
   abbrev edge : tie.After-find-edge
   edge = c .before .before
 
-  font : toZ w32 (ofZ w32 (c .before .fpos-in3 .result)) ≡ fposAt (edgesOf (ws edge)) (edge .find-edge .result)
-  font = kept w32 (c .before .fpos-in3 .result) (c .before .fpos-in3 .ok) ∙ c .before .fpos-in3 .ensures
+  font : toZ w32 (ofZ w32 (c .before .read-fpos3 .result)) ≡ fposAt (edgesOf (ws edge)) (edge .find-edge .result)
+  font = kept w32 (c .before .read-fpos3 .result) (c .before .read-fpos3 .ok) ∙ c .before .read-fpos3 .ensures
 
-  position : toZ w32 (ofZ w32 (c .pos-in .result)) ≡ edgeAt (edgesOf (ws edge)) (edge .find-edge .result) .pos
-  position = kept w32 (c .pos-in .result) (c .pos-in .ok) ∙ c .pos-in .ensures
+  position : toZ w32 (ofZ w32 (c .read-pos .result)) ≡ edgeAt (edgesOf (ws edge)) (edge .find-edge .result) .pos
+  position = kept w32 (c .read-pos .result) (c .read-pos .ok) ∙ c .read-pos .ensures
 
 returns-4 : tie.Need-returns-4
 returns-4 c =
     let p = c .before in
     let s = start (edge p) in
     ap At (position p)
-    ∙ sym (placed (edge p) ∙ place-on (edgesOf (ws (edge p))) (s .args .u) (edge p .find-edge .result) (sym (is (s .fits .u)) ∙ ap (toZ w32) (c .if4 .taken) ∙ font p))
+    ∙ sym (placed (edge p) ∙ place-on (edgesOf (ws (edge p))) (s .args .u) (edge p .find-edge .result)
+    (sym (is (s .fits .u)) ∙ ap (toZ w32) (c .if4 .taken) ∙ font p))
 
 -- ---- between two
-sub-fpos-in-2 : tie.Need-sub-fpos-in-2
-sub-fpos-in-2 c = omega (arith, is-there (edge (c .before)) .behind-one)
+sub-read-fpos-2 : tie.Need-sub-read-fpos-2
+sub-read-fpos-2 c = omega (arith, is-there (edge (c .before)) .behind-one)
 
-fpos-in-requires-4 : tie.Need-fpos-in-requires-4
-fpos-in-requires-4 c κs = let k = edge (c .before) in (start k .pre .0, omega (arith, below k))
+read-fpos-requires-4 : tie.Need-read-fpos-requires-4
+read-fpos-requires-4 c κs = let k = edge (c .before) in (start k .pre .0, omega (arith, below k))
 
-sub-pos-in : tie.Need-sub-pos-in
-sub-pos-in c = omega (arith, is-there (edge (c .before .before)) .behind-one)
+sub-read-pos : tie.Need-sub-read-pos
+sub-read-pos c = omega (arith, is-there (edge (c .before .before)) .behind-one)
 
-pos-in-requires-2 : tie.Need-pos-in-requires-2
-pos-in-requires-2 c κs = let k = edge (c .before .before) in (start k .pre .0, omega (arith, below k))
+read-pos-requires-2 : tie.Need-read-pos-requires-2
+read-pos-requires-2 c κs = let k = edge (c .before .before) in (start k .pre .0, omega (arith, below k))
 
-module _ (c : tie.After-pos-in2) where
-  abbrev at : tie.After-pos-in
+module _ (c : tie.After-read-pos2) where
+  abbrev at : tie.After-read-pos
   at = c .before .before .before
 
   abbrev k : tie.After-find-edge
@@ -179,16 +180,16 @@ module _ (c : tie.After-pos-in2) where
 
   -- u is not on it
   apart : start k .args .u ≡ fposAt (edgesOf (ws k)) (k .find-edge .result) → ⊥
-  apart e = c .before .before .if4 .left (ap (ofZ w32) (e ∙ sym (at .before .fpos-in3 .ensures)))
+  apart e = c .before .before .if4 .left (ap (ofZ w32) (e ∙ sym (at .before .read-fpos3 .ensures)))
 
   around : (fposAt (edgesOf (ws k)) (k .find-edge .result - 1) <ℤ start k .args .u) × (start k .args .u <ℤ fposAt (edgesOf (ws k)) (k .find-edge .result))
   around = strictly (edgesOf (ws k)) (start k .args .u) (k .find-edge .result) (is-there k) apart
 
-  font-before : toZ w32 (ofZ w32 (c .before .fpos-in4 .result)) ≡ fposAt (edgesOf (ws k)) (k .find-edge .result - 1)
-  font-before = kept w32 (c .before .fpos-in4 .result) (c .before .fpos-in4 .ok) ∙ c .before .fpos-in4 .ensures
+  font-before : toZ w32 (ofZ w32 (c .before .read-fpos4 .result)) ≡ fposAt (edgesOf (ws k)) (k .find-edge .result - 1)
+  font-before = kept w32 (c .before .read-fpos4 .result) (c .before .read-fpos4 .ok) ∙ c .before .read-fpos4 .ensures
 
-  position-before : toZ w32 (ofZ w32 (c .pos-in2 .result)) ≡ edgeAt (edgesOf (ws k)) (k .find-edge .result - 1) .pos
-  position-before = kept w32 (c .pos-in2 .result) (c .pos-in2 .ok) ∙ c .pos-in2 .ensures
+  position-before : toZ w32 (ofZ w32 (c .read-pos2 .result)) ≡ edgeAt (edgesOf (ws k)) (k .find-edge .result - 1) .pos
+  position-before = kept w32 (c .read-pos2 .result) (c .read-pos2 .ok) ∙ c .read-pos2 .ensures
 
 between-requires : tie.Need-between-requires
 between-requires c κs =
@@ -212,21 +213,21 @@ place-in-spec =
     tie.close
     (tie.spec
     returns
-    fpos-in-requires
+    read-fpos-requires
     with-edge-requires
     returns-2
-    sub-fpos-in
-    fpos-in-requires-2
+    sub-read-fpos
+    read-fpos-requires-2
     sub-with-edge
     with-edge-requires-2
     returns-3
     find-edge-requires
-    fpos-in-requires-3
-    pos-in-requires
+    read-fpos-requires-3
+    read-pos-requires
     returns-4
-    sub-fpos-in-2
-    fpos-in-requires-4
-    sub-pos-in
-    pos-in-requires-2
+    sub-read-fpos-2
+    read-fpos-requires-4
+    sub-read-pos
+    read-pos-requires-2
     between-requires
     returns-5)

@@ -10,37 +10,39 @@ use Rattle.signed.proofs.Signed.{is}
 use Rattle.signed.proofs.By.{by₃}
 use Rattle.axis.specs.Edge.{edgeAt}
 use Rattle.axis.specs.Limits.{mostUnits, mostPos}
-use Rattle.contours.specs.Steps.{Coordinate}
+use Rattle.weak_contour.specs.Steps.{Coordinate}
 use Rattle.words.proofs.Fields.{kept}
-use Rattle.lent.specs.Lent.{edgesOf}
-use Rattle.edges_in.proofs.Wholes.{edges-len}
+use Rattle.words_call.specs.Lent.{edgesOf}
+use Rattle.words_edge.proofs.Wholes.{edges-len}
 use Rattle.strong.specs.Strong.{movedWith}
 use Rattle.strong_words.proofs.Reading.{opos-word}
 use Rattle.strong_words.proofs.place.with_edge.Statement.{statement}
 use Rattle.strong_words.proofs.place.with_edge.Tie as tie
 
-mul-word-in : tie.Need-mul-word-in
-mul-word-in c = search needs
+mul-read-word : tie.Need-mul-read-word
+mul-read-word c = search needs
 
-add-word-in : tie.Need-add-word-in
-add-word-in c = search needs
+add-read-word : tie.Need-add-read-word
+add-read-word c = search needs
 
-word-in-requires : tie.Need-word-in-requires
-word-in-requires c κs = search needs
+read-word-requires : tie.Need-read-word-requires
+read-word-requires c κs = search needs
 
-pos-in-requires : tie.Need-pos-in-requires
-pos-in-requires c κs = let s = c .before in (s .pre .0, s .pre .2)
+read-pos-requires : tie.Need-read-pos-requires
+read-pos-requires c κs = let s = c .before in (s .pre .0, s .pre .2)
 
 -- the numbers as they are read
-module _ (c : tie.After-pos-in) where
+module _ (c : tie.After-read-pos) where
   abbrev start : tie.Start
   start = c .before .before
 
-  original : toZ w32 (ofZ w32 (c .before .word-in .result)) ≡ edgeAt (edgesOf (start .args .words .now)) (start .args .i) .opos
-  original = let w = c .before .word-in in kept w32 (w .result) (w .ok) ∙ w .ensures ∙ opos-word (start .args .words .now) (start .args .i) (start .pre .0) (start .pre .2)
+  original : toZ w32 (ofZ w32 (c .before .read-word .result)) ≡ edgeAt (edgesOf (start .args .words .now)) (start .args .i) .opos
+  original =
+      let w = c .before .read-word in
+      kept w32 (w .result) (w .ok) ∙ w .ensures ∙ opos-word (start .args .words .now) (start .args .i) (start .pre .0) (start .pre .2)
 
-  position : toZ w32 (ofZ w32 (c .pos-in .result)) ≡ edgeAt (edgesOf (start .args .words .now)) (start .args .i) .pos
-  position = kept w32 (c .pos-in .result) (c .pos-in .ok) ∙ c .pos-in .ensures
+  position : toZ w32 (ofZ w32 (c .read-pos .result)) ≡ edgeAt (edgesOf (start .args .words .now)) (start .args .i) .pos
+  position = kept w32 (c .read-pos .result) (c .read-pos .ok) ∙ c .read-pos .ensures
 
   below : start .args .i < edgesOf (start .args .words .now) .len
   below = omega (arith, edges-len (start .args .words .now), start .pre .2)
@@ -60,4 +62,4 @@ returns c = let b = c .before in by₃ movedWith (c .moved-with .ensures) (is (s
 pub with-edge-spec : {M : Type 1} → statement M
 with-edge-spec =
     tie.close
-    (tie.spec mul-word-in add-word-in word-in-requires pos-in-requires moved-with-requires returns)
+    (tie.spec mul-read-word add-read-word read-word-requires read-pos-requires moved-with-requires returns)

@@ -8,7 +8,7 @@ use borrow.Author.Tests.{not-true, not-false}
 use lib.ListN.{length}
 use Rattle.axis.specs.Refusals.{every}
 use Rattle.axis.proofs.Tests.{every-none, every-more, every-fails, every-done}
-use Rattle.lent.specs.Lent.{edgesOf}
+use Rattle.words_call.specs.Lent.{edgesOf}
 use Rattle.strong.specs.Strong.{strongAt, isPlaced, allPlaced}
 use Rattle.strong_words.proofs.refuse.all_placed.Statement.{statement}
 use Rattle.strong_words.proofs.refuse.all_placed.Tie as tie

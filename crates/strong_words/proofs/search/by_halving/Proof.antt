@@ -10,7 +10,7 @@ use mir.Val.{toZ, ofZ}
 use Rattle.signed.proofs.Signed.{is}
 use Rattle.words.specs.Edge.{edgesIn}
 use Rattle.words.proofs.Fields.{kept}
-use Rattle.lent.specs.Lent.{edgesOf}
+use Rattle.words_call.specs.Lent.{edgesOf}
 use Rattle.strong.specs.Strong.{middle, byHalving, fposAt}
 use Rattle.strong.proofs.Search.{steps-start, step-low, step-on, step-high, steps-end}
 use Rattle.strong_words.proofs.search.by_halving.Statement.{statement}
@@ -35,16 +35,18 @@ back l = toZ w32 (ofZ w32 (l .before .args .u))
 abbrev mid : tie.At-loop Inv-loop μ-loop → ℕ
 mid l = middle (l .loop .low) (l .loop .high)
 
-read : (c : tie.After-fpos-in Inv-loop μ-loop) → toZ w32 (ofZ w32 (c .fpos-in .result)) ≡ fpos (c .before .before) (mid (c .before .before))
-read c = kept w32 (c .fpos-in .result) (c .fpos-in .ok) ∙ c .fpos-in .ensures
+read : (c : tie.After-read-fpos Inv-loop μ-loop) → toZ w32 (ofZ w32 (c .read-fpos .result)) ≡ fpos (c .before .before) (mid (c .before .before))
+read c = kept w32 (c .read-fpos .result) (c .read-fpos .ok) ∙ c .read-fpos .ensures
 
 -- what the test of it tells
-told : (c : tie.After-fpos-in Inv-loop μ-loop) {v : Bool} → ltZ (back (c .before .before)) (toZ w32 (ofZ w32 (c .fpos-in .result))) ≡ v → ltZ (back (c .before .before)) (fpos (c .before .before) (mid (c .before .before))) ≡ v
+told : (c : tie.After-read-fpos Inv-loop μ-loop) {v : Bool} → ltZ (back (c .before .before)) (toZ w32 (ofZ w32 (c .read-fpos .result))) ≡ v
+    → ltZ (back (c .before .before)) (fpos (c .before .before) (mid (c .before .before))) ≡ v
 told c e = sym (ap (ltZ (back (c .before .before))) (read c)) ∙ e
 
 -- what is searched, by u itself
 from-u : (l : tie.At-loop Inv-loop μ-loop)
-    → byHalving (fpos l) (l .before .args .u) (edgesIn (l .before .args .words .now)) 0 (edgesIn (l .before .args .words .now)) ≡ byHalving (fpos l) (back l) (l .loop .high - l .loop .low) (l .loop .low) (l .loop .high)
+    → byHalving (fpos l) (l .before .args .u) (edgesIn (l .before .args .words .now)) 0 (edgesIn (l .before .args .words .now))
+    ≡ byHalving (fpos l) (back l) (l .loop .high - l .loop .low) (l .loop .low) (l .loop .high)
 from-u l = let n = edgesIn (l .before .args .words .now) in ap (λ (z : ℤ). byHalving (fpos l) z n 0 n) (sym (is (l .before .fits .u))) ∙ l .loop .inv .1
 
 loop-holds : tie.Need-loop-holds Inv-loop μ-loop
@@ -53,8 +55,8 @@ loop-holds c = (omega arith, steps-start _ _ _)
 add-mid : tie.Need-add-mid Inv-loop μ-loop
 add-mid c = omega (arith, c .loop-test .taken, c .before .loop .inv .0, c .before .before .pre .few)
 
-fpos-in-requires : tie.Need-fpos-in-requires Inv-loop μ-loop
-fpos-in-requires c κs = (c .before .before .pre, omega (arith, c .loop-test .taken, c .before .loop .inv .0))
+read-fpos-requires : tie.Need-read-fpos-requires Inv-loop μ-loop
+read-fpos-requires c κs = (c .before .before .pre, omega (arith, c .loop-test .taken, c .before .loop .inv .0))
 
 loop-less : tie.Need-loop-less Inv-loop μ-loop
 loop-less c = omega (arith, c .before .before .loop-test .taken)
@@ -78,11 +80,12 @@ loop-less-2 : tie.Need-loop-less-2 Inv-loop μ-loop
 loop-less-2 c = omega (arith, c .before .before .before .loop-test .taken)
 
 -- u is not on the edge
-apart : (c : tie.Else2 Inv-loop μ-loop) → back (c .before .before .before .before) ≡ fpos (c .before .before .before .before) (mid (c .before .before .before .before)) → ⊥
+apart : (c : tie.Else2 Inv-loop μ-loop) → back (c .before .before .before .before)
+    ≡ fpos (c .before .before .before .before) (mid (c .before .before .before .before)) → ⊥
 apart c e =
     let f = c .before .before in
     let s = f .before .before .before in
-    c .if2 .left (ap (ofZ w32) (sym (is (s .fits .u)) ∙ e ∙ sym (f .fpos-in .ensures)))
+    c .if2 .left (ap (ofZ w32) (sym (is (s .fits .u)) ∙ e ∙ sym (f .read-fpos .ensures)))
 
 loop-again-2 : tie.Need-loop-again-2 Inv-loop μ-loop
 loop-again-2 c =
@@ -101,7 +104,7 @@ by-halving-spec =
     μ-loop
     loop-holds
     add-mid
-    fpos-in-requires
+    read-fpos-requires
     loop-less
     loop-again
     returns

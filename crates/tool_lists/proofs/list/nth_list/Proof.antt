@@ -1,7 +1,7 @@
 -- `tool_lists::list::nth_list` is safe: each list has at most so many numbers. Assumes nothing.
 use borrow.Author.Needs.{needs}
 use Prim.Native.Nat.{_+_, _*_, _-_, _≤_}
-use Rattle.lines.specs.Limits.{mostNumbers}
+use Rattle.tool_lines.specs.Limits.{mostNumbers}
 use Rattle.tool_lists.proofs.list.nth_list.Statement.{statement}
 use Rattle.tool_lists.proofs.list.nth_list.Tie as tie
 

@@ -17,7 +17,8 @@ returns : tie.Need-returns
 returns c =
     let f = c .before in
     let s = start f in
-    Arcs.next-found (s .args .touched .now) (s .args .s) (s .args .e) (s .args .p) (s .pre .0) (s .pre .1) (s .pre .3) _ (f .first-touched .ensures) (c .if1 .taken)
+    Arcs.next-found (s .args .touched .now) (s .args .s) (s .args .e) (s .args .p) (s .pre .0) (s .pre .1) (s .pre .3) _ (f .first-touched .ensures)
+    (c .if1 .taken)
 
 first-touched-requires-2 : tie.Need-first-touched-requires-2
 first-touched-requires-2 c κs = let s = start (c .before) in (omega (arith, s .pre), s .pre .2)
@@ -27,7 +28,8 @@ returns-2 c =
     let l = c .before in
     let f = l .before in
     let s = start f in
-    Arcs.next-around (s .args .touched .now) (s .args .s) (s .args .e) (s .args .p) (s .pre .0) (s .pre .1) (s .pre .3) _ _ (f .first-touched .ensures) (omega (arith, l .if1 .left)) (c .first-touched2 .ensures)
+    Arcs.next-around (s .args .touched .now) (s .args .s) (s .args .e) (s .args .p) (s .pre .0) (s .pre .1) (s .pre .3) _ _ (f .first-touched .ensures)
+    (omega (arith, l .if1 .left)) (c .first-touched2 .ensures)
 
 pub next-around-spec : {M : Type 1} → statement M
 next-around-spec = tie.close (tie.spec add-first-touched first-touched-requires returns first-touched-requires-2 returns-2)

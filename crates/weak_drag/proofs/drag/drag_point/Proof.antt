@@ -1,9 +1,10 @@
--- `weak_drag::drag::drag_point` meets its contract: what is not refused is accepted and gentle, its point is there, and so what depends on it is aligned. Assumes nothing.
+-- `weak_drag::drag::drag_point` meets its contract: what is not refused is accepted and gentle, its point is there, and so what depends on it is aligned.
+-- Assumes nothing.
 use borrow.Author.Needs.{needs}
 use mathlib.Core.Path.{_≡_}
 use native.Mathlib.Omega.{arith}
 use Rattle.refusals.specs.Refusal.{refusal}
-use Rattle.outline.proofs.Refusals.{accepted, accepted-gentle}
+use Rattle.weak.proofs.Refusals.{accepted, accepted-gentle}
 use Rattle.weak_drag.specs.Drag.{dragTests}
 use Rattle.weak_drag.proofs.Refusals.{drag-there, drag-accepted}
 use Rattle.weak_drag.proofs.Drags.{drag-refused, drag-done}
@@ -24,7 +25,8 @@ returns c =
     let a = start (c .before) .args in
     drag-refused (a .originals .now) (a .currents .now) (a .touched .now) (a .ends .now) (a .point) _ (c .before .drag-refusal .ensures) (c .if1 .taken)
 
-none-refused : (c : tie.Else1) → let a = start (c .before) .args in refusal (dragTests (a .originals .now) (a .currents .now) (a .touched .now) (a .ends .now) (a .point)) ≡ 0
+none-refused : (c : tie.Else1) → let a =
+    start (c .before) .args in refusal (dragTests (a .originals .now) (a .currents .now) (a .touched .now) (a .ends .now) (a .point)) ≡ 0
 none-refused c = omega (arith, c .before .drag-refusal .ensures, c .if1 .left)
 
 refit-requires : tie.Need-refit-requires
@@ -33,7 +35,11 @@ refit-requires c κs =
     let a = start (e .before) .args in
     let z = drag-accepted (a .originals .now) (a .currents .now) (a .touched .now) (a .ends .now) (a .point) (none-refused e) in (
       accepted (a .originals .now) (a .currents .now) (a .touched .now) (a .ends .now) z,
-      (accepted-gentle (a .originals .now) (a .currents .now) (a .touched .now) (a .ends .now) z, drag-there (a .originals .now) (a .currents .now) (a .touched .now) (a .ends .now) (a .point) (none-refused e)),
+      (
+        accepted-gentle (a .originals .now) (a .currents .now) (a .touched .now) (a .ends .now) z,
+        drag-there (a .originals .now) (a .currents .now)
+            (a .touched .now) (a .ends .now) (a .point) (none-refused e),
+      ),
     )
 
 same-length-2 : tie.Need-same-length-2

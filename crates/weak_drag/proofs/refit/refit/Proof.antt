@@ -7,9 +7,9 @@ use mathlib.Core.Option.{some}
 use Prim.Native.Nat.{ℕ, _+_, _-_, _≤_, _<_}
 use lib.ListN.{length, getD}
 use lib.IntN.{ℤ}
-use Rattle.contours.specs.Steps.{Coordinates}
-use Rattle.contours.proofs.Searches.{marked}
-use Rattle.outline.specs.Weak.{contourOf}
+use Rattle.weak_contour.specs.Steps.{Coordinates}
+use Rattle.weak_contour.proofs.Searches.{marked}
+use Rattle.weak.specs.Weak.{contourOf}
 use Rattle.weak_known.specs.Walks.{contour, GentleOn}
 use Rattle.weak_known.proofs.Rounds.{Passed, passed-none, passed-next, turn-high, on-contour, on-none}
 use Rattle.weak_drag.specs.Steps.{DragDone}
@@ -54,7 +54,9 @@ module _ (c : tie.After-wide Inv-loop μ-loop) where
   on = on-contour t es (l .loop .start) (l .loop .k) (c .wide .result + 1) more end-is (l .loop .inv .1)
 
   gentle : GentleOn (st .args .originals .now) (st .args .currents .now) t (l .loop .start) (c .wide .result + 1)
-  gentle = gentle-here (st .args .originals .now) (st .args .currents .now) t es (l .loop .start) (c .wide .result + 1) (st .pre .1 .0) (omega (arith, high, st .pre .0 .marks-length)) on
+  gentle =
+      gentle-here (st .args .originals .now) (st .args .currents .now) t es (l .loop .start) (c .wide .result + 1) (st .pre .1 .0)
+      (omega (arith, high, st .pre .0 .marks-length)) on
 
 mul-wide : tie.Need-mul-wide Inv-loop μ-loop
 mul-wide c = search needs
@@ -97,9 +99,11 @@ returns c =
     let w = t1 .before in
     let s = st w in
     let v = l w .loop in
-    done-contour (t w) (es w) (length (s .args .originals .now)) (s .args .p) (s .pre .0 .ends) (s .args .originals .now) (s .args .currents .now) (v .start) (w .wide .result + 1)
+    done-contour (t w) (es w) (length (s .args .originals .now)) (s .args .p) (s .pre .0 .ends) (s .args .originals .now) (s .args .currents .now) (v .start)
+    (w .wide .result + 1)
     (on w (s .args .p) (v .inv .2) (t1 .if1 .taken)) _
-    (refitted-as (s .args .originals .now) (s .args .currents .now) (v .currents) (t w) (v .start) (w .wide .result + 1) (s .args .p) _ (v .inv .0) (d .refit-contour .ensures))
+    (refitted-as (s .args .originals .now) (s .args .currents .now) (v .currents) (t w) (v .start) (w .wide .result + 1) (s .args .p) _ (v .inv .0)
+    (d .refit-contour .ensures))
 
 add-k : tie.Need-add-k Inv-loop μ-loop
 add-k c = search needs

@@ -85,7 +85,8 @@ returns-2 c =
     let s = t .before in
     let a = s .args in
     let w = s .pre .1 .0 in
-    arc-seam (a .originals .now) (a .currents .now) (a .s) (a .e) (a .a) (a .b) (w .0) (w .1) (w .2) (w .3) (around t) _ (d .iup-interpolate2 .ensures) _ (u .iup-interpolate3 .ensures)
+    arc-seam (a .originals .now) (a .currents .now) (a .s) (a .e) (a .a) (a .b) (w .0) (w .1) (w .2) (w .3) (around t) _ (d .iup-interpolate2 .ensures) _
+    (u .iup-interpolate3 .ensures)
 
 pub refit-arc-spec : {M : Type 1} → statement M
 refit-arc-spec =

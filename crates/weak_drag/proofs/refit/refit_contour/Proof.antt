@@ -7,7 +7,7 @@ use mir.Syntax.{w32}
 use Rattle.signed.specs.Equality.{eqZ}
 use Rattle.signed.proofs.Signed.{is, fits-in}
 use Rattle.signed.proofs.By.{by₂}
-use Rattle.contours.specs.Contour.{at, refs}
+use Rattle.weak_contour.specs.Contour.{at, refs}
 use Rattle.weak_known.proofs.Agreeing.{steep-reads}
 use Rattle.weak_drag.specs.Steps.{Arc}
 use Rattle.weak_drag.proofs.Arcs.{arc-gentle}
@@ -45,7 +45,8 @@ alone c =
     let a = start (c .before) .args in
     subst (λ (x : ℕ). Arc (a .touched .now) (a .s) (a .e) (a .p) x) (c .if1 .taken) (c .before .next-around .ensures)
 
-still : (c : tie.After-is-still) → let a = start (c .before .before .before .before) .args in c .is-still .result ≡ eqZ (at (a .currents .now) (a .p)) (at (a .originals .now) (a .p))
+still : (c : tie.After-is-still) → let a =
+    start (c .before .before .before .before) .args in c .is-still .result ≡ eqZ (at (a .currents .now) (a .p)) (at (a .originals .now) (a .p))
 still c =
     let s = start (c .before .before .before .before) in
     by₂ eqZ (c .is-still .ensures) (is (fits-in w32 (s .pre .1 .1 .1 (s .args .p)) tt tt)) (is (fits-in w32 (s .pre .1 .1 .0 (s .args .p)) tt tt))
@@ -65,7 +66,16 @@ refit-arc-requires c κs =
     let w = s .pre .1 .0 in
     let x = s .pre .1 .1 in (
       (s .pre .0 .0, w .2),
-      ((w .0, w .1, w .0, w .1), (x .0, x .1 (a .p), x .1 (a .p), arc-gentle (a .touched .now) (a .s) (a .e) (a .p) (a .p) (alone t) (a .originals .now) (a .currents .now) (x .2))),
+      (
+        (w .0, w .1, w .0, w .1),
+        (
+          x .0,
+          x .1 (a .p),
+          x .1 (a .p),
+          arc-gentle (a .touched .now) (a .s) (a .e) (a .p) (a .p) (alone t) (a .originals .now)
+              (a .currents .now) (x .2),
+        ),
+      ),
     )
 
 same-length : tie.Need-same-length
@@ -95,7 +105,16 @@ refit-arc-requires-2 c κs =
     let x = s .pre .1 .1 in
     let r = n .next-around .ensures in (
       (s .pre .0 .0, w .2),
-      ((w .0, w .1, r .to-low, r .to-high), (x .0, x .1 (a .p), x .1 (n .next-around .result), arc-gentle (a .touched .now) (a .s) (a .e) (a .p) (n .next-around .result) r (a .originals .now) (a .currents .now) (x .2))),
+      (
+        (w .0, w .1, r .to-low, r .to-high),
+        (
+          x .0,
+          x .1 (a .p),
+          x .1 (n .next-around .result),
+          arc-gentle (a .touched .now) (a .s) (a .e) (a .p)
+              (n .next-around .result) r (a .originals .now) (a .currents .now) (x .2),
+        ),
+      ),
     )
 
 refit-arc-requires-3 : tie.Need-refit-arc-requires-3
@@ -121,7 +140,8 @@ refit-arc-requires-3 c κs =
           x .0,
           rw kl (x .1 l),
           rw kp (x .1 p),
-          λ i u. steep-reads (a .originals .now) (a .currents .now) _ i (refs l p) kl kp ∙ arc-gentle (a .touched .now) (a .s) (a .e) l p y (a .originals .now) (a .currents .now) (x .2) i u,
+          λ i u. steep-reads (a .originals .now) (a .currents .now) _ i (refs l p) kl kp
+              ∙ arc-gentle (a .touched .now) (a .s) (a .e) l p y (a .originals .now) (a .currents .now) (x .2) i u,
         ),
       ),
     )
@@ -137,7 +157,8 @@ returns-3 c =
     let e = q .before in
     let n = e .before in
     let a = start n .args in
-    refit-two (a .originals .now) (a .currents .now) (a .touched .now) (a .s) (a .e) (a .p) (n .next-around .result) (q .prior-around .result) (n .next-around .ensures) (e .if1 .left)
+    refit-two (a .originals .now) (a .currents .now) (a .touched .now) (a .s) (a .e) (a .p) (n .next-around .result) (q .prior-around .result)
+    (n .next-around .ensures) (e .if1 .left)
     (q .prior-around .ensures) _ _ (d .refit-arc2 .ensures) (u .refit-arc3 .ensures)
 
 pub refit-contour-spec : {M : Type 1} → statement M

@@ -5,8 +5,8 @@ use native.Mathlib.Omega.{arith}
 use mathlib.Core.Path.{_≡_, refl, sym, _∙_}
 use mathlib.Core.List.{List}
 use Rattle.refusals.specs.Refusal.{Test, refusal, badIndex}
-use Rattle.outline.specs.Weak.{listTests, numberTests}
-use Rattle.outline.proofs.Steepness.{near-numbers}
+use Rattle.weak.specs.Weak.{listTests, numberTests}
+use Rattle.weak.proofs.Steepness.{near-numbers}
 use Rattle.weak_drag.specs.Drag.{dragTests}
 use Rattle.weak_known.proofs.Inserted.{front-refused, within-refused, behind-decides}
 use Rattle.weak_drag.proofs.refuse.drag_refusal.Statement.{statement}
@@ -42,7 +42,9 @@ returns-2 c =
     sym (within-refused (lists s) (numbers s) badIndex _ refl (passed e) (sym (i .is-there .ensures) ∙ not-true _ (c .if2 .taken)))
 
 -- where the point is there the numbers decide
-numbers-decide : (c : tie.Else2) → let s = start (c .before .before .before) in refusal (dragTests (s .args .originals .now) (s .args .currents .now) (s .args .touched .now) (s .args .ends .now) (s .args .p)) ≡ refusal (numbers s)
+numbers-decide : (c : tie.Else2) → let s =
+    start (c .before .before .before) in refusal
+    (dragTests (s .args .originals .now) (s .args .currents .now) (s .args .touched .now) (s .args .ends .now) (s .args .p)) ≡ refusal (numbers s)
 numbers-decide c =
     let i = c .before in
     let e = i .before in
@@ -56,7 +58,8 @@ returns-3 : tie.Need-returns-3
 returns-3 c =
     let n = c .before in
     let a = start (n .before .before .before .before) .args in
-    sym (near-numbers (a .originals .now) (a .currents .now) (a .touched .now) (a .ends .now) (sym (n .all-near .ensures) ∙ c .if3 .taken)) ∙ sym (numbers-decide (n .before))
+    sym (near-numbers (a .originals .now) (a .currents .now) (a .touched .now) (a .ends .now) (sym (n .all-near .ensures) ∙ c .if3 .taken))
+    ∙ sym (numbers-decide (n .before))
 
 number-refusal-requires : tie.Need-number-refusal-requires
 number-refusal-requires c κs = passed (c .before .before .before .before)

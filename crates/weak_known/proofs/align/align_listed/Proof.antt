@@ -5,8 +5,8 @@ use borrow.Author.Tests.{not-true, not-false}
 use mathlib.Core.Path.{_≡_, sym, _∙_}
 use Prim.Native.Nat.{_+_, _-_, _≤_, _<_}
 use lib.ListN.{length}
-use Rattle.outline.proofs.Refusals.{end-at}
-use Rattle.outline.proofs.Contours.{Sofar, sofar-none, sofar-all}
+use Rattle.weak.proofs.Refusals.{end-at}
+use Rattle.weak.proofs.Contours.{Sofar, sofar-none, sofar-all}
 use Rattle.weak_known.specs.Walks.{Says, CoordinatesOn}
 use Rattle.weak_known.proofs.Listed.{low, high, coordinates-on, gentle-on, says, sofar-round}
 use Rattle.weak_known.proofs.Fitting.{shown-lone, shown-two}
@@ -58,12 +58,14 @@ show-two-requires c κs =
     (omega (arith, x .low), omega (arith, x .high, r .0), omega (arith, x .high, r .1), omega (arith, x .high, x .points))
 
 -- what matching lists say of the turn's contour
-said : (w : tie.After-wide Inv-loop μ-loop) → let a = entry w .args in Says (a .touched .now) (a .before .now) (a .behind .now) (lo w .loop .start) (w .wide .result + 1)
+said : (w : tie.After-wide Inv-loop μ-loop) → let a =
+    entry w .args in Says (a .touched .now) (a .before .now) (a .behind .now) (lo w .loop .start) (w .wide .result + 1)
 said w =
     let s = entry w in
     let l = lo w .loop in
     let a = s .args in
-    says (a .originals .now) (a .currents .now) (a .touched .now) (a .ends .now) (l .k) (l .start) (w .wide .result) (l .currents) (w .wide .ensures) (w .before .before .loop-test .taken) (l .inv) (a .before .now) (a .behind .now) (within w .marks-length) (s .pre .1 .1 .2)
+    says (a .originals .now) (a .currents .now) (a .touched .now) (a .ends .now) (l .k) (l .start) (w .wide .result) (l .currents) (w .wide .ensures)
+    (w .before .before .loop-test .taken) (l .inv) (a .before .now) (a .behind .now) (within w .marks-length) (s .pre .1 .1 .2)
 
 -- its currents are as they came
 accepted : (w : tie.After-wide Inv-loop μ-loop) → CoordinatesOn (lo w .loop .currents) (lo w .loop .start) (w .wide .result + 1)
@@ -71,7 +73,8 @@ accepted w =
     let s = entry w in
     let l = lo w .loop in
     let a = s .args in
-    coordinates-on (a .originals .now) (a .currents .now) (a .touched .now) (a .ends .now) (l .k) (l .start) (w .wide .result) (l .currents) (w .wide .ensures) (w .before .before .loop-test .taken) (l .inv) (s .pre .0 .currents)
+    coordinates-on (a .originals .now) (a .currents .now) (a .touched .now) (a .ends .now) (l .k) (l .start) (w .wide .result) (l .currents)
+    (w .wide .ensures) (w .before .before .loop-test .taken) (l .inv) (s .pre .0 .currents)
 
 align-lone-requires : tie.Need-align-lone-requires Inv-loop μ-loop
 align-lone-requires c κs =
@@ -82,7 +85,12 @@ align-lone-requires c κs =
     let a = s .args in
     let x = within w in (
       (x .now-length, x .marks-length, omega (arith, x .low), omega (arith, x .high)),
-      (s .pre .0 .originals, accepted w, shown-lone (a .touched .now) (lo w .loop .start) (w .wide .result + 1) (omega (arith, x .low)) (omega (arith, x .high, x .points)) (a .before .now) (a .behind .now) (sym (f .show-two .ensures) ∙ not-true _ (h .if1 .taken)) (said w)),
+      (
+        s .pre .0 .originals,
+        accepted w,
+        shown-lone (a .touched .now) (lo w .loop .start) (w .wide .result + 1) (omega (arith, x .low))
+            (omega (arith, x .high, x .points)) (a .before .now) (a .behind .now) (sym (f .show-two .ensures) ∙ not-true _ (h .if1 .taken)) (said w),
+      ),
     )
 
 loop-less : tie.Need-loop-less Inv-loop μ-loop
@@ -94,7 +102,8 @@ loop-again c =
     let s = entry w in
     let l = lo w .loop in
     let a = s .args in
-    sofar-round (a .originals .now) (a .currents .now) (a .touched .now) (a .ends .now) (l .k) (l .start) (w .wide .result) (l .currents) (w .wide .ensures) (w .before .before .loop-test .taken) (l .inv) _
+    sofar-round (a .originals .now) (a .currents .now) (a .touched .now) (a .ends .now) (l .k) (l .start) (w .wide .result) (l .currents) (w .wide .ensures)
+    (w .before .before .loop-test .taken) (l .inv) _
     (s .pre .0 .currents-length) (c .before .align-lone .ensures)
 
 align-round-requires : tie.Need-align-round-requires Inv-loop μ-loop
@@ -112,9 +121,11 @@ align-round-requires c κs =
         (
           (s .pre .0 .originals, accepted w),
           (
-            gentle-on (a .originals .now) (a .currents .now) (a .touched .now) (a .ends .now) (l .k) (l .start) (w .wide .result) (l .currents) (w .wide .ensures) (w .before .before .loop-test .taken) (l .inv) (s .pre .1 .0),
+            gentle-on (a .originals .now) (a .currents .now) (a .touched .now) (a .ends .now) (l .k) (l .start) (w .wide .result) (l .currents)
+                (w .wide .ensures) (w .before .before .loop-test .taken) (l .inv) (s .pre .1 .0),
             (
-              shown-two (a .touched .now) (l .start) (w .wide .result + 1) (omega (arith, x .low)) (omega (arith, x .high, x .points)) (a .before .now) (a .behind .now) (sym (f .show-two .ensures) ∙ not-false _ (h .if1 .left)) (said w),
+              shown-two (a .touched .now) (l .start) (w .wide .result + 1) (omega (arith, x .low)) (omega (arith, x .high, x .points)) (a .before .now)
+                  (a .behind .now) (sym (f .show-two .ensures) ∙ not-false _ (h .if1 .left)) (said w),
               said w,
             ),
           ),
@@ -131,7 +142,8 @@ loop-again-2 c =
     let s = entry w in
     let l = lo w .loop in
     let a = s .args in
-    sofar-round (a .originals .now) (a .currents .now) (a .touched .now) (a .ends .now) (l .k) (l .start) (w .wide .result) (l .currents) (w .wide .ensures) (w .before .before .loop-test .taken) (l .inv) _
+    sofar-round (a .originals .now) (a .currents .now) (a .touched .now) (a .ends .now) (l .k) (l .start) (w .wide .result) (l .currents) (w .wide .ensures)
+    (w .before .before .loop-test .taken) (l .inv) _
     (s .pre .0 .currents-length) (c .before .align-round .ensures)
 
 same-length : tie.Need-same-length Inv-loop μ-loop

@@ -14,8 +14,14 @@ returns c = lone-still _ _ _ _ _ _ (omega arith) (c .before .first-touched .ensu
 iup-shift-requires : tie.Need-iup-shift-requires
 iup-shift-requires c κs =
     let s = c .before .before .before .before in
-    let a = s .args in
-    ((s .pre .0 .0, s .pre .0 .2, s .pre .0 .3, omega arith), (s .pre .1 .0, s .pre .1 .1 _ (lone-low (a .originals .now) (a .currents .now) (a .touched .now) (a .s) (a .e) _ (omega arith) (c .before .before .first-touched .ensures) (omega arith)) (omega arith)))
+    let a = s .args in (
+      (s .pre .0 .0, s .pre .0 .2, s .pre .0 .3, omega arith),
+      (
+        s .pre .1 .0,
+        s .pre .1 .1 _ (lone-low (a .originals .now) (a .currents .now) (a .touched .now) (a .s) (a .e) _ (omega arith)
+            (c .before .before .first-touched .ensures) (omega arith)) (omega arith),
+      ),
+    )
 
 same-length : tie.Need-same-length
 same-length c = search needs

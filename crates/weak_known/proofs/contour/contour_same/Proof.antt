@@ -23,7 +23,8 @@ returns c =
     let s = start w in
     let a = s .args in
     c .lone-same .ensures
-    ∙ lone-decides (a .touched .now) (a .s) (a .e) (s .pre .0) (s .pre .4) (a .before .now) (a .behind .now) (sym (w .show-two .ensures) ∙ not-true _ (c .before .if1 .taken))
+    ∙ lone-decides (a .touched .now) (a .s) (a .e) (s .pre .0) (s .pre .4) (a .before .now) (a .behind .now)
+    (sym (w .show-two .ensures) ∙ not-true _ (c .before .if1 .taken))
 
 -- the ends show two points
 two : (c : tie.Else1) → let a = start (c .before) .args in showTwo (a .before .now) (a .behind .now) (a .s) (a .e) ≡ true
@@ -37,7 +38,8 @@ returns-2 c =
     let e = c .before .before in
     let s = start (e .before) in
     let a = s .args in
-    seam-decides (a .touched .now) (a .s) (a .e) (s .pre .0) (s .pre .4) (a .before .now) (a .behind .now) (two e) (sym (c .before .seam-same .ensures) ∙ not-true _ (c .if2 .taken))
+    seam-decides (a .touched .now) (a .s) (a .e) (s .pre .0) (s .pre .4) (a .before .now) (a .behind .now) (two e)
+    (sym (c .before .seam-same .ensures) ∙ not-true _ (c .if2 .taken))
 
 pairs-same-requires : tie.Need-pairs-same-requires
 pairs-same-requires c κs = search needs
@@ -49,7 +51,8 @@ returns-3 c =
     let s = start (e .before) in
     let a = s .args in
     c .pairs-same .ensures
-    ∙ fits-decide (a .touched .now) (a .s) (a .e) (s .pre .0) (s .pre .4) (a .before .now) (a .behind .now) (two e) (sym (m .seam-same .ensures) ∙ not-false _ (c .before .if2 .left))
+    ∙ fits-decide (a .touched .now) (a .s) (a .e) (s .pre .0) (s .pre .4) (a .before .now) (a .behind .now) (two e)
+    (sym (m .seam-same .ensures) ∙ not-false _ (c .before .if2 .left))
 
 pub contour-same-spec : {M : Type 1} → statement M
 contour-same-spec =

@@ -10,13 +10,15 @@ use Rattle.weak_known.proofs.contour.contour_write.Tie as tie
 
 returns : tie.Need-returns
 returns c =
+    let at-plain-write = c .before .before .before .before .before .before in
     let h = c .before .before .before .before .before .before .before .before in
     let l = h .before in
     let s = l .before .before .before .before .before in
     let t = s .args .touched .now in
     let ef = l .before .first-touched .ensures in
     let ep = l .last-touched .ensures in (
-      put-by _ _ _ _ _ _ (lone-is-before t (s .args .s) (s .args .e) _ _ ef ep (h .if1 .taken)) (c .before .before .before .before .before .before .plain-write .ensures),
+      put-by _ _ _ _ _ _ (lone-is-before t (s .args .s) (s .args .e) _ _ ef ep (h .if1 .taken))
+          (at-plain-write .plain-write .ensures),
       put-by _ _ _ _ _ _ (lone-is-behind t (s .args .s) (s .args .e) _ _ ef ep (h .if1 .taken)) (c .before .before .plain-write2 .ensures),
     )
 
@@ -41,8 +43,10 @@ returns-2 c =
     let t = s .args .touched .now in
     let ef = l .before .first-touched .ensures in
     let ep = l .last-touched .ensures in (
-      put-by _ _ _ _ _ _ (λ i a b. ap (λ (z : ℕ). priorAt t (s .args .s) z i) (w .before .narrow .ensures) ∙ more-is-before t (s .args .s) (s .args .e) _ _ ef ep (h .if1 .left) i a b) (w .prior-write .ensures),
-      put-by _ _ _ _ _ _ (λ i a b. ap (λ (z : ℕ). laterAt t (s .args .e) z i) (c .before .before .before .narrow2 .ensures) ∙ more-is-behind t (s .args .s) (s .args .e) _ _ ef ep (h .if1 .left) i a b) (c .before .before .later-write .ensures),
+      put-by _ _ _ _ _ _ (λ i a b. ap (λ (z : ℕ). priorAt t (s .args .s) z i) (w .before .narrow .ensures)
+          ∙ more-is-before t (s .args .s) (s .args .e) _ _ ef ep (h .if1 .left) i a b) (w .prior-write .ensures),
+      put-by _ _ _ _ _ _ (λ i a b. ap (λ (z : ℕ). laterAt t (s .args .e) z i) (c .before .before .before .narrow2 .ensures)
+          ∙ more-is-behind t (s .args .s) (s .args .e) _ _ ef ep (h .if1 .left) i a b) (c .before .before .later-write .ensures),
     )
 
 first-touched-requires : tie.Need-first-touched-requires

@@ -47,7 +47,13 @@ shared-slice-read-if1 : tie.Need-shared-slice-read-if1
 shared-slice-read-if1 c =
     let s = start (c .before) in
     let a = s .args in
-    omega (arith, c .before .wide .ensures, first-is (c .before), shown-in (a .touched .now) (a .s) (a .e) (s .pre .0 .0) (s .pre .0 .4) (a .before .now) (a .behind .now) (s .pre .1))
+    omega (
+      arith,
+      c .before .wide .ensures,
+      first-is (c .before),
+      shown-in (a .touched .now) (a .s) (a .e) (s .pre .0 .0) (s .pre .0 .4) (a .before .now)
+          (a .behind .now) (s .pre .1),
+    )
 
 returns : tie.Need-returns
 returns c =
@@ -93,7 +99,8 @@ returns-2 c =
     let e = n .before .before .before in
     let w = e .before .before in
     let a = start w .args in
-    seam-by (a .before .now) (a .behind .now) (a .s) (a .e) (a .touched .now) _ _ _ _ _ _ (first-is w) (last-is w) (λ z. e .if1 .left (ap (λ (k : ℕ). getD (a .touched .now) k 0) (w .wide .ensures) ∙ z))
+    seam-by (a .before .now) (a .behind .now) (a .s) (a .e) (a .touched .now) _ _ _ _ _ _ (first-is w) (last-is w)
+    (λ z. e .if1 .left (ap (λ (k : ℕ). getD (a .touched .now) k 0) (w .wide .ensures) ∙ z))
     (n .number .ensures) (y .number2 .ensures) (x .same .ensures) (c .same2 .ensures)
 
 pub seam-same-spec : {M : Type 1} → statement M

@@ -51,7 +51,8 @@ returns-2 : tie.Need-returns-2
 returns-2 c = let e = c .before in let l = e .before in two-same _ _ _ _ _ _ (first-is l) (last-is l) (omega (arith, e .if1 .left)) (c .if2 .taken)
 
 returns-3 : tie.Need-returns-3
-returns-3 c = let e = c .before in let l = e .before in two-rest _ _ _ _ _ _ (first-is l) (last-is l) (omega (arith, e .if1 .left)) (omega (arith, c .if2 .left))
+returns-3 c =
+    let e = c .before in let l = e .before in two-rest _ _ _ _ _ _ (first-is l) (last-is l) (omega (arith, e .if1 .left)) (omega (arith, c .if2 .left))
 
 pub show-two-spec : {M : Type 1} → statement M
 show-two-spec =

@@ -50,7 +50,8 @@ returns c =
     let w = c .before .before in
     let v = l w .loop in
     let s = st w in
-    sym (v .inv .1 ∙ left-fails (s .args .touched .now) (s .args .ends .now) (s .args .before .now) (s .args .behind .now) (v .s) (v .k) (w .wide .result + 1) (more w) (end-is w) (v .inv .0) _
+    sym (v .inv .1 ∙ left-fails (s .args .touched .now) (s .args .ends .now) (s .args .before .now) (s .args .behind .now) (v .s) (v .k) (w .wide .result + 1)
+    (more w) (end-is w) (v .inv .0) _
     (c .before .contour-same .ensures) (not-true _ (c .if1 .taken)))
 
 loop-again : tie.Need-loop-again Inv-loop μ-loop
@@ -59,22 +60,27 @@ loop-again c =
     let v = l w .loop in
     let s = st w in (
       passed-next (s .args .touched .now) (s .args .ends .now) (v .s) (v .k) (w .wide .result + 1) (more w) (end-is w) (v .inv .0),
-      v .inv .1 ∙ left-next (s .args .touched .now) (s .args .ends .now) (s .args .before .now) (s .args .behind .now) (v .s) (v .k) (w .wide .result + 1) (more w) (end-is w) (v .inv .0) _
+      v .inv .1 ∙ left-next (s .args .touched .now) (s .args .ends .now) (s .args .before .now) (s .args .behind .now) (v .s) (v .k) (w .wide .result + 1)
+          (more w) (end-is w) (v .inv .0) _
           (c .before .contour-same .ensures) (not-false _ (c .if1 .left)),
     )
 
 plain-same-requires : tie.Need-plain-same-requires Inv-loop μ-loop
-plain-same-requires c κs = let p = c .before .before .before .before .before .before .pre .0 in let w = c .before .loop .inv .0 .within in (omega arith, omega arith, omega arith)
+plain-same-requires c κs =
+    let p = c .before .before .before .before .before .before .pre .0 in let w = c .before .loop .inv .0 .within in (omega arith, omega arith, omega arith)
 
 plain-same-requires-2 : tie.Need-plain-same-requires-2 Inv-loop μ-loop
-plain-same-requires-2 c κs = let p = c .before .before .before .before .before .before .before .pre .0 in let w = c .before .before .loop .inv .0 .within in (omega arith, omega arith, omega arith)
+plain-same-requires-2 c κs =
+    let p = c .before .before .before .before .before .before .before .pre .0 in
+    let w = c .before .before .loop .inv .0 .within in (omega arith, omega arith, omega arith)
 
 returns-2 : tie.Need-returns-2 Inv-loop μ-loop
 returns-2 c =
     let a = c .before .before in
     let v = a .before .loop in
     let s = a .before .before .before .before .before .before in
-    left-end (s .args .touched .now) (s .args .ends .now) (s .args .before .now) (s .args .behind .now) (v .s) (v .k) _ _ (v .inv .0) (a .loop-test .left) (c .before .plain-same .ensures) (c .plain-same2 .ensures)
+    left-end (s .args .touched .now) (s .args .ends .now) (s .args .before .now) (s .args .behind .now) (v .s) (v .k) _ _ (v .inv .0) (a .loop-test .left)
+    (c .before .plain-same .ensures) (c .plain-same2 .ensures)
     ∙ sym (v .inv .1)
 
 mul-wide : tie.Need-mul-wide Inv-loop μ-loop

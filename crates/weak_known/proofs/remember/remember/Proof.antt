@@ -14,7 +14,8 @@ use Rattle.weak_known.proofs.remember.remember.Statement.{statement}
 use Rattle.weak_known.proofs.remember.remember.Tie as tie
 
 abbrev Inv-loop : tie.InvT-loop
-Inv-loop touched ends before₀ behind₀ n s₀ k₀ before behind s k = Passed touched ends s k × Put (beforeAt touched ends) 0 s before₀ before × Put (behindAt touched ends) 0 s behind₀ behind
+Inv-loop touched ends before₀ behind₀ n s₀ k₀ before behind s k =
+    Passed touched ends s k × Put (beforeAt touched ends) 0 s before₀ before × Put (behindAt touched ends) 0 s behind₀ behind
 
 abbrev μ-loop : tie.MeasureT-loop
 μ-loop touched ends before₀ behind₀ n s₀ k₀ before behind s k = length ends - k
@@ -62,8 +63,10 @@ loop-again c =
     let t = s .args .touched .now in
     let es = s .args .ends .now in (
       passed-next t es (v .s) (v .k) (w .wide .result + 1) (more w) (end-is w) (v .inv .0),
-      put-then _ _ _ _ _ _ _ _ (omega arith) (omega (arith, low w)) (v .inv .1) (before-is t es (v .s) (v .k) (w .wide .result + 1) (more w) (end-is w) (v .inv .0)) (u .contour-write .ensures .0),
-      put-then _ _ _ _ _ _ _ _ (omega arith) (omega (arith, low w)) (v .inv .2) (behind-is t es (v .s) (v .k) (w .wide .result + 1) (more w) (end-is w) (v .inv .0)) (u .contour-write .ensures .1),
+      put-then _ _ _ _ _ _ _ _ (omega arith) (omega (arith, low w)) (v .inv .1)
+          (before-is t es (v .s) (v .k) (w .wide .result + 1) (more w) (end-is w) (v .inv .0)) (u .contour-write .ensures .0),
+      put-then _ _ _ _ _ _ _ _ (omega arith) (omega (arith, low w)) (v .inv .2)
+          (behind-is t es (v .s) (v .k) (w .wide .result + 1) (more w) (end-is w) (v .inv .0)) (u .contour-write .ensures .1),
     )
 
 plain-write-requires : tie.Need-plain-write-requires Inv-loop μ-loop
@@ -89,8 +92,10 @@ returns c =
     let s = f .before .before .before .before .before .before in
     let t = s .args .touched .now in
     let es = s .args .ends .now in (
-      put-then _ _ _ _ _ _ _ _ (omega arith) (v .inv .0 .within) (v .inv .1) (λ i a b. plain-before t es i (on-none t es (v .s) (v .k) i (v .inv .0) (f .loop-test .left) a)) (x1 .plain-write .ensures),
-      put-then _ _ _ _ _ _ _ _ (omega arith) (v .inv .0 .within) (v .inv .2) (λ i a b. plain-behind t es i (on-none t es (v .s) (v .k) i (v .inv .0) (f .loop-test .left) a)) (x2 .plain-write2 .ensures),
+      put-then _ _ _ _ _ _ _ _ (omega arith) (v .inv .0 .within) (v .inv .1)
+          (λ i a b. plain-before t es i (on-none t es (v .s) (v .k) i (v .inv .0) (f .loop-test .left) a)) (x1 .plain-write .ensures),
+      put-then _ _ _ _ _ _ _ _ (omega arith) (v .inv .0 .within) (v .inv .2)
+          (λ i a b. plain-behind t es i (on-none t es (v .s) (v .k) i (v .inv .0) (f .loop-test .left) a)) (x2 .plain-write2 .ensures),
     )
 
 same-length : tie.Need-same-length Inv-loop μ-loop

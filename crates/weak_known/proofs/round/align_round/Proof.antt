@@ -4,20 +4,36 @@ use native.Mathlib.Omega.{arith}
 use mathlib.Core.Path.{_≡_, refl, _∙_}
 use Prim.Native.Nat.{ℕ, _-_, _≤_, _<_}
 use lib.ListN.{length, getD}
-use Rattle.contours.specs.Contour.{at, refs, weakAt}
-use Rattle.contours.specs.Steps.{Coordinate, Wrote, GentleRefs}
-use Rattle.contours.proofs.Writing.{wrote-none}
+use Rattle.weak_contour.specs.Contour.{at, refs, weakAt}
+use Rattle.weak_contour.specs.Steps.{Coordinate, Wrote, GentleRefs}
+use Rattle.weak_contour.proofs.Writing.{wrote-none}
 use mathlib.Core.Bool.{cond}
 use mathlib.Core.List.{List}
 use lib.Dec.{ltb}
 use lib.IntN.{ℤ}
 use Rattle.weak_known.specs.Walks.{contour, Says, TwoOn}
-use Rattle.weak_known.proofs.Aligning.{WroteTo, to-here, from-here, to-end, passed, by-number, by-other, both-on, kept-p, kept-q, to-low, to-high, stretch-gentle, turn-past}
+use Rattle.weak_known.proofs.Aligning.{
+  WroteTo,
+  to-here,
+  from-here,
+  to-end,
+  passed,
+  by-number,
+  by-other,
+  both-on,
+  kept-p,
+  kept-q,
+  to-low,
+  to-high,
+  stretch-gentle,
+  turn-past,
+}
 use Rattle.weak_known.proofs.round.align_round.Statement.{statement}
 use Rattle.weak_known.proofs.round.align_round.Tie as tie
 
 abbrev Inv-loop : tie.InvT-loop
-Inv-loop originals currents₀ touched before behind s e i₀ currents i = (s ≤ i) × WroteTo (weakAt originals currents₀ touched (contour s e)) s e i currents₀ currents
+Inv-loop originals currents₀ touched before behind s e i₀ currents i =
+    (s ≤ i) × WroteTo (weakAt originals currents₀ touched (contour s e)) s e i currents₀ currents
 
 abbrev μ-loop : tie.MeasureT-loop
 μ-loop originals currents₀ touched before behind s e i₀ currents i = e - i
@@ -35,7 +51,10 @@ mul-wide : tie.Need-mul-wide Inv-loop μ-loop
 mul-wide c = search needs
 
 -- the points in front of the turn's are aligned
-so-far : (w : tie.After-wide Inv-loop μ-loop) → let a = st w .args in let v = lo w .loop in Wrote (weakAt (a .originals .now) (a .currents .now) (a .touched .now) (contour (a .s) (a .e))) (a .s) (v .i) (a .currents .now) (v .currents)
+so-far : (w : tie.After-wide Inv-loop μ-loop) → let a =
+    st w .args in let v =
+    lo w .loop in Wrote (weakAt (a .originals .now) (a .currents .now) (a .touched .now) (contour (a .s) (a .e))) (a .s) (v .i) (a .currents .now)
+    (v .currents)
 so-far w = from-here _ _ _ _ _ _ (omega (arith, w .before .before .loop-test .taken)) (lo w .loop .inv .1)
 
 loop-again : tie.Need-loop-again Inv-loop μ-loop
@@ -47,7 +66,8 @@ loop-again c =
     let h = w .before .before .loop-test .taken in (
       omega arith,
       to-here _ _ _ _ _ _ (omega arith) (passed (a .originals .now) (a .currents .now) (v .currents) (a .touched .now) (a .s) (a .e) (v .i)
-          (by-number (a .originals .now) (a .currents .now) (v .currents) (a .touched .now) (a .before .now) (a .behind .now) (a .s) (a .e) (v .i) (w .wide .result) (getD (a .behind .now) (v .i) 0) (v .inv .0) h (r .0) (r .1)
+          (by-number (a .originals .now) (a .currents .now) (v .currents) (a .touched .now) (a .before .now) (a .behind .now) (a .s) (a .e) (v .i)
+          (w .wide .result) (getD (a .behind .now) (v .i) 0) (v .inv .0) h (r .0) (r .1)
           (w .wide .ensures) refl (so-far w) (st w .pre .1 .0 .2) (c .if1 .taken)) (so-far w)),
     )
 
@@ -142,8 +162,10 @@ module _ (z : tie.After-stretch-end Inv-loop μ-loop) where
 
 iup-interpolate-requires : tie.Need-iup-interpolate-requires Inv-loop μ-loop
 iup-interpolate-requires c κs =
-    let z = c .before in
-    ((len z, omega (arith, from-to z), omega (arith, to-e z, e-len z)), ((omega (arith, on z .0 .1, e-len z), omega (arith, on z .1 .1, e-len z)), (st (wi z) .pre .1 .1 .0 .0, current-p z, current-q z, gentle z)))
+    let z = c .before in (
+      (len z, omega (arith, from-to z), omega (arith, to-e z, e-len z)),
+      ((omega (arith, on z .0 .1, e-len z), omega (arith, on z .1 .1, e-len z)), (st (wi z) .pre .1 .1 .0 .0, current-p z, current-q z, gentle z)),
+    )
 
 add-i-2 : tie.Need-add-i-2 Inv-loop μ-loop
 add-i-2 c = let z = c .before .before .before in omega (arith, to-e z, st (wi z) .pre .1 .0 .2)
@@ -155,7 +177,8 @@ loop-again-2 : tie.Need-loop-again-2 Inv-loop μ-loop
 loop-again-2 c =
     let z = c .before .before .before in (
       omega (arith, from-to z, low z),
-      turn-past (o z) (c₀ z) (d z) (t z) (b z) (h z) (s z) (e z) (i z) (p z) (q z) (low z) (high z) (twos z) (says z) (ep z) (eq z) (so z) (free z) (z .stretch-end .result) (et z) _ (c .before .iup-interpolate .ensures),
+      turn-past (o z) (c₀ z) (d z) (t z) (b z) (h z) (s z) (e z) (i z) (p z) (q z) (low z) (high z) (twos z) (says z) (ep z) (eq z) (so z) (free z)
+          (z .stretch-end .result) (et z) _ (c .before .iup-interpolate .ensures),
     )
 
 same-length : tie.Need-same-length Inv-loop μ-loop

@@ -10,7 +10,8 @@ use Rattle.weak_known.proofs.same.few_same.Statement.{statement}
 use Rattle.weak_known.proofs.same.few_same.Tie as tie
 
 abbrev Inv-loop : tie.InvT-loop
-Inv-loop touched before behind s e i₀ i = (s < i) × (i ≤ e) × (allFrom (fitsAt touched before behind) s (e - suc s) ≡ allFrom (fitsAt touched before behind) (i - 1) (e - i))
+Inv-loop touched before behind s e i₀ i =
+    (s < i) × (i ≤ e) × (allFrom (fitsAt touched before behind) s (e - suc s) ≡ allFrom (fitsAt touched before behind) (i - 1) (e - i))
 
 abbrev μ-loop : tie.MeasureT-loop
 μ-loop touched before behind s e i₀ i = e - i
@@ -61,7 +62,9 @@ loop-less : tie.Need-loop-less Inv-loop μ-loop
 loop-less c = search needs
 
 -- the pair of a turn
-here : (c : tie.After-pair-same Inv-loop μ-loop) → let l = c .before .before .before .before .before .before .before in let a = l .before .before .before .before .args in c .pair-same .result ≡ fitsAt (a .touched .now) (a .before .now) (a .behind .now) (l .loop .i - 1)
+here : (c : tie.After-pair-same Inv-loop μ-loop) → let l =
+    c .before .before .before .before .before .before .before in let a =
+    l .before .before .before .before .args in c .pair-same .result ≡ fitsAt (a .touched .now) (a .before .now) (a .behind .now) (l .loop .i - 1)
 here c = c .pair-same .ensures ∙ fits-next _ _ _ _ (omega arith)
 
 returns : tie.Need-returns Inv-loop μ-loop

@@ -10,7 +10,8 @@ use Rattle.weak_known.proofs.same.lone_same.Statement.{statement}
 use Rattle.weak_known.proofs.same.lone_same.Tie as tie
 
 abbrev Inv-loop : tie.InvT-loop
-Inv-loop touched before behind s e sum₀ i₀ sum i = (s ≤ i) × (i ≤ e) × (sum + sumFrom (weightAt touched before behind) i (e - i) ≡ sumFrom (weightAt touched before behind) s (e - s))
+Inv-loop touched before behind s e sum₀ i₀ sum i =
+    (s ≤ i) × (i ≤ e) × (sum + sumFrom (weightAt touched before behind) i (e - i) ≡ sumFrom (weightAt touched before behind) s (e - s))
 
 abbrev μ-loop : tie.MeasureT-loop
 μ-loop touched before behind s e sum₀ i₀ sum i = e - i
@@ -41,7 +42,12 @@ add-sum c =
     let l = c .before .before .before .before .before in
     let s = l .before .before .before .before in
     let a = s .args in
-    omega (arith, weights-most (a .touched .now) (a .before .now) (a .behind .now) (a .s) (a .e) (l .loop .i) (l .loop .sum) _ (l .loop .inv .0) (omega arith) (c .weigh .ensures) (l .loop .inv .2), s .pre)
+    omega (
+      arith,
+      weights-most (a .touched .now) (a .before .now) (a .behind .now) (a .s) (a .e) (l .loop .i) (l .loop .sum) _ (l .loop .inv .0) (omega arith)
+          (c .weigh .ensures) (l .loop .inv .2),
+      s .pre,
+    )
 
 add-i : tie.Need-add-i Inv-loop μ-loop
 add-i c = search needs
@@ -52,8 +58,12 @@ loop-less c = search needs
 loop-again : tie.Need-loop-again Inv-loop μ-loop
 loop-again c =
     let l = c .before .before .before .before .before in
-    let a = l .before .before .before .before .args in
-    (omega arith, omega arith, sym (weights-next (a .touched .now) (a .before .now) (a .behind .now) (a .e) (l .loop .i) _ _ (omega arith) (c .weigh .ensures)) ∙ l .loop .inv .2)
+    let a = l .before .before .before .before .args in (
+      omega arith,
+      omega arith,
+      sym (weights-next (a .touched .now) (a .before .now) (a .behind .now) (a .e) (l .loop .i) _ _ (omega arith)
+          (c .weigh .ensures)) ∙ l .loop .inv .2,
+    )
 
 returns : tie.Need-returns Inv-loop μ-loop
 returns c = ap (λ (x : ℕ). ltb x 2) (sym (weights-end _ _ _ _ (omega (arith, c .loop-test .left))) ∙ c .before .loop .inv .2)

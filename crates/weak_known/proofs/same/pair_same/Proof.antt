@@ -26,7 +26,8 @@ returns : tie.Need-returns
 returns c =
     let y = c .before .before in
     let x = y .before .before in
-    fits-by _ _ _ _ _ _ _ _ _ _ _ _ _ (x .before .shown .ensures) (x .number .ensures) (y .before .shown2 .ensures) (y .number-by .ensures) (c .before .same .ensures) (c .same2 .ensures)
+    fits-by _ _ _ _ _ _ _ _ _ _ _ _ _ (x .before .shown .ensures) (x .number .ensures) (y .before .shown2 .ensures) (y .number-by .ensures)
+    (c .before .same .ensures) (c .same2 .ensures)
 
 pub pair-same-spec : {M : Type 1} → statement M
 pair-same-spec =

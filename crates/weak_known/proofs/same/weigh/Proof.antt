@@ -23,13 +23,15 @@ returns-2 : tie.Need-returns-2
 returns-2 c =
     let e = c .before in
     let y = e .before in
-    weight-by _ _ _ _ _ _ _ (y .before .before .number .ensures) (y .before .same .ensures) (y .same2 .ensures) (not-false _ (e .if1 .left)) (lt-ltb _ _ (c .if2 .taken))
+    weight-by _ _ _ _ _ _ _ (y .before .before .number .ensures) (y .before .same .ensures) (y .same2 .ensures) (not-false _ (e .if1 .left))
+    (lt-ltb _ _ (c .if2 .taken))
 
 returns-3 : tie.Need-returns-3
 returns-3 c =
     let e = c .before in
     let y = e .before in
-    weight-by _ _ _ _ _ _ _ (y .before .before .number .ensures) (y .before .same .ensures) (y .same2 .ensures) (not-false _ (e .if1 .left)) (le-ltb _ _ (c .if2 .left))
+    weight-by _ _ _ _ _ _ _ (y .before .before .number .ensures) (y .before .same .ensures) (y .same2 .ensures) (not-false _ (e .if1 .left))
+    (le-ltb _ _ (c .if2 .left))
 
 pub weigh-spec : {M : Type 1} → statement M
 weigh-spec =

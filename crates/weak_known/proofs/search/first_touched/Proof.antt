@@ -3,7 +3,7 @@ use borrow.Author.Needs.{needs}
 use native.Mathlib.Omega.{arith}
 use mathlib.Core.Path.{_≡_, sym, _∙_}
 use Prim.Native.Nat.{_-_, _≤_}
-use Rattle.contours.specs.Contour.{firstTouched}
+use Rattle.weak_contour.specs.Contour.{firstTouched}
 use Rattle.weak_known.specs.Walks.{foundOr}
 use Rattle.weak_known.proofs.Entries.{first-here, first-on, first-end}
 use Rattle.weak_known.proofs.search.first_touched.Statement.{statement}

@@ -3,7 +3,7 @@ use borrow.Author.Needs.{needs}
 use native.Mathlib.Omega.{arith}
 use mathlib.Core.Path.{_≡_, sym, _∙_}
 use Prim.Native.Nat.{_-_, _≤_}
-use Rattle.contours.specs.Contour.{lastTouched}
+use Rattle.weak_contour.specs.Contour.{lastTouched}
 use Rattle.weak_known.specs.Walks.{foundOr}
 use Rattle.weak_known.proofs.Entries.{last-here, last-on, last-end}
 use Rattle.weak_known.proofs.search.last_touched.Statement.{statement}

@@ -3,14 +3,15 @@ use borrow.Author.Needs.{needs}
 use native.Mathlib.Omega.{arith}
 use mathlib.Core.Path.{_≡_}
 use Prim.Native.Nat.{_-_, _≤_}
-use Rattle.contours.specs.Contour.{firstTouched}
+use Rattle.weak_contour.specs.Contour.{firstTouched}
 use Rattle.weak_known.specs.Walks.{laterAt, foundOr, Put}
 use Rattle.weak_known.proofs.Walking.{put-none, put-front, held-end, later-number, later-held}
 use Rattle.weak_known.proofs.write.later_write.Statement.{statement}
 use Rattle.weak_known.proofs.write.later_write.Tie as tie
 
 abbrev Inv-loop : tie.InvT-loop
-Inv-loop touched list₀ s e first held₀ i₀ list held i = (s ≤ i) × (i ≤ e) × Put (laterAt touched e first) i e list₀ list × (held ≡ foundOr first (firstTouched touched i (e - i)))
+Inv-loop touched list₀ s e first held₀ i₀ list held i =
+    (s ≤ i) × (i ≤ e) × Put (laterAt touched e first) i e list₀ list × (held ≡ foundOr first (firstTouched touched i (e - i)))
 
 abbrev μ-loop : tie.MeasureT-loop
 μ-loop touched list₀ s e first held₀ i₀ list held i = i
@@ -26,7 +27,8 @@ loop-again c =
     let t = s .args .touched .now in (
       omega arith,
       omega arith,
-      put-front _ _ _ _ _ _ (omega arith) (omega arith) (v .2) (later-number t (s .args .e) (s .args .first) (l .loop .i) _ _ (omega arith) (c .before .before .number .ensures) (v .3)) (v .1),
+      put-front _ _ _ _ _ _ (omega arith) (omega arith) (v .2)
+          (later-number t (s .args .e) (s .args .first) (l .loop .i) _ _ (omega arith) (c .before .before .number .ensures) (v .3)) (v .1),
       later-held t (s .args .e) (s .args .first) (l .loop .i) _ _ (omega arith) (v .1) (c .handed .ensures) (v .3),
     )
 

@@ -3,14 +3,15 @@ use borrow.Author.Needs.{needs}
 use native.Mathlib.Omega.{arith}
 use mathlib.Core.Path.{_≡_}
 use Prim.Native.Nat.{_-_, _≤_}
-use Rattle.contours.specs.Contour.{lastTouched}
+use Rattle.weak_contour.specs.Contour.{lastTouched}
 use Rattle.weak_known.specs.Walks.{priorAt, foundOr, Put}
 use Rattle.weak_known.proofs.Walking.{put-none, put-more, held-none, prior-number, prior-held}
 use Rattle.weak_known.proofs.write.prior_write.Statement.{statement}
 use Rattle.weak_known.proofs.write.prior_write.Tie as tie
 
 abbrev Inv-loop : tie.InvT-loop
-Inv-loop touched list₀ s e last held₀ i₀ list held i = (s ≤ i) × (i ≤ e) × Put (priorAt touched s last) s i list₀ list × (held ≡ foundOr last (lastTouched touched s (i - s)))
+Inv-loop touched list₀ s e last held₀ i₀ list held i =
+    (s ≤ i) × (i ≤ e) × Put (priorAt touched s last) s i list₀ list × (held ≡ foundOr last (lastTouched touched s (i - s)))
 
 abbrev μ-loop : tie.MeasureT-loop
 μ-loop touched list₀ s e last held₀ i₀ list held i = e - i
@@ -26,7 +27,8 @@ loop-again c =
     let t = s .args .touched .now in (
       omega arith,
       omega arith,
-      put-more _ _ _ _ _ _ (v .0) (omega arith) (v .2) (prior-number t (s .args .s) (s .args .last) (l .loop .i) _ _ (c .before .before .number .ensures) (v .3)),
+      put-more _ _ _ _ _ _ (v .0) (omega arith) (v .2)
+          (prior-number t (s .args .s) (s .args .last) (l .loop .i) _ _ (c .before .before .number .ensures) (v .3)),
       prior-held t (s .args .s) (s .args .last) (l .loop .i) _ _ (v .0) (c .handed .ensures) (v .3),
     )
 

@@ -16,10 +16,12 @@ abbrev ends-start : tie.After-ends-hold → tie.Start
 ends-start c = start (c .before .before .before)
 
 returns : tie.Need-returns
-returns c = let a = c .before .before .before .before .before .args in sym (marks-long (a .touched .now) (a .ends .now) (a .before .now) (a .behind .now) (omega arith))
+returns c =
+    let a = c .before .before .before .before .before .args in sym (marks-long (a .touched .now) (a .ends .now) (a .before .now) (a .behind .now) (omega arith))
 
 returns-2 : tie.Need-returns-2
-returns-2 c = let a = start (c .before) .args in sym (before-other (a .touched .now) (a .ends .now) (a .before .now) (a .behind .now) (omega arith) (c .if2 .taken))
+returns-2 c =
+    let a = start (c .before) .args in sym (before-other (a .touched .now) (a .ends .now) (a .before .now) (a .behind .now) (omega arith) (c .if2 .taken))
 
 returns-3 : tie.Need-returns-3
 returns-3 c =

@@ -5,8 +5,8 @@ use native.Mathlib.Omega.{arith}
 use mathlib.Core.Path.{_≡_, sym, _∙_}
 use lib.ListN.{length}
 use Rattle.refusals.specs.Refusal.{refusal}
-use Rattle.outline.specs.Weak.{listTests, numberTests}
-use Rattle.outline.proofs.Steepness.{near-numbers}
+use Rattle.weak.specs.Weak.{listTests, numberTests}
+use Rattle.weak.proofs.Steepness.{near-numbers}
 use Rattle.weak_references.specs.References.{withTests}
 use Rattle.weak_references.proofs.Refusals.{with-before, with-behind, with-lists, with-other, with-numbers, placed}
 use Rattle.weak_references.proofs.refuse.with_refusal.Statement.{statement}
@@ -17,7 +17,9 @@ abbrev start : tie.After-list-refusal → tie.Start
 start c = c .before .before .before .before .before .before .before
 
 returns : tie.Need-returns
-returns c = let a = c .before .before .before .before .before .args in sym (with-before (a .originals .now) (a .currents .now) (a .touched .now) (a .ends .now) (a .before .now) (a .behind .now) (c .if1 .taken))
+returns c =
+    let a = c .before .before .before .before .before .args in
+    sym (with-before (a .originals .now) (a .currents .now) (a .touched .now) (a .ends .now) (a .before .now) (a .behind .now) (c .if1 .taken))
 
 returns-2 : tie.Need-returns-2
 returns-2 c =
@@ -31,7 +33,8 @@ returns-3 : tie.Need-returns-3
 returns-3 c =
     let l = c .before in
     let a = start l .args in
-    with-lists (a .originals .now) (a .currents .now) (a .touched .now) (a .ends .now) (a .before .now) (a .behind .now) (omega arith) (omega arith) _ (l .list-refusal .ensures) (c .if3 .taken)
+    with-lists (a .originals .now) (a .currents .now) (a .touched .now) (a .ends .now) (a .before .now) (a .behind .now) (omega arith) (omega arith) _
+    (l .list-refusal .ensures) (c .if3 .taken)
 
 -- behind them
 module _ (c : tie.Else3) where
@@ -57,17 +60,20 @@ returns-4 c =
     let m = c .before in
     let e = m .before in
     let x = st e .args in
-    sym (with-other (x .originals .now) (x .currents .now) (x .touched .now) (x .ends .now) (x .before .now) (x .behind .now) (before-length e) (behind-length e) (passed e)
+    sym (with-other (x .originals .now) (x .currents .now) (x .touched .now) (x .ends .now) (x .before .now) (x .behind .now) (before-length e)
+    (behind-length e) (passed e)
     (sym (m .lists-match .ensures) ∙ not-true _ (c .if4 .taken)))
 
 -- where the lists match the numbers decide
 numbers-decide : (c : tie.Else4) → let x = st (c .before .before) .args in
-    refusal (withTests (x .originals .now) (x .currents .now) (x .touched .now) (x .ends .now) (x .before .now) (x .behind .now)) ≡ refusal (numberTests (x .originals .now) (x .currents .now) (x .touched .now) (x .ends .now))
+    refusal (withTests (x .originals .now) (x .currents .now) (x .touched .now) (x .ends .now) (x .before .now) (x .behind .now))
+    ≡ refusal (numberTests (x .originals .now) (x .currents .now) (x .touched .now) (x .ends .now))
 numbers-decide c =
     let m = c .before in
     let e = m .before in
     let x = st e .args in
-    with-numbers (x .originals .now) (x .currents .now) (x .touched .now) (x .ends .now) (x .before .now) (x .behind .now) (before-length e) (behind-length e) (passed e)
+    with-numbers (x .originals .now) (x .currents .now) (x .touched .now) (x .ends .now) (x .before .now) (x .behind .now) (before-length e) (behind-length e)
+    (passed e)
     (sym (m .lists-match .ensures) ∙ not-false _ (c .if4 .left))
 
 all-near-requires : tie.Need-all-near-requires
@@ -77,7 +83,8 @@ returns-5 : tie.Need-returns-5
 returns-5 c =
     let n = c .before in
     let x = st (n .before .before .before) .args in
-    sym (near-numbers (x .originals .now) (x .currents .now) (x .touched .now) (x .ends .now) (sym (n .all-near .ensures) ∙ c .if5 .taken)) ∙ sym (numbers-decide (n .before))
+    sym (near-numbers (x .originals .now) (x .currents .now) (x .touched .now) (x .ends .now) (sym (n .all-near .ensures) ∙ c .if5 .taken))
+    ∙ sym (numbers-decide (n .before))
 
 number-refusal-requires : tie.Need-number-refusal-requires
 number-refusal-requires c κs = passed (c .before .before .before .before)

@@ -26,7 +26,8 @@ returns c =
     let a = start (c .before) .args in
     remember-refused (a .touched .now) (a .ends .now) (a .before .now) (a .behind .now) _ (c .before .remember-refusal .ensures) (c .if1 .taken)
 
-none-refused : (c : tie.Else1) → let a = start (c .before) .args in refusal (rememberTests (a .touched .now) (a .ends .now) (a .before .now) (a .behind .now)) ≡ 0
+none-refused : (c : tie.Else1) → let a =
+    start (c .before) .args in refusal (rememberTests (a .touched .now) (a .ends .now) (a .before .now) (a .behind .now)) ≡ 0
 none-refused c = omega (arith, c .before .remember-refusal .ensures, c .if1 .left)
 
 remember-requires : tie.Need-remember-requires
@@ -50,4 +51,5 @@ returns-2 c =
     remember-done (a .touched .now) (a .ends .now) (a .before .now) (a .behind .now) _ _ (none-refused e) (d .remember .ensures .0) (d .remember .ensures .1)
 
 pub remember-references-spec : {M : Type 1} → statement M
-remember-references-spec = tie.close (tie.spec remember-refusal-requires same-length same-length-2 returns remember-requires same-length-3 same-length-4 returns-2)
+remember-references-spec =
+    tie.close (tie.spec remember-refusal-requires same-length same-length-2 returns remember-requires same-length-3 same-length-4 returns-2)

@@ -52,7 +52,8 @@ returns c =
     let flags = dir .before in
     let fpos = flags .before in
     let start = fpos .before .before .before in
-    λ i. (kept w32 (fpos .short-word .result) (fpos .short-word .ok) ∙ fpos .short-word .ensures ∙ kept w16 (start .args .edge .fpos) (c .struct-told2 .given .0 .1)) i
+    λ i. (kept w32 (fpos .short-word .result) (fpos .short-word .ok) ∙ fpos .short-word .ensures
+    ∙ kept w16 (start .args .edge .fpos) (c .struct-told2 .given .0 .1)) i
     ∷ kept w32 (start .args .edge .opos) (c .struct-told2 .given .1 .0 .1) i
     ∷ kept w32 (start .args .edge .pos) (c .struct-told2 .given .1 .1 .0 .1) i
     ∷ (kept w32 (flags .flags-word .result) (flags .flags-word .ok) ∙ flags .flags-word .ensures) i

@@ -23,7 +23,8 @@ returns : tie.Need-returns
 returns c =
     let fitted = c .before .word-at2 in
     let present = c .before .before .word-at in
-    c .blue-of .ensures ∙ (λ n. blueOf ((kept w32 (present .result) (present .ok) ∙ present .ensures) n) ((kept w32 (fitted .result) (fitted .ok) ∙ fitted .ensures) n))
+    c .blue-of .ensures ∙ (λ n. blueOf ((kept w32 (present .result) (present .ok) ∙ present .ensures) n)
+    ((kept w32 (fitted .result) (fitted .ok) ∙ fitted .ensures) n))
 
 pub blue-at-spec : {M : Type 1} → statement M
 blue-at-spec =

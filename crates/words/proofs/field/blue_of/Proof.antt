@@ -16,13 +16,15 @@ unfolding blueOf
 returns c =
     let s = c .before .before in
     ap Blues.Fitted (is (s .fits .fitted))
-    ∙ ap (λ (b : Bool). cond b (Blues.Fitted (s .args .fitted)) Blues.None) (sym (c .if1 .taken) ∙ c .before .choice-of .ensures ∙ ap choiceOf (is (s .fits .present)))
+    ∙ ap (λ (b : Bool). cond b (Blues.Fitted (s .args .fitted)) Blues.None)
+    (sym (c .if1 .taken) ∙ c .before .choice-of .ensures ∙ ap choiceOf (is (s .fits .present)))
 
 returns-2 : tie.Need-returns-2
 unfolding blueOf
 returns-2 c =
     let s = c .before .before in
-    ap (λ (b : Bool). cond b (Blues.Fitted (s .args .fitted)) Blues.None) (sym (c .if1 .left) ∙ c .before .choice-of .ensures ∙ ap choiceOf (is (s .fits .present)))
+    ap (λ (b : Bool). cond b (Blues.Fitted (s .args .fitted)) Blues.None)
+    (sym (c .if1 .left) ∙ c .before .choice-of .ensures ∙ ap choiceOf (is (s .fits .present)))
 
 pub blue-of-spec : {M : Type 1} → statement M
 blue-of-spec = tie.close (tie.spec choice-of-requires returns returns-2)

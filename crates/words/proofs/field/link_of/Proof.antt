@@ -16,7 +16,8 @@ index-of-requires : tie.Need-index-of-requires
 index-of-requires c κs = search needs
 
 returns-2 : tie.Need-returns-2
-returns-2 c = let s = c .before .before in ap Links.To (c .index-of .ensures ∙ ap indexOf (is (s .fits .word))) ∙ link-to (s .args .word) (omega (arith, signed))
+returns-2 c =
+    let s = c .before .before in ap Links.To (c .index-of .ensures ∙ ap indexOf (is (s .fits .word))) ∙ link-to (s .args .word) (omega (arith, signed))
 
 pub link-of-spec : {M : Type 1} → statement M
 link-of-spec = tie.close (tie.spec returns index-of-requires returns-2)

@@ -1,2 +1,0 @@
--- What the contracts of `blues` cite.
-pub mod Zones

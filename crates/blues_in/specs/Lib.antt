@@ -1,2 +1,0 @@
--- What the contracts of `blues_in` cite.
-pub mod Blues

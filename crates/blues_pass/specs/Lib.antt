@@ -1,2 +1,0 @@
--- What the contract of the pass cites.
-pub mod Pass

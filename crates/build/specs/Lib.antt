@@ -1,0 +1,2 @@
+-- Building: refusals, definition and promise.
+pub mod Building

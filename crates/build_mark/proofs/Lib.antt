@@ -1,0 +1,2 @@
+-- The laws of `build_mark`, over plain variables.
+pub mod Marking

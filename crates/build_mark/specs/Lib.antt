@@ -1,0 +1,3 @@
+-- What the contracts of `build_mark` cite: how segments learn their edges, and what the steps promise each other.
+pub mod Marks
+pub mod Steps

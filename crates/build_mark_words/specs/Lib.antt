@@ -1,0 +1,2 @@
+-- What the contracts of `build_mark_words` cite.
+pub mod Marking

@@ -1,2 +1,0 @@
--- What the contracts of `building` cite: the call.
-pub mod Building

@@ -1,3 +1,0 @@
-// Document 01, module 4: edges from segments (topo/edges.rs of the Rust). `build` has the public call, the others its steps.
-pub mod build;
-pub mod numbers;

@@ -1,6 +1,0 @@
--- The laws by subject, each over plain variables; then `Outcomes`, that the promise determines the outcome, and `OneByOne`: each outline is aligned as if it were called alone.
-pub mod Adding
-pub mod Outlines
-pub mod Worked
-pub mod Outcomes
-pub mod OneByOne

@@ -1,3 +1,0 @@
--- What the contracts of `catalogue` cite: what the public call does, and what its steps promise each other.
-pub mod Catalogue
-pub mod Steps

@@ -1,2 +1,0 @@
--- What the contracts of `cjk_numbers` cite.
-pub mod Cjk

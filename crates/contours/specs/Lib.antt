@@ -1,4 +1,0 @@
--- What the contracts of `contours` cite: document 01's limits of an outline, what becomes of one contour's points, and what the steps promise each other.
-pub mod Limits
-pub mod Contour
-pub mod Steps

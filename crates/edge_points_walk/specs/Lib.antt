@@ -1,2 +1,0 @@
--- What the contracts of `edge_points_walk` cite.
-pub mod Steps

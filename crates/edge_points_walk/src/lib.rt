@@ -1,3 +1,0 @@
-// From edges to points, one segment: its contour found, and its points moved.
-pub mod contour;
-pub mod walk;

@@ -1,3 +1,0 @@
--- What the contracts of `edges_in` cite: `Whole`, the words of edges and what they become; `Pass`, what a visit of a pass makes of them.
-pub mod Whole
-pub mod Pass

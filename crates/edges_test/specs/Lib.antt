@@ -1,2 +1,0 @@
--- What the contracts of `edges_test` cite.
-pub mod Held

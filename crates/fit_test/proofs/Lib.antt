@@ -1,2 +1,0 @@
--- The laws of `fit_test`.
-pub mod Rows

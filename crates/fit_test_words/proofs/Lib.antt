@@ -1,0 +1,2 @@
+-- The laws of `fit_test_words`.
+pub mod Rows

@@ -1,2 +1,0 @@
--- What the contracts of `fitting` cite.
-pub mod Fitting

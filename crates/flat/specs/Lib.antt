@@ -1,3 +1,0 @@
--- What the contracts of `flat` cite.
-pub mod Fit
-pub mod M

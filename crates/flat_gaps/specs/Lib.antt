@@ -1,2 +1,0 @@
--- What the contracts of `flat_gaps` cite.
-pub mod Find

@@ -1,2 +1,0 @@
--- What the contract of `flat_joined` cites.
-pub mod Joined

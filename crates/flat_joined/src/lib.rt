@@ -1,3 +1,0 @@
-// Edges lent as words without a count, for blue zones and then stems.
-pub mod pass;
-pub mod zones;

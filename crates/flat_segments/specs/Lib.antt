@@ -1,3 +1,0 @@
--- What the contracts of `flat_segments` cite.
-pub mod Link
-pub mod Build

@@ -1,3 +1,0 @@
-// Segments lent as words without a count, for linking and building.
-pub mod build;
-pub mod link;

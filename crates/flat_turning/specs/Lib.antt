@@ -1,2 +1,0 @@
--- What the contracts of `flat_turning` cite.
-pub mod Turn

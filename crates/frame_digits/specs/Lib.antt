@@ -1,2 +1,0 @@
--- What the contracts of `frame_digits` cite: digits, bytes and numbers of a line, and what is written over one.
-pub mod Digits

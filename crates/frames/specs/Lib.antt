@@ -1,6 +1,0 @@
--- What the contracts of `frames` cite: what a frame is, what writing and reading one do, and what their steps promise each other.
-pub mod Limits
-pub mod Frame
-pub mod Write
-pub mod Read
-pub mod Steps

@@ -1,2 +1,0 @@
--- What the contracts of `frames_lent` cite.
-pub mod Lent

@@ -1,0 +1,2 @@
+-- What the contracts of `gaps_words` cite.
+pub mod Find

@@ -1,3 +1,0 @@
--- What the contracts of `joining` cite: the groups of segments that make edges, and what the steps promise each other.
-pub mod Joining
-pub mod Walks

@@ -1,0 +1,3 @@
+-- What the contracts of `link_words` cite.
+pub mod Linking
+pub mod Lent

@@ -1,2 +1,0 @@
--- What the contracts of `linking_in` cite.
-pub mod Linking

@@ -1,0 +1,2 @@
+-- What the contracts of `log_frame_words` cite.
+pub mod Lent

@@ -1,3 +1,0 @@
--- Laws on the m rule in place.
-pub mod Moving
-pub mod Stems

@@ -1,2 +1,0 @@
--- What the contracts of `lowercase_m_in` cite.
-pub mod M

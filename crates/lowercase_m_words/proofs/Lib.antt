@@ -1,0 +1,5 @@
+-- `Lending`, the call by what the test of its edges tells; `Kept`, which words it can change; and laws of its steps.
+pub mod Moving
+pub mod Stems
+pub mod Lending
+pub mod Kept

@@ -1,0 +1,3 @@
+-- What the contracts of `lowercase_m_words` cite.
+pub mod M
+pub mod Lent

@@ -1,2 +1,0 @@
--- The laws of `marking`, over plain variables.
-pub mod Marking

@@ -1,2 +1,0 @@
--- What the contracts of `marking_in` cite.
-pub mod Marking

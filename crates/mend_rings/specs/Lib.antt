@@ -1,2 +1,0 @@
--- What the contracts of `mend_rings` cite.
-pub mod Followed

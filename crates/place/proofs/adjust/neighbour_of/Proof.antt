@@ -1,0 +1,36 @@
+-- `place::adjust::neighbour_of` meets its contract. Assumes nothing.
+use Rattle.place.specs.Placing.{neighbour}
+use borrow.Author.Needs.{needs}
+use Rattle.place.proofs.adjust.neighbour_of.Statement.{statement}
+use Rattle.place.proofs.adjust.neighbour_of.Tie as tie
+
+enum-told : tie.Need-enum-told
+enum-told c = search needs
+
+lower-bound-requires : tie.Need-lower-bound-requires
+lower-bound-requires c κs = search needs
+
+enum-told-2 : tie.Need-enum-told-2
+enum-told-2 c = search needs
+
+upper-bound-requires : tie.Need-upper-bound-requires
+upper-bound-requires c κs = search needs
+
+returns : tie.Need-returns
+unfolding neighbour
+returns c = rw (c .before .enum-told .given .1) (c .lower-bound .ensures)
+
+returns-2 : tie.Need-returns-2
+unfolding neighbour
+returns-2 c = rw (c .before .enum-told2 .given .1) (c .upper-bound .ensures)
+
+pub neighbour-of-spec : {M : Type 1} → statement M
+neighbour-of-spec =
+    tie.close
+    (tie.spec
+    enum-told
+    lower-bound-requires
+    enum-told-2
+    upper-bound-requires
+    returns
+    returns-2)

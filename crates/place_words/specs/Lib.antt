@@ -1,0 +1,3 @@
+-- What the contracts of `place_words` cite.
+pub mod Placing
+pub mod Lent

@@ -1,4 +1,0 @@
--- What the contracts of `placing` cite, and the words of request #102.
-pub mod Placing
-pub mod Steps
-pub mod Thin

@@ -1,2 +1,0 @@
--- What the contracts of `placing_in` cite.
-pub mod Placing

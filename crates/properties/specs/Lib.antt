@@ -1,4 +1,0 @@
--- What the contracts of `properties` cite.
-pub mod Properties
-pub mod Outcomes
-pub mod Steps

@@ -1,3 +1,0 @@
--- What the contracts of `properties_in` cite: what is read of the words of segments, and the steps as what they make of an axis.
-pub mod Reading
-pub mod Steps

@@ -1,2 +1,0 @@
--- What the contracts of `remaining_lent` cite.
-pub mod Lent

@@ -1,3 +1,0 @@
-// Remaining edges over lent edges: no table is made.
-pub mod copied;
-pub mod lend;

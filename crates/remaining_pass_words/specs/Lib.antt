@@ -1,0 +1,2 @@
+-- What the contracts of `remaining_pass_words` cite.
+pub mod Words

@@ -1,2 +1,0 @@
--- What the contracts of `segments_in` cite.
-pub mod Whole

@@ -1,2 +1,0 @@
--- What the contracts of `segments_test` cite.
-pub mod Held

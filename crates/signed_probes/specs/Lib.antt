@@ -1,2 +1,0 @@
--- What the probes' contracts cite.
-pub mod Coordinates

@@ -1,7 +1,0 @@
--- `Determined`: the promise determines the outcome. `Changed`: what the call changes. `Handed`: the call accepts what others hand on. `Thin`: request #102. `Blind`: request #105. `Worked`: values by hand.
-pub mod Determined
-pub mod Changed
-pub mod Handed
-pub mod Thin
-pub mod Blind
-pub mod Worked

@@ -1,2 +1,0 @@
--- What the contracts of `stem_cjk` cite.
-pub mod Cjk

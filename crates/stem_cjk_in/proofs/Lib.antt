@@ -1,2 +1,0 @@
--- Laws on a CJK stem in place.
-pub mod Stems

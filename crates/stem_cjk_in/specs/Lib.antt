@@ -1,2 +1,0 @@
--- What the contracts of `stem_cjk_in` cite.
-pub mod Stem

@@ -1,2 +1,0 @@
-// A CJK stem placed where the words of the edges stand.
-pub mod stem;

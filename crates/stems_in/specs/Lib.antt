@@ -1,2 +1,0 @@
--- What the contracts of `stems_in` cite.
-pub mod Stems

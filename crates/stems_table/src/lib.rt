@@ -1,0 +1,3 @@
+// Document 01, module 5: the stem pass (the Rust's `align_stem_edges`).
+pub mod align;
+pub mod pass;

@@ -1,0 +1,3 @@
+-- What the contracts of `stems_words` cite.
+pub mod Stems
+pub mod Lent

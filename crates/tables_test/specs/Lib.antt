@@ -1,2 +1,0 @@
--- What the contracts of `tables_test` cite.
-pub mod Held

@@ -1,0 +1,2 @@
+-- What the contracts of `turn_words` cite.
+pub mod Lent

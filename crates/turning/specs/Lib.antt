@@ -1,3 +1,0 @@
--- What the contracts of `turning` cite.
-pub mod Indices
-pub mod Turning

@@ -1,2 +1,0 @@
--- Laws on segments and edges that are turned over where their words stand.
-pub mod Turns

@@ -1,2 +1,0 @@
--- What the contracts over lent edges and segments share.
-pub mod Record

@@ -1,0 +1,2 @@
+-- What the contracts of `words_segment` cite.
+pub mod Whole

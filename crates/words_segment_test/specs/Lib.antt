@@ -1,0 +1,2 @@
+-- What the contracts of `words_segment_test` cite.
+pub mod Held

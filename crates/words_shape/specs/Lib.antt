@@ -1,0 +1,2 @@
+-- What the contracts of `words_shape` cite.
+pub mod Shape

@@ -1,0 +1,2 @@
+-- What the contracts of `words_tables_test` cite.
+pub mod Held

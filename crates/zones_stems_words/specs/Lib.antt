@@ -1,0 +1,2 @@
+-- What the contract of `zones_stems_words` cites.
+pub mod Lent
