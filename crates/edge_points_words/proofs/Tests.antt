@@ -7,7 +7,6 @@ use native.Mathlib.Omega.{arith}
 use borrow.Author.Tests.{le-leb, eq-eqb}
 use lib.Dec.{leb, ltb, eqb}
 use lib.ListN.{length}
-use lib.IntN.{ℤ}
 use Rattle.signed.proofs.Choices.{cond-true}
 use Rattle.refusals.specs.Refusal.{Test, _unless_, refusal, answered, badIndex, outOfRange}
 use Rattle.refusals.proofs.Tests.{own-first, all-hold, answered-no, answered-yes}

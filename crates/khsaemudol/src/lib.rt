@@ -77,7 +77,7 @@ pub extern "C" fn khs_compute_mid_delta(min: i32, max: i32) -> i16
     compute_mid_delta(min, max)
 }
 
-// Aligns the weak points of one axis. The answer is 0, or document 01's number of the refusal, 1, 3 or 4, which writes nothing.
+// Aligns the weak points of one axis. The answer is 0, or document 01's number of the refusal, 1, 3, 4 or 8, which writes nothing.
 #[no_mangle]
 pub extern "C" fn khs_align_weak_points(
     originals: &[i32],
