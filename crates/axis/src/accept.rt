@@ -158,7 +158,7 @@ pub fn least(a: usize, b: usize) -> usize
 }
 
 // A test of an edge: link and serif are of so many edges, first and last of so many segments, its positions are accepted, or it has no blue zone.
-#[derive(Drop)]
+#[derive(Clone, Copy)]
 pub enum EdgeTest {
     Indices(usize),
     Segments(usize),
@@ -167,7 +167,7 @@ pub enum EdgeTest {
 }
 
 // A test of a segment: link and serif are of so many segments, so is next, edge is of so many edges, or score and len are accepted.
-#[derive(Drop)]
+#[derive(Clone, Copy)]
 pub enum SegmentTest {
     Indices(usize),
     Next(usize),

@@ -7,7 +7,7 @@ use super::kinds::{Blue, Dimension, Direction, Link, Mark};
 use super::limits::MOST_EDGES;
 
 // Segments that share a position: the font position, the original and the fitted position in units, the edges that it is linked to, and what last gave it its position.
-#[derive(Drop)]
+#[derive(Clone, Copy)]
 pub struct Edge {
     pub fpos: i16,
     pub opos: i32,
@@ -23,7 +23,7 @@ pub struct Edge {
 }
 
 // One dimension of an outline: its edges are the first `len` of the working table.
-#[derive(Drop)]
+#[derive(Clone, Copy)]
 pub struct Axis {
     pub dim: Dimension,
     pub major_dir: Direction,

@@ -1,7 +1,7 @@
 // The properties of segments and edges (the Rust's `TopoFlags`).
 
 // Rounded, a serif, already placed, on a neutral blue zone.
-#[derive(Drop)]
+#[derive(Clone, Copy)]
 pub struct Flags {
     pub round: bool,
     pub serif: bool,

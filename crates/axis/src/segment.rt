@@ -7,7 +7,7 @@ use super::kinds::{Direction, Link};
 use super::limits::MOST_SEGMENTS;
 
 // Points in a row with one dominant direction: its position, how it is paired with others, its point indices, its edge and the next segment there.
-#[derive(Drop)]
+#[derive(Clone, Copy)]
 pub struct Segment {
     pub flags: Flags,
     pub dir: Direction,
@@ -27,7 +27,7 @@ pub struct Segment {
 }
 
 // The segments of an axis are the first `len` of the working table.
-#[derive(Drop)]
+#[derive(Clone, Copy)]
 pub struct Segments {
     pub segments: [Segment; MOST_SEGMENTS],
     pub len: usize,

@@ -13,7 +13,7 @@ use fixed::point::{fixed_mul, magnitude, wide_div, wide_mul};
 const MOST_DISTANCE: i32 = 16;
 
 // The thresholds that a call passes: edge distance, segment length and segment width.
-#[derive(Drop)]
+#[derive(Clone, Copy)]
 pub struct Thresholds {
     pub distance: i32,
     pub length: i32,

@@ -13,7 +13,7 @@ use axis::limits::{MOST_EDGES, MOST_SEGMENTS};
 use axis::segment::{Segment, Segments};
 
 // Whether a 129th edge was called for, the edges, and the next of each segment that has joined one.
-#[derive(Drop)]
+#[derive(Clone, Copy)]
 pub struct Joined {
     pub full: bool,
     pub axis: Axis,

@@ -18,7 +18,7 @@ use axis::segment::Segment;
 use fixed::point::{fixed_mul, magnitude};
 
 // What building is told beside the segments. `near` is the distance below which a segment joins an edge, `length` and `width` are Latin's thresholds.
-#[derive(Drop)]
+#[derive(Clone, Copy)]
 pub struct Rules {
     pub dim: Dimension,
     pub major_dir: Direction,

@@ -16,7 +16,7 @@ use build_join::rules::{Rules, skips};
 use words::segment::SEGMENT_WORDS;
 
 // Whether a 129th edge was called for, and how many edges there are.
-#[derive(Drop)]
+#[derive(Clone, Copy)]
 pub struct Joining {
     pub full: bool,
     pub count: usize,

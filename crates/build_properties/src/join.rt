@@ -9,7 +9,7 @@ use axis::link::index_or;
 use axis::segment::Segment;
 
 // The edge that a segment asks its own to join, if any: as a serif of it or as its link, and how far the segment there is.
-#[derive(Drop)]
+#[derive(Clone, Copy)]
 pub struct Join {
     pub is_serif: bool,
     pub edge: Link,

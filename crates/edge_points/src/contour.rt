@@ -6,7 +6,7 @@ ghost use Rattle.edge_points.specs.Steps.{stretch_of};
 use weak::accept::wide;
 
 // The points of a contour: those from `start` on that are in front of `end`.
-#[derive(Drop)]
+#[derive(Clone, Copy)]
 pub struct Stretch {
     pub start: usize,
     pub end: usize,

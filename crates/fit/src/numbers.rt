@@ -16,7 +16,7 @@ use words_shape::field::CHOICE;
 pub const NUMBER_WORDS: usize = 9;
 
 // The dimension and the group of an axis, how its stems, its points and its widths are fitted, whether the glyph is an m, and what the guard asks for.
-#[derive(Drop)]
+#[derive(Clone, Copy)]
 pub struct Numbers {
     pub dim: Dimension,
     pub group: Group,

@@ -10,7 +10,7 @@ use gaps::find::{Gaps, NOTHING};
 pub const TOLD_WORDS: usize = 9;
 
 // An answer, 0 or the refusal, how many edges stems have passed over, the anchor or its absence, and what the guard has found.
-#[derive(Drop)]
+#[derive(Clone, Copy)]
 pub struct FittedEdges {
     pub answer: u8,
     pub count: usize,

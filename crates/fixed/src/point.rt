@@ -102,7 +102,7 @@ pub fn fixed_mul(a: i32, b: i32) -> i32
 const MOST_QUOTIENT: u64 = 2147483647;
 
 // What fixed divide answers: the quotient, or that its magnitude is beyond 2,147,483,647.
-#[derive(Drop)]
+#[derive(Clone, Copy)]
 pub enum Quotient {
     Of(i32),
     TooSteep,

@@ -15,7 +15,7 @@ const MOST_AWAY: u64 = 16;
 const ONE_PIXEL: i32 = 64;
 
 // What becomes of a stem's width: it is kept, or it snaps to the nearest of a list of standards.
-#[derive(Drop)]
+#[derive(Clone, Copy)]
 pub enum WidthRule {
     Keep,
     Snap,

@@ -1,4 +1,6 @@
 // Fixed multiply, divide and multiply-divide under C names, in 64 bits and for every input, for tools/freetype to hold to FreeType's. No part of the product.
+#![tactic(auto)]
+
 ghost use Rattle.std.specs.Prelude.{◌≡◌};
 ghost use Rattle.fixed.specs.Point.{mul_fix};
 ghost use Rattle.fixed_c.specs.Divide.{div_or_zero, mul_div_or_zero};

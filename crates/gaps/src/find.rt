@@ -15,7 +15,7 @@ use axis::link::{index_or, is_linked};
 use refusals::order::{BAD_INDEX, BAD_PARAMETER, OUT_OF_RANGE, TOO_LONG, or_refused};
 
 // An answer, 0 or the refusal, the count of lost gaps, the first lost pair or none, the count of lost stems, and that of edges that are not done.
-#[derive(Drop)]
+#[derive(Clone, Copy)]
 pub struct Gaps {
     pub answer: u8,
     pub count: usize,

@@ -11,7 +11,7 @@ use axis::kinds::Link;
 use axis::link::{is_linked, links_to};
 
 // The two edges, or none, and how far the second is behind the first, before fitting and after it.
-#[derive(Drop)]
+#[derive(Clone, Copy)]
 pub struct Pair {
     pub first: Link,
     pub second: Link,

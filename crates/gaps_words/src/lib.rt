@@ -1,2 +1,4 @@
 // Edges lent as words without a count: the guard.
+#![tactic(auto)]
+
 pub mod find;

@@ -11,7 +11,7 @@ use lowercase_m_list::hint::hint_lowercase_m;
 pub const MOST_LENT: usize = 160;
 
 // An answer, 0 or the refusal, and the table after it.
-#[derive(Drop)]
+#[derive(Clone, Copy)]
 pub struct First {
     pub answer: u8,
     pub edges: [Edge; MOST_LENT],

@@ -1,4 +1,6 @@
 // Jobs: one word list for every public call, and its answer, by the functions that gateways link or, for calls on tables, by value. A tool, for comparisons: proved safe. Lines of text are the part of `tool_lines` and of `replay`.
+#![tactic(auto)]
+
 pub mod answer;
 pub mod call;
 mod first;

@@ -1,4 +1,6 @@
 // Jobs of frames, calls 25 and 26: from the words of their jobs to those of their answers. A tool, for comparisons: proved safe.
+#![tactic(auto)]
+
 ghost use Rattle.std.specs.Prelude.{◌≤◌, length};
 
 use axis::accept::least;

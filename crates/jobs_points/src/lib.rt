@@ -1,4 +1,6 @@
 // Jobs of the calls on points. A tool, for comparisons: proved safe.
+#![tactic(auto)]
+
 pub mod catalogue;
 pub mod drag;
 mod float;

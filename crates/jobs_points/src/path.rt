@@ -14,7 +14,7 @@ const MOST_STEPS: usize = 3 * MOST_NUMBERS;
 const MOST_FLOATS: usize = 4 * MOST_STEPS;
 
 // The answer to a whole path, and how many steps it has.
-#[derive(Drop)]
+#[derive(Clone, Copy)]
 struct Steps {
     answer: u8,
     count: u32,

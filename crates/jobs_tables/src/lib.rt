@@ -1,4 +1,6 @@
 // Jobs of the calls on tables, of segments or of edges, by the functions that gateways link or by value. A tool, for comparisons: proved safe.
+#![tactic(auto)]
+
 mod by_value;
 pub mod gaps;
 pub mod mending;

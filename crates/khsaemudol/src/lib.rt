@@ -1,5 +1,7 @@
 // The static library that gateways link: the public calls under C names. A slice is passed as its pointer and then its length. Edges are lists of 12 words each
 // and segments of 15; the answer is 0 or the number of the refusal, and 255 where a length or a word is none. include/khsaemudol.h documents each.
+#![tactic(auto)]
+
 ghost use Rattle.khsaemudol.specs.Version.{IsVersion};
 ghost use Rattle.middle.specs.Middle.{ComputesMidPos, ComputesMidDelta};
 ghost use Rattle.weak.specs.Weak.{Outcome};

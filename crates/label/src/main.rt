@@ -1,4 +1,6 @@
 // Fits the sample label: reads its glyphs from standard input, each a title line and the job lines of its chain, and writes what each step changed, and the path in the end.
+#![tactic(auto)]
+
 mod step;
 
 ghost use Rattle.std.specs.Prelude.{◌≤◌, length};

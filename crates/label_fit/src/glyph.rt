@@ -16,7 +16,7 @@ pub const ASKED_WORDS: usize = NUMBER_WORDS + 1 + 16;
 // words of its edges as they were with their zones, as the last step left them, and how many there are; the numbers and standards that they are fitted with; how many of
 // them the stems passed over; its anchor; these two behind what the guard has told; where its points are drawn, which of them are weak, and how many there are; where
 // the points were and where they came to, on both axes; and whether a step refused what it was given.
-#[derive(Drop)]
+#[derive(Clone, Copy)]
 pub struct Glyph {
     pub dim: i32,
     pub topo: [i32; MOST_WORDS],

@@ -8,7 +8,7 @@ ghost use Rattle.link.specs.Steps.{Reach};
 use axis::segment::Segment;
 
 // How far one segment is behind another, and how much they overlap.
-#[derive(Drop)]
+#[derive(Clone, Copy)]
 pub struct Gap {
     pub dist: i32,
     pub len: i32,

@@ -7,7 +7,7 @@ use axis::limits::{LEAST_SCALE, LEAST_UNITS_PER_EM, MOST_SCALE, MOST_UNITS_PER_E
 use fixed::point::{Quotient, derived_constant, fixed_div};
 
 // The least overlap of the two segments of a stem, and the distance below which a stem is near.
-#[derive(Drop)]
+#[derive(Clone, Copy)]
 pub struct Thresholds {
     pub len: i32,
     pub dist: i32,

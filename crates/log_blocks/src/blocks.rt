@@ -12,7 +12,7 @@ use log_reply::reply::{MOST_REPLY, reply_to};
 pub const MOST_HELD: usize = MOST_DIGITS + 1;
 
 // The place behind what was answered of the block, how many bytes are held of the line that has begun, and how many bytes the replies have.
-#[derive(Drop)]
+#[derive(Clone, Copy)]
 pub struct Refitted {
     pub at: usize,
     pub count: usize,

@@ -12,7 +12,7 @@ use super::limits::{HEAD_SIZE, POINT_SIZE};
 use log_digits::bytes::{byte_at, number_at};
 
 // What reading hands back: 0 or the refusal, and the counts of points and contours, 0 beside a refusal.
-#[derive(Drop)]
+#[derive(Clone, Copy)]
 pub struct ReadFrame {
     pub answer: u8,
     pub points: usize,

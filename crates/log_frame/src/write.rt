@@ -13,7 +13,7 @@ use super::limits::{HEAD_SIZE, KIND_BYTE, POINT_SIZE};
 use log_digits::bytes::{put_byte, put_number};
 
 // What writing hands back: 0 or the refusal, and the count of digits, 0 beside a refusal.
-#[derive(Drop)]
+#[derive(Clone, Copy)]
 pub struct Written {
     pub answer: u8,
     pub digits: usize,

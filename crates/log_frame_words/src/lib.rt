@@ -1,4 +1,6 @@
 // Writing and reading as gateways call them, with lent places for the counts.
+#![tactic(auto)]
+
 ghost use Rattle.std.specs.Prelude.{[], ◌<◌};
 ghost use Rattle.words_call.specs.Lent.{Lent};
 ghost use Rattle.log_frame.specs.Frame.{frame_of};

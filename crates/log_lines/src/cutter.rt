@@ -7,7 +7,7 @@ ghost use Rattle.log_lines.specs.Cutting.{Took};
 pub const LINE_FEED: u8 = 10;
 
 // The place behind what was taken from the block, how many bytes of the line are held, and whether its line feed was met.
-#[derive(Drop)]
+#[derive(Clone, Copy)]
 pub struct Taken {
     pub at: usize,
     pub count: usize,

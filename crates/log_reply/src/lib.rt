@@ -1,2 +1,4 @@
 // Document 02, #103: the reply to one line of a log.
+#![tactic(auto)]
+
 pub mod reply;

@@ -14,7 +14,7 @@ use axis::kinds::Group;
 use refusals::order::{BAD_INDEX, BAD_PARAMETER, OUT_OF_RANGE, TOO_LONG, or_refused};
 
 // An answer, 0 or the refusal, and the axis.
-#[derive(Drop)]
+#[derive(Clone, Copy)]
 pub struct Hinted {
     pub answer: u8,
     pub axis: Axis,

@@ -12,7 +12,7 @@ use axis::link::links_to;
 use fixed::point::magnitude;
 
 // The first edges of the three stems.
-#[derive(Drop)]
+#[derive(Clone, Copy)]
 pub struct Stems {
     pub first: usize,
     pub second: usize,

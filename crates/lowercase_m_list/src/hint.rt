@@ -9,7 +9,7 @@ use axis::kinds::{Dimension, Direction, Group};
 use axis::limits::MOST_EDGES;
 
 // An answer, 0 or the refusal, and how many edges of the table are to be put back.
-#[derive(Drop)]
+#[derive(Clone, Copy)]
 struct Table {
     pub answer: u8,
     pub count: usize,

@@ -16,7 +16,7 @@ pub const ALTERATION_WORDS: usize = 5;
 pub const MOST_ALTERED: usize = 2048;
 
 // What an alteration is of: the number of a table, the index of a record, and the number of a field.
-#[derive(Drop)]
+#[derive(Clone, Copy)]
 pub struct Named {
     pub table: u16,
     pub index: u16,

@@ -1,4 +1,6 @@
 // Document 01, module 1: the Rust's `compute_mid_pos` and `compute_mid_delta` (topo/segments.rs), defined for all pairs.
+#![tactic(auto)]
+
 pub mod bits;
 
 ghost use Rattle.std.specs.Prelude.{◌≡◌, ◌+ℤ◌, ◌-ℤ◌};

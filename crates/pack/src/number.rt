@@ -5,7 +5,7 @@ ghost use Rattle.pack.specs.Listing.{Numbered};
 use axis::limits::MOST_SEGMENTS;
 
 // How many numbers of the set are below each number, and how many there are.
-#[derive(Drop)]
+#[derive(Clone, Copy)]
 pub struct Numbers {
     pub new: [u16; MOST_SEGMENTS],
     pub count: usize,

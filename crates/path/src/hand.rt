@@ -8,13 +8,13 @@ use path_walk::seek::path_at;
 use path_walk::walk::Sought;
 
 // The number of a step, from 0 on.
-#[derive(Drop)]
+#[derive(Clone, Copy)]
 pub struct Cursor {
     pub at: u32,
 }
 
 // What a call hands out: a step with the next cursor, or that the path is finished, or document 01's number of the refusal.
-#[derive(Drop)]
+#[derive(Clone, Copy)]
 pub enum Handed {
     Refused(u8),
     Finished,

@@ -1,10 +1,12 @@
 // Places in pixels as 32-bit floats (request #101): exactly units divided by 64, and exactly halfway between two of these.
+#![tactic(auto)]
+
 ghost use Rattle.std.specs.Prelude.{◌≡◌, ◌≤◌, nat_abs, ◌+ℤ◌};
 ghost use Rattle.path_places.specs.Exact.{most_exact, over, Exactly};
 ghost use Rattle.path_places.specs.Places.{point_at, halfway_at, origin};
 
 // A place in pixels.
-#[derive(Drop)]
+#[derive(Clone, Copy)]
 pub struct PixelPoint {
     pub x: f32,
     pub y: f32,

@@ -5,7 +5,7 @@ ghost use Rattle.path_trip.specs.Numbers.{kind_of, first_of, second_of};
 use path_places::{PixelPoint, no_place};
 
 // A step; a curve holds its control, then its end.
-#[derive(Drop)]
+#[derive(Clone, Copy)]
 pub enum PathStep {
     Move(PixelPoint),
     Line(PixelPoint),

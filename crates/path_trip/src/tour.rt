@@ -5,14 +5,14 @@ ghost use Rattle.path_trip.specs.Legs.{tour_of};
 ghost use Rattle.path_trip.specs.Trips.{Admitted, Within, First, Inside, Walk};
 
 // A place by index: that of a point, or halfway between two points.
-#[derive(Drop)]
+#[derive(Clone, Copy)]
 pub enum Spot {
     Point(usize),
     Between(usize, usize),
 }
 
 // The start of a contour, and the points that it then walks by: `count` of them, from `from` on.
-#[derive(Drop)]
+#[derive(Clone, Copy)]
 pub struct Tour {
     pub start: Spot,
     pub from: usize,

@@ -8,7 +8,7 @@ use super::tour::tour_of;
 use path_places::PixelPoint;
 
 // The start of a contour, and the points that it then walks by: `count` of them, from `from` on.
-#[derive(Drop)]
+#[derive(Clone, Copy)]
 pub struct Trip {
     pub start: PixelPoint,
     pub from: usize,

@@ -10,7 +10,7 @@ use path_trip::step::PathStep;
 use path_trip::trip::{Trip, around_at, is_on, trip_of};
 
 // A step of a list of steps, or how far a number is behind the list's end.
-#[derive(Drop)]
+#[derive(Clone, Copy)]
 pub enum Sought {
     Past(usize),
     Here(PathStep),
@@ -30,7 +30,7 @@ fn count_of(on: bool, joined: bool) -> usize
 }
 
 // Where a curve ends: at its contour's start, at a point, or halfway between two.
-#[derive(Drop)]
+#[derive(Clone, Copy)]
 pub enum End {
     Start,
     Point(usize),

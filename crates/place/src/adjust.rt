@@ -12,7 +12,7 @@ use axis::kinds::{Link, Mark};
 use fixed::point::magnitude;
 
 // Which neighbour an edge is held to.
-#[derive(Drop)]
+#[derive(Clone, Copy)]
 pub enum LinkDir {
     Prev,
     Next,

@@ -34,7 +34,7 @@ pub fn upper_bound(axis: Axis, edge: usize) -> Link
 }
 
 // An answer, 0 or the refusal, and the two bounds.
-#[derive(Drop)]
+#[derive(Clone, Copy)]
 pub struct Bounds {
     pub answer: u8,
     pub lower: Link,

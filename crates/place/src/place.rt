@@ -54,7 +54,7 @@ pub fn serif_edge(base: Edge, serif: Edge) -> Edge
 }
 
 // An answer, 0 or the refusal, and the axis.
-#[derive(Drop)]
+#[derive(Clone, Copy)]
 pub struct Fitted {
     pub answer: u8,
     pub axis: Axis,

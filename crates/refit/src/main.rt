@@ -1,4 +1,6 @@
 // Runs the jobs of a log again: reads its lines from standard input, and writes a reply to each to standard output.
+#![tactic(auto)]
+
 ghost use Rattle.std.specs.Prelude.{◌≤◌, ◌<◌, length};
 ghost use Rattle.log_frame.specs.Limits.{most_digits};
 ghost use Rattle.log_reply.specs.Reply.{most_reply};
@@ -7,7 +9,7 @@ use libc::{STDIN_FILENO, STDOUT_FILENO};
 use log_blocks::blocks::{MOST_HELD, refit_block, refit_rest};
 
 // How many bytes are held of the line that has begun, and whether every reply was written.
-#[derive(Drop)]
+#[derive(Clone, Copy)]
 struct Answered {
     count: usize,
     written: bool,

@@ -2,7 +2,7 @@
 use axis::kinds::{Link, Mark};
 
 // What the visits have come to beside the edges: the anchor or its absence, how many edges stems have passed over, and whether a position was given that no edge may have.
-#[derive(Drop)]
+#[derive(Clone, Copy)]
 pub struct Progress {
     pub anchor: Link,
     pub count: usize,
@@ -10,7 +10,7 @@ pub struct Progress {
 }
 
 // Which edges a loop over all of them places: Latin's, CJK's with a serif, or CJK's others.
-#[derive(Drop)]
+#[derive(Clone, Copy)]
 pub enum Round {
     Latin,
     Serifs,
@@ -18,7 +18,7 @@ pub enum Round {
 }
 
 // How an edge is given its position: not at all, not done by it, done, or done and then held to its neighbours.
-#[derive(Drop)]
+#[derive(Clone, Copy)]
 pub enum Way {
     Stays,
     Placed,
@@ -27,7 +27,7 @@ pub enum Way {
 }
 
 // Where an edge goes and what gives that, how, and what the visits have come to behind it.
-#[derive(Drop)]
+#[derive(Clone, Copy)]
 pub struct Plan {
     pub pos: i64,
     pub mark: Mark,

@@ -1,4 +1,6 @@
 // Remaining edges where their words stand: what a visit plans is `remaining`'s.
+#![tactic(auto)]
+
 mod find;
 pub mod pass;
 mod plan;

@@ -1,4 +1,6 @@
 // Answers job lines: reads them from standard input, and writes an answer line for each to standard output, the library's where the calls by value answer the same.
+#![tactic(auto)]
+
 mod spell;
 
 ghost use Rattle.std.specs.Prelude.{◌≤◌, length};
@@ -13,7 +15,7 @@ use tool_lines::line::{Line, feed, words_of};
 use tool_lists::limits::LONGEST;
 
 // The line that has begun, and whether every answer was written.
-#[derive(Drop)]
+#[derive(Clone, Copy)]
 struct Fed {
     line: Line,
     written: bool,

@@ -1,5 +1,7 @@
 // Document 01's table "Rows that show both sides", run: each row is a job, and the program tells whether the code's answer is the row's. The build row is of a
 // number that no call hands back: it is proved alone. The starred rows are all proved of the definitions, in specs/Table.antt.
+#![tactic(auto)]
+
 mod edges;
 mod number;
 mod points;

@@ -4,7 +4,7 @@ ghost use Rattle.std.specs.Prelude.{◌≤◌};
 use middle::bits::signed_of;
 
 // What has been read of a text: how many numbers are whole, and of the one that has begun its digits, whether there is any, and its sign.
-#[derive(Drop)]
+#[derive(Clone, Copy)]
 struct Reading {
     count: usize,
     value: u32,

@@ -7,7 +7,7 @@ use super::accept::{shown_refusal, times_of};
 use shown_picture::picture::count_picture;
 
 // What a call hands back: 0 or document 01's number of the refusal, how many pixels are black, and their Euler number.
-#[derive(Drop)]
+#[derive(Clone, Copy)]
 pub struct Shown {
     pub answer: u8,
     pub black: u32,

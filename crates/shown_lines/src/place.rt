@@ -14,7 +14,7 @@ use path_trip::tour::Spot;
 use path_walk::walk::End;
 
 // A place of a path: twice its coordinates.
-#[derive(Drop)]
+#[derive(Clone, Copy)]
 pub struct Halves {
     pub x: u32,
     pub y: u32,

@@ -10,7 +10,7 @@ use shown_lines::place::point_place;
 use weak::accept::wide;
 
 // These columns from `left` on, and rows from `low` on.
-#[derive(Drop)]
+#[derive(Clone, Copy)]
 pub struct Window {
     pub left: u32,
     pub columns: usize,
@@ -19,7 +19,7 @@ pub struct Window {
 }
 
 // The places of a least and of a largest number of a list.
-#[derive(Drop)]
+#[derive(Clone, Copy)]
 pub struct Extremes {
     pub least: usize,
     pub largest: usize,

@@ -6,7 +6,7 @@ ghost use Rattle.shown_rows.specs.Rows.{Closed};
 use super::changes::gained;
 
 // How many black pixels, and how many outer and inner turns there are.
-#[derive(Drop)]
+#[derive(Clone, Copy)]
 pub struct Counts {
     pub black: u32,
     pub outer: u32,

@@ -1,4 +1,6 @@
 // What the contours of an outline wind in one row of pixels, with no line stored.
+#![tactic(auto)]
+
 ghost use Rattle.std.specs.Prelude.{◌≡◌, true, ◌-◌, length};
 ghost use Rattle.weak.specs.Weak.{ends_hold};
 ghost use Rattle.path_trip.specs.Path.{points};

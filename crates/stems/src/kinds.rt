@@ -3,7 +3,7 @@ use axis::kinds::{Dimension, Group, Mark};
 use fixed::width::WidthRule;
 
 // What is the same for every visit of a pass.
-#[derive(Drop)]
+#[derive(Clone, Copy)]
 pub struct Mode {
     pub dim: Dimension,
     pub group: Group,
@@ -12,21 +12,21 @@ pub struct Mode {
 }
 
 // The position of the last CJK stem, or its absence.
-#[derive(Drop)]
+#[derive(Clone, Copy)]
 pub enum LastStem {
     None,
     At(i32),
 }
 
 // What CJK stems leave to the next one: the last one's position and the delta that is passed on.
-#[derive(Drop)]
+#[derive(Clone, Copy)]
 pub struct Trail {
     pub last: LastStem,
     pub delta: i32,
 }
 
 // What becomes of a stem's second edge: it stays, it is placed by its link to the first, or it is placed for good with the stem.
-#[derive(Drop)]
+#[derive(Clone, Copy)]
 pub enum Second {
     Stays,
     Placed(i32),
@@ -35,7 +35,7 @@ pub enum Second {
 
 // What a visit does: the first edge's place for good and what gives it, the second edge's place, whether the first is then held to the previous edge, whether it becomes the
 // anchor, and what is left to the next stem.
-#[derive(Drop)]
+#[derive(Clone, Copy)]
 pub struct Plan {
     pub first: i32,
     pub mark: Mark,

@@ -3,7 +3,7 @@ use axis::edge::Axis;
 use axis::kinds::Link;
 
 // An answer, 0 or the refusal, the count of edges passed over, the anchor or its absence, and the axis.
-#[derive(Drop)]
+#[derive(Clone, Copy)]
 pub struct Stems {
     pub answer: u8,
     pub count: usize,

@@ -2,7 +2,7 @@
 use axis::edge::Axis;
 
 // An answer, 0 or the refusal, what the stem was moved by, and the axis.
-#[derive(Drop)]
+#[derive(Clone, Copy)]
 pub struct StemCjk {
     pub answer: u8,
     pub delta: i32,

@@ -16,7 +16,7 @@ use fixed::width::{WidthRule, stem_width};
 const MAX_DELTA_ABS: i32 = 14;
 
 // The place of a stem's lower edge, its fitted width, and what it was moved by.
-#[derive(Drop)]
+#[derive(Clone, Copy)]
 pub struct Stem {
     pub pos: i32,
     pub width: i32,

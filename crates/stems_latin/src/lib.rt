@@ -1,4 +1,6 @@
 // Document 01, module 5: the numbers of the Latin stem (the default group's branch of the Rust's `align_stem_edges`).
+#![tactic(auto)]
+
 pub mod anchored;
 mod centre;
 pub mod first;

@@ -15,7 +15,7 @@ use stems::kinds::{LastStem, Mode, Trail};
 use words::edge::EDGE_WORDS;
 
 // The count of edges passed over, and the anchor or its absence.
-#[derive(Drop)]
+#[derive(Clone, Copy)]
 pub struct Passed {
     pub count: usize,
     pub anchor: Link,

@@ -16,7 +16,7 @@ use stems::store::{anchor_after, is_bounded};
 use words_edge::edge::{put_fixed, read_edge};
 
 // What the visits have come to beside the words: the count of edges passed over, the anchor or its absence, and what CJK stems leave to the next one.
-#[derive(Drop)]
+#[derive(Clone, Copy)]
 pub struct Progress {
     pub count: usize,
     pub anchor: Link,

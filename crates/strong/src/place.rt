@@ -11,7 +11,7 @@ use axis::limits::{LEAST_POS, MOST_POS};
 use fixed::point::{Quotient, fixed_div, fixed_mul};
 
 // What becomes of a point: it stays, it comes to a position, or the call is refused for it.
-#[derive(Drop)]
+#[derive(Clone, Copy)]
 pub enum Place {
     Stays,
     At(i32),

@@ -6,7 +6,7 @@ use super::limits::MOST_WORDS;
 use middle::bits::signed_of;
 
 // What has been read of a line: whether anything was, whether it can still be a job, its whole words, and the digits of the word that has begun.
-#[derive(Drop)]
+#[derive(Clone, Copy)]
 pub struct Line {
     pub begun: bool,
     pub broken: bool,

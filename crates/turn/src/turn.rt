@@ -17,7 +17,7 @@ use axis::segment::{Segment, Segments};
 use refusals::order::{BAD_INDEX, OUT_OF_RANGE, TOO_LONG, or_refused};
 
 // The answer, 0 or document 01's number of the refusal, the axis and the segments.
-#[derive(Drop)]
+#[derive(Clone, Copy)]
 pub struct Turned {
     pub answer: u8,
     pub axis: Axis,

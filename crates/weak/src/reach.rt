@@ -8,7 +8,7 @@ ghost use Rattle.weak.specs.Steps.{least_far, Reaches};
 const LEAST_FAR: i64 = 65536;
 
 // The least and the largest coordinate of a list, reckoned from 0 on.
-#[derive(Drop)]
+#[derive(Clone, Copy)]
 pub struct Reach {
     pub least: i32,
     pub most: i32,

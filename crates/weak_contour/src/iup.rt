@@ -9,7 +9,7 @@ ghost use Rattle.weak_contour.specs.Steps.{Coordinate, Coordinates, Wrote, slope
 use fixed::point::{Quotient, fixed_div, fixed_mul};
 
 // The originals v1, v2 and the currents u1, u2 of two references, and the scale from the originals to the currents.
-#[derive(Drop)]
+#[derive(Clone, Copy)]
 pub struct Span {
     pub v1: i32,
     pub u1: i32,

@@ -1,4 +1,6 @@
 // Request #110: what is known of each point by touch marks and contour ends, in two lists: written, compared, and used to align. `weak_references` has the public calls.
+#![tactic(auto)]
+
 pub mod align;
 pub mod contour;
 pub mod matching;

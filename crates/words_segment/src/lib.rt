@@ -1,2 +1,4 @@
 // Segments read and written where their words stand in a lent list: no table is made.
+#![tactic(auto)]
+
 pub mod segment;

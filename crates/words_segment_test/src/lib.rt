@@ -1,4 +1,6 @@
 // The tests of lent segments on their words, and the answer to them.
+#![tactic(auto)]
+
 pub mod exact;
 pub mod hold;
 pub mod read;

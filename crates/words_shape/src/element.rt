@@ -10,14 +10,14 @@ use words::segment::SEGMENT_WORDS;
 use words::word::word_at;
 
 // A record of several words.
-#[derive(Drop)]
+#[derive(Clone, Copy)]
 pub enum Record {
     Segment,
     Edge,
 }
 
 // What a list holds.
-#[derive(Drop)]
+#[derive(Clone, Copy)]
 pub enum Element {
     Number(Range),
     Segment,

@@ -4,14 +4,14 @@ ghost use Rattle.words.specs.Word.{word_at};
 ghost use Rattle.words_shape.specs.Shape.{is_in, field};
 
 // A place in a word list, or nowhere, where the words are not those that are read.
-#[derive(Drop)]
+#[derive(Clone, Copy)]
 pub enum Place {
     Nowhere,
     At(usize),
 }
 
 // The values of a field of one word.
-#[derive(Drop)]
+#[derive(Clone, Copy)]
 pub struct Range {
     pub low: i32,
     pub high: i32,

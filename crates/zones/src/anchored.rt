@@ -3,7 +3,7 @@ use axis::edge::Axis;
 use axis::kinds::Link;
 
 // An answer, 0 or the refusal, the anchor or its absence, and the axis.
-#[derive(Drop)]
+#[derive(Clone, Copy)]
 pub struct Anchored {
     pub answer: u8,
     pub anchor: Link,

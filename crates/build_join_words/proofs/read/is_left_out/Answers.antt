@@ -1,0 +1,30 @@
+-- `build_join_words::read::is_left_out` meets its contract.
+use mathlib.Core.Path.{◌≡◌, refl, sym, ap, ◌∙◌}
+use mathlib.Core.Bool.{Bool, not, ◌&&◌}
+use mir.Syntax.{w32}
+use borrow.Author.Rules.{rules}
+use borrow.Author.Tests.{not-true, not-false}
+use Rattle.axis.specs.declared.kinds.Direction.{Direction}
+use Rattle.axis.specs.declared.kinds.Direction.TheVariants as Directions
+use Rattle.axis.specs.Direction.{same}
+use Rattle.words.specs.Field.{direction_of}
+use Rattle.words.specs.Segment.{segment_from}
+use Rattle.words.proofs.Fields.{kept}
+use Rattle.build_join_words.specs.Reading.{segment_in}
+use Rattle.build_join_words.proofs.read.is_left_out.Goals as goal
+
+pub returns-then-not-second : goal.returns-then-not-second
+returns-then-not-second c =
+    let a = c.args in
+    ap (λ (b : Bool). b && not (same (segment_in a.words.now a.i).dir Directions.None)) (sym (not-true a.second c.if-not-second.true))
+
+pub returns : goal.returns
+unfolding segment_from
+returns c =
+    let d = c in
+    let w = d in
+    let e = w in
+    let a = e.args in
+    ap not (c.same.ensures ∙ ap (λ (x : Direction). same x Directions.None)
+    (d.direction_of-dir.ensures ∙ ap direction_of (kept w32 w.read_word.result w.read_word.type_inv ∙ w.read_word.ensures)))
+    ∙ ap (λ (b : Bool). b && not (same (segment_in a.words.now a.i).dir Directions.None)) (sym (not-false a.second e.if-not-second.false))

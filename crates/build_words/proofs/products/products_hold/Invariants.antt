@@ -1,0 +1,25 @@
+-- `build_words::products::products_hold` meets its contract.
+use mathlib.Core.Path.{◌≡◌, refl, sym, ap, ◌∙◌}
+use mathlib.Core.Bool.{true}
+use Prim.Native.Nat.{ℕ, ◌≤◌, ◌-◌, min}
+use native.Mathlib.Omega.{arith}
+use lib.IntN.{pos}
+use mir.Syntax.{w32}
+use mir.Val.{to_z}
+use borrow.Author.Rules.{rules}
+use borrow.Author.Tests.{not-true, not-false}
+use Rattle.signed.proofs.Signed.{is}
+use Rattle.axis.specs.Limits.{most_segments}
+use Rattle.axis.specs.Refusals.{every, inside}
+use Rattle.axis.specs.Segment.{segment_at}
+use Rattle.axis.proofs.Tests.{every-none, every_more, every-fails, every-done}
+use Rattle.build.specs.Building.{scaled_holds, products_hold}
+use Rattle.words.specs.Segment.{segments_in, segments_run, flat_segments}
+use Rattle.build_words.proofs.Scaled.{safe_scale, safe-products, scaled-tested}
+use Rattle.build_words.proofs.products.products_hold.Given as goal
+
+abbrev pub invariant-loop-i : goal.invariant-loop-i
+invariant-loop-i l = (l.i ≤ l.n) × (l.n ≡ segments_in l.words) × (l.n ≤ most_segments) × (every (λ (k : ℕ). scaled_holds l.scale (segment_at (flat_segments l.words) k)) l.i ≡ true)
+
+abbrev pub decreases-loop-i : goal.decreases-loop-i
+decreases-loop-i l = l.n - l.i

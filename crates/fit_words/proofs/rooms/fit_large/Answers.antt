@@ -1,0 +1,42 @@
+-- `fit_words::rooms::fit_large` meets its contract.
+use mathlib.Core.Path.{sym, ◌∙◌}
+use native.Mathlib.Omega.{arith}
+use lib.ListN.{length}
+use lib.IntN.{pos}
+use Rattle.weak_contour.specs.Limits.{most_points}
+use Rattle.words.specs.Edge.{table_size}
+use Rattle.edge_points.specs.Steps.{points}
+use Rattle.fit.specs.Fit.{Given, given, Fitted, fitted}
+use Rattle.remaining_words.proofs.Copying.{room-long}
+use Rattle.fit_back_words.proofs.Tests.{few-points, same-marks}
+use borrow.Author.Rules.{rules}
+use Rattle.fit_words.proofs.rooms.fit_large.Goals as goal
+use Rattle.fit_words.proofs.rooms.fit_large.Goals.{Start}
+
+-- what is given and lent
+abbrev gave : Start → Given
+gave s = let a = s.args in given a.segments.now a.standards.now a.fonts.now a.originals.now a.weak.now a.ends.now
+
+abbrev lent : Start → Fitted
+lent s = let a = s.args in fitted a.edges-1.now (points a.currents-1.now a.touched-1.now) a.told-1.now
+
+pub slice_bounds-spare-end : goal.slice_bounds-spare-end
+slice_bounds-spare-end c = let s = c.before.before.before.before.before.before.before.before in few-points s.args.by (gave s) (lent s) s.requires
+
+pub slice_bounds-marks-end : goal.slice_bounds-marks-end
+slice_bounds-marks-end c = let s = c.before.before.before.before.before.before.before.before.before in few-points s.args.by (gave s) (lent s) s.requires
+
+pub fit_in_rooms-requires : goal.fit_in_rooms-requires
+fit_in_rooms-requires c =
+    let s = c.before.before.before.before.before.before.before.before.before.before in
+    let a = s.args in
+    let w = s.requires.edges in
+    let few = few-points a.by (gave s) (lent s) s.requires in
+    record {
+      accepted = s.requires;
+      rooms = record {
+        edges_long = room-long table_size (length a.edges-1.now) (pos 0) (omega (arith, w.few, w.long));
+        currents_long = room-long most_points (length a.currents-1.now) (pos 0) few;
+        marks_long = room-long most_points (length a.currents-1.now) 0 few ∙ sym (same-marks a.by (gave s) (lent s) s.requires);
+      };
+    }

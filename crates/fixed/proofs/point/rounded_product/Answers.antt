@@ -1,0 +1,46 @@
+-- `fixed::point::rounded_product` meets its contract: each product of halves fits, and so does their sum.
+use native.Mathlib.Omega.{arith}
+use mathlib.Core.Path.{sym}
+use Rattle.fixed.proofs.Halves.{Halves, halves}
+use Rattle.fixed.proofs.point.rounded_product.Goals as goal
+use Rattle.fixed.proofs.point.rounded_product.Goals.{Start}
+
+-- the factors' halves
+parts : (c : Start) → Halves c.args.x c.args.y
+parts c = halves c.args.x c.args.y c.requires.0 c.requires.1
+
+pub overflow_mul-carry : goal.overflow_mul-carry
+overflow_mul-carry c = omega (arith, (parts c).low)
+
+pub overflow_add-carry : goal.overflow_add-carry
+overflow_add-carry c = omega (arith, (parts c).low)
+
+pub overflow_mul-middle : goal.overflow_mul-middle
+overflow_mul-middle c = omega (arith, (parts c).middle)
+
+pub overflow_mul-middle-2 : goal.overflow_mul-middle-2
+overflow_mul-middle-2 c = omega (arith, (parts c).middle)
+
+pub overflow_add-middle : goal.overflow_add-middle
+overflow_add-middle c = omega (arith, (parts c).middle)
+
+pub overflow_add-middle-2 : goal.overflow_add-middle-2
+overflow_add-middle-2 c = omega (arith, (parts c).middle)
+
+pub overflow_mul-high : goal.overflow_mul-high
+overflow_mul-high c = omega (arith, (parts c).high)
+
+pub overflow_cast-result : goal.overflow_cast-result
+overflow_cast-result c = omega (arith, (parts c).high)
+
+pub overflow_mul-result : goal.overflow_mul-result
+overflow_mul-result c = omega (arith, (parts c).high)
+
+pub overflow_cast-result-2 : goal.overflow_cast-result-2
+overflow_cast-result-2 c = omega (arith, (parts c).middle)
+
+pub overflow_add-result : goal.overflow_add-result
+overflow_add-result c = omega (arith, (parts c).high, (parts c).middle)
+
+pub returns : goal.returns
+returns c = sym (parts c).whole

@@ -1,0 +1,30 @@
+-- `link::rounds::serif_round` meets its contract: each inner turn holds one stem against the first, until the break.
+use borrow.Author.Rules.{rules}
+use borrow.Author.Tests.{not-true, not-false}
+use native.Mathlib.Omega.{arith}
+use native.Mathlib.Nat.{lt_of_lt_of_le}
+use mathlib.Core.Path.{◌≡◌, sym, ◌∙◌}
+use mathlib.Core.Logic.{⊎_elim}
+use Prim.Native.Nat.{◌≤◌, ◌<◌, ◌-◌}
+use Rattle.axis.specs.Segment.{segment_at}
+use Rattle.axis.specs.Limits.{most_segments}
+use Rattle.link.specs.Loops.{turns}
+use Rattle.link.specs.Rounds as R
+use Rattle.link.proofs.Loops.{none, turn, end}
+use Rattle.link.proofs.Kept.{Every}
+use Rattle.link.proofs.Within.{Within, serif_within, every-within, to_below}
+use Rattle.link.proofs.Turns.{serif-none, serif-skip, serif-go}
+use Rattle.link.proofs.Holding as H
+use Rattle.link.proofs.rounds.serif_round.Given as goal
+
+abbrev pub invariant-loop-ix2 : goal.invariant-loop-ix2
+invariant-loop-ix2 l = (l.ix2 ≤ l.count) × (l.count ≤ most_segments) × (l.ix1 < l.count) × (l.at1 < l.count) × H.Held l.count l.seg1 l.link1 l.ix1 l.link1_ix l.initial.table l.ix2 l.table
+
+abbrev pub decreases-loop-ix2 : goal.decreases-loop-ix2
+decreases-loop-ix2 l = l.count - l.ix2
+
+abbrev pub invariant-loop-ix1 : goal.invariant-loop-ix1
+invariant-loop-ix1 l = (l.ix1 ≤ l.count) × (l.count ≤ most_segments) × (l.table ≡ turns (R.serif_turn l.thresholds l.count) l.ix1 l.initial.table)
+
+abbrev pub decreases-loop-ix1 : goal.decreases-loop-ix1
+decreases-loop-ix1 l = l.count - l.ix1

@@ -1,0 +1,116 @@
+-- `link_words::serif::hold_in` meets its contract.
+use borrow.Author.Tests.{not-true, not-false}
+use mathlib.Core.Path.{sym, subst}
+use native.Mathlib.Omega.{arith}
+use Rattle.signed.specs.Range.{Between}
+use Rattle.axis.specs.declared.segment.Segment.{Segment}
+use Rattle.axis.specs.Limits.{most_score}
+use Rattle.link_words.proofs.Turns.{each_within}
+use Rattle.link_words.proofs.Serifs.{link-read, link-leads, hold-behind, hold-none, hold-skip, hold-serifs, hold-last}
+use Rattle.words_segment.proofs.Became.{below_in}
+use borrow.Author.Rules.{rules}
+use Rattle.link_words.proofs.serif.hold_in.Goals as goal
+use Rattle.link_words.proofs.serif.hold_in.Goals.{After-is_much_longer, Start}
+
+-- where a stem that encloses the first is found
+abbrev start : After-is_much_longer → Start
+start c = c
+
+pub returns-then-not-starts_outside : goal.returns-then-not-starts_outside
+returns-then-not-starts_outside c =
+    let o = c.before in
+    let e = o.before in
+    let s = e in
+    hold-behind s.args.seg1 s.args.link1 s.args.ix1 s.args.link1_ix s.args.ix2 s.args.words.now s.requires.linkable.0 s.requires.linkable.1
+    s.requires.linkable.2 _ e.read_segment-seg2.ensures
+    _ o.starts_outside.ensures (c.if-not-starts_outside.true)
+
+pub returns-in_default : goal.returns-in_default
+returns-in_default c =
+    let e = c.before.before.before in
+    let s = e in
+    hold-none s.args.seg1 s.args.link1 s.args.ix1 s.args.link1_ix s.args.ix2 s.args.words.now s.requires.linkable.0 s.requires.linkable.1
+    s.requires.linkable.2 _ e.read_segment-seg2.ensures
+    c.in_default.is
+
+pub read_segment-link2-requires : goal.read_segment-link2-requires
+read_segment-link2-requires c =
+    let link = c in
+    let e = link.before.before.before.before in
+    let s = e in (
+      s.requires.linkable.0.whole,
+      link-leads s.requires.linkable.0 s.requires.linkable.3
+          (link-read s.args.words.now s.args.ix2 e.read_segment-seg2.ensures link.in-To.is),
+    )
+
+pub returns-then-not-encloses : goal.returns-then-not-encloses
+returns-then-not-encloses c =
+    let k = c.before in
+    let f = k.before in
+    let link = f.before in
+    let e = link.before.before.before.before in
+    let s = e in
+    hold-skip s.args.seg1 s.args.link1 s.args.ix1 s.args.link1_ix s.args.ix2 s.args.words.now s.requires.linkable.0 s.requires.linkable.1
+    s.requires.linkable.2 _ e.read_segment-seg2.ensures _
+    link.in-To.is _ f.read_segment-link2.ensures _ k.encloses.ensures (c.if-not-encloses.true)
+
+pub is_much_longer-requires : goal.is_much_longer-requires
+is_much_longer-requires c =
+    let k = c.before in
+    let f = k.before in
+    let link = f.before in
+    let e = link.before.before.before.before in
+    let s = e in
+    subst (λ (x : Segment). Between 0 most_score x.len) (sym e.read_segment-seg2.ensures)
+    ((each_within s.args.words.now s.requires.linkable.0.within).each s.args.ix2 s.requires.linkable.3).len
+
+pub overflow_cast-ix2-then-is_much_longer : goal.overflow_cast-ix2-then-is_much_longer
+overflow_cast-ix2-then-is_much_longer c =
+    let s = start c.before.before in
+    omega (arith, s.pre.0.3, s.pre.0.0.whole.few)
+
+pub rewrite_links_in-requires : goal.rewrite_links_in-requires
+rewrite_links_in-requires c = let s = start c.before.before in (s.pre.0.0.whole, s.pre.0.2, s.pre.0.1)
+
+pub returns-then-is_much_longer : goal.returns-then-is_much_longer
+returns-then-is_much_longer c =
+    let p = c.before in
+    let y = p.before.before in
+    let n = y.before in
+    let x = n.before in
+    let k = x.before in
+    let f = k.before in
+    let link = f.before in
+    let e = link.before.before.before.before in
+    let s = e in
+    hold-serifs s.args.seg1 s.args.link1 s.args.ix1 s.args.link1_ix s.args.ix2 s.args.words.now s.requires.linkable.0 s.requires.linkable.1
+    s.requires.linkable.2 _ e.read_segment-seg2.ensures _
+    link.in-To.is _ f.read_segment-link2.ensures _ k.encloses.ensures (x.if-not-encloses.false) _ n.is_much_longer.ensures
+    y.if-is_much_longer.true p.rewrite_links_in.ensures
+
+pub put_no_link-requires : goal.put_no_link-requires
+put_no_link-requires c = let s = start c.before.before in (s.pre.0.0.whole, s.pre.0.1)
+
+pub put_no_link-requires-2 : goal.put_no_link-requires-2
+put_no_link-requires-2 c =
+    let p = c.before.before in
+    let s = start p.before.before.before in
+    (p.put_no_link.ensures.whole, below_in s.args.link1_ix p.put_no_link.ensures s.pre.0.2)
+
+pub returns : goal.returns
+returns c =
+    let q = c.before in
+    let p = q.before.before.before in
+    let y = p.before.before in
+    let n = y.before in
+    let x = n.before in
+    let k = x.before in
+    let f = k.before in
+    let link = f.before in
+    let e = link.before.before.before.before in
+    let s = e in
+    hold-last s.args.seg1 s.args.link1 s.args.ix1 s.args.link1_ix s.args.ix2 s.args.words.now s.requires.linkable.0 s.requires.linkable.1
+    s.requires.linkable.2 _ e.read_segment-seg2.ensures _
+    link.in-To.is _ f.read_segment-link2.ensures _ k.encloses.ensures (x.if-not-encloses.false) _ n.is_much_longer.ensures y.if-is_much_longer.false
+    p.put_no_link.ensures
+    q.put_no_link-2.ensures

@@ -1,0 +1,16 @@
+-- `log_blocks::blocks::refit_block` meets its contract. The invariant: what is written and what is left give the whole.
+use native.Mathlib.Omega.{arith}
+use borrow.Author.Rules.{rules}
+use mathlib.Core.Path.{sym}
+use Prim.Native.Nat.{◌-◌, ◌≤◌}
+use lib.ListN.{length}
+use lib.Seq.{length-take-le}
+use Rattle.log_lines.proofs.Streams.{count-few, further}
+use Rattle.log_blocks.proofs.Onward.{Onward, onward-none, onward-held, onward-ended, onward-full, onward-all}
+use Rattle.log_blocks.proofs.blocks.refit_block.Given as goal
+
+abbrev pub invariant-loop-at : goal.invariant-loop-at
+invariant-loop-at l = Onward l.block l.from l.initial.line l.count l.initial.out l.line l.out l.at l.held l.size
+
+abbrev pub decreases-loop-at : goal.decreases-loop-at
+decreases-loop-at l = length l.block - l.at

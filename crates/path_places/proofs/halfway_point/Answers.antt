@@ -1,0 +1,18 @@
+-- `pixels::halfway_point` meets its contract.
+use mir.Syntax.{w32}
+use mir.ValLaws.{to_z-of_z}
+use borrow.Author.Rules.{rules}
+use Rattle.path_places.proofs.halfway_point.Goals as goal
+
+pub returns : goal.returns
+returns c =
+    let a = c in
+    cc (
+      c.halfway.ensures.is,
+      c.halfway-2.ensures.is,
+      to_z-of_z w32 a.args.x a.ranges.x,
+      to_z-of_z w32 a.args.y a.ranges.y,
+      to_z-of_z w32 a.args.u
+          a.ranges.u,
+      to_z-of_z w32 a.args.v a.ranges.v,
+    )

@@ -1,0 +1,12 @@
+-- `place_words::bounds::neighbour_in` meets its contract.
+use Rattle.place.specs.Placing.{neighbour}
+use borrow.Author.Rules.{rules}
+use Rattle.place_words.proofs.bounds.neighbour_in.Goals as goal
+
+pub returns-in-Prev : goal.returns-in-Prev
+unfolding neighbour
+returns-in-Prev c = rw c.in-Prev.is c.lower_bound.ensures
+
+pub returns-in-Next : goal.returns-in-Next
+unfolding neighbour
+returns-in-Next c = rw c.in-Next.is c.upper_in.ensures

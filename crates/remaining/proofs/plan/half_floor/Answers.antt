@@ -1,0 +1,23 @@
+-- `remaining::plan::half_floor` meets its contract.
+use native.Mathlib.Omega.{arith}
+use mathlib.Core.Path.{ap, ◌∙◌}
+use lib.IntN.{ℤ, pos, ◌*ℤ◌}
+use lib.Signed.{shr_z}
+use mir.Syntax.{w32}
+use mir.Val.{SFits, to_z, of_z}
+use Rattle.signed.proofs.Signed.{signed, fits, is, range, shr-law, fits-shr, back_fits}
+use Rattle.remaining.specs.Plan.{half_floor}
+use Rattle.remaining.proofs.plan.half_floor.Goals as goal
+use Rattle.remaining.proofs.plan.half_floor.Goals.{Start}
+
+shifted : (c : Start) → SFits w32 (shr_z (to_z w32 (of_z w32 c.args.x)) 32)
+shifted c = fits-shr _ 32 (back_fits c.ranges.x)
+
+pub overflow_mul-result : goal.overflow_mul-result
+overflow_mul-result c =
+    let s = shifted c in
+    fits (omega (arith, signed, range c.ranges.x, shr-law (to_z w32 (of_z w32 c.args.x)) 32 tt))
+
+pub returns : goal.returns
+unfolding half_floor
+returns c = is (overflow_mul-result c) ∙ ap (λ (z : ℤ). z *ℤ pos 32) (is (shifted c) ∙ ap (λ (z : ℤ). shr_z z 32) (is c.ranges.x))

@@ -1,0 +1,22 @@
+-- `shown_picture::rows::count_rows` meets its contract. The invariant: the rows passed are counted, and the last of them is the row below.
+use mathlib.Core.Path.{◌≡◌, refl, sym, subst, ◌∙◌}
+use mathlib.Core.Bool.{Bool}
+use Prim.Native.Nat.{ℕ, ◌+◌, ◌-◌, ◌≤◌}
+use native.Mathlib.Omega.{arith}
+use lib.ListN.{length}
+use Rattle.path_trip.specs.Path.{points}
+use Rattle.shown_rows.specs.Rows.{black_at, CountsBy}
+use Rattle.shown_picture.specs.Window.{picture}
+use Rattle.shown_picture.specs.Rows.{RowRead, shifted, rows_to}
+use Rattle.shown_picture.proofs.Reading.{white-read, Lower, lower-none, rows_none, lower-more, rows_more, rows-read, row_small, rows-small}
+use Rattle.shown_picture.proofs.rows.count_rows.Given as goal
+
+abbrev pub invariant-loop-j : goal.invariant-loop-j
+invariant-loop-j l = (l.j ≤ l.window.rows)
+    × (length l.below ≡ l.window.columns + 1)
+    × (length l.changes ≡ l.window.columns + 1)
+    × Lower (shifted (picture l.magnify (points l.xs l.ys l.marks) l.ends) l.window.left l.window.low) (l.window.columns + 1) l.j l.below
+    × CountsBy (λ f. rows_to f (shifted (picture l.magnify (points l.xs l.ys l.marks) l.ends) l.window.left l.window.low) (l.window.columns + 1) l.j) l.counts
+
+abbrev pub decreases-loop-j : goal.decreases-loop-j
+decreases-loop-j l = l.window.rows - l.j

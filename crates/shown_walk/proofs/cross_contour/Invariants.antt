@@ -1,0 +1,25 @@
+-- `shown_walk::cross_contour` meets its contract. The invariant: the lines of what is left of the walk are left to add.
+use mathlib.Core.Path.{◌≡◌, sym, ap, subst, ◌∙◌}
+use mathlib.Core.List.{List, [], ◌∷◌}
+use Prim.Native.Nat.{ℕ, ◌+◌, ◌-◌, ◌≤◌}
+use native.Mathlib.Omega.{arith}
+use borrow.Author.Rules.{rules}
+use lib.ListN.{drop}
+use Rattle.path_trip.specs.Path.{points, Points, round_of}
+use Rattle.path_trip.specs.Legs.{Tour, tour_of}
+use Rattle.path_trip.specs.Trips.{around, Walk}
+use Rattle.path_trip.proofs.Walks.{inside-more}
+use Rattle.path_walk.specs.Steps.{end_of}
+use Rattle.shown.specs.Shown.{contour_lines}
+use Rattle.shown_lines.specs.declared.place.Halves.{Halves}
+use Rattle.shown_lines.specs.Lines.{field_half, Near, halves_at, straight, curve_sides, Wound}
+use Rattle.shown_lines.proofs.Winding.{Owing, owing, owing-as, owing-alike, owing-more, owing-done}
+use Rattle.shown_walk.proofs.Walks.{walk_sides, contour-alike, turn-line, turn-curve, turn-back, end_more, walk_same}
+use Rattle.shown_walk.proofs.cross_contour.Given as goal
+
+abbrev pub invariant-loop-j : goal.invariant-loop-j
+invariant-loop-j l = (l.j ≤ l.tour.count) × Near l.p × Owing l.left l.y l.initial.changes (contour_lines field_half l.magnify (points l.xs l.ys l.marks) (tour_of (points l.xs l.ys l.marks) l.a (l.e - 1))) l.changes
+    (walk_sides (points l.xs l.ys l.marks) l.magnify (tour_of (points l.xs l.ys l.marks) l.a (l.e - 1)).start l.p (drop l.j (tour_of (points l.xs l.ys l.marks) l.a (l.e - 1)).walk))
+
+abbrev pub decreases-loop-j : goal.decreases-loop-j
+decreases-loop-j l = l.tour.count - l.j

@@ -1,0 +1,17 @@
+-- `turn::turn::turn_segments` meets its contract: each turn fills one place.
+use native.Mathlib.Omega.{arith}
+use mathlib.Core.Path.{◌≡◌, refl, ◌∙◌}
+use Prim.Native.Nat.{◌≤◌, ◌-◌, min}
+use lib.ListN.{length}
+use Rattle.axis.specs.Limits.{most_segments}
+use Rattle.axis.proofs.Declared.{typed}
+use Rattle.axis.proofs.Tests.{every-at}
+use Rattle.turn.specs.Indices.{segments_edges}
+use Rattle.turn.proofs.Places.{segments_to, segments-more, segments-all}
+use Rattle.turn.proofs.turn.turn_segments.Given as goal
+
+abbrev pub invariant-loop-i : goal.invariant-loop-i
+invariant-loop-i l = (l.i ≤ l.n) × (l.n ≤ most_segments) × (l.turned ≡ segments_to l.count l.segments l.i)
+
+abbrev pub decreases-loop-i : goal.decreases-loop-i
+decreases-loop-i l = l.n - l.i

@@ -1,0 +1,10 @@
+-- `weak_drag::drag::lend_drag` meets its contract.
+use borrow.Author.Rules.{rules}
+use Rattle.weak_drag.proofs.Drags.{dragged-as}
+use Rattle.weak_drag.proofs.drag.lend_drag.Goals as goal
+
+pub returns : goal.returns
+returns c =
+    let d = c in
+    let a = d.args in
+    dragged-as a.originals.now a.currents-1.now a.touched.now a.ends.now _ _ _ _ d.index_of.ensures d.drag_point.ensures

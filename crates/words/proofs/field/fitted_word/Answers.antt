@@ -1,0 +1,13 @@
+-- `words::field::fitted_word` meets its contract.
+use borrow.Author.Rules.{rules}
+use mathlib.Core.Path.{sym, ap, ◌∙◌}
+use mir.Syntax.{w32}
+use Rattle.words.specs.Field.{fitted_word}
+use Rattle.words.proofs.Fields.{kept}
+use Rattle.words.proofs.field.fitted_word.Goals as goal
+
+pub returns-in-None : goal.returns-in-None
+returns-in-None c = sym (ap fitted_word c.in-None.is)
+
+pub returns-in-Fitted : goal.returns-in-Fitted
+returns-in-Fitted c = kept w32 c.in-Fitted.fitted c.in-Fitted.known_told-1-own.given.0.1 ∙ sym (ap fitted_word c.in-Fitted.is)

@@ -1,0 +1,10 @@
+-- `words::field::index_at` meets its contract.
+use borrow.Author.Rules.{rules}
+use mathlib.Core.Path.{ap, ◌∙◌}
+use mir.Syntax.{w32}
+use Rattle.words.specs.Field.{index_of}
+use Rattle.words.proofs.Fields.{kept}
+use Rattle.words.proofs.field.index_at.Goals as goal
+
+pub returns : goal.returns
+returns c = let w = c.word_at in c.index_of.ensures ∙ ap index_of (kept w32 w.result w.type_inv ∙ w.ensures)

@@ -1,0 +1,10 @@
+-- `words::field::mark_at` meets its contract.
+use borrow.Author.Rules.{rules}
+use mathlib.Core.Path.{ap, ◌∙◌}
+use mir.Syntax.{w32}
+use Rattle.words.specs.Field.{mark_of}
+use Rattle.words.proofs.Fields.{kept}
+use Rattle.words.proofs.field.mark_at.Goals as goal
+
+pub returns : goal.returns
+returns c = let w = c.word_at in c.mark_of.ensures ∙ ap mark_of (kept w32 w.result w.type_inv ∙ w.ensures)

@@ -1,0 +1,10 @@
+-- `words_edge::edge::read_flags` meets its contract.
+use mathlib.Core.Path.{ap, ◌∙◌}
+use mir.Syntax.{w32}
+use Rattle.words.specs.Field.{flags_of}
+use Rattle.words.proofs.Fields.{kept}
+use borrow.Author.Rules.{rules}
+use Rattle.words_edge.proofs.edge.read_flags.Goals as goal
+
+pub returns : goal.returns
+returns c = let w = c.read_word in c.flags_of.ensures ∙ ap flags_of (kept w32 w.result w.type_inv ∙ w.ensures)

@@ -1,0 +1,56 @@
+-- `words_edge_test::exact::every_edge` meets its contract.
+use mathlib.Core.Path.{◌≡◌, sym}
+use mathlib.Core.Bool.{true}
+use Prim.Native.Nat.{ℕ, ◌≤◌, ◌-◌, min}
+use native.Mathlib.Omega.{arith}
+use borrow.Author.Rules.{rules}
+use borrow.Author.Tests.{not-true, not-false}
+use Rattle.axis.specs.Edge.{edge_at}
+use Rattle.axis.specs.Limits.{most_edges}
+use Rattle.axis.specs.Refusals.{every, edge_passes}
+use Rattle.axis.proofs.Tests.{every-none, every_more, every-fails, every-done}
+use Rattle.words.specs.Edge.{edges_in, axis_run, flat_axis}
+use Rattle.words_call.specs.Lent.{edges_of}
+use Rattle.words_edge_test.proofs.Refusals.{edge-tested}
+use Rattle.words_edge_test.proofs.exact.every_edge.Goals as goal
+
+pub loop-i-init : goal.loop-i-init
+loop-i-init c = (omega arith, c.least-n.ensures, every-none _)
+
+pub overflow_mul-i : goal.overflow_mul-i
+overflow_mul-i c = omega arith
+
+pub edge_from-edge-requires : goal.edge_from-edge-requires
+edge_from-edge-requires c = omega arith
+
+pub returns-then-not-edge_passes : goal.returns-then-not-edge_passes
+unfolding flat_axis axis_run
+returns-then-not-edge_passes c =
+    let t = c in
+    let e = t in
+    let o = e in
+    let ws = o.args.words.now in
+    sym (every-fails _ o.loop-i.i _ (omega arith)
+    (edge-tested _ ws o.loop-i.i _ _ _ (omega arith) e.edge_from-edge.ensures t.edge_passes.ensures (c.if-not-edge_passes.true)))
+
+pub overflow_step-i : goal.overflow_step-i
+overflow_step-i c = omega arith
+
+pub loop-i-smaller : goal.loop-i-smaller
+loop-i-smaller c = omega arith
+
+pub loop-i-preserved : goal.loop-i-preserved
+loop-i-preserved c =
+    let t = c in
+    let e = t in
+    let o = e in
+    let ws = o.args.words.now in
+    let v = o.loop-i.invariant in (
+      omega arith,
+      v.1,
+      every_more _ _ v.2 (edge-tested _ ws o.loop-i.i _ _ _ (omega arith) e.edge_from-edge.ensures t.edge_passes.ensures (c.if-not-edge_passes.false)),
+    )
+
+pub returns : goal.returns
+unfolding flat_axis axis_run
+returns c = let o = c.loop-i.invariant in every-done _ _ _ _ o.0 (omega arith) o.1 o.2
