@@ -1,11 +1,16 @@
 # tools/kit.sh: for the commands in tools/ to read (`.`), behind tools/say.sh. Where the Rattle kit is, what kind of machine this is, the kit's compiler, archiver and linker for it, the processors that
 # archives are made for, C headers for the compiler, and what readelf says of an object or archive.
 needs rt
-kit=$(cd "$(dirname "$(rt doc)")/.." && pwd -P)
+kit=$(cd "$(dirname "$(rt doc)")" && pwd -P)
 machine=$(uname -m)
-clang=$kit/on/$machine/toolchain/bin/clang
-archiver=$kit/on/$machine/toolchain/bin/llvm-ar
-linker=$kit/on/$machine/toolchain/bin/ld.lld
+clang=$kit/toolchain/bin/clang
+archiver=$kit/toolchain/bin/llvm-ar
+linker=$kit/toolchain/bin/ld.lld
+
+# The crate whose archive is a library: of khsaemudol that of its C interface.
+crate_of() { # LIBRARY
+    if [ -d "crates/$1_c" ]; then echo "$1_c"; else echo "$1"; fi
+}
 
 # The processors that the library is released for, and the words that tools/library takes for one: its triple and CPU.
 processors='x86-64 aarch64 cortex-a7 cortex-m4 cortex-m0 rv32imac'

@@ -105,7 +105,14 @@ logged() { # FILE COMMAND..
 proves() { # NAME..
     needs rt
     mkdir -p target
-    during "what is not proved yet is being proved, each crate once; from nothing that takes twenty minutes and more" logged "target/$1.log" rt check "$@" || exit 1
+    during "what is not proved yet is being proved, each crate once; from nothing that takes twenty minutes and more" logged "target/$1.log" checks "$@" || exit 1
+}
+
+# Lets rt check crates, each in its own folder, where it keeps what it proved.
+checks() { # NAME..
+    for crate; do
+        (cd "crates/$crate" && rt check) || return 1
+    done
 }
 
 # Compiles a package of this repository that leans on the given Rust.

@@ -40,7 +40,7 @@ empty-typed = record { pos = omega arith; low = omega arith; high = omega arith 
 
 -- each of a list of them, and what stands behind its end
 all_typed : (ss : List Segment) (us : List Val) → shadow
-    (each (SegmentType.the_field).row.Denot (SegmentType.the_field).row.own_val (map (SegmentType.the_field).into ss) us)
+    (each (SegmentType.the_row).Denot (SegmentType.the_row).own_val ss us)
     → (i : ℕ) → TypedSegment (get_or ss i empty_segment)
 all_typed [] us p i = empty-typed
 all_typed (s ∷ ss) [] p i = absurd p
@@ -50,7 +50,7 @@ all_typed (s ∷ ss) (u ∷ us) p (suc i) = all_typed ss us p.1 i
 pub typed : (t : Segments) (vs : List Val) → Is (row SegmentsType.the_type) t vs → Typed t
 typed t vs p =
     let q = p.1.1.0 in
-    record { places = sym (length-map t.segments (SegmentType.the_field).into) ∙ q.1.0.1; segment = all_typed t.segments q.0 q.1.1 }
+    record { places = q.1.0.1; segment = all_typed t.segments q.0 q.1.1 }
 
 -- ---- edges
 typed-link : (l : Link) (vs : List Val) → Is (Enum.row LinkType.the_type) l vs → Below 65536 l
@@ -70,4 +70,4 @@ typed-edge e vs p =
     }
 
 pub typed-axis : (axis : Axis) (vs : List Val) → Is (row AxisType.the_type) axis vs → TypedAxis axis
-typed-axis axis vs p = record { places = sym (length-map axis.edges (EdgeType.the_field).into) ∙ p.1.1.1.1.0.1.0.1 }
+typed-axis axis vs p = record { places = p.1.1.1.1.0.1.0.1 }

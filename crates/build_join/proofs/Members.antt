@@ -1,5 +1,5 @@
 -- Members of a group: how often one is there, and how many there can be.
-use mathlib.Core.Path.{◌≡◌, refl}
+use mathlib.Core.Path.{◌≡◌, refl, sym, subst}
 use mathlib.Core.Bool.{Bool, true, false, cond}
 use mathlib.Core.List.{List, [], ◌∷◌, ◌++◌}
 use Prim.Native.Nat.{ℕ, zero, suc, ◌+◌, ◌≤◌, ◌<◌}
@@ -67,7 +67,7 @@ once-rest m ms h x = omega (arith, h x, times_more x m ms)
 pub head-last : (m x : ℕ) (ms : List ℕ) → Once (m ∷ x ∷ ms) → m ≡ last_of x ms → ⊥
 unfolding times
 head-last m x ms h e =
-    let a : 1 ≤ times m (x ∷ ms) = rw e (times-last x ms) in
+    let a : 1 ≤ times m (x ∷ ms) = subst (λ (z : ℕ). 1 ≤ times z (x ∷ ms)) (sym e) (times-last x ms) in
     let b : times m (m ∷ x ∷ ms) ≤ 1 = h m in
     let d : times m (m ∷ x ∷ ms) ≡ 1 + times m (x ∷ ms) = rw (eq-eqb m m refl) in
     omega arith

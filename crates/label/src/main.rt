@@ -8,10 +8,12 @@ ghost use Rattle.tool_lines.specs.Limits.{most_words};
 
 use label_fit::glyph::Glyph;
 use label_print::print::text;
-use libc::STDIN_FILENO;
 use step::step;
 use tool_lines::limits::MOST_WORDS;
 use tool_lines::line::{Line, feed, words_of};
+
+// The number of standard input.
+const STDIN_FILENO: i32 = 0;
 
 // The line with one byte more. A line that is not of words, as a title, is copied from the byte on that is no digit.
 fn take(words: &mut [i32], line: Line, byte: u8) -> Line

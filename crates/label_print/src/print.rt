@@ -1,9 +1,11 @@
 // Texts, numbers, positions and refusals, written to standard output.
 ghost use Rattle.std.specs.Prelude.{◌≤◌};
 
-use libc::STDOUT_FILENO;
 use middle::bits::bits_of;
 use words::word::{size_of, word_at};
+
+// The number of standard output.
+const STDOUT_FILENO: i32 = 1;
 
 // Writes bytes to standard output.
 pub fn text(bytes: &[u8]) {

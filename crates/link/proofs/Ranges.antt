@@ -54,6 +54,9 @@ gap-reach before seg1 seg2 p a b =
 pub reached : {g h : Gap} → g ≡ h → Reach h → (g ≡ h) × Reach g
 reached e r = (e, subst Reach (sym e) r)
 
+pub reach-of : {g h : Gap} → g ≡ h → Reach h → Reach g
+reach-of e r = subst Reach (sym e) r
+
 -- ---- products
 -- a score, len or distance within the table, times 9 or less, fits 32 bits
 pub product-fits : (z k : ℤ) → Between 0 most_score z → Between 0 9 k → SFits w32 (z *ℤ k)

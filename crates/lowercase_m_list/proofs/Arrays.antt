@@ -6,7 +6,7 @@ use mathlib.Core.Bool.{Bool, true, false}
 use lib.Dec.{T as Holds}
 use lib.ListN.{length, length-map}
 use seplogic.Ra.Ura.{Ura}
-use seplogic.Ra.TreeShare.{full_share}
+use base.Fraction.{full_share}
 use mir.Syntax.{Ty, ty_array}
 use mir.Val.{Val, WT, has_ty}
 use base.Logic.{ent, sep}
@@ -95,16 +95,16 @@ module _ {M : Type 1} {𝓤 : Ura M} (𝓛 : Logic 𝓤) (n : ℕ) where
       qed 𝓛 (‵ (fat full_share (array n) b 0 (only (arr xs))) ∷ []) ∵ use1 𝓛 (‵ (cell_at full_share (Edges n).mir (arr xs) b 0))
       (𝓛.laws.at_raw full_share (array n) b 0 (only (arr xs))) $
       owned ! (Edges n) (Is (Edges n)) makes xs (arr xs) g $ move ! (1 ∷ 0 ∷ []) $ fjoin ! $
-      fpack ! (List Val) (λ vs. fsep (cell_at full_share (Edges n).mir vs b 0) ((Edges n).own xs vs)) (arr xs) $
+      fpack ! (List Val) (λ vs. fsep (cell_at full_share (Edges n).mir vs b 0) ((Edges n).own_val xs vs)) (arr xs) $
       use1 𝓛 (‵ ((arr_parts (shares T.the_row) n).part full_share xs b 0)) (Array-apart 𝓛 T.the_row full_share tt n xs b 0) $ fsplit ! $ drop ! $ done !
 
   -- and a row, as a local array
   pub as-array : (xs : List Edge) (b : ℕ) → length xs ≡ n → ent 𝓤 (sem 𝓛 (row T.the_row full_share xs b 0))
-      (sep 𝓤 (sem 𝓛 ((Edges n).own xs (arr xs))) (sem 𝓛 (fat full_share (array n) b 0 (only (arr xs)))))
+      (sep 𝓤 (sem 𝓛 ((Edges n).own_val xs (arr xs))) (sem 𝓛 (fat full_share (array n) b 0 (only (arr xs)))))
   unfolding part_of
   as-array xs b l =
       qed 𝓛 (‵ (row T.the_row full_share xs b 0) ∷ []) ∵ feq_i ! ℕ (length xs) n l $ fjoin ! $
       use1 𝓛 (‵ (part_at (Edges n) full_share xs b 0)) (Array-whole 𝓛 T.the_row full_share n xs b 0) $ fpick ! (λ vs. fsplit ! $ move ! (1 ∷ []) $
-      peeks ! (Edges n) (Is (Edges n)) (shows 𝓛 (Edges n)) xs vs (λ p. rewrite ! 0 (λ (us : List Val). ‵ ((Edges n).own xs us)) (tells n xs vs p) refl $
+      peeks ! (Edges n) (Is (Edges n)) (shows 𝓛 (Edges n)) xs vs (λ p. rewrite ! 0 (λ (us : List Val). ‵ ((Edges n).own_val xs us)) (tells n xs vs p) refl $
       rewrite ! 1 (λ (us : List Val). ‵ (cell_at full_share (Edges n).mir us b 0)) (tells n xs vs p) refl $
       frame ! $ by ! (𝓛.laws.raw_at full_share (array n) b 0 (only (arr xs)))))

@@ -1,86 +1,64 @@
 // Runs the jobs of a log again: reads its lines from standard input, and writes a reply to each to standard output.
 #![tactic(auto)]
 
-ghost use Rattle.std.specs.Prelude.{◌≤◌, ◌<◌, length};
+ghost use Rattle.std.specs.Prelude.{◌≤◌, ◌<◌, IfOk, length};
 ghost use Rattle.log_frame.specs.Limits.{most_digits};
 ghost use Rattle.log_reply.specs.Reply.{most_reply};
 
-use libc::{STDIN_FILENO, STDOUT_FILENO};
 use log_blocks::blocks::{MOST_HELD, refit_block, refit_rest};
+use std::io;
+use std::io::{Read, Write};
 
-// How many bytes are held of the line that has begun, and whether every reply was written.
-#[derive(Clone, Copy)]
-struct Answered {
-    count: usize,
-    written: bool,
-}
-
-// Writes replies, or says why they cannot be written.
-fn put(replies: &[u8]) -> bool {
-    let written = io::write_all(STDOUT_FILENO, replies);
-    if !written {
-        os::fail(b"refit: the replies cannot be written");
-    }
-    written
-}
+// The bytes of a block.
+const BLOCK: usize = 65536;
 
 // Answers the lines that end in a block, up to the first reply that cannot be written.
-fn answer_block(block: &[u8], line: &mut [u8], begun: usize, out: &mut [u8]) -> Answered
+fn answer_block<W: Write>(
+    to: &mut W,
+    block: &[u8],
+    line: &mut [u8],
+    begun: usize,
+    out: &mut [u8],
+) -> io::Result<usize>
     requires most_digits_in_bounds { (most_digits < length line.old) × (begun ≤ length line.old) }
     requires most_reply_in_bounds { most_reply ≤ length out.old }
-    ensures { result.«count» ≤ length line.new }
+    ensures { IfOk result (λ n. n ≤ length line.new) }
 {
     let mut at: usize = 0;
     let mut count = begun;
     while at < block.len() {
         let done = refit_block(block, at, line, count, out);
-        let size = done.size;
-        if !put(&out[..size]) {
-            return Answered {
-                count: 0,
-                written: false,
-            };
-        }
+        to.write_all(&out[..done.size])?;
         at = done.at;
         count = done.count;
     }
-    Answered {
-        count: count,
-        written: true,
-    }
+    Ok(count)
 }
 
 // Answers what the log ends in without a line feed.
-fn answer_rest(line: &[u8], count: usize, out: &mut [u8])
+fn answer_rest<W: Write>(to: &mut W, line: &[u8], count: usize, out: &mut [u8]) -> io::Result<()>
     requires { (count ≤ length line.now) × (most_reply ≤ length out.old) }
 {
     let size = refit_rest(line, count, out);
-    put(&out[..size]);
+    to.write_all(&out[..size])
 }
 
-fn main() {
-    let mut block = io::large_buffer();
+// Reads a log, and writes a reply to each of its lines.
+fn refit<R: Read, W: Write>(from: &mut R, to: &mut W) -> io::Result<()> {
+    let mut block = [0u8; BLOCK];
     let mut line = [0u8; MOST_HELD];
-    let mut out = io::large_buffer();
+    let mut out = [0u8; BLOCK];
     let mut count: usize = 0;
-    let mut turns: u64 = 18446744073709551615;
-    while 0 < turns {
-        let got = libc::read(STDIN_FILENO, &mut block);
-        if got < 0 {
-            os::fail(b"refit: the log cannot be read");
-            return;
-        }
-        let n = io::count(got, &block);
+    for _ in 0..u64::MAX {
+        let n = from.read(&mut block)?;
         if n == 0 {
-            turns = 0;
-            continue;
+            break;
         }
-        let answered = answer_block(&block[..n], &mut line, count, &mut out);
-        if !answered.written {
-            return;
-        }
-        count = answered.count;
-        turns -= 1;
+        count = answer_block(to, &block[..n], &mut line, count, &mut out)?;
     }
-    answer_rest(&line, count, &mut out);
+    answer_rest(to, &line, count, &mut out)
+}
+
+fn main(rt: HostRuntime) -> io::Result<()> {
+    refit(&mut rt.reader(), &mut io::writer(&rt))
 }

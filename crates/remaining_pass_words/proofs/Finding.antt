@@ -1,6 +1,8 @@
 -- The done edges around an edge, one step of the search at a time.
 use mathlib.Core.Path.{◌≡◌, refl, sym, ◌∙◌}
 use mathlib.Core.Bool.{Bool, true, false, cond}
+use mathlib.Core.List.{List}
+use lib.IntN.{ℤ}
 use Prim.Native.Nat.{ℕ, zero, suc, ◌+◌, ◌-◌, ◌≤◌, ◌<◌}
 use native.Mathlib.Omega.{arith}
 use Rattle.signed.proofs.Choices.{cond-true, cond-false, either_way}
@@ -9,7 +11,12 @@ use Rattle.axis.specs.declared.edge.Axis.{Axis}
 use Rattle.axis.specs.Edge.{edge_at}
 use Rattle.axis.specs.Accepted.{Below}
 use Rattle.axis.proofs.Acceptance.{below_none, below-to}
+use Rattle.remaining.specs.declared.kinds.Progress.{Progress}
 use Rattle.remaining.specs.Remaining.{done_before, done_from, done_behind}
+use Rattle.words.specs.Edge.{edges_in}
+use Rattle.words_call.specs.Lent.{edges_of}
+use Rattle.words_edge.proofs.Wholes.{edges-len}
+use Rattle.remaining_pass_words.specs.Words.{Ready}
 
 module _ (axis : Axis) where
   abbrev done : ℕ → Bool
@@ -63,3 +70,11 @@ module _ (axis : Axis) where
 
   pub behind-below : (i : ℕ) → i < axis.len → Below axis.len (done_behind axis i)
   behind-below i h = from-below axis.len (axis.len - (i + 1)) (i + 1) (omega arith)
+
+-- they are where the words stand
+module _ {ws : List ℤ} {past : Progress} {i : ℕ} (r : Ready ws past i) (k : ℕ) where
+  pub before-in : done_before (edges_of ws) i ≡ Links.To k → k < edges_in ws
+  before-in e = (before-below (edges_of ws) (edges_in ws) i (omega (arith, r.below))).at k e
+
+  pub behind-in : done_behind (edges_of ws) i ≡ Links.To k → k < edges_in ws
+  behind-in e = omega (arith, edges-len ws, (behind-below (edges_of ws) i (omega (arith, r.below, edges-len ws))).at k e)

@@ -1,13 +1,15 @@
 // A row's job, answered and compared.
 use super::number::numbers;
 use jobs::answer::answer;
-use libc::STDOUT_FILENO;
 use tool_lists::limits::LONGEST;
 use tool_lists::list::part;
 use words::word::word_at;
 
 // The words of the longest job and of the longest answer that a row has.
 const ROOM: usize = 80;
+
+// The number of standard output.
+const STDOUT_FILENO: i32 = 1;
 
 // Writes bytes to standard output.
 pub fn text(bytes: &[u8]) {

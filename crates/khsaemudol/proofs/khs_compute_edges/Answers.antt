@@ -8,7 +8,7 @@ returns c =
     let s = c in
     simp (
       is s.ranges.dim,
-      is s.ranges.major-dir,
+      is s.ranges.major_dir,
       is s.ranges.group,
       is s.ranges.top_to_bottom,
       is s.ranges.scale,

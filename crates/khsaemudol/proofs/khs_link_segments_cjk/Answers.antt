@@ -5,4 +5,4 @@ use Rattle.khsaemudol.proofs.khs_link_segments_cjk.Goals as goal
 
 pub returns : goal.returns
 returns c =
-    let s = c in rw (is s.ranges.major-dir, is s.ranges.units_per_em, is s.ranges.scale) at c.lend_linking.ensures
+    let s = c in rw (is s.ranges.major_dir, is s.ranges.units_per_em, is s.ranges.scale) at c.lend_linking.ensures

@@ -36,4 +36,4 @@ returns c =
     let a = s.args.a in
     let b = s.args.b in
     rw (to_z-of_z w32 a s.ranges.a, to_z-of_z w32 b s.ranges.b, to_z-of_z w32 (a +ℤ b) (sum_fits a b s.requires))
-    (div-exact (a +ℤ b) 7 (sum-small a b s.requires) (lit≤ tt), div_value (a +ℤ b) 7 (sum-small a b s.requires) (lit≤ tt))
+    record { is = div-exact (a +ℤ b) 7 (sum-small a b s.requires) (lit≤ tt); exact = div_value (a +ℤ b) 7 (sum-small a b s.requires) (lit≤ tt) }

@@ -14,4 +14,4 @@ pub returns : goal.returns
 unfolding of_bits
 returns c =
     let x = c.args.x in
-    rw (to_z-of_z w32 x c.ranges.x) (div-exact x 6 (omega arith) (lit≤ tt), div_value x 6 (omega arith) (lit≤ tt))
+    rw (to_z-of_z w32 x c.ranges.x) record { is = div-exact x 6 (omega arith) (lit≤ tt); exact = div_value x 6 (omega arith) (lit≤ tt) }

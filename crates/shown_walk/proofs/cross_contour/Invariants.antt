@@ -1,20 +1,12 @@
 -- `shown_walk::cross_contour` meets its contract. The invariant: the lines of what is left of the walk are left to add.
-use mathlib.Core.Path.{◌≡◌, sym, ap, subst, ◌∙◌}
-use mathlib.Core.List.{List, [], ◌∷◌}
-use Prim.Native.Nat.{ℕ, ◌+◌, ◌-◌, ◌≤◌}
-use native.Mathlib.Omega.{arith}
-use borrow.Author.Rules.{rules}
+use Prim.Native.Nat.{◌-◌, ◌≤◌}
 use lib.ListN.{drop}
-use Rattle.path_trip.specs.Path.{points, Points, round_of}
-use Rattle.path_trip.specs.Legs.{Tour, tour_of}
-use Rattle.path_trip.specs.Trips.{around, Walk}
-use Rattle.path_trip.proofs.Walks.{inside-more}
-use Rattle.path_walk.specs.Steps.{end_of}
+use Rattle.path_trip.specs.Path.{points}
+use Rattle.path_trip.specs.Legs.{tour_of}
 use Rattle.shown.specs.Shown.{contour_lines}
-use Rattle.shown_lines.specs.declared.place.Halves.{Halves}
-use Rattle.shown_lines.specs.Lines.{field_half, Near, halves_at, straight, curve_sides, Wound}
-use Rattle.shown_lines.proofs.Winding.{Owing, owing, owing-as, owing-alike, owing-more, owing-done}
-use Rattle.shown_walk.proofs.Walks.{walk_sides, contour-alike, turn-line, turn-curve, turn-back, end_more, walk_same}
+use Rattle.shown_lines.specs.Lines.{field_half, Near}
+use Rattle.shown_lines.proofs.Winding.{Owing}
+use Rattle.shown_walk.proofs.Walks.{walk_sides}
 use Rattle.shown_walk.proofs.cross_contour.Given as goal
 
 abbrev pub invariant-loop-j : goal.invariant-loop-j

@@ -1,18 +1,13 @@
 -- `shown_walk::cross_outline` meets its contract. The invariant: the lines of the contours that are left are left to add.
 use mathlib.Core.Bool.{true}
 use mathlib.Core.Path.{◌≡◌}
-use Prim.Native.Nat.{◌+◌, ◌-◌, ◌≤◌}
-use native.Mathlib.Omega.{arith}
-use borrow.Author.Rules.{rules}
+use Prim.Native.Nat.{◌-◌, ◌≤◌}
 use lib.ListN.{length, drop}
 use Rattle.weak.specs.Weak.{ends_hold}
-use Rattle.weak.proofs.Refusals.{end-at, EndAt}
-use Rattle.path_trip.specs.Path.{points, Points}
-use Rattle.path_trip.specs.Legs.{tour_of}
-use Rattle.shown.specs.Shown.{contour_lines, lines_of}
+use Rattle.path_trip.specs.Path.{points}
+use Rattle.shown.specs.Shown.{lines_of}
 use Rattle.shown_lines.specs.Lines.{field_half}
-use Rattle.shown_lines.proofs.Winding.{Owing, owing, owing-as, owing-more, owing-done}
-use Rattle.shown_walk.proofs.Walks.{outline-turn, outline-end}
+use Rattle.shown_lines.proofs.Winding.{Owing}
 use Rattle.shown_walk.proofs.cross_outline.Given as goal
 
 abbrev pub invariant-loop-c : goal.invariant-loop-c

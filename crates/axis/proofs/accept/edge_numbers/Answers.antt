@@ -8,29 +8,24 @@ use Rattle.axis.specs.Refusals.{within, edge_numbers}
 use Rattle.axis.proofs.Tests.{tested}
 use borrow.Author.Rules.{rules}
 use Rattle.axis.proofs.accept.edge_numbers.Goals as goal
-use Rattle.axis.proofs.accept.edge_numbers.Goals.{Then-is_inside}
-
--- the test of `opos` held
-opos-holds : (c : Then-is_inside) → within most_units c.args.edge.opos ≡ true
-opos-holds c = tested (within most_units) c.args.edge.opos _ _ _ (is (got w32 _ c.struct_told-1.given.1.0.1))
-    c.is_inside.ensures c.if-is_inside.true
 
 pub returns-then-is_inside-2 : goal.returns-then-is_inside-2
 unfolding edge_numbers
 returns-then-is_inside-2 c =
-    let s = c.before in
-    let o = s.before.before.before in
-    let p = tested (within most_pos) o.args.edge.pos _ _ _ (is (got w32 _ s.struct_told-then-is_inside-1.given.1.1.0.1))
-    s.is_inside-then-is_inside.ensures s.if-is_inside-2.true in
-    rw (opos-holds o, p) c.blue_holds.ensures
+    let o = tested (within most_units) c.args.edge.opos _ _ _ (is (got w32 _ c.struct_told-1.given.1.0.1))
+    c.is_inside.ensures c.if-is_inside.true in
+    let p = tested (within most_pos) c.args.edge.pos _ _ _ (is (got w32 _ c.struct_told-then-is_inside-1.given.1.1.0.1))
+    c.is_inside-then-is_inside.ensures c.if-is_inside-2.true in
+    rw (o, p) c.blue_holds.ensures
 
 pub returns-else-is_inside-2 : goal.returns-else-is_inside-2
 unfolding edge_numbers
 returns-else-is_inside-2 c =
-    let o = c.before.before.before in
-    let p = tested (within most_pos) o.args.edge.pos _ _ _ (is (got w32 _ c.struct_told-then-is_inside-1.given.1.1.0.1))
+    let o = tested (within most_units) c.args.edge.opos _ _ _ (is (got w32 _ c.struct_told-1.given.1.0.1))
+    c.is_inside.ensures c.if-is_inside.true in
+    let p = tested (within most_pos) c.args.edge.pos _ _ _ (is (got w32 _ c.struct_told-then-is_inside-1.given.1.1.0.1))
     c.is_inside-then-is_inside.ensures c.if-is_inside-2.false in
-    rw (opos-holds o, p)
+    rw (o, p)
 
 pub returns-else-is_inside : goal.returns-else-is_inside
 unfolding edge_numbers

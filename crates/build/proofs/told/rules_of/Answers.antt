@@ -13,13 +13,10 @@ near_of-near-requires c =
 
 pub returns : goal.returns
 returns c =
-    let told2 = c in
-    let Near-of = told2 in
-    let told = Near-of in
-    let start = told in
-    let near = rw (back w32 start.args.thresholds.distance told.struct_told-1.given.0.1, is start.ranges.scale) at Near-of.Near-of.ensures in
+    let start = c in
+    let near = rw (back w32 start.args.thresholds.distance c.struct_told-1.given.0.1, is start.ranges.scale) at c.near_of-near.ensures in
     rw (
-      back w32 start.args.thresholds.length told2.struct_told-2-1.given.1.0.1,
+      back w32 start.args.thresholds.length c.struct_told-2-1.given.1.0.1,
       back w32 start.args.thresholds.width c.struct_told-3-1.given.1.1.0.1,
       is start.ranges.scale,
       near,

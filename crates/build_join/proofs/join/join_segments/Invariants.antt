@@ -35,16 +35,17 @@ use Rattle.build_join.proofs.Turns.{
   turn-none,
   turn-made,
   turn-full,
+}
 use Rattle.build_join.proofs.join.join_segments.Given as goal
 
 abbrev pub invariant-loop-k : goal.invariant-loop-k
-invariant-loop-k l =     (l.k ≤ l.edges) × (l.edges ≤ most_edges) × (l.best ≤ l.edges) × (left l.segments l.rules l.second l.i l.edges l.k l.best l.limit ≡ place l.segments l.rules l.second l.i)
+invariant-loop-k l = (l.k ≤ l.edges) × (l.edges ≤ most_edges) × (l.best ≤ l.edges) × (left l.segments l.rules l.second l.i l.edges l.k l.best l.limit ≡ place l.segments l.rules l.second l.i)
 
 abbrev pub decreases-loop-k : goal.decreases-loop-k
 decreases-loop-k l = l.edges - l.k
 
 abbrev pub invariant-loop-ix : goal.invariant-loop-ix
-invariant-loop-ix l =     (l.ix ≤ l.edges) × (l.edges < most_edges) × (l.axis.len ≡ l.initial.axis.len) × (l.axis.dim ≡ l.initial.axis.dim) × (l.axis.major_dir ≡ l.initial.axis.major_dir)
+invariant-loop-ix l = (l.ix ≤ l.edges) × (l.edges < most_edges) × (l.axis.len ≡ l.initial.axis.len) × (l.axis.dim ≡ l.initial.axis.dim) × (l.axis.major_dir ≡ l.initial.axis.major_dir)
     × (settle (stops_behind l.rules l.edge) empty_edge l.edge l.axis.edges l.ix ≡ settle (stops_behind l.rules l.edge) empty_edge l.edge l.initial.axis.edges l.edges)
 
 abbrev pub decreases-loop-ix : goal.decreases-loop-ix

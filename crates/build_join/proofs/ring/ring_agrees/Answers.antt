@@ -18,14 +18,9 @@ use Rattle.build_join.specs.Walks.{next_in, no_stem, stem_near, stems_agree}
 use Rattle.build_join.proofs.Rings.{fewer}
 use Rattle.build_join.proofs.Stems.{disagrees, agrees-last, agrees_on}
 use Rattle.build_join.proofs.ring.ring_agrees.Goals as goal
-use Rattle.build_join.proofs.ring.ring_agrees.Goals.{After-stem_near, Else-ix-last, Else-stem-ge-NO_STEM}
 
 pub returns-then-stem-ge-NO_STEM : goal.returns-then-stem-ge-NO_STEM
 returns-then-stem-ge-NO_STEM c = rw (rw (is c.ranges.stem) at c.if-stem-ge-NO_STEM.true)
-
--- there is a stem
-asked : (c : Else-stem-ge-NO_STEM) → le_z no_stem c.args.stem ≡ false
-asked c = rw (is c.ranges.stem) at c.if-stem-ge-NO_STEM.false
 
 pub loop-first-init : goal.loop-first-init
 loop-first-init c = (c.requires.0, c.requires.1, refl)
@@ -36,35 +31,24 @@ offset_bounds-stems-at c = omega arith
 pub bounds-stems-at : goal.bounds-stems-at
 bounds-stems-at c = omega arith
 
--- what the test said of the member
-tested : (c : After-stem_near)
-    → let a = c.args in
-    c.stem_near.result ≡ stem_near a.near a.stem (get_or a.stems.now c.loop-first.ix (pos 0))
-tested c =
-    let start = c.before.before.before.before in
-    rw (is start.ranges.stem, is (got w32 _ c.stem_near-arg-1.given)) at c.stem_near.ensures
-
 pub returns-then-not-stem_near : goal.returns-then-not-stem_near
 returns-then-not-stem_near c =
-    let loop = c.before.before.before in
-    let start = loop.before.before in
-    rw (asked loop.before)
-    (disagrees _ _ _ _ _ _ most_segments (sym (tested c.before) ∙ c.if-not-stem_near.true) ∙ rw (is start.ranges.stem) at loop.loop-first.invariant.2)
+    let asked : le_z no_stem c.args.stem ≡ false =
+    rw (is c.ranges.stem) at c.if-stem-ge-NO_STEM.false in
+    let tested : (let a = c.args in c.stem_near.result ≡ stem_near a.near a.stem (get_or a.stems.now c.loop-first.ix (pos 0))) =
+    rw (is c.ranges.stem, is (got w32 _ c.stem_near-arg-1.given)) at c.stem_near.ensures in
+    rw asked
+    (disagrees _ _ _ _ _ _ most_segments (sym tested ∙ c.if-not-stem_near.true) ∙ rw (is c.ranges.stem) at c.loop-first.invariant.2)
 
 pub returns-then-ix-last : goal.returns-then-ix-last
 returns-then-ix-last c =
-    let else2 = c.before in
-    let loop = else2.before.before.before in
-    let start = loop.before.before in
-    rw (asked loop.before)
-    (agrees-last _ _ _ _ _ _ (sym (tested else2.before) ∙ else2.if-not-stem_near.false) most_segments c.if-ix-last.true
-    ∙ rw (is start.ranges.stem) at loop.loop-first.invariant.2)
-
--- one step on
-passes : (c : Else-ix-last)
-    → let a = c.args in
-    Passes (next_in a.next.now) most_segments a.last most_segments c.loop-first.ix
-passes c = walk-passes _ _ _ _ _ c.if-ix-last.false c.loop-first.invariant.1
+    let asked : le_z no_stem c.args.stem ≡ false =
+    rw (is c.ranges.stem) at c.if-stem-ge-NO_STEM.false in
+    let tested : (let a = c.args in c.stem_near.result ≡ stem_near a.near a.stem (get_or a.stems.now c.loop-first.ix (pos 0))) =
+    rw (is c.ranges.stem, is (got w32 _ c.stem_near-arg-1.given)) at c.stem_near.ensures in
+    rw asked
+    (agrees-last _ _ _ _ _ _ (sym tested ∙ c.if-not-stem_near.false) most_segments c.if-ix-last.true
+    ∙ rw (is c.ranges.stem) at c.loop-first.invariant.2)
 
 pub offset_bounds-next-at : goal.offset_bounds-next-at
 offset_bounds-next-at c = omega arith
@@ -73,17 +57,20 @@ pub bounds-next-at : goal.bounds-next-at
 bounds-next-at c = omega arith
 
 pub loop-first-smaller : goal.loop-first-smaller
-loop-first-smaller c = fewer _ _ _ _ _ (passes c.before)
+loop-first-smaller c =
+    let passes : (let a = c.args in Passes (next_in a.next.now) most_segments a.last most_segments c.loop-first.ix) =
+    walk-passes _ _ _ _ _ c.if-ix-last.false c.loop-first.invariant.1 in
+    fewer _ _ _ _ _ passes
 
 pub loop-first-preserved : goal.loop-first-preserved
 loop-first-preserved c =
-    let else3 = c.before in
-    let else2 = else3.before in
-    let loop = else2.before.before.before in
-    let start = loop.before.before in
-    let p = passes else3 in (
+    let tested : (let a = c.args in c.stem_near.result ≡ stem_near a.near a.stem (get_or a.stems.now c.loop-first.ix (pos 0))) =
+    rw (is c.ranges.stem, is (got w32 _ c.stem_near-arg-1.given)) at c.stem_near.ensures in
+    let passes : (let a = c.args in Passes (next_in a.next.now) most_segments a.last most_segments c.loop-first.ix) =
+    walk-passes _ _ _ _ _ c.if-ix-last.false c.loop-first.invariant.1 in
+    let p = passes in (
       p.below,
       p.on,
-      rw (is start.ranges.stem) (agrees_on _ _ _ _ _ _ (sym (tested else2.before) ∙ else2.if-not-stem_near.false) _ most_segments p
-          ∙ rw (is start.ranges.stem) at loop.loop-first.invariant.2),
+      rw (is c.ranges.stem) (agrees_on _ _ _ _ _ _ (sym tested ∙ c.if-not-stem_near.false) _ most_segments p
+          ∙ rw (is c.ranges.stem) at c.loop-first.invariant.2),
     )

@@ -12,15 +12,6 @@ use Rattle.axis.specs.Segment.{segment_at}
 use Rattle.signed.proofs.Reading.{cast-16, back-16}
 use Rattle.build_join.proofs.Stems.{Filled, filled_none, filled-skip, filled_more, stems-none, stems-all}
 use Rattle.build_join.proofs.ring.stems_of.Goals as goal
-use Rattle.build_join.proofs.ring.stems_of.Goals.{In-To}
-
--- the link is to a segment of the table
-inside : (c : In-To) → c.in-To.ix < most_segments
-inside c =
-    let link = c in
-    let in-loop = link.before.before in
-    let start = in-loop.before.before.before in
-    lt_of_lt_of_le ((start.requires.segment _ in-loop.loop-i-test.true).link-1.at _ link.in-To.is) start.requires.few
 
 pub returns-then-not-cjk : goal.returns-then-not-cjk
 returns-then-not-cjk c = stems-none _ _ (c.if-not-cjk.true) c.requires.few
@@ -41,24 +32,24 @@ pub loop-i-smaller-in_default : goal.loop-i-smaller-in_default
 loop-i-smaller-in_default c = omega arith
 
 pub loop-i-preserved-in_default : goal.loop-i-preserved-in_default
-loop-i-preserved-in_default c =
-    let loop = c.before.before.before in (
-      omega arith,
-      loop.loop-i.invariant.1,
-      filled-skip _ _ _ (omega arith) loop.loop-i.invariant.2 c.in_default.is,
-    )
+loop-i-preserved-in_default c = (
+  omega arith,
+  c.loop-i.invariant.1,
+  filled-skip _ _ _ (omega arith) c.loop-i.invariant.2 c.in_default.is,
+)
 
 pub offset_bounds-segments-at : goal.offset_bounds-segments-at
 offset_bounds-segments-at c = omega arith
 
 pub bounds-segments-at : goal.bounds-segments-at
-bounds-segments-at c = inside c
+bounds-segments-at c =
+    let inside : c.in-To.ix < most_segments =
+    lt_of_lt_of_le ((c.requires.segment _ c.loop-i-test.true).link.at _ c.in-To.is) c.requires.few in
+    inside
 
 pub overflow_cast-stems : goal.overflow_cast-stems
 overflow_cast-stems c =
-    let link = c.before.before.before in
-    let start = link.before.before.before.before.before in
-    cast-16 (segment_at start.args.t1 link.in-To.ix).pos c.struct_told-1.given.1.1.0.1
+    cast-16 (segment_at c.args.segments c.in-To.ix).pos c.struct_told-1.given.1.1.0.1
 
 pub offset_bounds-stems-i : goal.offset_bounds-stems-i
 offset_bounds-stems-i c = omega arith
@@ -74,13 +65,11 @@ loop-i-smaller c = omega arith
 
 pub loop-i-preserved : goal.loop-i-preserved
 loop-i-preserved c =
-    let link = c.before.before.before in
-    let loop = link.before.before.before in
-    let at = (segment_at loop.args.t1 link.in-To.ix).pos in
+    let at = (segment_at c.args.segments c.in-To.ix).pos in
     let p = c.struct_told-1.given.1.1.0.1 in (
       omega arith,
-      loop.loop-i.invariant.1,
-      rw (back-16 at p) (filled_more _ _ _ (omega arith) loop.loop-i.invariant.2 _ at link.in-To.is refl (got w16 at p)),
+      c.loop-i.invariant.1,
+      rw (back-16 at p) (filled_more _ _ _ (omega arith) c.loop-i.invariant.2 _ at c.in-To.is refl (got w16 at p)),
     )
 
 pub returns : goal.returns

@@ -13,31 +13,15 @@ use Rattle.build_join_words.proofs.Visits.{visit-left-out}
 use Rattle.build_join_words.proofs.Loops.{full-stays}
 use borrow.Author.Rules.{rules}
 use Rattle.build_join_words.proofs.join.join_loop.Goals as goal
-use Rattle.build_join_words.proofs.join.join_loop.Goals.{After-visit_in-arg-in-loop-i-3-1, In-loop-i}
-
--- a turn, from where the visit is called
-abbrev in-loop-of : After-visit_in-arg-in-loop-i-3-1 → In-loop-i
-in-loop-of c = c.before.before.before.before.before.before
-
--- the segment is one of the table's
-low : (c : In-loop-i) → c.loop-i.i < most_segments
-low c =
-    let start = c.before.before in
-    omega (arith, c.loop-i-test.true, start.requires.0.within.few, segments-len start.args.words.now)
 
 pub loop-i-init : goal.loop-i-init
 unfolding after
 loop-i-init c = (omega arith, c.requires.1)
 
--- the lists are those of the state before the segment
-before : (c : In-loop-i)
-    → let g = c.args in
-    let o = c.loop-i in
-    Before g.words.now g.rules g.second o.i o.places o.first o.last o.next o.count
-before c = let loop = c.before in record { ready = loop.requires.0; inside = c.loop-i-test.true; placed = loop.loop-i.invariant.1 }
-
 pub overflow_cast-i : goal.overflow_cast-i
-overflow_cast-i c = omega (arith, low c)
+overflow_cast-i c =
+    let low : c.loop-i.i < most_segments = omega (arith, c.loop-i-test.true, c.requires.0.within.few, segments-len c.args.words.now) in
+    omega (arith, low)
 
 pub is_left_out-requires : goal.is_left_out-requires
 is_left_out-requires c = c.loop-i-test.true
@@ -49,18 +33,26 @@ pub loop-i-smaller-then-is_left_out : goal.loop-i-smaller-then-is_left_out
 loop-i-smaller-then-is_left_out c = omega arith
 
 pub loop-i-preserved-then-is_left_out : goal.loop-i-preserved-then-is_left_out
-loop-i-preserved-then-is_left_out c = let l = c.before in (omega arith, visit-left-out (before l.before) (sym l.is_left_out.ensures ∙ c.if-is_left_out.true))
+loop-i-preserved-then-is_left_out c =
+    let before : let g = c.args in
+    let o = c.loop-i in
+    Before g.words.now g.rules g.second o.i o.places o.first o.last o.next o.count = record { ready = c.requires.0; inside = c.loop-i-test.true; placed = c.loop-i.invariant.1 } in
+    (omega arith, visit-left-out before (sym c.is_left_out.ensures ∙ c.if-is_left_out.true))
 
 pub overflow_cast-i-in-loop-i : goal.overflow_cast-i-in-loop-i
-overflow_cast-i-in-loop-i c = omega (arith, low (in-loop-of c))
+overflow_cast-i-in-loop-i c =
+    let low : c.loop-i.i < most_segments = omega (arith, c.loop-i-test.true, c.requires.0.within.few, segments-len c.args.words.now) in
+    omega (arith, low)
 
 pub visit_in-joined-requires : goal.visit_in-joined-requires
-visit_in-joined-requires c = before (in-loop-of c)
+visit_in-joined-requires c =
+    let before : let g = c.args in
+    let o = c.loop-i in
+    Before g.words.now g.rules g.second o.i o.places o.first o.last o.next o.count = record { ready = c.requires.0; inside = c.loop-i-test.true; placed = c.loop-i.invariant.1 } in
+    before
 
 pub returns-then-joined : goal.returns-then-joined
-returns-then-joined c =
-    let visit-in = c.before in
-    full-stays _ _ _ _ _ (in-loop-of visit-in.before).loop-i-test.taken c.if-joined.true visit-in.visit_in-joined.ensures
+returns-then-joined c = full-stays _ _ _ _ _ c.loop-i-test.true c.if-joined.true c.visit_in-joined.ensures
 
 pub overflow_step-i-in-loop-i : goal.overflow_step-i-in-loop-i
 overflow_step-i-in-loop-i c = omega arith
@@ -72,8 +64,6 @@ pub loop-i-preserved : goal.loop-i-preserved
 loop-i-preserved c = (omega arith, placed-if c.visit_in-joined.ensures c.if-joined.false)
 
 pub returns : goal.returns
-returns c =
-    let loop = c.before in
-    let g = loop.args in
-    let e : loop.loop-i.i ≡ segments_in g.words.now = omega arith in
-    placed-as loop.loop-i.invariant.1 (ap (state_at (flat_segments g.words.now) g.rules g.second) e)
+returns c = let g = c.args in
+    let e : c.loop-i.i ≡ segments_in g.words.now = omega arith in
+    placed-as c.loop-i.invariant.1 (ap (state_at (flat_segments g.words.now) g.rules g.second) e)

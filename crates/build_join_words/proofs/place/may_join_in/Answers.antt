@@ -14,14 +14,14 @@ use borrow.Author.Rules.{rules}
 use Rattle.build_join_words.proofs.place.may_join_in.Goals as goal
 
 pub returns-then-not-fits : goal.returns-then-not-fits
-returns-then-not-fits c = test-no _ _ _ c.fits2.ensures (c.if-not-fits.true)
+returns-then-not-fits c = test-no _ _ _ c.fits.ensures (c.if-not-fits.true)
 
 pub returns : goal.returns
 returns c =
     let else1 = c in
     let start = else1 in
     let g = start.args in
-    test-yes _ _ _ _ else1.fits2.ensures (else1.if-not-fits.false)
+    test-yes _ _ _ _ else1.fits.ensures (else1.if-not-fits.false)
     (c.ring_agrees.ensures
     ∙ ap (λ (z : ℤ). le_z no_stem z || stems_agree (stems_in g.words.now) g.near z
     (walk (next_in g.next.now) g.edge.last most_segments g.edge.first)) (is start.ranges.stem))

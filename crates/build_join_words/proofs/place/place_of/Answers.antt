@@ -21,42 +21,11 @@ use Rattle.build_join.specs.Walks.{next_in, no_stem, stems_agree}
 use Rattle.build_join.proofs.Turns.{place, left}
 use Rattle.words.specs.Segment.{flat_segments}
 use Rattle.build_join_words.specs.Reading.{edge_at_place, stems_in}
-use Rattle.build_join_words.proofs.Visits.{
-  visit-room,
-  first-inside,
-  edge-ring,
-  may-said,
-  may-far,
-  search-start,
-  search_no,
-  search-yes,
-  search-end,
-  search-stop,
+use Rattle.build_join_words.proofs.Visits.{visit-room, first-inside, edge-ring, may-said, may-far, search-start, search_no, search-yes, search-end, search-stop}
 use Rattle.build_join_words.proofs.place.place_of.Goals as goal
-use Rattle.build_join_words.proofs.place.place_of.Goals.{After-may_join_in}
-
-}
-
--- what the test of an edge said
-said : (c : After-may_join_in)
-    → let loop = c.before.before.before.before.before.before.before.before.before.before in
-    let g = loop.args in
-    let t = flat_segments g.words.now in
-    c.may_join_in.result ≡ may_join t g.rules g.second (state_at t g.rules g.second g.i) g.i loop.loop-k.k loop.loop-k.limit
-said c =
-    let edge_in = c.before in
-    let in-loop = edge_in.before.before.before.before.before.before.before.before in
-    let loop = in-loop.before in
-    let own-stem = loop.before in
-    let start = own-stem.before in
-    let g = start.args in
-    may-said start.requires.admitted _ in-loop.loop-k-test.true _ own-stem.own_stem-stem.result _ own-stem.own_stem-stem.ensures
-    (by₃ (λ (s : Segment) (e : Edge) (z : ℤ). fits_in g.second loop.loop-k.limit s e
-    && (le_z no_stem z || stems_agree (stems_in g.words.now) g.rules.near z (walk (next_in g.next.now) e.last most_segments e.first)))
-    c.may_join_in.ensures start.requires.i_in_bounds edge_in.read_edge-edge.ensures (is (got w32 own-stem.own_stem-stem.result own-stem.own_stem-stem.type_inv)))
 
 pub loop-k-init : goal.loop-k-init
-loop-k-init c = (omega arith, visit-room c.requires.admitted, omega arith, search-start c.requires.admitted)
+loop-k-init c = (omega arith, visit-room c.requires.0, omega arith, search-start c.requires.0)
 
 pub offset_bounds-places-k : goal.offset_bounds-places-k
 offset_bounds-places-k c = omega arith
@@ -71,20 +40,14 @@ pub loop-k-smaller-then-limit-distance_to : goal.loop-k-smaller-then-limit-dista
 loop-k-smaller-then-limit-distance_to c = omega arith
 
 pub loop-k-preserved-then-limit-distance_to : goal.loop-k-preserved-then-limit-distance_to
-loop-k-preserved-then-limit-distance_to c =
-    let distance-to = c.before in
-    let edge-at = distance-to.before in
-    let in-loop = edge-at.before.before.before in
-    let loop = in-loop.before in
-    let start = loop.before.before in
-    let far = by₂ (λ (s : Segment) (e : Edge). distance s.pos e.fpos) distance-to.distance_to.ensures start.requires.i_in_bounds
-    (edge-at.edge_at.ensures ∙ ap edge_at_place
-    (is (got w16 (get_or start.args.places.now loop.loop-k.k (pos 0)) edge-at.edge_at-arg-1.given))) in (
+loop-k-preserved-then-limit-distance_to c = let far = by₂ (λ (s : Segment) (e : Edge). distance s.pos e.fpos) c.distance_to.ensures c.requires.1
+    (c.edge_at.ensures ∙ ap edge_at_place
+    (is (got w16 (get_or c.args.places.now c.loop-k.k (pos 0)) c.edge_at-arg-1.given))) in (
       omega arith,
-      loop.loop-k.invariant.1,
-      loop.loop-k.invariant.2,
-      search_no start.requires.admitted _ in-loop.loop-k-test.true _ _ _ loop.loop-k.invariant.3 _
-          (may-far start.requires.admitted _ in-loop.loop-k-test.true _ _ far c.if-limit-distance_to.true) refl,
+      c.loop-k.invariant.1,
+      c.loop-k.invariant.2,
+      search_no c.requires.0 _ c.loop-k-test.true _ _ _ c.loop-k.invariant.3 _
+          (may-far c.requires.0 _ c.loop-k-test.true _ _ far c.if-limit-distance_to.true) refl,
     )
 
 pub offset_bounds-first-k : goal.offset_bounds-first-k
@@ -100,18 +63,12 @@ pub bounds-last-k : goal.bounds-last-k
 bounds-last-k c = omega arith
 
 pub read_edge-edge-requires : goal.read_edge-edge-requires
-read_edge-edge-requires c =
-    let in-loop = c.before.before.before.before.before.before.before in
-    let start = in-loop.before.before.before in
-    first-inside start.requires.admitted _ in-loop.loop-k-test.true
+read_edge-edge-requires c = first-inside c.requires.0 _ c.loop-k-test.true
 
 pub may_join_in-requires : goal.may_join_in-requires
-may_join_in-requires c =
-    let in-loop = c.before.before.before.before.before.before.before.before in
-    let start = in-loop.before.before.before in
-    subst (λ (e : Edge). (e.first < most_segments) × (ends (next_in start.args.next.now) most_segments e.last most_segments e.first ≡ true))
+may_join_in-requires c = subst (λ (e : Edge). (e.first < most_segments) × (ends (next_in c.args.next.now) most_segments e.last most_segments e.first ≡ true))
     (sym c.read_edge-edge.ensures)
-    (edge-ring start.requires.admitted _ in-loop.loop-k-test.true)
+    (edge-ring c.requires.0 _ c.loop-k-test.true)
 
 pub overflow_step-k-then-not-may_join_in : goal.overflow_step-k-then-not-may_join_in
 overflow_step-k-then-not-may_join_in c = omega arith
@@ -121,13 +78,17 @@ loop-k-smaller-then-not-may_join_in c = omega arith
 
 pub loop-k-preserved-then-not-may_join_in : goal.loop-k-preserved-then-not-may_join_in
 loop-k-preserved-then-not-may_join_in c =
-    let in-loop = c.before.before.before.before.before.before.before.before.before.before in
-    let loop = in-loop.before in
-    let start = loop.before.before in (
+    let said : let g = c.args in
+    let t = flat_segments g.words.now in
+    c.may_join_in.result ≡ may_join t g.rules g.second (state_at t g.rules g.second g.i) g.i c.loop-k.k c.loop-k.limit = let g = c.args in
+    may-said c.requires.0 _ c.loop-k-test.true _ c.own_stem-stem.result _ c.own_stem-stem.ensures
+    (by₃ (λ (s : Segment) (e : Edge) (z : ℤ). fits_in g.second c.loop-k.limit s e
+    && (le_z no_stem z || stems_agree (stems_in g.words.now) g.rules.near z (walk (next_in g.next.now) e.last most_segments e.first)))
+    c.may_join_in.ensures c.requires.1 c.read_edge-edge.ensures (is (got w32 c.own_stem-stem.result c.own_stem-stem.type_inv))) in (
       omega arith,
-      loop.loop-k.invariant.1,
-      loop.loop-k.invariant.2,
-      search_no start.requires.admitted _ in-loop.loop-k-test.true _ _ _ loop.loop-k.invariant.3 _ (said c.before) (c.if-not-may_join_in.true),
+      c.loop-k.invariant.1,
+      c.loop-k.invariant.2,
+      search_no c.requires.0 _ c.loop-k-test.true _ _ _ c.loop-k.invariant.3 _ said c.if-not-may_join_in.true,
     )
 
 pub overflow_step-k-in-loop-k : goal.overflow_step-k-in-loop-k
@@ -138,27 +99,23 @@ loop-k-smaller c = omega arith
 
 pub loop-k-preserved : goal.loop-k-preserved
 loop-k-preserved c =
-    let else3 = c.before in
-    let edge_in = else3.before.before in
-    let in-loop = edge_in.before.before.before.before.before.before.before.before in
-    let loop = in-loop.before in
-    let start = loop.before.before in (
+    let said : let g = c.args in
+    let t = flat_segments g.words.now in
+    c.may_join_in.result ≡ may_join t g.rules g.second (state_at t g.rules g.second g.i) g.i c.loop-k.k c.loop-k.limit = let g = c.args in
+    may-said c.requires.0 _ c.loop-k-test.true _ c.own_stem-stem.result _ c.own_stem-stem.ensures
+    (by₃ (λ (s : Segment) (e : Edge) (z : ℤ). fits_in g.second c.loop-k.limit s e
+    && (le_z no_stem z || stems_agree (stems_in g.words.now) g.rules.near z (walk (next_in g.next.now) e.last most_segments e.first)))
+    c.may_join_in.ensures c.requires.1 c.read_edge-edge.ensures (is (got w32 c.own_stem-stem.result c.own_stem-stem.type_inv))) in (
       omega arith,
-      loop.loop-k.invariant.1,
+      c.loop-k.invariant.1,
       omega arith,
-      search-yes start.requires.admitted _ in-loop.loop-k-test.true _ _ _ loop.loop-k.invariant.3 _ (said else3.before) (else3.if-not-may_join_in.false) _
-          (by₂ (λ (s : Segment) (e : Edge). limit_behind start.args.rules.cjk (distance s.pos e.fpos)) c.limit_behind-limit.ensures start.requires.i_in_bounds
-          edge_in.read_edge-edge.ensures),
+      search-yes c.requires.0 _ c.loop-k-test.true _ _ _ c.loop-k.invariant.3 _ said c.if-not-may_join_in.false _
+          (by₂ (λ (s : Segment) (e : Edge). limit_behind c.args.rules.cjk (distance s.pos e.fpos)) c.limit_behind-limit.ensures c.requires.1
+          c.read_edge-edge.ensures),
     )
 
 pub returns-after-loop-k : goal.returns-after-loop-k
-returns-after-loop-k c =
-    let loop = c.before in
-    let start = loop.before.before in
-    (sym (search-end start.requires.admitted _ _ _ _ loop.loop-k.invariant.3 c.loop-k-test.false), loop.loop-k.invariant.2)
+returns-after-loop-k c = (sym (search-end c.requires.0 _ _ _ _ c.loop-k.invariant.3 c.loop-k-test.false), c.loop-k.invariant.2)
 
 pub returns-then-limit-eq0 : goal.returns-then-limit-eq0
-returns-then-limit-eq0 c =
-    let loop = c.before.before in
-    let start = loop.before.before in
-    (sym (search-stop start.requires.admitted _ _ _ _ loop.loop-k.invariant.3 c.if-limit-eq0.true), loop.loop-k.invariant.2)
+returns-then-limit-eq0 c = (sym (search-stop c.requires.0 _ _ _ _ c.loop-k.invariant.3 c.if-limit-eq0.true), c.loop-k.invariant.2)

@@ -32,10 +32,11 @@ use Rattle.build_join_words.proofs.Visits.{
   search-yes,
   search-end,
   search-stop,
+}
 use Rattle.build_join_words.proofs.place.place_of.Given as goal
 
 abbrev pub invariant-loop-k : goal.invariant-loop-k
-invariant-loop-k l =     (l.k ≤ l.count) × (l.count ≤ most_edges) × (l.best ≤ l.count)
+invariant-loop-k l = (l.k ≤ l.count) × (l.count ≤ most_edges) × (l.best ≤ l.count)
     × (left (flat_segments l.words) l.rules l.second l.i l.count l.k l.best l.limit ≡ place (flat_segments l.words) l.rules l.second l.i)
 
 abbrev pub decreases-loop-k : goal.decreases-loop-k

@@ -16,7 +16,7 @@ use Rattle.build_join_words.proofs.read.is_left_out.Goals as goal
 pub returns-then-not-second : goal.returns-then-not-second
 returns-then-not-second c =
     let a = c.args in
-    ap (λ (b : Bool). b && not (same (segment_in a.words.now a.i).dir Directions.None)) (sym (not-true a.second c.if-not-second.true))
+    ap (λ (b : Bool). b && not (same (segment_in a.words.now a.i).dir Directions.None)) (sym c.if-not-second.true)
 
 pub returns : goal.returns
 unfolding segment_from
@@ -27,4 +27,4 @@ returns c =
     let a = e.args in
     ap not (c.same.ensures ∙ ap (λ (x : Direction). same x Directions.None)
     (d.direction_of-dir.ensures ∙ ap direction_of (kept w32 w.read_word.result w.read_word.type_inv ∙ w.read_word.ensures)))
-    ∙ ap (λ (b : Bool). b && not (same (segment_in a.words.now a.i).dir Directions.None)) (sym (not-false a.second e.if-not-second.false))
+    ∙ ap (λ (b : Bool). b && not (same (segment_in a.words.now a.i).dir Directions.None)) (sym e.if-not-second.false)

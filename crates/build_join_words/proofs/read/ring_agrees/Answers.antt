@@ -21,31 +21,6 @@ use Rattle.build_join.proofs.Stems.{disagrees, agrees-last, agrees_on}
 use Rattle.build_join_words.specs.Reading.{stems_in}
 use Rattle.build_join_words.proofs.Readings.{stem-at}
 use Rattle.build_join_words.proofs.read.ring_agrees.Goals as goal
-use Rattle.build_join_words.proofs.read.ring_agrees.Goals.{After-stem_near, Else-ix-last, Else-stem-ge-NO_STEM}
-
--- there is a stem
-asked : (c : Else-stem-ge-NO_STEM) → le_z no_stem c.args.stem ≡ false
-asked c = rw (is c.ranges.stem) at c.if-stem-ge-NO_STEM.false
-
--- what the test said of the member
-tested : (c : After-stem_near)
-    → let loop = c.before.before in
-    let a = loop.args in
-    c.stem_near.result ≡ stem_near a.near a.stem (get_or (stems_in a.words.now) loop.loop-first.ix (pos 0))
-tested c =
-    let stem-in = c.before in
-    let loop = stem-in.before in
-    let start = loop.before.before in
-    by₂ (stem_near start.args.near) c.stem_near.ensures (is start.ranges.stem)
-    (is (got w32 stem-in.read_stem.result stem-in.read_stem.type_inv) ∙ stem-in.read_stem.ensures
-    ∙ sym (stem-at start.args.words.now loop.loop-first.ix loop.loop-first.invariant.0))
-
--- one step on
-passes : (c : Else-ix-last)
-    → let loop = c.before.before.before.before in
-    let a = loop.args in
-    Passes (next_in a.next.now) most_segments a.last most_segments loop.loop-first.ix
-passes c = walk-passes _ _ _ _ _ c.if-ix-last.false c.loop-first.invariant.1
 
 pub returns-then-stem-ge-NO_STEM : goal.returns-then-stem-ge-NO_STEM
 returns-then-stem-ge-NO_STEM c = rw (rw (is c.ranges.stem) at c.if-stem-ge-NO_STEM.true)
@@ -55,19 +30,24 @@ loop-first-init c = (c.requires.0, c.requires.1, refl)
 
 pub returns-then-not-stem_near : goal.returns-then-not-stem_near
 returns-then-not-stem_near c =
-    let loop = c.before.before.before in
-    let start = loop.before.before in
-    rw (asked loop.before)
-    (disagrees _ _ _ _ _ _ most_segments (sym (tested c.before) ∙ c.if-not-stem_near.true) ∙ rw (is start.ranges.stem) at loop.loop-first.invariant.2)
+    let asked : le_z no_stem c.args.stem ≡ false = rw (is c.ranges.stem) at c.if-stem-ge-NO_STEM.false in
+    let tested : let a = c.args in
+    c.stem_near.result ≡ stem_near a.near a.stem (get_or (stems_in a.words.now) c.loop-first.ix (pos 0)) = by₂ (stem_near c.args.near) c.stem_near.ensures (is c.ranges.stem)
+    (is (got w32 c.read_stem.result c.read_stem.type_inv) ∙ c.read_stem.ensures
+    ∙ sym (stem-at c.args.words.now c.loop-first.ix c.loop-first.invariant.0)) in
+    rw asked
+    (disagrees _ _ _ _ _ _ most_segments (sym tested ∙ c.if-not-stem_near.true) ∙ rw (is c.ranges.stem) at c.loop-first.invariant.2)
 
 pub returns-then-ix-last : goal.returns-then-ix-last
 returns-then-ix-last c =
-    let else2 = c.before in
-    let loop = else2.before.before.before in
-    let start = loop.before.before in
-    rw (asked loop.before)
-    (agrees-last _ _ _ _ _ _ (sym (tested else2.before) ∙ else2.if-not-stem_near.false) most_segments c.if-ix-last.true
-    ∙ rw (is start.ranges.stem) at loop.loop-first.invariant.2)
+    let asked : le_z no_stem c.args.stem ≡ false = rw (is c.ranges.stem) at c.if-stem-ge-NO_STEM.false in
+    let tested : let a = c.args in
+    c.stem_near.result ≡ stem_near a.near a.stem (get_or (stems_in a.words.now) c.loop-first.ix (pos 0)) = by₂ (stem_near c.args.near) c.stem_near.ensures (is c.ranges.stem)
+    (is (got w32 c.read_stem.result c.read_stem.type_inv) ∙ c.read_stem.ensures
+    ∙ sym (stem-at c.args.words.now c.loop-first.ix c.loop-first.invariant.0)) in
+    rw asked
+    (agrees-last _ _ _ _ _ _ (sym tested ∙ c.if-not-stem_near.false) most_segments c.if-ix-last.true
+    ∙ rw (is c.ranges.stem) at c.loop-first.invariant.2)
 
 pub offset_bounds-next-ix : goal.offset_bounds-next-ix
 offset_bounds-next-ix c = omega arith
@@ -76,17 +56,22 @@ pub bounds-next-ix : goal.bounds-next-ix
 bounds-next-ix c = omega arith
 
 pub loop-first-smaller : goal.loop-first-smaller
-loop-first-smaller c = fewer _ _ _ _ _ (passes c.before)
+loop-first-smaller c =
+    let passes : let a = c.args in
+    Passes (next_in a.next.now) most_segments a.last most_segments c.loop-first.ix = walk-passes _ _ _ _ _ c.if-ix-last.false c.loop-first.invariant.1 in
+    fewer _ _ _ _ _ passes
 
 pub loop-first-preserved : goal.loop-first-preserved
 loop-first-preserved c =
-    let else3 = c.before in
-    let else2 = else3.before in
-    let loop = else2.before.before.before in
-    let start = loop.before.before in
-    let p = passes else3 in (
+    let tested : let a = c.args in
+    c.stem_near.result ≡ stem_near a.near a.stem (get_or (stems_in a.words.now) c.loop-first.ix (pos 0)) = by₂ (stem_near c.args.near) c.stem_near.ensures (is c.ranges.stem)
+    (is (got w32 c.read_stem.result c.read_stem.type_inv) ∙ c.read_stem.ensures
+    ∙ sym (stem-at c.args.words.now c.loop-first.ix c.loop-first.invariant.0)) in
+    let passes : let a = c.args in
+    Passes (next_in a.next.now) most_segments a.last most_segments c.loop-first.ix = walk-passes _ _ _ _ _ c.if-ix-last.false c.loop-first.invariant.1 in
+    let p = passes in (
       p.below,
       p.on,
-      rw (is start.ranges.stem) (agrees_on _ _ _ _ _ _ (sym (tested else2.before) ∙ else2.if-not-stem_near.false) _ most_segments p
-          ∙ rw (is start.ranges.stem) at loop.loop-first.invariant.2),
+      rw (is c.ranges.stem) (agrees_on _ _ _ _ _ _ (sym tested ∙ c.if-not-stem_near.false) _ most_segments p
+          ∙ rw (is c.ranges.stem) at c.loop-first.invariant.2),
     )

@@ -96,7 +96,7 @@ returns c =
     let h = c.loop-ix-test.false in
     record {
       positions =
-          sym (insert-end _ _ _ _ _ h) ∙ loop.loop-ix.invariant.3 ∙ ap (λ (z : ℤ). insert_at (pos 0) z g.places-1.now g.at g.count) (is start.ranges.place);
+          sym (insert-end _ _ _ _ _ h) ∙ loop.loop-ix.invariant.3 ∙ ap (λ (z : ℤ). insert_at (pos 0) z g.places.now g.at g.count) (is start.ranges.place);
       firsts = sym (insert-end _ _ _ _ _ h) ∙ loop.loop-ix.invariant.4;
       lasts = sym (insert-end _ _ _ _ _ h) ∙ loop.loop-ix.invariant.5;
     }

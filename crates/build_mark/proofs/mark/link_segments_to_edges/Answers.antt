@@ -18,9 +18,9 @@ use Rattle.build_mark.proofs.mark.link_segments_to_edges.Goals as goal
 use Rattle.build_mark.proofs.mark.link_segments_to_edges.Goals.{Else-ix-last}
 
 -- one step on
-passes : (c : Else-ix-last) → Passes (next_in c.args.t3)
+passes : (c : Else-ix-last) → Passes (next_in c.args.next)
     most_segments
-    (edge_at c.args.t2 c.loop-edge_ix.edge_ix
+    (edge_at c.args.edges c.loop-edge_ix.edge_ix
     ).last
     most_segments c.loop-ix.ix
 passes c = walk-passes _ _ _ _ _ c.if-ix-last.false c.loop-ix.invariant.3
@@ -95,5 +95,5 @@ pub returns : goal.returns
 returns c =
     let start = c.before.before.before in
     let q = c.loop-edge_ix in
-    let e : q.edge-ix ≡ start.args.t2.len = omega arith in
-    rw e at q.invariant.2 ∙ ap (marked start.args.t3 start.args.t2 start.args.t2.len) c.forget_all-table.ensures
+    let e : q.edge_ix ≡ start.args.edges.len = omega arith in
+    rw e at q.invariant.2 ∙ ap (marked start.args.next start.args.edges start.args.edges.len) c.forget_all-table.ensures

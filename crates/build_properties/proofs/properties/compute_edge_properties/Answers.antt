@@ -2,7 +2,6 @@
 use borrow.Author.Rules.{rules}
 use native.Mathlib.Omega.{arith}
 use mathlib.Core.Path.{◌≡◌, sym}
-use mathlib.Core.Logic.{⊎_elim}
 use Prim.Native.Nat.{◌-◌, ◌<◌, ◌≤◌}
 use lib.ListN.{length}
 use Rattle.axis.specs.declared.edge.Axis.{Axis}
@@ -15,7 +14,7 @@ use Rattle.build_properties.specs.Steps.{Ready}
 use Rattle.build_properties.proofs.Kept.{Kept, start-kept, edges-kept, member-kept, ready-kept, serif-inside, link-inside, held-inside, joined-inside}
 use Rattle.build_properties.proofs.Turns.{Along, Counted, member_is, along-start, along-more, along-end, edges_none, edges_more}
 use Rattle.build_properties.proofs.properties.compute_edge_properties.Goals as goal
-use Rattle.build_properties.proofs.properties.compute_edge_properties.Goals.{After-edge2_at-edge2_ix, After-edge2_at-held_ix, After-flagged, After-link_at-link_ix, After-serif_at-serif_ix, At-loop-roundness, Joined-segment}
+use Rattle.build_properties.proofs.properties.compute_edge_properties.Goals.{After-edge2_at-edge2_ix, After-edge2_at-held_ix, After-flagged, After-link_at-link_ix, After-serif_at-serif_ix, At-loop-roundness, Joined-segment, else-segment, then-segment}
 
 pub loop-edge_ix-init : goal.loop-edge_ix-init
 loop-edge_ix-init c = (omega arith, c.requires.few-edges, edges_none _ _)
@@ -38,9 +37,9 @@ loop-roundness-init c =
     let outer = in-loop.before in
     let start = outer.before in
     let k = outer.loop-edge_ix.edge_ix in
-    let kept = edges-kept start.args.axis start.args.t2 start.requires k outer.loop-edge_ix.invariant.0 in
+    let kept = edges-kept start.args.axis start.args.segments start.requires k outer.loop-edge_ix.invariant.0 in
     let here : Kept start.args.axis outer.loop-edge_ix.table = rw outer.loop-edge_ix.invariant.2 kept in
-    let ready = ready-kept start.args.axis start.args.t2 start.requires outer.loop-edge_ix.table here in
+    let ready = ready-kept start.args.axis start.args.segments start.requires outer.loop-edge_ix.table here in
     let less : k < outer.loop-edge_ix.table.len = rw here.len in-loop.loop-edge_ix-test.true in
     let ring = ready.rings.ring k less in (
       in-loop.loop-edge_ix-test.true,
@@ -48,8 +47,8 @@ loop-roundness-init c =
       omega (arith, ring.starts, ready.few-segments),
       sym here.len,
       ready,
-      start-kept outer.loop-edge_ix.table start.args.t2 ready,
-      along-start start.args.t2 k _ _ outer.loop-edge_ix.table ring,
+      start-kept outer.loop-edge_ix.table start.args.segments ready,
+      along-start start.args.segments k _ _ outer.loop-edge_ix.table ring,
     )
 
 pub offset_bounds-table-edge_ix-in-loop-roundness : goal.offset_bounds-table-edge_ix-in-loop-roundness
@@ -152,13 +151,13 @@ inner_of c = c.before.before.before.before.before.before.before.before.before.be
 -- the segment is counted
 counted : (c : Joined-segment)
     → let inner = c.before.before.before in
-    let t = inner.args.t2 in
+    let t = inner.args.segments in
     Counted t inner.loop-roundness.segment_ix inner.loop-roundness.roundness inner.loop-roundness.straightness c.if-segment.roundness c.if-segment.straightness
 counted c =
-    ⊎_elim
-    (λ w. record { round = rw w.0.taken w.1; straight = rw w.0.taken (omega (arith, w.2)) })
-    (λ w. record { round = rw w.0.left (omega (arith, w.1)); straight = rw w.0.left w.2 })
-    c.if-segment.branch
+    elim c.if-segment.branch [
+      | then-segment w ↦ record { round = rw w.if-segment.true w.roundness-is; straight = rw w.if-segment.true (omega (arith, w.straightness-is)) }
+      | else-segment w ↦ record { round = rw w.if-segment.false (omega (arith, w.roundness-is)); straight = rw w.if-segment.false w.straightness-is }
+    ]
 
 -- the table behind it
 abbrev now : After-flagged → Axis
@@ -170,7 +169,7 @@ now c =
 -- is that of one visit
 visited : (c : After-flagged)
     → let inner = inner_of c in
-    now c ≡ P.member inner.args.t2 inner.loop-edge_ix.edge_ix
+    now c ≡ P.member inner.args.segments inner.loop-edge_ix.edge_ix
     inner.loop-roundness.segment_ix inner.loop-roundness.table
 visited c =
     let edge2-at2 = c.before.before in
@@ -181,7 +180,7 @@ visited c =
     let serif-at = link_at.before in
     let inner = serif-at.before.before.before.before in
     let outer = inner.before.before.before.before.before in
-    member_is outer.args.t2 inner.loop-roundness.table outer.loop-edge_ix.edge_ix inner.loop-roundness.segment_ix _ _ _ _ _ _ _ serif-at.serif_at-serif_ix.ensures
+    member_is outer.args.segments inner.loop-roundness.table outer.loop-edge_ix.edge_ix inner.loop-roundness.segment_ix _ _ _ _ _ _ _ serif-at.serif_at-serif_ix.ensures
     link_at.link_at-link_ix.ensures
     join-of.join_of-join.ensures edge2-at.edge2_at-held_ix.ensures joined_to.joined_to-joined.ensures edge2-at2.edge2_at-edge2_ix.ensures c.flagged.ensures
 
@@ -190,10 +189,10 @@ loop-roundness-smaller c =
     let else2 = c.before in
     let inner = inner_of else2.before in
     let outer = inner in
-    let t = outer.args.t2 in
+    let t = outer.args.segments in
     let last = (edge_at outer.loop-edge_ix.table outer.loop-edge_ix.edge_ix).last in
     let ix = inner.loop-roundness.segment_ix in
-    let p = walk-passes (next_of t last) t.len last most_segments ix else2.if-segment_ix-last_segment_ix.false inner.loop-roundness.inv.6.stops in
+    let p = walk-passes (next_of t last) t.len last most_segments ix else2.if-segment_ix-last_segment_ix.false inner.loop-roundness.invariant.6.stops in
     rw c.next_at-segment_ix.ensures (omega (arith, shorter (next_of t last) t.len last most_segments ix p))
 
 pub loop-roundness-preserved : goal.loop-roundness-preserved
@@ -203,9 +202,9 @@ loop-roundness-preserved c =
     let inner = inner_of flagged in
     let outer = inner in
     let start = outer in
-    let inv = inner.loop-roundness.inv in
+    let inv = inner.loop-roundness.invariant in
     let less : outer.loop-edge_ix.edge_ix < outer.loop-edge_ix.table.len = omega (arith, inv.0, inv.3) in
-    let more = along-more start.args.t2 outer.loop-edge_ix.edge_ix _ _ outer.loop-edge_ix.table inner.loop-roundness.table inner.loop-roundness.segment_ix
+    let more = along-more start.args.segments outer.loop-edge_ix.edge_ix _ _ outer.loop-edge_ix.table inner.loop-roundness.table inner.loop-roundness.segment_ix
     inner.loop-roundness.roundness
     inner.loop-roundness.straightness inv.6 (now flagged) _ _ (visited flagged)
     (counted flagged.before.before.before.before.before.before.before.before.before.before.before)
@@ -215,28 +214,28 @@ loop-roundness-preserved c =
       omega (arith, more.inside, inv.4.few-segments, c.next_at-segment_ix.ensures),
       inv.3,
       inv.4,
-      rw (visited flagged) (member-kept outer.loop-edge_ix.table start.args.t2 inv.4 outer.loop-edge_ix.edge_ix less inner.loop-roundness.segment_ix
+      rw (visited flagged) (member-kept outer.loop-edge_ix.table start.args.segments inv.4 outer.loop-edge_ix.edge_ix less inner.loop-roundness.segment_ix
           inner.loop-roundness.table inv.6.inside inv.5),
       rw c.next_at-segment_ix.ensures more,
     )
 
 pub offset_bounds-table-edge_ix-in-loop-edge_ix : goal.offset_bounds-table-edge_ix-in-loop-edge_ix
-offset_bounds-table-edge_ix-in-loop-edge_ix c = let inv = (inner_of c.before).loop-roundness.inv in omega (arith, inv.0, inv.1)
+offset_bounds-table-edge_ix-in-loop-edge_ix c = let inv = (inner_of c.before).loop-roundness.invariant in omega (arith, inv.0, inv.1)
 
 pub bounds-table-edge_ix-in-loop-edge_ix : goal.bounds-table-edge_ix-in-loop-edge_ix
-bounds-table-edge_ix-in-loop-edge_ix c = let inv = (inner_of c.before).loop-roundness.inv in omega (arith, inv.0, inv.1)
+bounds-table-edge_ix-in-loop-edge_ix c = let inv = (inner_of c.before).loop-roundness.invariant in omega (arith, inv.0, inv.1)
 
 pub offset_bounds-table-edge_ix-in-loop-edge_ix-2 : goal.offset_bounds-table-edge_ix-in-loop-edge_ix-2
-offset_bounds-table-edge_ix-in-loop-edge_ix-2 c = let inv = (inner_of c.before.before.before).loop-roundness.inv in omega (arith, inv.0, inv.1)
+offset_bounds-table-edge_ix-in-loop-edge_ix-2 c = let inv = (inner_of c.before.before.before).loop-roundness.invariant in omega (arith, inv.0, inv.1)
 
 pub bounds-table-edge_ix-in-loop-edge_ix-2 : goal.bounds-table-edge_ix-in-loop-edge_ix-2
-bounds-table-edge_ix-in-loop-edge_ix-2 c = let inv = (inner_of c.before.before.before).loop-roundness.inv in omega (arith, inv.0, inv.1)
+bounds-table-edge_ix-in-loop-edge_ix-2 c = let inv = (inner_of c.before.before.before).loop-roundness.invariant in omega (arith, inv.0, inv.1)
 
 pub overflow_step-edge_ix : goal.overflow_step-edge_ix
-overflow_step-edge_ix c = let inv = (inner_of c.before.before.before).loop-roundness.inv in omega (arith, inv.0, inv.1)
+overflow_step-edge_ix c = let inv = (inner_of c.before.before.before).loop-roundness.invariant in omega (arith, inv.0, inv.1)
 
 pub loop-edge_ix-smaller : goal.loop-edge_ix-smaller
-loop-edge_ix-smaller c = let inv = (inner_of c.before.before.before).loop-roundness.inv in omega (arith, inv.0, inv.1)
+loop-edge_ix-smaller c = let inv = (inner_of c.before.before.before).loop-roundness.invariant in omega (arith, inv.0, inv.1)
 
 pub loop-edge_ix-preserved : goal.loop-edge_ix-preserved
 loop-edge_ix-preserved c =
@@ -245,11 +244,11 @@ loop-edge_ix-preserved c =
     let inner = inner_of flagged in
     let outer = inner in
     let start = outer in
-    let inv = inner.loop-roundness.inv in (
+    let inv = inner.loop-roundness.invariant in (
       omega (arith, inv.0),
-      outer.loop-edge_ix.inv.1,
-      edges_more start.args.t2 outer.loop-edge_ix.edge_ix start.args.axis outer.loop-edge_ix.table _ outer.loop-edge_ix.inv.2
-          (along-end start.args.t2 outer.loop-edge_ix.edge_ix _ _ outer.loop-edge_ix.table inner.loop-roundness.table inner.loop-roundness.segment_ix
+      outer.loop-edge_ix.invariant.1,
+      edges_more start.args.segments outer.loop-edge_ix.edge_ix start.args.axis outer.loop-edge_ix.table _ outer.loop-edge_ix.invariant.2
+          (along-end start.args.segments outer.loop-edge_ix.edge_ix _ _ outer.loop-edge_ix.table inner.loop-roundness.table inner.loop-roundness.segment_ix
           inner.loop-roundness.roundness
           inner.loop-roundness.straightness inv.6 (now flagged) _ _ (visited flagged)
           (counted flagged.before.before.before.before.before.before.before.before.before.before.before) c.with_properties.result

@@ -9,44 +9,27 @@ use Rattle.words_edge.proofs.Became.{below_in}
 use Rattle.build_properties_words.proofs.Stores.{left_below, ended}
 use borrow.Author.Rules.{rules}
 use Rattle.build_properties_words.proofs.store.end_in.Goals as goal
-use Rattle.build_properties_words.proofs.store.end_in.Goals.{After-link_of-link, After-link_of-serif}
-
--- the link and the serif that the edge has
-link-is : (c : After-link_of-link) → let a =
-    c.args in c.link_of-link.result ≡ link_of (word_at a.edges-1.now (word_of_edge a.k link_place))
-link-is c = let w = c.read_word in c.link_of-link.ensures ∙ ap link_of (kept w32 w.result w.type_inv ∙ w.ensures)
-
-serif-is : (c : After-link_of-serif) → let a =
-    c.args in c.link_of-serif.result ≡ link_of (word_at a.edges-1.now (word_of_edge a.k serif_place))
-serif-is c = let w = c.read_word-2 in c.link_of-serif.ensures ∙ ap link_of (kept w32 w.result w.type_inv ∙ w.ensures)
 
 pub put_flags-requires : goal.put_flags-requires
-put_flags-requires c =
-    let made = c.before.before in
-    let serif = made.before.before.before.before.before in
-    let s = serif in
-    (s.requires.whole, s.requires.inside)
+put_flags-requires c = (c.requires.whole, c.requires.inside)
 
 pub put_serif-requires : goal.put_serif-requires
 put_serif-requires c =
-    let put = c.before.before in
-    let made = put.before.before.before in
-    let serif = made.before.before.before.before.before in
-    let link = serif.before.before.before in
-    let s = link in (
-      put.put_flags.ensures.whole,
-      below_in _ put.put_flags.ensures s.requires.inside,
-      left_below s.args.edges.now s.args.k s.requires
-          s.args.roundness s.args.straightness (link-is link) (serif-is serif) made.with_properties-ended.ensures,
+    let link-is : let a =
+    c.args in c.link_of-link.result ≡ link_of (word_at a.edges.now (word_of_edge a.k link_place)) = let w = c.read_word in c.link_of-link.ensures ∙ ap link_of (kept w32 w.result w.type_inv ∙ w.ensures) in
+    let serif-is : let a =
+    c.args in c.link_of-serif.result ≡ link_of (word_at a.edges.now (word_of_edge a.k serif_place)) = let w = c.read_word-2 in c.link_of-serif.ensures ∙ ap link_of (kept w32 w.result w.type_inv ∙ w.ensures) in (
+      c.put_flags.ensures.whole,
+      below_in _ c.put_flags.ensures c.requires.inside,
+      left_below c.args.edges.now c.args.k c.requires
+          c.args.roundness c.args.straightness link-is serif-is c.with_properties-ended.ensures,
     )
 
 pub returns : goal.returns
 returns c =
-    let last = c.before in
-    let put = last.before.before.before in
-    let made = put.before.before.before in
-    let serif = made.before.before.before.before.before in
-    let link = serif.before.before.before in
-    let s = link in
-    ended s.args.edges.now s.args.k s.requires s.args.roundness s.args.straightness (link-is link) (serif-is serif)
-    made.with_properties-ended.ensures put.put_flags.ensures last.put_serif.ensures
+    let link-is : let a =
+    c.args in c.link_of-link.result ≡ link_of (word_at a.edges.now (word_of_edge a.k link_place)) = let w = c.read_word in c.link_of-link.ensures ∙ ap link_of (kept w32 w.result w.type_inv ∙ w.ensures) in
+    let serif-is : let a =
+    c.args in c.link_of-serif.result ≡ link_of (word_at a.edges.now (word_of_edge a.k serif_place)) = let w = c.read_word-2 in c.link_of-serif.ensures ∙ ap link_of (kept w32 w.result w.type_inv ∙ w.ensures) in
+    ended c.args.edges.now c.args.k c.requires c.args.roundness c.args.straightness link-is serif-is
+    c.with_properties-ended.ensures c.put_flags.ensures c.put_serif.ensures

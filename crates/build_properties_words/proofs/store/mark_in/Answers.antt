@@ -8,4 +8,4 @@ returns c =
     let put = c in
     let flags = put in
     let s = flags in
-    mark-law s.args.edges.now s.args.k s.requires.0 s.requires.1 flags.read-Flags.ensures put.put_flags.ensures
+    mark-law s.args.edges.now s.args.k s.requires.0 s.requires.1 flags.read_flags-flags.ensures put.put_flags.ensures

@@ -9,34 +9,25 @@ use Rattle.words.proofs.Fields.{kept}
 use Rattle.build_properties_words.proofs.Stores.{link-below, taken-below, link-taken}
 use borrow.Author.Rules.{rules}
 use Rattle.build_properties_words.proofs.store.take_link.Goals as goal
-use Rattle.build_properties_words.proofs.store.take_link.Goals.{After-link_of-held}
-
--- the link that the edge has
-held-is : (c : After-link_of-held) → c.link_of-held.result ≡ link_of
-    (word_at c.args.edges.now (word_of_edge c.args.k link_place))
-held-is c = let w = c.read_word in c.link_of-held.ensures ∙ ap link_of (kept w32 w.result w.type_inv ∙ w.ensures)
 
 pub chosen_in-chosen-requires : goal.chosen_in-chosen-requires
 chosen_in-chosen-requires c =
-    let read = c.before in
-    let s = read in
-    let j = s.requires.0 in
-    (j.whole, j.inside, link-below s.args.edges.now s.args.k j (held-is read))
+    let held-is : c.link_of-held.result ≡ link_of
+    (word_at c.args.edges.now (word_of_edge c.args.k link_place)) = let w = c.read_word in c.link_of-held.ensures ∙ ap link_of (kept w32 w.result w.type_inv ∙ w.ensures) in
+    let j = c.requires.0 in
+    (j.whole, j.inside, link-below c.args.edges.now c.args.k j held-is)
 
 pub put_link-requires : goal.put_link-requires
 put_link-requires c =
-    let chosen = c.before in
-    let read = chosen.before.before in
-    let s = read in
-    let j = s.requires.0 in
-    let b = link-below s.args.edges.now s.args.k j (held-is read) in
-    (j.whole, j.inside, taken-below s.args.edges.now s.args.k j _ _ s.requires.1 b chosen.chosen_in-chosen.ensures)
+    let held-is : c.link_of-held.result ≡ link_of
+    (word_at c.args.edges.now (word_of_edge c.args.k link_place)) = let w = c.read_word in c.link_of-held.ensures ∙ ap link_of (kept w32 w.result w.type_inv ∙ w.ensures) in
+    let j = c.requires.0 in
+    let b = link-below c.args.edges.now c.args.k j held-is in
+    (j.whole, j.inside, taken-below c.args.edges.now c.args.k j _ _ c.requires.1 b c.chosen_in-chosen.ensures)
 
 pub returns : goal.returns
 returns c =
-    let put = c.before in
-    let chosen = put.before.before in
-    let read = chosen.before.before in
-    let s = read in
-    link-taken s.args.edges.now s.args.k s.requires.0 s.args.asked (is s.ranges.delta) chosen.chosen_in-chosen.ensures (held-is read)
-    put.put_link.ensures
+    let held-is : c.link_of-held.result ≡ link_of
+    (word_at c.args.edges.now (word_of_edge c.args.k link_place)) = let w = c.read_word in c.link_of-held.ensures ∙ ap link_of (kept w32 w.result w.type_inv ∙ w.ensures) in
+    link-taken c.args.edges.now c.args.k c.requires.0 c.args.asked (is c.ranges.delta) c.chosen_in-chosen.ensures held-is
+    c.put_link.ensures

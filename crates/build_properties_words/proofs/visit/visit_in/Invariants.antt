@@ -22,6 +22,7 @@ use Rattle.build_properties_words.proofs.Rings.{
   going_on,
   going-joined,
   going-ends,
+}
 use borrow.Author.Rules.{rules}
 use Rattle.build_properties_words.proofs.visit.visit_in.Given as goal
 

@@ -29,7 +29,7 @@ unfolding products_hold
 returns-then-not-scaled_holds c =
     let start = c in
     let e = rw (is start.ranges.scale) at c.scaled_holds.ensures in
-    sym (every-fails (λ (k : ℕ). scaled_holds start.args.scale (segment_at start.args.t1 k)) _ _ (omega arith) (sym e ∙ c.if-not-scaled_holds.true))
+    sym (every-fails (λ (k : ℕ). scaled_holds start.args.scale (segment_at start.args.segments k)) _ _ (omega arith) (sym e ∙ c.if-not-scaled_holds.true))
 
 pub overflow_step-i : goal.overflow_step-i
 overflow_step-i c = omega arith
@@ -48,4 +48,4 @@ returns c =
     let start = c in
     let o = c.loop-i.invariant in
     let e = rw (is start.ranges.scale) at o.2 in
-    every-done (λ (k : ℕ). scaled_holds start.args.scale (segment_at start.args.t1 k)) _ _ _ o.0 (omega arith) o.1 e
+    every-done (λ (k : ℕ). scaled_holds start.args.scale (segment_at start.args.segments k)) _ _ _ o.0 (omega arith) o.1 e

@@ -22,7 +22,7 @@ returns c =
     let l = least.word_at-4 in
     λ i. record {
       dim = (dim.dimension_of-dim.ensures ∙ ap dimension_of (kept w32 d.result d.type_inv ∙ d.ensures)) i;
-      group = (group.Group-of.ensures ∙ ap group_of (kept w32 g.result g.type_inv ∙ g.ensures)) i;
+      group = (group.group_of-group.ensures ∙ ap group_of (kept w32 g.result g.type_inv ∙ g.ensures)) i;
       stem_adjust = adjust.choice_at.ensures i;
       snap = snap.choice_at-2.ensures i;
       alone = alone.choice_at-3.ensures i;

@@ -34,14 +34,14 @@ returns-then-standard-last c =
     let a = c.before in
     let l = a.loop-i in
     let k = whole a in
-    sym (l.invariant.1 ∙ rises-not-above l.last a.args.standards.now l.i (omega arith) (omega (arith, signed)))
+    sym (l.invariant.1 ∙ rises-not-above _ a.args.standards.now l.i (omega arith) (omega (arith, signed)))
 
 pub returns-then-standard-gt-MOST_STANDARD : goal.returns-then-standard-gt-MOST_STANDARD
 returns-then-standard-gt-MOST_STANDARD c =
     let a = c.before.before in
     let l = a.loop-i in
     let k = whole a in
-    sym (l.invariant.1 ∙ rises-too-large l.last a.args.standards.now l.i (omega arith) (omega (arith, signed)))
+    sym (l.invariant.1 ∙ rises-too-large _ a.args.standards.now l.i (omega arith) (omega (arith, signed)))
 
 pub overflow_add-i : goal.overflow_add-i
 overflow_add-i c = omega arith
@@ -56,7 +56,7 @@ loop-i-preserved c =
     let k = whole a in (
       omega arith,
       l.invariant.1
-          ∙ rises-on l.last a.args.standards.now l.i (omega arith) (omega (arith, signed))
+          ∙ rises-on _ a.args.standards.now l.i (omega arith) (omega (arith, signed))
           (omega (arith, signed))
           ∙ ap (λ (z : ℤ). rises_from z (drop (l.i + 1) a.args.standards.now)) (sym (is k)),
     )
@@ -64,4 +64,4 @@ loop-i-preserved c =
 pub returns : goal.returns
 returns c =
     let l = c.loop-i in
-    sym (l.invariant.1 ∙ rises-end l.last c.args.standards.now l.i (omega arith))
+    sym (l.invariant.1 ∙ rises-end _ c.args.standards.now l.i (omega arith))

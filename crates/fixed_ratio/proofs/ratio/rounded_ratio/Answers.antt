@@ -34,7 +34,7 @@ quotient_is c = c.rounded_quotient.ensures ∙ λ i. rounded (n-is c.before.befo
 pub with_sign-requires : goal.with_sign-requires
 with_sign-requires c =
     let s = start c in
-    omega (arith, quotient_is c, rounded-at-most (nat_abs s.args.n) (nat_abs s.args.d) s.pre.2, abs-of s.pre.0)
+    omega (arith, quotient_is c, rounded-at-most (nat_abs s.args.n) (nat_abs s.args.d) s.requires.2, abs-of s.requires.0)
 
 pub returns : goal.returns
 returns c =

@@ -14,18 +14,12 @@ pub returns-then-q-p : goal.returns-then-q-p
 returns-then-q-p c = let f = c.ranges in Losing.turned _ _ _ (sym (by₂ lt_z (sym c.if-q-p.true) (is f.q) (is f.p)))
 
 pub returns-then-before-gt0 : goal.returns-then-before-gt0
-returns-then-before-gt0 c =
-    let one = c in
-    let was = one in
-    let ahead = was in
-    let f = ahead.ranges in
+returns-then-before-gt0 c = let f = c.ranges in
     by₂ le_z refl
-    (is (got w32 one.row_from.result one.row_from.type_inv) ∙ one.row_from.ensures ∙ ap row_from (is f.q))
+    (is (got w32 c.row_from.result c.row_from.type_inv) ∙ c.row_from.ensures ∙ ap row_from (is f.q))
     (is (got w32 c.row_from-then-before-gt0.result c.row_from-then-before-gt0.type_inv) ∙ c.row_from-then-before-gt0.ensures ∙ ap row_from (is f.p))
-    ∙ Losing.opened _ _ _ (sym (by₂ lt_z (sym ahead.if-q-p.false) (is f.q) (is f.p))) (sym (sym was.if-before-gt0.true ∙ ap (lt_z (pos 0)) (is f)))
+    ∙ Losing.opened _ _ _ (sym (by₂ lt_z (sym c.if-q-p.false) (is f.q) (is f.p))) (sym (sym c.if-before-gt0.true ∙ ap (lt_z (pos 0)) (is f.before)))
 
 pub returns : goal.returns
-returns c =
-    let ahead = c in
-    let f = ahead.ranges in
-    Losing.kept _ _ _ (sym (by₂ lt_z (sym ahead.if-q-p.false) (is f.q) (is f.p))) (sym (sym c.if-before-gt0.false ∙ ap (lt_z (pos 0)) (is f)))
+returns c = let f = c.ranges in
+    Losing.kept _ _ _ (sym (by₂ lt_z (sym c.if-q-p.false) (is f.q) (is f.p))) (sym (sym c.if-before-gt0.false ∙ ap (lt_z (pos 0)) (is f.before)))

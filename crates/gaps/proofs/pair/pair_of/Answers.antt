@@ -11,12 +11,10 @@ pub overflow_sub-result-2 : goal.overflow_sub-result-2
 overflow_sub-result-2 c = let h = c.requires in width_fits h.1.pos h.0.pos
 
 pub returns : goal.returns
-returns c =
-    let s = c in
-    let h = s.requires in
+returns c = let h = c.requires in
     λ k. record {
-      first = Links.To s.args.i;
-      second = Links.To s.args.j;
+      first = Links.To c.args.i;
+      second = Links.To c.args.j;
       before = width_is (wider h.1.opos) (wider h.0.opos) k;
       after = width_is h.1.pos h.0.pos k;
     }

@@ -21,73 +21,41 @@ use Rattle.gaps_words.specs.Find.{Places}
 use Rattle.gaps_words.proofs.Search.{few-found}
 use Rattle.gaps_words.proofs.Lending.{gaps-ready, gaps-refused, gaps-done}
 use Rattle.gaps_words.proofs.find.lend_gaps.Goals as goal
-use Rattle.gaps_words.proofs.find.lend_gaps.Goals.{After-edges_test-answer, After-find_in-found, Else-answer-gt0, Start}
-
-abbrev start : After-edges_test-answer → Start
-start c = c.before.before.before.before
-
--- what the seven places held
-abbrev old : Start → Places
-old c = let a = c.args in (a.count.now, (a.first.now, (a.second.now, (a.now, (a.after.now, (a.stems.now, a.not_done.now))))))
-
--- the test of the least width, and that of the choice
-own_is : (c : After-edges_test-answer) → c.or_refused-own.result ≡ or_refused 0 (inside (pos 0) (pos most_units) (start c).args.least) bad_parameter
-own_is c =
-    let o = c.before.before in
-    o.or_refused-own.ensures ∙ ap (λ (t : Bool). or_refused 0 t bad_parameter)
-    (o.is_inside.ensures ∙ ap (inside (pos 0) (pos most_units)) (is (start c).ranges.least))
-
-choice-is : (c : After-edges_test-answer) → c.is_in.result ≡ is_in choice (start c).args.linked
-choice-is c = c.is_in.ensures ∙ ap (is_in choice) (is (start c).ranges.linked)
-
--- where the code goes on, the edges can be searched
-allowed : (c : Else-answer-gt0) → Ready (start c.before).args.edges.now c.or_refused-own.result true true
-allowed c =
-    let t = c.before in
-    let s = start t in
-    gaps-ready s.args.edges.now s.args.least s.args.linked (old s) (own_is t) (choice-is t) t.edges_test-answer.ensures c.if-answer-gt0.false
-
--- what is found
-abbrev from : After-find_in-found → Start
-from c = start c.before.before.before
-
-found : (c : After-find_in-found) → c.find_in-found.result ≡ found_in (from c).args.least (choice_of (from c).args.linked) (edges_of (from c).args.edges.now)
-found c =
-    let s = from c in
-    let k = c.choice_of.ensures ∙ ap choice_of (is s.ranges.linked) in
-    c.find_in-found.ensures ∙ (λ x. found_in (is s.ranges.least x) (k x) (edges_of s.args.edges.now))
 
 pub returns-then-answer-gt0 : goal.returns-then-answer-gt0
 returns-then-answer-gt0 c =
-    let t = c.before in
-    let s = start t in
-    gaps-refused s.args.edges.now s.args.least s.args.linked (old s) (own_is t) (choice-is t) t.edges_test-answer.ensures c.if-answer-gt0.true
+    let own_is : c.or_refused-own.result ≡ or_refused 0 (inside (pos 0) (pos most_units) c.args.least) bad_parameter = c.or_refused-own.ensures ∙ ap (λ (t : Bool). or_refused 0 t bad_parameter)
+    (c.is_inside.ensures ∙ ap (inside (pos 0) (pos most_units)) (is c.ranges.least)) in
+    let choice-is : c.is_in.result ≡ is_in choice c.args.linked = c.is_in.ensures ∙ ap (is_in choice) (is c.ranges.linked) in
+    gaps-refused c.args.edges.now c.args.least c.args.linked (let a = c.args in (a.count.now, (a.first.now, (a.second.now, (a.before.now, (a.after.now, (a.stems.now, a.not_done.now))))))) own_is choice-is c.edges_test-answer.ensures c.if-answer-gt0.true
 
 pub find_in-found-requires : goal.find_in-found-requires
-find_in-found-requires c = let o = c.before in ((allowed o).whole, (allowed o).axis)
+find_in-found-requires c =
+    let own_is : c.or_refused-own.result ≡ or_refused 0 (inside (pos 0) (pos most_units) c.args.least) bad_parameter = c.or_refused-own.ensures ∙ ap (λ (t : Bool). or_refused 0 t bad_parameter)
+    (c.is_inside.ensures ∙ ap (inside (pos 0) (pos most_units)) (is c.ranges.least)) in
+    let choice-is : c.is_in.result ≡ is_in choice c.args.linked = c.is_in.ensures ∙ ap (is_in choice) (is c.ranges.linked) in
+    let allowed : Ready c.args.edges.now c.or_refused-own.result true true = gaps-ready c.args.edges.now c.args.least c.args.linked (let a = c.args in (a.count.now, (a.first.now, (a.second.now, (a.before.now, (a.after.now, (a.stems.now, a.not_done.now))))))) own_is choice-is c.edges_test-answer.ensures c.if-answer-gt0.false in
+    (allowed.whole, allowed.axis)
 
 pub returns : goal.returns
 returns c =
+    let old : Places = let a = c.args in (a.count.now, (a.first.now, (a.second.now, (a.before.now, (a.after.now, (a.stems.now, a.not_done.now)))))) in
+    let own_is : c.or_refused-own.result ≡ or_refused 0 (inside (pos 0) (pos most_units) c.args.least) bad_parameter = c.or_refused-own.ensures ∙ ap (λ (t : Bool). or_refused 0 t bad_parameter)
+    (c.is_inside.ensures ∙ ap (inside (pos 0) (pos most_units)) (is c.ranges.least)) in
+    let choice-is : c.is_in.result ≡ is_in choice c.args.linked = c.is_in.ensures ∙ ap (is_in choice) (is c.ranges.linked) in
+    let allowed : Ready c.args.edges.now c.or_refused-own.result true true = gaps-ready c.args.edges.now c.args.least c.args.linked old own_is choice-is c.edges_test-answer.ensures c.if-answer-gt0.false in
+    let found : c.find_in-found.result ≡ found_in c.args.least (choice_of c.args.linked) (edges_of c.args.edges.now) = let k = c.choice_of.ensures ∙ ap choice_of (is c.ranges.linked) in
+    c.find_in-found.ensures ∙ (λ x. found_in (is c.ranges.least x) (k x) (edges_of c.args.edges.now)) in
     let n = c.count_word-3 in
-    let one = c.before in
-    let two = one.before in
-    let third = two.before in
-    let left = third.before in
-    let now = left.before in
-    let was = now.before in
-    let f = was.before.before in
-    let o = f.before.before in
-    let t = o.before in
-    let s = start t in
-    let few = few-found s.args.least (choice_of s.args.linked) (edges_of s.args.edges.now) (allowed o).axis in
-    let count = kept w32 n.result n.type_inv ∙ n.ensures ∙ ap (λ (g : Gaps). pos (g.count % 65536)) (found f) ∙ count-is _ few.gaps in
-    let first = kept w32 one.link_word-2.result one.link_word-2.type_inv ∙ one.link_word-2.ensures ∙ ap (λ (g : Gaps). link_word g.pair-1.first) (found f) in
-    let second = kept w32 two.link_word.result two.link_word.type_inv ∙ two.link_word.ensures ∙ ap (λ (g : Gaps). link_word g.pair-1.second) (found f) in
-    let before = kept w32 _ was.struct_told-1.given.1.1.0.1 ∙ ap (λ (g : Gaps). g.pair-1.before) (found f) in
-    let after = kept w32 _ now.struct_told-2-1.given.1.1.1.0.1 ∙ ap (λ (g : Gaps). g.pair-1.after) (found f) in
-    let stems = kept w32 third.count_word-2.result third.count_word-2.type_inv ∙ third.count_word-2.ensures
-    ∙ ap (λ (g : Gaps). pos (g.stems % 65536)) (found f) ∙ count-is _ few.stems in
-    let undone = kept w32 left.count_word.result left.count_word.type_inv ∙ left.count_word.ensures
-    ∙ ap (λ (g : Gaps). pos (g.not_done % 65536)) (found f) ∙ count-is _ few.undone in
-    gaps-done s.args.edges.now s.args.least s.args.linked (old s) (own_is t) (choice-is t) t.edges_test-answer.ensures o.if-answer-gt0.false _
+    let few = few-found c.args.least (choice_of c.args.linked) (edges_of c.args.edges.now) allowed.axis in
+    let count = kept w32 n.result n.type_inv ∙ n.ensures ∙ ap (λ (g : Gaps). pos (g.count % 65536)) found ∙ count-is _ few.gaps in
+    let first = kept w32 c.link_word-2.result c.link_word-2.type_inv ∙ c.link_word-2.ensures ∙ ap (λ (g : Gaps). link_word g.pair.first) found in
+    let second = kept w32 c.link_word.result c.link_word.type_inv ∙ c.link_word.ensures ∙ ap (λ (g : Gaps). link_word g.pair.second) found in
+    let before = kept w32 _ c.struct_told-1.given.1.1.0.1 ∙ ap (λ (g : Gaps). g.pair.before) found in
+    let after = kept w32 _ c.struct_told-2-1.given.1.1.1.0.1 ∙ ap (λ (g : Gaps). g.pair.after) found in
+    let stems = kept w32 c.count_word-2.result c.count_word-2.type_inv ∙ c.count_word-2.ensures
+    ∙ ap (λ (g : Gaps). pos (g.stems % 65536)) found ∙ count-is _ few.stems in
+    let undone = kept w32 c.count_word.result c.count_word.type_inv ∙ c.count_word.ensures
+    ∙ ap (λ (g : Gaps). pos (g.not_done % 65536)) found ∙ count-is _ few.undone in
+    gaps-done c.args.edges.now c.args.least c.args.linked old own_is choice-is c.edges_test-answer.ensures c.if-answer-gt0.false _
     (λ k. (count k, (first k, (second k, (before k, (after k, (stems k, undone k)))))))

@@ -5,32 +5,8 @@ use mir.Syntax.{w16}
 use Rattle.link.specs.Pairs as P
 use Rattle.signed.proofs.Reading.{back, cast-16, sub-fits, sub_is}
 use Rattle.axis.proofs.Declared.{typed-segment}
-use Rattle.link.proofs.Ranges.{gap-reach, reached}
+use Rattle.link.proofs.Ranges.{gap-reach, reach-of}
 use Rattle.link.proofs.gap.gap_between.Goals as goal
-use Rattle.link.proofs.gap.gap_between.Goals.{After-larger-min, After-smaller-max}
-
--- the start of the overlap
-low : (c : After-larger-min) → c.larger-min.result ≡ P.max_z c.args.seg1.min_coord
-    c.args.seg2.min_coord
-low c =
-    let told = c.before.before in
-    let start = told.before in
-    rw (
-      back w16 start.args.seg1.min_coord told.struct_told-1.given.1.1.1.1.0.1,
-      back w16 start.args.seg2.min_coord c.struct_told-2-1.given.1.1.1.1.0.1,
-    ) at c.larger-min.ensures
-
--- its end
-high : (c : After-smaller-max)
-    → c.smaller-max.result ≡ P.min_z c.args.seg1.max_coord
-    c.args.seg2.max_coord
-high c =
-    let told3 = c.before.before in
-    let start = told3.before.before.before.before in
-    rw (
-      back w16 start.args.seg1.max_coord told3.struct_told-3-1.given.1.1.1.1.1.0.1,
-      back w16 start.args.seg2.max_coord c.struct_told-4-1.given.1.1.1.1.1.0.1,
-    ) at c.smaller-max.ensures
 
 pub overflow_cast-result : goal.overflow_cast-result
 overflow_cast-result c =
@@ -67,19 +43,32 @@ overflow_sub-result-2 c =
 pub returns : goal.returns
 unfolding P.gap_of
 returns c =
-    let told5 = c.before.before in
-    let smaller = told5.before.before in
-    let larger = smaller.before.before.before in
-    let told = larger.before.before in
-    let start = told.before in
-    let before = typed-segment start.args.before _ start.well_formed.0 in
-    let seg1 = typed-segment start.args.seg1 _ start.well_formed.1.0 in
-    let seg2 = typed-segment start.args.seg2 _ start.well_formed.1.1.0 in
-    reached
-    (rw (
-      sub_is start.args.seg2.pos start.args.before.pos told5.struct_told-5-1.given.1.1.0.1 c.struct_told-6-1.given.1.1.0.1,
-      sub_is smaller.smaller-max.result larger.larger-min.result smaller.smaller-max.type_inv larger.larger-min.type_inv,
-      high smaller,
-      low larger,
-    ))
-    (gap-reach start.args.before start.args.seg1 start.args.seg2 before seg1 seg2)
+    let before = typed-segment c.args.before _ c.well_formed.0 in
+    let seg1 = typed-segment c.args.seg1 _ c.well_formed.1.0 in
+    let seg2 = typed-segment c.args.seg2 _ c.well_formed.1.1.0 in
+    -- the start of the overlap, and its end
+    let low : c.larger-min.result ≡ P.max_z c.args.seg1.min_coord c.args.seg2.min_coord =
+    rw (
+      back w16 c.args.seg1.min_coord c.struct_told-1.given.1.1.1.1.0.1,
+      back w16 c.args.seg2.min_coord c.struct_told-2-1.given.1.1.1.1.0.1,
+    ) at c.larger-min.ensures in
+    let high : c.smaller-max.result ≡ P.min_z c.args.seg1.max_coord c.args.seg2.max_coord =
+    rw (
+      back w16 c.args.seg1.max_coord c.struct_told-3-1.given.1.1.1.1.1.0.1,
+      back w16 c.args.seg2.max_coord c.struct_told-4-1.given.1.1.1.1.1.0.1,
+    ) at c.smaller-max.ensures in
+    record {
+      value = rw (
+        sub_is c.args.seg2.pos c.args.before.pos c.struct_told-5-1.given.1.1.0.1 c.struct_told-6-1.given.1.1.0.1,
+        sub_is c.smaller-max.result c.larger-min.result c.smaller-max.type_inv c.larger-min.type_inv,
+        high,
+        low,
+      );
+      reach = reach-of (rw (
+        sub_is c.args.seg2.pos c.args.before.pos c.struct_told-5-1.given.1.1.0.1 c.struct_told-6-1.given.1.1.0.1,
+        sub_is c.smaller-max.result c.larger-min.result c.smaller-max.type_inv c.larger-min.type_inv,
+        high,
+        low,
+      ))
+          (gap-reach c.args.before c.args.seg1 c.args.seg2 before seg1 seg2);
+    }

@@ -36,7 +36,7 @@ loop-ix1-preserved-then-not-same c =
     let start = outer.before in (
       omega arith,
       outer.loop-ix1.invariant.1,
-      turn (R.major_turn start.args.major-dir start.args.thresholds start.args.segments.len) outer.loop-ix1.ix1 _ _ _ outer.loop-ix1.invariant.2
+      turn (R.major_turn start.args.major_dir start.args.thresholds start.args.segments.len) outer.loop-ix1.ix1 _ _ _ outer.loop-ix1.invariant.2
           (major-skip _ _ _ _ _ (sym c.same.ensures ∙ c.if-not-same.true)),
       outer.loop-ix1.invariant.3,
     )
@@ -153,7 +153,7 @@ loop-ix1-preserved c =
     let start = outer.before in (
       omega arith,
       outer.loop-ix1.invariant.1,
-      turn (R.major_turn start.args.major-dir start.args.thresholds start.args.segments.len) outer.loop-ix1.ix1 _ _ _ outer.loop-ix1.invariant.2
+      turn (R.major_turn start.args.major_dir start.args.thresholds start.args.segments.len) outer.loop-ix1.ix1 _ _ _ outer.loop-ix1.invariant.2
           (major-go _ _ _ _ _ _ (sym same.same.ensures ∙ else1.if-not-same.false)
           (end _ _ _ _ _ c.loop-ix2.invariant.0 c.loop-ix2-test.false c.loop-ix2.invariant.2)),
       c.loop-ix2.invariant.3,

@@ -4,7 +4,6 @@ use borrow.Author.Tests.{not-true, not-false}
 use native.Mathlib.Omega.{arith}
 use native.Mathlib.Nat.{lt_of_lt_of_le}
 use mathlib.Core.Path.{◌≡◌, sym, ◌∙◌}
-use mathlib.Core.Logic.{⊎_elim}
 use Prim.Native.Nat.{◌≤◌, ◌<◌, ◌-◌}
 use Rattle.axis.specs.Segment.{segment_at}
 use Rattle.axis.specs.Limits.{most_segments}
@@ -16,7 +15,7 @@ use Rattle.link.proofs.Within.{Within, serif_within, every-within, to_below}
 use Rattle.link.proofs.Turns.{serif-none, serif-skip, serif-go}
 use Rattle.link.proofs.Holding as H
 use Rattle.link.proofs.rounds.serif_round.Goals as goal
-use Rattle.link.proofs.rounds.serif_round.Goals.{In-To, In-To-second, Left-loop-ix2}
+use Rattle.link.proofs.rounds.serif_round.Goals.{In-To, In-To-second, Left-loop-ix2, else-loop-ix2-test, then-loop-ix2-test+in-To-second+else-not-encloses+else-is_much_longer}
 
 -- in the middle of the round, each segment is within the table
 whole : (c : In-To)
@@ -53,11 +52,14 @@ made : (c : Left-loop-ix2)
     let link = c.in-To.link1_ix in
     c.loop-ix2-test.table ≡ R.hold (segment_at t ix) (segment_at t link) ix link outer.args.segments.len t
 made c =
-    ⊎_elim
-    (λ w. w.1 ∙ H.held-end _ _ _ _ _ c.loop-ix2.invariant.2 c.loop-ix2.invariant.3 _ _ _ c.loop-ix2.invariant.4 w.0.left)
-    (λ w. w.14 ∙ H.last_turn _ _ _ _ _ c.loop-ix2.invariant.2 c.loop-ix2.invariant.3 _ _ _ _ c.loop-ix2.invariant.4 w.0.taken
-    w.3.given.1 _ _ (sym w.6.ensures ∙ not-false _ w.7.left) (sym w.8.ensures ∙ w.9.left) w.11.ensures w.13.ensures)
-    c.loop-ix2-test.branch
+    let p = c.loop-ix2.invariant in
+    elim c.loop-ix2-test.branch [
+      | else-loop-ix2-test w ↦ w.table-is ∙ H.held-end _ _ _ _ _ p.2 p.3 _ _ _ p.4 w.loop-ix2-test.false
+      | then-loop-ix2-test+in-To-second+else-not-encloses+else-is_much_longer w ↦
+          w.table-is ∙ H.last_turn _ _ _ _ _ p.2 p.3 _ _ _ _ p.4 w.loop-ix2-test.true
+          w.in-To-second.is _ _ (sym w.encloses.ensures ∙ w.if-not-encloses.false) (sym w.is_much_longer.ensures ∙ w.if-is_much_longer.false)
+          w.unlinked.ensures w.unlinked-in-loop-ix2.ensures
+    ]
 
 pub loop-ix1-init : goal.loop-ix1-init
 loop-ix1-init c = (omega arith, c.requires.few, none _ _)

@@ -30,10 +30,10 @@ taken : (c : Else-answer-gt0) → Accepted c.args.segments c.args.units_per_em c
 taken c = accepted _ _ _ c.linking_refusal-answer.result (answer-is c.before) c.if-answer-gt0.false
 
 measured : (c : After-thresholds_of-thresholds) → c.thresholds_of-thresholds.result
-    ≡ L.thresholds_of-thresholds c.args.units_per_em c.args.scale
+    ≡ L.thresholds_of c.args.units_per_em c.args.scale
 measured c =
     let start = c.before.before.before in
-    by₂ L.thresholds_of-thresholds c.thresholds_of-thresholds.ensures (is start.ranges.units_per_em) (is start.ranges.scale)
+    by₂ L.thresholds_of c.thresholds_of-thresholds.ensures (is start.ranges.units_per_em) (is start.ranges.scale)
 
 -- what the first two rounds hand on
 held : (c : After-serif_round-held) → SegmentsWithin c.serif_round-held.result
@@ -75,4 +75,4 @@ returns c =
     let s = start.args in
     let t = whole _ _ _ _ _ _ pair-round.pair_round-paired.ensures.value c.serif_round-held.ensures c.last_round-settled.ensures in
     answered-yes _ _ (L.beside s.segments) _ _ (answer-is linking-refusal) else1.if-answer-gt0.false
-    (ap (λ (u : Segments). L.beside u 0) (t ∙ ap (λ (by : Thresholds). linked s.major-dir by s.segments) (measured thresholds-of)))
+    (ap (λ (u : Segments). L.beside u 0) (t ∙ ap (λ (by : Thresholds). linked s.major_dir by s.segments) (measured thresholds-of)))

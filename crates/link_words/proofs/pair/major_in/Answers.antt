@@ -12,7 +12,7 @@ returns-then-not-is_directed c =
     let p = c in
     let d = p in
     let s = d in
-    major-none s.args.major-dir s.args.thresholds s.args.words.now s.args.ix1 s.requires.0 _ _ p.is_directed.ensures
+    major-none s.args.major_dir s.args.thresholds s.args.words.now s.args.ix1 s.requires.0 _ _ p.is_directed.ensures
     (is (got w32 d.direction_word.result d.direction_word.type_inv) ∙ d.direction_word.ensures) (c.if-not-is_directed.true)
 
 pub pairs_in-requires : goal.pairs_in-requires
@@ -28,9 +28,9 @@ pairs_in-requires c =
       linkable = (s.requires.0, s.requires.1);
       pos_bound = (
         s.requires.2,
-        alike_self s.args.major-dir s.args.thresholds s.args.words.now s.args.ix1 s.requires.0 _ _ p.is_directed.ensures word h _
+        alike_self s.args.major_dir s.args.thresholds s.args.words.now s.args.ix1 s.requires.0 _ _ p.is_directed.ensures word h _
             g.read_segment-before.ensures,
-        major-dir s.args.major-dir s.args.thresholds s.args.words.now s.args.ix1 s.requires.0 _ _ p.is_directed.ensures word h _
+        major-dir s.args.major_dir s.args.thresholds s.args.words.now s.args.ix1 s.requires.0 _ _ p.is_directed.ensures word h _
             g.read_segment-before.ensures,
       );
     }
@@ -43,6 +43,6 @@ returns c =
     let p = x in
     let d = p in
     let s = d in
-    major-law s.args.major-dir s.args.thresholds s.args.words.now s.args.ix1 s.requires.0 _ _ p.is_directed.ensures
+    major-law s.args.major_dir s.args.thresholds s.args.words.now s.args.ix1 s.requires.0 _ _ p.is_directed.ensures
     (is (got w32 d.direction_word.result d.direction_word.type_inv) ∙ d.direction_word.ensures) (x.if-not-is_directed.false) _ g.read_segment-before.ensures
     r.pairs_in.ensures

@@ -31,7 +31,7 @@ loop-ix1-preserved c =
     let l = i in
     let s = l in
     let m = c.major_in.ensures in
-    (turns-counted (major_turn s.args.major-dir s.args.thresholds) l.loop-ix1.invariant.0 i.loop-ix1-test.true m.became, m.within)
+    (turns-counted (major_turn s.args.major_dir s.args.thresholds) l.loop-ix1.invariant.0 i.loop-ix1-test.true m.became, m.within)
 
 pub shape_of-words : goal.shape_of-words
 shape_of-words c = c.loop-ix1.invariant.0.long
@@ -41,6 +41,6 @@ returns c =
     let l = c in
     let s = l in
     record {
-      became = pairs-law s.args.major-dir s.args.thresholds refl (turns-end _ _ _ l.loop-ix1.invariant.0 c.loop-ix1-test.false);
+      became = pairs-law s.args.major_dir s.args.thresholds refl (turns-end _ _ _ l.loop-ix1.invariant.0 c.loop-ix1-test.false);
       within = l.loop-ix1.invariant.1;
     }

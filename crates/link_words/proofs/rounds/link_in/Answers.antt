@@ -15,4 +15,4 @@ returns c =
     let m = l in
     let p = m in
     let s = p in
-    rounds-law s.args.major-dir s.args.thresholds p.pair_round_in.ensures.became m.serif_round_in.ensures.became l.last_round_in.ensures
+    rounds-law s.args.major_dir s.args.thresholds p.pair_round_in.ensures.became m.serif_round_in.ensures.became l.last_round_in.ensures

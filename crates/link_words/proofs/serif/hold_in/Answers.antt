@@ -10,16 +10,11 @@ use Rattle.link_words.proofs.Serifs.{link-read, link-leads, hold-behind, hold-no
 use Rattle.words_segment.proofs.Became.{below_in}
 use borrow.Author.Rules.{rules}
 use Rattle.link_words.proofs.serif.hold_in.Goals as goal
-use Rattle.link_words.proofs.serif.hold_in.Goals.{After-is_much_longer, Start}
-
--- where a stem that encloses the first is found
-abbrev start : After-is_much_longer → Start
-start c = c
 
 pub returns-then-not-starts_outside : goal.returns-then-not-starts_outside
 returns-then-not-starts_outside c =
-    let o = c.before in
-    let e = o.before in
+    let o = c in
+    let e = o in
     let s = e in
     hold-behind s.args.seg1 s.args.link1 s.args.ix1 s.args.link1_ix s.args.ix2 s.args.words.now s.requires.linkable.0 s.requires.linkable.1
     s.requires.linkable.2 _ e.read_segment-seg2.ensures
@@ -27,7 +22,7 @@ returns-then-not-starts_outside c =
 
 pub returns-in_default : goal.returns-in_default
 returns-in_default c =
-    let e = c.before.before.before in
+    let e = c in
     let s = e in
     hold-none s.args.seg1 s.args.link1 s.args.ix1 s.args.link1_ix s.args.ix2 s.args.words.now s.requires.linkable.0 s.requires.linkable.1
     s.requires.linkable.2 _ e.read_segment-seg2.ensures
@@ -36,7 +31,7 @@ returns-in_default c =
 pub read_segment-link2-requires : goal.read_segment-link2-requires
 read_segment-link2-requires c =
     let link = c in
-    let e = link.before.before.before.before in
+    let e = link in
     let s = e in (
       s.requires.linkable.0.whole,
       link-leads s.requires.linkable.0 s.requires.linkable.3
@@ -45,10 +40,10 @@ read_segment-link2-requires c =
 
 pub returns-then-not-encloses : goal.returns-then-not-encloses
 returns-then-not-encloses c =
-    let k = c.before in
-    let f = k.before in
-    let link = f.before in
-    let e = link.before.before.before.before in
+    let k = c in
+    let f = k in
+    let link = f in
+    let e = link in
     let s = e in
     hold-skip s.args.seg1 s.args.link1 s.args.ix1 s.args.link1_ix s.args.ix2 s.args.words.now s.requires.linkable.0 s.requires.linkable.1
     s.requires.linkable.2 _ e.read_segment-seg2.ensures _
@@ -56,32 +51,32 @@ returns-then-not-encloses c =
 
 pub is_much_longer-requires : goal.is_much_longer-requires
 is_much_longer-requires c =
-    let k = c.before in
-    let f = k.before in
-    let link = f.before in
-    let e = link.before.before.before.before in
+    let k = c in
+    let f = k in
+    let link = f in
+    let e = link in
     let s = e in
     subst (λ (x : Segment). Between 0 most_score x.len) (sym e.read_segment-seg2.ensures)
     ((each_within s.args.words.now s.requires.linkable.0.within).each s.args.ix2 s.requires.linkable.3).len
 
 pub overflow_cast-ix2-then-is_much_longer : goal.overflow_cast-ix2-then-is_much_longer
 overflow_cast-ix2-then-is_much_longer c =
-    let s = start c.before.before in
-    omega (arith, s.pre.0.3, s.pre.0.0.whole.few)
+    let s = c in
+    omega (arith, s.requires.linkable.3, s.requires.linkable.0.whole.few)
 
 pub rewrite_links_in-requires : goal.rewrite_links_in-requires
-rewrite_links_in-requires c = let s = start c.before.before in (s.pre.0.0.whole, s.pre.0.2, s.pre.0.1)
+rewrite_links_in-requires c = let s = c in (s.requires.linkable.0.whole, s.requires.linkable.2, s.requires.linkable.1)
 
 pub returns-then-is_much_longer : goal.returns-then-is_much_longer
 returns-then-is_much_longer c =
-    let p = c.before in
-    let y = p.before.before in
-    let n = y.before in
-    let x = n.before in
-    let k = x.before in
-    let f = k.before in
-    let link = f.before in
-    let e = link.before.before.before.before in
+    let p = c in
+    let y = p in
+    let n = y in
+    let x = n in
+    let k = x in
+    let f = k in
+    let link = f in
+    let e = link in
     let s = e in
     hold-serifs s.args.seg1 s.args.link1 s.args.ix1 s.args.link1_ix s.args.ix2 s.args.words.now s.requires.linkable.0 s.requires.linkable.1
     s.requires.linkable.2 _ e.read_segment-seg2.ensures _
@@ -89,25 +84,25 @@ returns-then-is_much_longer c =
     y.if-is_much_longer.true p.rewrite_links_in.ensures
 
 pub put_no_link-requires : goal.put_no_link-requires
-put_no_link-requires c = let s = start c.before.before in (s.pre.0.0.whole, s.pre.0.1)
+put_no_link-requires c = let s = c in (s.requires.linkable.0.whole, s.requires.linkable.1)
 
 pub put_no_link-requires-2 : goal.put_no_link-requires-2
 put_no_link-requires-2 c =
-    let p = c.before.before in
-    let s = start p.before.before.before in
-    (p.put_no_link.ensures.whole, below_in s.args.link1_ix p.put_no_link.ensures s.pre.0.2)
+    let p = c in
+    let s = p in
+    (p.put_no_link.ensures.whole, below_in s.args.link1_ix p.put_no_link.ensures s.requires.linkable.2)
 
 pub returns : goal.returns
 returns c =
-    let q = c.before in
-    let p = q.before.before.before in
-    let y = p.before.before in
-    let n = y.before in
-    let x = n.before in
-    let k = x.before in
-    let f = k.before in
-    let link = f.before in
-    let e = link.before.before.before.before in
+    let q = c in
+    let p = q in
+    let y = p in
+    let n = y in
+    let x = n in
+    let k = x in
+    let f = k in
+    let link = f in
+    let e = link in
     let s = e in
     hold-last s.args.seg1 s.args.link1 s.args.ix1 s.args.link1_ix s.args.ix2 s.args.words.now s.requires.linkable.0 s.requires.linkable.1
     s.requires.linkable.2 _ e.read_segment-seg2.ensures _

@@ -21,23 +21,23 @@ hold_in-requires c =
 
 pub returns-then-hold_in : goal.returns-then-hold_in
 returns-then-hold_in c =
-    let g = c.before.before in
-    let i = g.before.before in
+    let g = c in
+    let i = g in
     holds-break _ _ _ _ _ _ i.loop-ix2.invariant.3 i.loop-ix2-test.true g.hold_in.ensures c.if-hold_in.true
 
 pub shape_of-words-then-hold_in : goal.shape_of-words-then-hold_in
 shape_of-words-then-hold_in c = (returns-then-hold_in c).long
 
 pub overflow_step-ix2 : goal.overflow_step-ix2
-overflow_step-ix2 c = let i = c.before.before.before.before in let p = i.loop-ix2.invariant in let h = i.loop-ix2-test.true in omega (arith, p.3.few, h)
+overflow_step-ix2 c = let i = c in let p = i.loop-ix2.invariant in let h = i.loop-ix2-test.true in omega (arith, p.3.few, h)
 
 pub loop-ix2-smaller : goal.loop-ix2-smaller
 loop-ix2-smaller c = let h = c.loop-ix2-test.true in omega (arith, h)
 
 pub loop-ix2-preserved : goal.loop-ix2-preserved
 loop-ix2-preserved c =
-    let g = c.before.before in
-    let i = g.before.before in
+    let g = c in
+    let i = g in
     let p = i.loop-ix2.invariant in
     (p.0, p.1, p.2, holds-next _ _ _ _ _ _ p.3 i.loop-ix2-test.true g.hold_in.ensures c.if-hold_in.false)
 

@@ -1,12 +1,7 @@
 -- `log_blocks::blocks::refit_block` meets its contract. The invariant: what is written and what is left give the whole.
-use native.Mathlib.Omega.{arith}
-use borrow.Author.Rules.{rules}
-use mathlib.Core.Path.{sym}
-use Prim.Native.Nat.{◌-◌, ◌≤◌}
+use Prim.Native.Nat.{◌-◌}
 use lib.ListN.{length}
-use lib.Seq.{length-take-le}
-use Rattle.log_lines.proofs.Streams.{count-few, further}
-use Rattle.log_blocks.proofs.Onward.{Onward, onward-none, onward-held, onward-ended, onward-full, onward-all}
+use Rattle.log_blocks.proofs.Onward.{Onward}
 use Rattle.log_blocks.proofs.blocks.refit_block.Given as goal
 
 abbrev pub invariant-loop-at : goal.invariant-loop-at

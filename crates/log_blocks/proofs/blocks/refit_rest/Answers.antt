@@ -1,5 +1,4 @@
 -- `log_blocks::blocks::refit_rest` meets its contract.
-use borrow.Author.Rules.{rules}
 use mathlib.Core.Path.{sym}
 use lib.Seq.{length-take-le}
 use Rattle.log_blocks.proofs.Onward.{rest-none, rest_some}
@@ -12,9 +11,6 @@ pub slice_bounds-append_reply-end : goal.slice_bounds-append_reply-end
 slice_bounds-append_reply-end c = sym (length-take-le _ _ c.requires.0)
 
 pub returns : goal.returns
-returns c =
-    let start = c in
-    let tested = c in
-    let a = c.args in
-    rest_some a.line.now a.count a.out-1.now _ _ tested.if-count-eq0.false
-    start.requires.0 c.out-1.given c.append_reply.ensures
+returns c = let a = c.args in
+    rest_some a.line.now a.count a.out.now _ _ c.if-count-eq0.false
+    c.requires.0 c.append_reply.auto.out c.append_reply.ensures

@@ -9,5 +9,5 @@ use Rattle.log_digits.proofs.bytes.number_at.Goals as goal
 
 pub returns : goal.returns
 returns c =
-    is (got w32 c.number_of_lem.result c.number_of_lem.type_inv)
-    ∙ by₂ number_of c.number_of_lem.ensures c.byte_at-high.ensures c.byte_at-low.ensures
+    is (got w32 c.number_of.result c.number_of.type_inv)
+    ∙ by₂ number_of c.number_of.ensures c.byte_at-high.ensures c.byte_at-low.ensures

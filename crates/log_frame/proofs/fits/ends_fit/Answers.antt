@@ -1,9 +1,6 @@
 -- `log_frame::fits::ends_fit` meets its contract. The invariant: the ends fit where those that are left do.
-use borrow.Author.Rules.{rules}
 use native.Mathlib.Omega.{arith}
-use mathlib.Core.Path.{◌≡◌, sym, ◌∙◌}
-use Prim.Native.Nat.{◌-◌, ◌≤◌}
-use lib.ListN.{length, drop}
+use mathlib.Core.Path.{sym, ◌∙◌}
 use Rattle.log_frame.specs.Write.{ends_fit}
 use Rattle.log_frame.proofs.Tested.{ends-stop, ends_on, ends-end}
 use Rattle.log_frame.proofs.fits.ends_fit.Goals as goal
@@ -12,11 +9,10 @@ pub overflow_cast-end : goal.overflow_cast-end
 overflow_cast-end c = omega (arith, c.shared_slice_known-1.given c.loop-i.i)
 
 pub returns-then-end-gt-MOST_COUNTED : goal.returns-then-end-gt-MOST_COUNTED
-returns-then-end-gt-MOST_COUNTED c = let l = c in sym (l.loop-i.invariant.1 ∙ ends-stop l.args.ends.now l.loop-i.i (omega arith) (omega arith))
+returns-then-end-gt-MOST_COUNTED c = sym (c.loop-i.invariant.1 ∙ ends-stop c.args.ends.now c.loop-i.i (omega arith) (omega arith))
 
 pub loop-i-preserved : goal.loop-i-preserved
-loop-i-preserved c =
-    let l = c in (omega arith, l.loop-i.invariant.1 ∙ ends_on l.args.ends.now l.loop-i.i (omega arith) (omega arith))
+loop-i-preserved c = (omega arith, c.loop-i.invariant.1 ∙ ends_on c.args.ends.now c.loop-i.i (omega arith) (omega arith))
 
 pub returns : goal.returns
-returns c = let l = c in sym (l.loop-i.invariant.1 ∙ ends-end l.args.ends.now l.loop-i.i (omega arith))
+returns c = sym (c.loop-i.invariant.1 ∙ ends-end c.args.ends.now c.loop-i.i (omega arith))

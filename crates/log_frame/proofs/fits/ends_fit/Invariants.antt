@@ -1,11 +1,8 @@
 -- `log_frame::fits::ends_fit` meets its contract. The invariant: the ends fit where those that are left do.
-use borrow.Author.Rules.{rules}
-use native.Mathlib.Omega.{arith}
-use mathlib.Core.Path.{◌≡◌, sym, ◌∙◌}
+use mathlib.Core.Path.{◌≡◌}
 use Prim.Native.Nat.{◌-◌, ◌≤◌}
 use lib.ListN.{length, drop}
 use Rattle.log_frame.specs.Write.{ends_fit}
-use Rattle.log_frame.proofs.Tested.{ends-stop, ends_on, ends-end}
 use Rattle.log_frame.proofs.fits.ends_fit.Given as goal
 
 abbrev pub invariant-loop-i : goal.invariant-loop-i

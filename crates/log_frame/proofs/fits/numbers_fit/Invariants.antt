@@ -1,16 +1,8 @@
 -- `log_frame::fits::numbers_fit` meets its contract. The invariant: the numbers fit where those that are left do.
-use borrow.Author.Rules.{rules}
-use borrow.Author.Tests.{not-true, not-false}
-use native.Mathlib.Omega.{arith}
-use mathlib.Core.Path.{◌≡◌, sym, ap, ◌∙◌}
+use mathlib.Core.Path.{◌≡◌}
 use Prim.Native.Nat.{◌-◌, ◌≤◌}
-use lib.ListN.{length, get_or, drop}
-use lib.IntN.{pos}
-use mir.Syntax.{w32}
-use Rattle.signed.proofs.Signed.{is, got}
-use Rattle.words_shape.specs.Shape.{is_in, short}
+use lib.ListN.{length, drop}
 use Rattle.log_frame.specs.Write.{numbers_fit}
-use Rattle.log_frame.proofs.Tested.{numbers-stop, numbers_on, numbers-end}
 use Rattle.log_frame.proofs.fits.numbers_fit.Given as goal
 
 abbrev pub invariant-loop-i : goal.invariant-loop-i

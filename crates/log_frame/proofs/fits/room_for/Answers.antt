@@ -1,5 +1,4 @@
 -- `log_frame::fits::room_for` meets its contract.
-use borrow.Author.Rules.{rules}
 use native.Mathlib.Omega.{arith}
 use Rattle.log_frame.proofs.Tested.{room-points, room-contours, room-digits}
 use Rattle.log_frame.proofs.fits.room_for.Goals as goal

@@ -1,5 +1,4 @@
 -- `log_frame::good::are_rooms` meets its contract.
-use borrow.Author.Rules.{rules}
 use mathlib.Core.Path.{ap, ◌∙◌}
 use mathlib.Core.Bool.{Bool, ◌&&◌}
 use lib.Dec.{eqb}
@@ -9,7 +8,6 @@ use Rattle.log_frame.proofs.good.are_rooms.Goals as goal
 
 pub returns : goal.returns
 unfolding are_rooms
-returns c =
-    let s = c.args in
+returns c = let s = c.args in
     c.both-3.ensures ∙ ap (λ (b : Bool). eqb s.originals most_counted && b)
     (c.both-2.ensures ∙ ap (λ (b : Bool). eqb s.currents most_counted && b) c.both.ensures)

@@ -1,49 +1,39 @@
 -- `log_frame::read::read_ends` meets its contract. The invariant: what is read so far.
 use native.Mathlib.Omega.{arith}
 use mathlib.Core.Path.{◌≡◌, refl, ap, ◌∙◌}
-use Prim.Native.Nat.{ℕ, ◌+◌, ◌-◌, ◌≤◌}
-use lib.ListN.{length, length-set}
+use Prim.Native.Nat.{ℕ, ◌+◌}
+use lib.ListN.{length-set}
 use Rattle.words.specs.Word.{firsts}
 use Rattle.log_digits.specs.Digits.{byte_at}
 use Rattle.log_frame.specs.Read.{over}
 use Rattle.log_frame.proofs.Rooms.{over_none, over-more}
 use Rattle.log_frame.proofs.read.read_ends.Goals as goal
-use Rattle.log_frame.proofs.read.read_ends.Goals.{In-loop-i, Start}
-
--- the function's start, from a turn's beginning
-abbrev start : In-loop-i → Start
-start c = c.before.before.before.before
 
 pub loop-i-init : goal.loop-i-init
 loop-i-init c = ((omega arith, refl), over_none _ _)
 
 pub overflow_add-at : goal.overflow_add-at
-overflow_add-at c = let s = start c in omega (arith, s.pre, s.good)
+overflow_add-at c = omega (arith, c.requires)
 
 pub byte_at-end-requires : goal.byte_at-end-requires
-byte_at-end-requires c = let s = start c in omega (arith, s.pre)
+byte_at-end-requires c = omega (arith, c.requires)
 
 pub overflow_cast-end : goal.overflow_cast-end
 overflow_cast-end c = omega (arith, c.byte_at-end.type_inv)
 
 pub offset_bounds-ends-i : goal.offset_bounds-ends-i
-offset_bounds-ends-i c = let s = start c.before in omega (arith, s.pre, s.good)
+offset_bounds-ends-i c = omega (arith, c.requires)
 
 pub bounds-ends-i : goal.bounds-ends-i
-bounds-ends-i c = let s = start c.before in omega (arith, s.pre, c.loop-i.invariant)
+bounds-ends-i c = omega (arith, c.requires, c.loop-i.invariant)
 
 pub overflow_add-i : goal.overflow_add-i
-overflow_add-i c = let s = start c.before in omega (arith, s.pre, s.good)
-
-pub loop-i-smaller : goal.loop-i-smaller
-loop-i-smaller c = omega arith
+overflow_add-i c = omega (arith, c.requires)
 
 pub loop-i-preserved : goal.loop-i-preserved
-loop-i-preserved c =
-    let s = start c.before in
-    let l = c.loop-i in
+loop-i-preserved c = let l = c.loop-i in
     let now =
-    over-more (λ (j : ℕ). byte_at s.args.line.now (s.args.at + j)) s.args.ends.now l.i c.byte_at-end.result l.invariant.1 (omega (arith, s.pre))
+    over-more (λ (j : ℕ). byte_at c.args.line.now (c.args.at + j)) c.args.ends.now l.i c.byte_at-end.result l.invariant.1 (omega (arith, c.requires))
     c.byte_at-end.ensures in
     ((omega arith, length-set l.ends l.i c.byte_at-end.result ∙ l.invariant.0.1), now)
 
@@ -51,8 +41,7 @@ pub shape_of-ends : goal.shape_of-ends
 shape_of-ends c = c.loop-i.invariant.0.1
 
 pub returns : goal.returns
-returns c =
-    let l = c.loop-i in
+returns c = let l = c.loop-i in
     let a = c.args in
     let e : l.i ≡ a.k = omega (arith, l.invariant.0) in
     l.invariant.1 ∙ ap (λ (n : ℕ). over (firsts (λ (j : ℕ). byte_at a.line.now (a.at + j)) n) a.ends.now) e

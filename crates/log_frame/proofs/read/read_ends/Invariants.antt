@@ -1,12 +1,10 @@
 -- `log_frame::read::read_ends` meets its contract. The invariant: what is read so far.
-use native.Mathlib.Omega.{arith}
-use mathlib.Core.Path.{◌≡◌, refl, ap, ◌∙◌}
+use mathlib.Core.Path.{◌≡◌}
 use Prim.Native.Nat.{ℕ, ◌+◌, ◌-◌, ◌≤◌}
-use lib.ListN.{length, length-set}
+use lib.ListN.{length}
 use Rattle.words.specs.Word.{firsts}
 use Rattle.log_digits.specs.Digits.{byte_at}
 use Rattle.log_frame.specs.Read.{over}
-use Rattle.log_frame.proofs.Rooms.{over_none, over-more}
 use Rattle.log_frame.proofs.read.read_ends.Given as goal
 
 abbrev pub invariant-loop-i : goal.invariant-loop-i

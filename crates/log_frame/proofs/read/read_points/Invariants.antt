@@ -1,10 +1,6 @@
 -- `log_frame::read::read_points` meets its contract. The invariant: what is read so far.
-use native.Mathlib.Omega.{arith}
-use mathlib.Core.Path.{◌∙◌}
 use Prim.Native.Nat.{◌-◌}
-use mir.Syntax.{w32}
-use Rattle.signed.proofs.Signed.{is, got}
-use Rattle.log_frame.proofs.Rooms.{PointsSofar, points_none, points-more, points-all}
+use Rattle.log_frame.proofs.Rooms.{PointsSofar}
 use Rattle.log_frame.proofs.read.read_points.Given as goal
 
 abbrev pub invariant-loop-i : goal.invariant-loop-i

@@ -1,9 +1,7 @@
 -- `log_frame::write::put_ends` meets its contract. The invariant: what is written so far.
-use borrow.Author.Rules.{rules}
-use native.Mathlib.Omega.{arith}
 use Prim.Native.Nat.{◌-◌}
 use lib.ListN.{length}
-use Rattle.log_frame.proofs.Composed.{EndsSofar, ends-none, ends_more, ends-all}
+use Rattle.log_frame.proofs.Composed.{EndsSofar}
 use Rattle.log_frame.proofs.write.put_ends.Given as goal
 
 abbrev pub invariant-loop-i : goal.invariant-loop-i

@@ -22,10 +22,7 @@ pub align_stems-requires : goal.align_stems-requires
 align_stems-requires c =
     let t = tested c.before in
     let within = axis-within _ t.0 t.1.1.0 t.1.1.1.0 in
-    record {
-      standards_value = within;
-      axis_within = subst (StemsOf _) (sym c.stems_of-stems.ensures) (stems-hold _ within.few t.1.0);
-    }
+    (within, subst (StemsOf _) (sym c.stems_of-stems.ensures) (stems-hold _ within.few t.1.0))
 
 pub returns : goal.returns
 unfolding hint_lowercase_m

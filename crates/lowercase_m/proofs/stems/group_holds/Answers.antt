@@ -9,4 +9,4 @@ returns-in-Default c = rw c.in-Default.is
 
 pub returns-in-Cjk : goal.returns-in-Cjk
 unfolding group_holds
-returns-in-Cjk c = rw c.in-Cjk.is c.Linked-on.ensures
+returns-in-Cjk c = rw c.in-Cjk.is c.linked_on.ensures

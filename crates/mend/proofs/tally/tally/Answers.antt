@@ -8,7 +8,6 @@ use Rattle.axis.specs.Limits.{most_edges, most_segments}
 use Rattle.mend.specs.Rebuilt.{Tallied}
 use Rattle.mend.proofs.Tallies.{tallied-none, tallied-skip, tallied-more, tallied-few, tallied-all}
 use Rattle.mend.proofs.tally.tally.Goals as goal
-use Rattle.mend.proofs.tally.tally.Goals.{Else-k-ge-MOST_EDGES}
 
 pub loop-i-init : goal.loop-i-init
 loop-i-init c = (omega arith, c.requires.0, tallied-none _ c.requires.1 c.requires.2 c.requires.3)
@@ -26,8 +25,7 @@ pub loop-i-smaller-then-k-ge-MOST_EDGES : goal.loop-i-smaller-then-k-ge-MOST_EDG
 loop-i-smaller-then-k-ge-MOST_EDGES c = omega arith
 
 pub loop-i-preserved-then-k-ge-MOST_EDGES : goal.loop-i-preserved-then-k-ge-MOST_EDGES
-loop-i-preserved-then-k-ge-MOST_EDGES c =
-    let l = c.loop-i in
+loop-i-preserved-then-k-ge-MOST_EDGES c = let l = c.loop-i in
     (omega arith, l.invariant.1, tallied-skip _ _ l.invariant.2 (omega (arith, c.if-k-ge-MOST_EDGES.true, c.place-k.ensures)))
 
 pub offset_bounds-counts-k : goal.offset_bounds-counts-k
@@ -60,14 +58,11 @@ offset_bounds-highs-k c = omega arith
 pub bounds-highs-k : goal.bounds-highs-k
 bounds-highs-k c = omega arith
 
-place-below : (c : Else-k-ge-MOST_EDGES) → c.place-k.result < most_edges
-place-below c = c.if-k-ge-MOST_EDGES.false
-
 pub overflow_add-counts : goal.overflow_add-counts
 overflow_add-counts c =
-    let place = c.before.before.before.before in
-    let l = place.loop-i in
-    omega (arith, tallied-few _ l.invariant.2 (place-below c.before.before.before))
+    let place-below : c.place-k.result < most_edges = c.if-k-ge-MOST_EDGES.false in
+    let l = c.loop-i in
+    omega (arith, tallied-few _ l.invariant.2 place-below)
 
 pub offset_bounds-counts-k-in-loop-i : goal.offset_bounds-counts-k-in-loop-i
 offset_bounds-counts-k-in-loop-i c = omega arith
@@ -83,11 +78,11 @@ loop-i-smaller c = omega arith
 
 pub loop-i-preserved : goal.loop-i-preserved
 loop-i-preserved c =
-    let place = c.before.before.before.before in
-    let l = place.loop-i in (
+    let place-below : c.place-k.result < most_edges = c.if-k-ge-MOST_EDGES.false in
+    let l = c.loop-i in (
       omega arith,
       l.invariant.1,
-      tallied-more _ _ l.invariant.2 _ (sym place.place-k.ensures) (place-below c.before.before.before) _ _ _ refl c.lower.ensures refl,
+      tallied-more _ _ l.invariant.2 _ (sym c.place-k.ensures) place-below _ _ _ refl c.lower.ensures refl,
     )
 
 pub returns : goal.returns

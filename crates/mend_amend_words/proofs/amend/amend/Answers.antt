@@ -15,8 +15,8 @@ returns-then-same c =
     let same = c in
     let old = same in
     let s = old in
-    stayed _ _ _ _ _ _ _ (by₂ eq_z same.same.ensures (is (got w32 old.read_word-old.result old.read_word-old.ok) ∙ old.read_word-old.ensures)
-    (is s.ranges.new)) c.if-same.taken
+    stayed _ _ _ _ _ _ _ (by₂ eq_z same.same.ensures (is (got w32 old.read_word-old.result old.read_word-old.type_inv) ∙ old.read_word-old.ensures)
+    (is s.ranges.new)) c.if-same.true
 
 pub overflow_mul-count : goal.overflow_mul-count
 overflow_mul-count c = omega arith
@@ -34,8 +34,8 @@ returns c =
     let same = else1 in
     let old = same in
     let s = old in
-    let word = is (got w32 old.read_word-old.result old.read_word-old.ok) ∙ old.read_word-old.ensures in
-    altered _ _ _ _ _ _ _ (by₂ eq_z same.same.ensures word (is s.ranges.new)) _ _ _ else1.if-same.left (is s.ranges.new) write.write_words.ensures
-    (λ j. (is (got w32 table.index_word-table.result table.index_word-table.ok) ∙ table.index_word-table.ensures) j
-    ∷ (is (got w32 index.index_word-index.result index.index_word-index.ok) ∙ index.index_word-index.ensures) j
-    ∷ (is (got w32 field.index_word-field.result field.index_word-field.ok) ∙ field.index_word-field.ensures) j ∷ word j ∷ is s.ranges.new j ∷ [])
+    let word = is (got w32 old.read_word-old.result old.read_word-old.type_inv) ∙ old.read_word-old.ensures in
+    altered _ _ _ _ _ _ _ (by₂ eq_z same.same.ensures word (is s.ranges.new)) _ _ _ else1.if-same.false (is s.ranges.new) write.write_words.ensures
+    (λ j. (is (got w32 table.index_word-table.result table.index_word-table.type_inv) ∙ table.index_word-table.ensures) j
+    ∷ (is (got w32 index.index_word-index.result index.index_word-index.type_inv) ∙ index.index_word-index.ensures) j
+    ∷ (is (got w32 field.index_word-field.result field.index_word-field.type_inv) ∙ field.index_word-field.ensures) j ∷ word j ∷ is s.ranges.new j ∷ [])

@@ -6,38 +6,31 @@ use Rattle.words.specs.Segment.{segments_in}
 use Rattle.words_segment.proofs.Became.{below_in}
 use Rattle.mend_amend_words.proofs.Passes.{SegmentsTo, segments-none, segments-room, segments-long, segments-more, segments-all}
 use Rattle.mend_amend_words.proofs.pass.amend_segments.Goals as goal
-use Rattle.mend_amend_words.proofs.pass.amend_segments.Goals.{In-loop-i}
 
 pub loop-i-init : goal.loop-i-init
 loop-i-init c = (omega arith, segments-none _ _ _ _ c.requires.0 c.requires.1)
 
--- the segment is one of the list
-below : (c : In-loop-i) → c.loop-i.i < segments_in c.args.segments.now
-below c = omega arith
-
 pub offset_bounds-edges-i : goal.offset_bounds-edges-i
-offset_bounds-edges-i c = let s = c.before.before.before in omega (arith, s.requires.0.few)
+offset_bounds-edges-i c = omega (arith, c.requires.0.few)
 
 pub bounds-edges-i : goal.bounds-edges-i
-bounds-edges-i c = let s = c.before.before.before in omega (arith, s.requires.0.few)
+bounds-edges-i c = omega (arith, c.requires.0.few)
 
 pub offset_bounds-next-i : goal.offset_bounds-next-i
-offset_bounds-next-i c = let s = c.before.before.before.before in omega (arith, s.requires.0.few)
+offset_bounds-next-i c = omega (arith, c.requires.0.few)
 
 pub bounds-next-i : goal.bounds-next-i
-bounds-next-i c = let s = c.before.before.before.before in omega (arith, s.requires.0.few)
+bounds-next-i c = omega (arith, c.requires.0.few)
 
 pub amend_segment-count-requires : goal.amend_segment-count-requires
 amend_segment-count-requires c =
-    let n = c.before.before.before.before in
-    let l = n.before in
-    let s = l.before in
-    let a = l.loop-i.invariant.1 in (
+    let below : c.loop-i.i < segments_in c.args.segments.now = omega arith in
+    let a = c.loop-i.invariant.1 in (
       a.became.whole,
-      below_in l.loop-i.i a.became (below n),
-      segments-room _ _ _ _ s.requires.0 s.requires.1 a (below n),
+      below_in c.loop-i.i a.became below,
+      segments-room _ _ _ _ c.requires.0 c.requires.1 a below,
       segments-long _ _ _ _
-          s.requires.0 s.requires.1 a l.loop-i.invariant.0 ∙ s.requires.1,
+          c.requires.0 c.requires.1 a c.loop-i.invariant.0 ∙ c.requires.1,
     )
 
 pub overflow_step-i : goal.overflow_step-i
@@ -48,20 +41,14 @@ loop-i-smaller c = omega arith
 
 pub loop-i-preserved : goal.loop-i-preserved
 loop-i-preserved c =
-    let m = c.before.before in
-    let n = m.before.before.before.before.before in
-    let l = n.before in
-    let s = l.before in
-    (omega arith, segments-more _ _ _ _ s.requires.0 s.requires.1 l.loop-i.invariant.1 (below n) m.amend_segment-count.ensures)
+    let below : c.loop-i.i < segments_in c.args.segments.now = omega arith in
+    (omega arith, segments-more _ _ _ _ c.requires.0 c.requires.1 c.loop-i.invariant.1 below c.amend_segment-count.ensures)
 
 pub shape_of-segments : goal.shape_of-segments
 shape_of-segments c = c.loop-i.invariant.1.became.long
 
 pub shape_of-room : goal.shape_of-room
-shape_of-room c = let l = c.before in segments-long _ _ _ _ l.requires.0 l.requires.1 l.loop-i.invariant.1 l.loop-i.invariant.0
+shape_of-room c = segments-long _ _ _ _ c.requires.0 c.requires.1 c.loop-i.invariant.1 c.loop-i.invariant.0
 
 pub returns : goal.returns
-returns c =
-    let l = c.before in
-    let s = l.before in
-    segments-all _ _ _ _ s.requires.0 s.requires.1 l.loop-i.invariant.0 (omega arith) l.loop-i.invariant.1
+returns c = segments-all _ _ _ _ c.requires.0 c.requires.1 c.loop-i.invariant.0 (omega arith) c.loop-i.invariant.1

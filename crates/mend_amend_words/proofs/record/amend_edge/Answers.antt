@@ -21,6 +21,6 @@ returns c =
     let links = ends in
     let s = links in
     let a = s.args in
-    edge-amended a.edges-1.now _ _ a.room-1.now _ _ a.k a.low a.high a.count _ _ a.broken s.requires.0 s.requires.1
+    edge-amended a.edges.now _ _ a.room.now _ _ a.k a.low a.high a.count _ _ a.broken s.requires.0 s.requires.1
     links.amend_links-count.ensures ends.amend_ends.ensures s.requires.2
     s.requires.3

@@ -22,7 +22,7 @@ returns c =
     let word = lowest in
     let s = word in
     let a = s.args in
-    ends-amended a.edges-1.now _ _ a.room-1.now _ _ a.k a.low a.high a.count _ _ a.broken _ _ s.requires.0 s.requires.1 (omega arith)
+    ends-amended a.edges.now _ _ a.room.now _ _ a.k a.low a.high a.count _ _ a.broken _ _ s.requires.0 s.requires.1 (omega arith)
     (omega arith)
     (amended-as first.field_of-first.ensures (is (got w32 lowest.end_word-lowest.result lowest.end_word-lowest.type_inv)) one.amend-count.ensures)
     (lowest.end_word-lowest.ensures ∙ ap (cond a.broken (pos a.low)) (is (got w32 word.read_word.result word.read_word.type_inv) ∙ word.read_word.ensures))

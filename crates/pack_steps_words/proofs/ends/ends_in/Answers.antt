@@ -10,22 +10,15 @@ use Rattle.words_edge.specs.Whole.{Became}
 use Rattle.words_edge.proofs.Became.{stays}
 use Rattle.pack_steps_words.proofs.Edges.{next-ready, one_more, all-ended}
 use Rattle.pack_steps_words.proofs.ends.ends_in.Goals as goal
-use Rattle.pack_steps_words.proofs.ends.ends_in.Goals.{In-loop-i}
-
--- the edge is one of the list
-below : (c : In-loop-i) → c.loop-i.i < edges_in c.args.words.now
-below c = omega arith
 
 pub loop-i-init : goal.loop-i-init
 loop-i-init c = (omega arith, stays _ c.requires.0 (λ d. refl))
 
 pub end_in-requires : goal.end_in-requires
 end_in-requires c =
-    let n = c.before in
-    let l = n.before in
-    let s = l.before in
-    let r = next-ready s.args.words.now s.requires.0 s.args.new.now _ l.loop-i.i (below n) l.loop-i.invariant.1 s.requires.1 in
-    (r.0, r.1, r.2, s.requires.2)
+    let below : c.loop-i.i < edges_in c.args.words.now = omega arith in
+    let r = next-ready c.args.words.now c.requires.0 c.args.new.now _ c.loop-i.i below c.loop-i.invariant.1 c.requires.1 in
+    (r.0, r.1, r.2, c.requires.2)
 
 pub overflow_step-i : goal.overflow_step-i
 overflow_step-i c = omega arith
@@ -35,17 +28,11 @@ loop-i-smaller c = omega arith
 
 pub loop-i-preserved : goal.loop-i-preserved
 loop-i-preserved c =
-    let e = c.before in
-    let n = e.before.before in
-    let l = n.before in
-    let s = l.before in
-    (omega arith, one_more s.args.words.now s.requires.0 s.args.new.now _ l.loop-i.i (below n) l.loop-i.invariant.1 _ e.end_in.ensures)
+    let below : c.loop-i.i < edges_in c.args.words.now = omega arith in
+    (omega arith, one_more c.args.words.now c.requires.0 c.args.new.now _ c.loop-i.i below c.loop-i.invariant.1 _ c.end_in.ensures)
 
 pub shape_of-words : goal.shape_of-words
 shape_of-words c = c.loop-i.invariant.1.long
 
 pub returns : goal.returns
-returns c =
-    let l = c.before in
-    let s = l.before in
-    all-ended s.args.words.now s.requires.0 s.args.new.now _ l.loop-i.i l.loop-i.invariant.0 (omega arith) l.loop-i.invariant.1
+returns c = all-ended c.args.words.now c.requires.0 c.args.new.now _ c.loop-i.i c.loop-i.invariant.0 (omega arith) c.loop-i.invariant.1

@@ -10,25 +10,21 @@ use Rattle.axis.specs.Limits.{most_segments}
 use Rattle.signed.proofs.Signed.{is, got}
 use Rattle.pack.specs.Sets.{number_at}
 use Rattle.pack_steps_words.proofs.ends.moved_in.Goals as goal
-use Rattle.pack_steps_words.proofs.ends.moved_in.Goals.{After-index_at-ix}
-
--- the index is that of a segment
-inside : (c : After-index_at-ix) → c.index_at-ix.result < most_segments
-inside c = omega (arith, c.index_at-ix.ensures, c.requires.1)
 
 pub offset_bounds-new-ix : goal.offset_bounds-new-ix
-offset_bounds-new-ix c = omega (arith, inside c)
+offset_bounds-new-ix c =
+    let inside : c.index_at-ix.result < most_segments = omega (arith, c.index_at-ix.ensures, c.requires.1) in
+    omega (arith, inside)
 
 pub bounds-new-ix : goal.bounds-new-ix
-bounds-new-ix c = inside c
+bounds-new-ix c =
+    let inside : c.index_at-ix.result < most_segments = omega (arith, c.index_at-ix.ensures, c.requires.1) in
+    inside
 
 pub bounds-words-at : goal.bounds-words-at
 bounds-words-at c = c.requires.0
 
 pub returns : goal.returns
-returns c =
-    let at = c.before.before in
-    let s = at.before.before in
-    ap (set s.args.words.now s.args.at)
+returns c = ap (set c.args.words.now c.args.at)
     (is (got w32 c.index_word.result c.index_word.type_inv) ∙ c.index_word.ensures
-    ∙ ap (λ (k : ℕ). pos (number_at s.args.new.now k)) at.index_at-ix.ensures)
+    ∙ ap (λ (k : ℕ). pos (number_at c.args.new.now k)) c.index_at-ix.ensures)

@@ -10,17 +10,6 @@ use Rattle.words_segment.proofs.Wholes.{segments-len}
 use Rattle.pack.proofs.Filled.{Three, three-none, three-next, link_fits, serif-fits, three-ready, three-followed}
 use Rattle.pack_steps_words.proofs.Readings.{inside, edged-read, link-or, serif-or}
 use Rattle.pack_steps_words.proofs.keep.kept_in.Goals as goal
-use Rattle.pack_steps_words.proofs.keep.kept_in.Goals.{In-loop-i, Start}
-
--- where the call starts, its table, and a segment of it
-abbrev start : In-loop-i → Start
-start t = t.before.before
-
-abbrev table : In-loop-i → Segments
-table t = flat_segments (start t).args.words.now
-
-within : (t : In-loop-i) → t.loop-i.i < (table t).len
-within t = inside (start t).args.words.now (start t).requires.0 t.loop-i.i t.loop-i-test.true
 
 pub loop-i-init : goal.loop-i-init
 loop-i-init c = (omega arith, refl, c.requires.0.few, three-none _)
@@ -48,11 +37,10 @@ bounds-kept-i c = omega arith
 
 pub overflow_cast-links : goal.overflow_cast-links
 overflow_cast-links c =
-    let t = c.before.before.before.before.before in
     omega (
       arith,
-      link_fits (table t) (start t).requires.1 t.loop-i.i c.index_or.result (within t)
-          (link-or _ (start t).requires.0 _ t.loop-i-test.true _ _ c.link_at-link.ensures c.index_or.ensures),
+      link_fits (flat_segments c.args.words.now) c.requires.1 c.loop-i.i c.index_or.result (inside c.args.words.now c.requires.0 c.loop-i.i c.loop-i-test.true)
+          (link-or _ c.requires.0 _ c.loop-i-test.true _ _ c.link_at-link.ensures c.index_or.ensures),
     )
 
 pub offset_bounds-links-i : goal.offset_bounds-links-i
@@ -63,11 +51,10 @@ bounds-links-i c = omega arith
 
 pub overflow_cast-serifs : goal.overflow_cast-serifs
 overflow_cast-serifs c =
-    let t = c.before.before.before.before.before.before in
     omega (
       arith,
-      serif-fits (table t) (start t).requires.1 t.loop-i.i c.index_or-in-loop-i.result (within t)
-          (serif-or _ (start t).requires.0 _ t.loop-i-test.true _ _ c.link_at-serif.ensures c.index_or-in-loop-i.ensures),
+      serif-fits (flat_segments c.args.words.now) c.requires.1 c.loop-i.i c.index_or-in-loop-i.result (inside c.args.words.now c.requires.0 c.loop-i.i c.loop-i-test.true)
+          (serif-or _ c.requires.0 _ c.loop-i-test.true _ _ c.link_at-serif.ensures c.index_or-in-loop-i.ensures),
     )
 
 pub offset_bounds-serifs-i : goal.offset_bounds-serifs-i
@@ -76,40 +63,28 @@ offset_bounds-serifs-i c = omega arith
 pub bounds-serifs-i : goal.bounds-serifs-i
 bounds-serifs-i c = omega arith
 
-pub overflow_add-i : goal.overflow_add-i
-overflow_add-i c = omega arith
-
 pub loop-i-smaller : goal.loop-i-smaller
 loop-i-smaller c = omega arith
 
 pub loop-i-preserved : goal.loop-i-preserved
 loop-i-preserved c =
-    let at-link-at = c.before.before.before.before.before in
-    let t = c.before.before.before.before.before.before in
-    let l = t.before in
-    let w = (start t).requires.0 in
-    let h = t.loop-i-test.true in (
+    let w = c.requires.0 in
+    let h = c.loop-i-test.true in (
       omega arith,
-      l.loop-i.invariant.1,
-      l.loop-i.invariant.2,
-      three-next (table t) _ _ _ l.loop-i.i _ _ _ l.loop-i.invariant.3 (omega (arith, h, l.loop-i.invariant.2))
-          (edged-read _ w _ h _ _ at-link-at.link_at-edge.ensures c.is_linked.ensures)
+      c.loop-i.invariant.1,
+      c.loop-i.invariant.2,
+      three-next (flat_segments c.args.words.now) _ _ _ c.loop-i.i _ _ _ c.loop-i.invariant.3 (omega (arith, h, c.loop-i.invariant.2))
+          (edged-read _ w _ h _ _ c.link_at-edge.ensures c.is_linked.ensures)
           (link-or _ w _ h _ _ c.link_at-link.ensures c.index_or.ensures)
           (serif-or _ w _ h _ _ c.link_at-serif.ensures c.index_or-in-loop-i.ensures),
     )
 
 pub follow-requires : goal.follow-requires
 follow-requires c =
-    let e = c.before.before.before in
-    let l = e.before in
-    let s = l.before in
-    three-ready _ s.requires.1 _ _ _ l.loop-i.i (omega (arith, l.loop-i.invariant.0, segments-len s.args.words.now))
-    (omega (arith, e.loop-i-test.false, segments-len s.args.words.now)) l.loop-i.invariant.3
+    three-ready _ c.requires.1 _ _ _ c.loop-i.i (omega (arith, c.loop-i.invariant.0, segments-len c.args.words.now))
+    (omega (arith, c.loop-i-test.false, segments-len c.args.words.now)) c.loop-i.invariant.3
 
 pub returns : goal.returns
 returns c =
-    let e = c.before.before.before.before in
-    let l = e.before in
-    let s = l.before in
-    three-followed _ s.requires.1 _ _ _ _ l.loop-i.i (omega (arith, l.loop-i.invariant.0, segments-len s.args.words.now))
-    (omega (arith, e.loop-i-test.false, segments-len s.args.words.now)) l.loop-i.invariant.3 c.follow.ensures
+    three-followed _ c.requires.1 _ _ _ _ c.loop-i.i (omega (arith, c.loop-i.invariant.0, segments-len c.args.words.now))
+    (omega (arith, c.loop-i-test.false, segments-len c.args.words.now)) c.loop-i.invariant.3 c.follow.ensures

@@ -1,5 +1,4 @@
 -- `path::accept::path_refusal` meets its contract.
-use borrow.Author.Rules.{rules}
 use Rattle.path.proofs.accept.path_refusal.Goals as goal
 
 pub returns : goal.returns

@@ -1,71 +1,51 @@
 -- `path_lay::lay::lay_path` meets its contract.
-use borrow.Author.Rules.{rules}
 use mathlib.Core.Bool.{true}
 use mathlib.Core.List.{◌++◌}
-use mathlib.Core.Path.{◌≡◌}
-use Prim.Native.Nat.{◌+◌, ◌-◌, ◌≤◌}
+use Prim.Native.Nat.{◌+◌, ◌-◌}
 use native.Mathlib.Omega.{arith}
 use lib.ListN.{length, drop, length-append}
 use Rattle.path_trip.specs.Path.{points, Points, round_of, steps_of, path, path_from}
-use Rattle.weak.specs.Weak.{ends_hold}
 use Rattle.path_lay.specs.Laying.{lent}
 use Rattle.weak.proofs.Refusals.{end-at, EndAt}
 use Rattle.path_lay.proofs.Lays.{Laying, laying, laying-as, laying-more, laying-done, room-less}
 use Rattle.path_walk.proofs.Seeks.{path-start, path-turn, path-end}
 use Rattle.path_lay.proofs.lay.lay_path.Goals as goal
-use Rattle.path_lay.proofs.lay.lay_path.Goals.{After-wide-e, At-loop-c, Start}
-
-abbrev outline : Start → Points
-outline a = points a.args.xs.now a.args.ys.now a.args.marks.now
-
-abbrev at-loop : After-wide-e → At-loop-c
-at-loop w = w.before.before.before
-
-abbrev entry : At-loop-c → Start
-entry l = l.before.before.before.before.before
-
--- what the rule says of the turn's end
-end : (w : After-wide-e) → let l = at-loop w in EndAt l.loop-c.a (length (entry l).args.xs.now) (entry l).args.ends.now l.loop-c.c
-end w = let l = at-loop w in end-at _ _ _ _ w.loop-c-test.true l.loop-c.inv.1
-
--- what is left: the turn's contour, and the others
-turn : (w : After-wide-e) → let l = at-loop w in let s = entry l in
-    Laying (lent s.args.kinds.now s.args.places.now 0) (path (outline s) s.args.ends.now) (lent l.loop-c.kinds l.loop-c.places l.loop-c.n)
-    (steps_of (outline s) (round_of (outline s) l.loop-c.a (w.wide-e.result + 1 - 1))
-    ++ path_from (outline s) (w.wide-e.result + 1) (drop (l.loop-c.c + 1) s.args.ends.now))
-turn w =
-    let l = at-loop w in
-    let s = entry l in
-    laying-as _ _ (path-turn (outline s) l.loop-c.a s.args.ends.now l.loop-c.c w.wide-e.result w.loop-c-test.true
-    w.wide-e.ensures) l.loop-c.inv.2
 
 pub loop-c-init : goal.loop-c-init
-loop-c-init c =
-    let s = c.before.before.before.before in
-    (omega arith, s.requires.ends_value, laying-as _ _ (path-start (outline s) s.args.ends.now) (laying _ _ s.requires.room))
+loop-c-init c = (omega arith, c.requires.ends_value, laying-as _ _ (path-start (points c.args.xs.now c.args.ys.now c.args.marks.now) c.args.ends.now) (laying _ _ c.requires.room))
 
 pub overflow_add-e : goal.overflow_add-e
-overflow_add-e c = let l = at-loop c in omega (arith, (end c).high, c.wide-e.ensures, (entry l).pre.0.few)
+overflow_add-e c =
+    let end : EndAt c.loop-c.a (length c.args.xs.now) c.args.ends.now c.loop-c.c = end-at _ _ _ _ c.loop-c-test.true c.loop-c.invariant.1 in
+    omega (arith, end.high, c.wide-e.ensures, c.requires.admitted.few)
 
 pub lay_contour-n-requires : goal.lay_contour-n-requires
 lay_contour-n-requires c =
-    let w = c.before.before in
-    let l = at-loop w in
+    let outline : Points = points c.args.xs.now c.args.ys.now c.args.marks.now in
+    let end : EndAt c.loop-c.a (length c.args.xs.now) c.args.ends.now c.loop-c.c = end-at _ _ _ _ c.loop-c-test.true c.loop-c.invariant.1 in
+    let turn : Laying (lent c.args.kinds.now c.args.places.now 0) (path outline c.args.ends.now) (lent c.loop-c.kinds c.loop-c.places c.loop-c.n)
+    (steps_of outline (round_of outline c.loop-c.a (c.wide-e.result + 1 - 1))
+    ++ path_from outline (c.wide-e.result + 1) (drop (c.loop-c.c + 1) c.args.ends.now)) = laying-as _ _ (path-turn outline c.loop-c.a c.args.ends.now c.loop-c.c c.wide-e.result c.loop-c-test.true
+    c.wide-e.ensures) c.loop-c.invariant.2 in
     record {
-      admitted = (entry l).pre.0;
-      within = record { some = omega (arith, (end w).low, w.wide-e.ensures); inside = omega (arith, (end w).high, w.wide-e.ensures) };
+      admitted = c.requires.admitted;
+      within = record { some = omega (arith, end.low, c.wide-e.ensures); inside = omega (arith, end.high, c.wide-e.ensures) };
       room = room-less _ _ _ (omega (
         arith,
-        length-append (steps_of (outline (entry l)) (round_of (outline (entry l)) l.loop-c.a (w.wide-e.result + 1 - 1)))
-            (path_from (outline (entry l)) (w.wide-e.result + 1) (drop (l.loop-c.c + 1) (entry l).args.ends.now)),
-      )) (turn w).room;
+        length-append (steps_of outline (round_of outline c.loop-c.a (c.wide-e.result + 1 - 1)))
+            (path_from outline (c.wide-e.result + 1) (drop (c.loop-c.c + 1) c.args.ends.now)),
+      )) turn.room;
     }
 
 pub loop-c-preserved : goal.loop-c-preserved
 loop-c-preserved c =
-    let m = c.before.before.before.before in
-    let w = m.before.before.before in
-    (omega (arith, w.loop-c-test.true), rw w.wide-e.ensures (end w).rest, laying-more _ _ _ m.lay_contour-n.ensures (turn w))
+    let end : EndAt c.loop-c.a (length c.args.xs.now) c.args.ends.now c.loop-c.c = end-at _ _ _ _ c.loop-c-test.true c.loop-c.invariant.1 in
+    let outline : Points = points c.args.xs.now c.args.ys.now c.args.marks.now in
+    let turn : Laying (lent c.args.kinds.now c.args.places.now 0) (path outline c.args.ends.now) (lent c.loop-c.kinds c.loop-c.places c.loop-c.n)
+    (steps_of outline (round_of outline c.loop-c.a (c.wide-e.result + 1 - 1))
+    ++ path_from outline (c.wide-e.result + 1) (drop (c.loop-c.c + 1) c.args.ends.now)) = laying-as _ _ (path-turn outline c.loop-c.a c.args.ends.now c.loop-c.c c.wide-e.result c.loop-c-test.true
+    c.wide-e.ensures) c.loop-c.invariant.2 in
+    (omega (arith, c.loop-c-test.true), rw c.wide-e.ensures end.rest, laying-more _ _ _ c.lay_contour-n.ensures turn)
 
 pub shape_of-kinds : goal.shape_of-kinds
 shape_of-kinds c = c.loop-c.invariant.2.kinds_length
@@ -74,6 +54,4 @@ pub shape_of-places : goal.shape_of-places
 shape_of-places c = c.loop-c.invariant.2.places_length
 
 pub returns : goal.returns
-returns c =
-    let l = c.before in
-    let s = entry l in laying-done (laying-as _ _ (path-end (outline s) l.loop-c.a s.args.ends.now l.loop-c.c c.loop-c-test.false) l.loop-c.invariant.2)
+returns c = laying-done (laying-as _ _ (path-end (points c.args.xs.now c.args.ys.now c.args.marks.now) c.loop-c.a c.args.ends.now c.loop-c.c c.loop-c-test.false) c.loop-c.invariant.2)

@@ -1,17 +1,12 @@
 -- `path_lay::lay::lay_path` meets its contract.
-use borrow.Author.Rules.{rules}
 use mathlib.Core.Bool.{true}
-use mathlib.Core.List.{◌++◌}
 use mathlib.Core.Path.{◌≡◌}
-use Prim.Native.Nat.{◌+◌, ◌-◌, ◌≤◌}
-use native.Mathlib.Omega.{arith}
-use lib.ListN.{length, drop, length-append}
-use Rattle.path_trip.specs.Path.{points, Points, round_of, steps_of, path, path_from}
+use Prim.Native.Nat.{◌-◌, ◌≤◌}
+use lib.ListN.{length, drop}
+use Rattle.path_trip.specs.Path.{points, path, path_from}
 use Rattle.weak.specs.Weak.{ends_hold}
 use Rattle.path_lay.specs.Laying.{lent}
-use Rattle.weak.proofs.Refusals.{end-at, EndAt}
-use Rattle.path_lay.proofs.Lays.{Laying, laying, laying-as, laying-more, laying-done, room-less}
-use Rattle.path_walk.proofs.Seeks.{path-start, path-turn, path-end}
+use Rattle.path_lay.proofs.Lays.{Laying}
 use Rattle.path_lay.proofs.lay.lay_path.Given as goal
 
 abbrev pub invariant-loop-c : goal.invariant-loop-c

@@ -1,17 +1,10 @@
 -- `path_lay::lay::lay_walk` meets its contract. The invariant: what is left of the walk, laid behind what is laid, gives the whole.
-use borrow.Author.Rules.{rules}
 use mathlib.Core.Bool.{true}
-use mathlib.Core.List.{List, [], ◌∷◌}
-use Prim.Native.Nat.{ℕ, ◌-◌}
-use native.Mathlib.Omega.{arith}
+use Prim.Native.Nat.{◌-◌}
 use lib.ListN.{drop}
-use Rattle.path_trip.specs.declared.step.PathStep.{PathStep}
-use Rattle.path_trip.specs.declared.step.PathStep.TheVariants.{Close}
-use Rattle.path_trip.specs.Path.{points, Points, round_of, walked}
-use Rattle.path_lay.specs.Laying.{Lists, lent, Room}
-use Rattle.path_lay.proofs.Lays.{Laying, laying, laying-as, laying-one, laying-room, laying-done, room-less}
-use Rattle.path_lay.proofs.Turns.{some_left}
-use Rattle.path_walk.proofs.Seeks.{walk-closed}
+use Rattle.path_trip.specs.Path.{points, round_of, walked}
+use Rattle.path_lay.specs.Laying.{lent}
+use Rattle.path_lay.proofs.Lays.{Laying}
 use Rattle.path_lay.proofs.lay.lay_walk.Given as goal
 
 abbrev pub invariant-loop-j : goal.invariant-loop-j

@@ -1,14 +1,10 @@
 -- `path_lay::put::lay_curve` meets its contract.
-use borrow.Author.Rules.{rules}
 use mathlib.Core.Path.{refl}
 use Rattle.path_trip.specs.declared.step.PathStep.TheVariants.{Curve}
 use Rattle.path_lay.proofs.Lays.{laid-is}
 use Rattle.path_lay.proofs.put.lay_curve.Goals as goal
 
 pub returns : goal.returns
-returns c =
-    let m = c in
-    let s = m in
-    let p = s.args.p in
-    let q = s.args.q in
-    laid-is _ _ _ (Curve p q) _ p q _ _ m.put_step.ensures refl refl refl
+returns c = let p = c.args.p in
+    let q = c.args.q in
+    laid-is _ _ _ (Curve p q) _ p q _ _ c.put_step.ensures refl refl refl

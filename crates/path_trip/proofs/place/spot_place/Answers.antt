@@ -1,26 +1,20 @@
 -- `path_trip::place::spot_place` meets its contract.
 use mathlib.Core.Path.{subst}
-use borrow.Author.Rules.{rules}
 use lib.ListN.{length}
-use Rattle.path_trip.specs.declared.tour.Spot.{Spot}
 use Rattle.path_trip.specs.Trips.{Inside}
 use Rattle.path_trip.proofs.place.spot_place.Goals as goal
 
 pub place_of-requires : goal.place_of-requires
-place_of-requires c =
-    let a = c in
-    record {
-      admitted = a.requires.admitted;
-      i_in_bounds = subst (Inside (length a.args.xs.now)) c.in-Point.is a.requires.inside;
-    }
+place_of-requires c = record {
+  admitted = c.requires.admitted;
+  i_in_bounds = subst (Inside (length c.args.xs.now)) c.in-Point.is c.requires.inside;
+}
 
 pub middle_of-requires : goal.middle_of-requires
-middle_of-requires c =
-    let a = c in
-    record {
-      admitted = a.requires.admitted;
-      i_in_bounds = subst (Inside (length a.args.xs.now)) c.in-Between.is a.requires.inside;
-    }
+middle_of-requires c = record {
+  admitted = c.requires.admitted;
+  i_in_bounds = subst (Inside (length c.args.xs.now)) c.in-Between.is c.requires.inside;
+}
 
 pub returns-in-Point : goal.returns-in-Point
 returns-in-Point c = rw c.in-Point.is c.place_of.ensures

@@ -1,15 +1,10 @@
 -- `path_trip::tour::first_on` meets its contract. The invariant: no point passed is on-curve.
 use borrow.Author.Count.{below_more}
-use borrow.Author.Rules.{rules}
 use native.Mathlib.Omega.{arith}
-use mathlib.Core.Path.{◌≡◌}
-use Prim.Native.Nat.{ℕ, ◌≤◌, ◌<◌, ◌-◌}
-use lib.ListN.{get_or}
 use Rattle.path_trip.proofs.tour.first_on.Goals as goal
 
 pub returns-then-marks-i-ne0 : goal.returns-then-marks-i-ne0
-returns-then-marks-i-ne0 c =
-    let v = c.loop-i.invariant in
+returns-then-marks-i-ne0 c = let v = c.loop-i.invariant in
     record { low = v.0; high = v.1; clear = v.2; here = λ _. omega (arith, c.if-marks-i-ne0.true) }
 
 pub loop-i-preserved : goal.loop-i-preserved

@@ -1,15 +1,11 @@
 -- `path_walk::seek::path_at` meets its contract. The invariant: step `left` of the contours that are left is step k of the path.
-use borrow.Author.Rules.{rules}
 use mathlib.Core.Bool.{true}
-use mathlib.Core.Path.{◌≡◌, sym, ap, ◌∙◌}
+use mathlib.Core.Path.{◌≡◌}
 use Prim.Native.Nat.{◌-◌, ◌≤◌}
-use native.Mathlib.Omega.{arith}
 use lib.ListN.{length, drop}
-use Rattle.path_trip.specs.Path.{points, Points, path, path_from}
+use Rattle.path_trip.specs.Path.{points, path, path_from}
 use Rattle.weak.specs.Weak.{ends_hold}
 use Rattle.path_walk.specs.Steps.{seek}
-use Rattle.weak.proofs.Refusals.{end-at, EndAt}
-use Rattle.path_walk.proofs.Seeks.{path-start, path-none, contour-here, contour-past}
 use Rattle.path_walk.proofs.seek.path_at.Given as goal
 
 abbrev pub invariant-loop-c : goal.invariant-loop-c

@@ -21,18 +21,18 @@ start c = c.before.before
 
 -- the tests of the call, by its arguments
 abbrev tests_of : Start → List Test
-tests_of s = serif_tests s.args.t1 s.args.base s.args.serif
+tests_of s = serif_tests s.args.axis s.args.base s.args.serif
 
 tests-hold : (c : Else-answer-gt0) → AllHold (tests_of (start c))
 tests-hold c = all_held {ts = tests_of (start c)} (record { refused = c.serif_refusal-answer.ensures; numbers = refl }) c.if-answer-gt0.false
 
-accepted : (c : Else-answer-gt0) → AxisWithin most_pos (start c).args.t1
+accepted : (c : Else-answer-gt0) → AxisWithin most_pos (start c).args.axis
 accepted c = let h = tests-hold c in axis-within _ h.0 h.1.0 h.1.1.1.0
 
-base-below : (c : Else-answer-gt0) → (start c).args.base < (start c).args.t1.len
+base-below : (c : Else-answer-gt0) → (start c).args.base < (start c).args.axis.len
 base-below c = below-first _ _ _ (tests-hold c).1.1.0
 
-serif-below : (c : Else-answer-gt0) → (start c).args.serif < (start c).args.t1.len
+serif-below : (c : Else-answer-gt0) → (start c).args.serif < (start c).args.axis.len
 serif-below c = below-second _ _ _ (tests-hold c).1.1.0
 
 base-inside : (c : Else-answer-gt0) → (start c).args.base < most_edges
@@ -44,7 +44,7 @@ serif-inside c = in_table _ _ _ (accepted c) (serif-below c)
 -- ---- the answers
 pub returns-then-answer-gt0 : goal.returns-then-answer-gt0
 unfolding align_serif_edge
-returns-then-answer-gt0 c = answered-no _ _ (fitted c.args.t1) _ c.serif_refusal-answer.ensures c.if-answer-gt0.true
+returns-then-answer-gt0 c = answered-no _ _ (fitted c.args.axis) _ c.serif_refusal-answer.ensures c.if-answer-gt0.true
 
 pub offset_bounds-axis-base : goal.offset_bounds-axis-base
 offset_bounds-axis-base c = let h = base-inside c in search rules
@@ -75,5 +75,5 @@ unfolding align_serif_edge
 returns c =
     let o = c.before.before.before in
     let s = start o in
-    answered-yes _ _ (fitted s.args.t1) _ _ o.serif_refusal-answer.ensures o.if-answer-gt0.false
-    (λ i. fitted (put_edge s.args.t1 s.args.serif (c.serif_edge.ensures i)) 0)
+    answered-yes _ _ (fitted s.args.axis) _ _ o.serif_refusal-answer.ensures o.if-answer-gt0.false
+    (λ i. fitted (put_edge s.args.axis s.args.serif (c.serif_edge.ensures i)) 0)

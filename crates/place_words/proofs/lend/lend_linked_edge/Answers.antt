@@ -10,64 +10,47 @@ use Rattle.words_call.specs.Lent.{named_edge}
 use Rattle.place_words.proofs.Lending.{linked-ready, linked-right, linked-refused, linked-done}
 use borrow.Author.Rules.{rules}
 use Rattle.place_words.proofs.lend.lend_linked_edge.Goals as goal
-use Rattle.place_words.proofs.lend.lend_linked_edge.Goals.{After-both_below-named, After-edges_test-answer, Start}
-
-abbrev below : After-edges_test-answer → After-both_below-named
-below c = c.before.before.before.before.before
-
-abbrev start : After-edges_test-answer → Start
-start c = (below c).before.before.before.before
-
--- the rule and the two edges named
-rule-is : (c : After-edges_test-answer) → (below c).before.before.before.rule-of.result ≡ rule_of (start c).args.rule
-rule-is c = (below c).before.before.before.rule-of.ensures ∙ ap rule_of (is (start c).ranges.rule)
-
-base-is : (c : After-edges_test-answer) → (below c).before.before.named-edge.result ≡ named_edge (start c).args.base
-base-is c = (below c).before.before.named-edge.ensures ∙ ap named_edge (is (start c).ranges.base)
-
-stem-is : (c : After-edges_test-answer) → (below c).before.named-edge2.result ≡ named_edge (start c).args.stem
-stem-is c = (below c).before.named-edge2.ensures ∙ ap named_edge (is (start c).ranges.stem)
-
--- the tests of the rule and of its word
-own_is : (c : After-edges_test-answer)
-    → c.or_refused-own.result ≡ or_refused 0
-    (rule_holds (below c).before.before.before.rule-of.result (start c).args.standards.now) bad_parameter
-own_is c = let o = c.before.before.before in o.or_refused-own.ensures ∙ ap (λ (t : Bool). or_refused 0 t bad_parameter) o.rule_holds.ensures
-
-choice-is : (c : After-edges_test-answer) → c.is_in.result ≡ is_in choice (start c).args.rule
-choice-is c = c.is_in.ensures ∙ ap (is_in choice) (is (start c).ranges.rule)
 
 pub returns-then-answer-gt0 : goal.returns-then-answer-gt0
 returns-then-answer-gt0 c =
-    let t = c.before in
-    let s = start t in
-    linked-refused s.args.edges.now s.args.rule s.args.standards.now s.args.base s.args.stem (rule-is t) (base-is t) (stem-is t)
-    (below t).both_below-named.ensures (own_is t)
-    (choice-is t) t.edges_test-answer.ensures c.if-answer-gt0.true
+    let rule-is : c.rule_of-width.result ≡ rule_of c.args.rule = c.rule_of-width.ensures ∙ ap rule_of (is c.ranges.rule) in
+    let base-is : c.named_edge-from.result ≡ named_edge c.args.base = c.named_edge-from.ensures ∙ ap named_edge (is c.ranges.base) in
+    let stem-is : c.named_edge-to.result ≡ named_edge c.args.stem = c.named_edge-to.ensures ∙ ap named_edge (is c.ranges.stem) in
+    let own_is : c.or_refused-own.result ≡ or_refused 0
+    (rule_holds c.rule_of-width.result c.args.standards.now) bad_parameter = c.or_refused-own.ensures ∙ ap (λ (t : Bool). or_refused 0 t bad_parameter) c.rule_holds.ensures in
+    let choice-is : c.is_in.result ≡ is_in choice c.args.rule = c.is_in.ensures ∙ ap (is_in choice) (is c.ranges.rule) in
+    linked-refused c.args.edges.now c.args.rule c.args.standards.now c.args.base c.args.stem rule-is base-is stem-is
+    c.both_below-named.ensures own_is
+    choice-is c.edges_test-answer.ensures c.if-answer-gt0.true
 
 pub linked_in-requires : goal.linked_in-requires
 linked_in-requires c =
-    let o = c.before in
-    let t = o.before in
-    let s = start t in
+    let rule-is : c.rule_of-width.result ≡ rule_of c.args.rule = c.rule_of-width.ensures ∙ ap rule_of (is c.ranges.rule) in
+    let base-is : c.named_edge-from.result ≡ named_edge c.args.base = c.named_edge-from.ensures ∙ ap named_edge (is c.ranges.base) in
+    let stem-is : c.named_edge-to.result ≡ named_edge c.args.stem = c.named_edge-to.ensures ∙ ap named_edge (is c.ranges.stem) in
+    let own_is : c.or_refused-own.result ≡ or_refused 0
+    (rule_holds c.rule_of-width.result c.args.standards.now) bad_parameter = c.or_refused-own.ensures ∙ ap (λ (t : Bool). or_refused 0 t bad_parameter) c.rule_holds.ensures in
+    let choice-is : c.is_in.result ≡ is_in choice c.args.rule = c.is_in.ensures ∙ ap (is_in choice) (is c.ranges.rule) in
     let a =
-    linked-ready s.args.edges.now s.args.rule s.args.standards.now s.args.base s.args.stem (rule-is t) (base-is t) (stem-is t)
-    (below t).both_below-named.ensures (own_is t)
-    (choice-is t) t.edges_test-answer.ensures o.if-answer-gt0.false in
+    linked-ready c.args.edges.now c.args.rule c.args.standards.now c.args.base c.args.stem rule-is base-is stem-is
+    c.both_below-named.ensures own_is
+    choice-is c.edges_test-answer.ensures c.if-answer-gt0.false in
     let r =
-    linked-right s.args.edges.now s.args.rule s.args.standards.now s.args.base s.args.stem (rule-is t) (base-is t) (stem-is t)
-    (below t).both_below-named.ensures (own_is t)
-    (choice-is t) t.edges_test-answer.ensures o.if-answer-gt0.false in
+    linked-right c.args.edges.now c.args.rule c.args.standards.now c.args.base c.args.stem rule-is base-is stem-is
+    c.both_below-named.ensures own_is
+    choice-is c.edges_test-answer.ensures c.if-answer-gt0.false in
     let w = a.words in
-    let g = a.edges-1 in
+    let g = a.edges in
     search rules
 
 pub returns : goal.returns
 returns c =
-    let i = c.before in
-    let o = i.before.before in
-    let t = o.before in
-    let s = start t in
-    linked-done s.args.edges.now s.args.rule s.args.standards.now s.args.base s.args.stem (rule-is t) (base-is t) (stem-is t)
-    (below t).both_below-named.ensures (own_is t)
-    (choice-is t) t.edges_test-answer.ensures o.if-answer-gt0.false _ i.linked_in.ensures
+    let rule-is : c.rule_of-width.result ≡ rule_of c.args.rule = c.rule_of-width.ensures ∙ ap rule_of (is c.ranges.rule) in
+    let base-is : c.named_edge-from.result ≡ named_edge c.args.base = c.named_edge-from.ensures ∙ ap named_edge (is c.ranges.base) in
+    let stem-is : c.named_edge-to.result ≡ named_edge c.args.stem = c.named_edge-to.ensures ∙ ap named_edge (is c.ranges.stem) in
+    let own_is : c.or_refused-own.result ≡ or_refused 0
+    (rule_holds c.rule_of-width.result c.args.standards.now) bad_parameter = c.or_refused-own.ensures ∙ ap (λ (t : Bool). or_refused 0 t bad_parameter) c.rule_holds.ensures in
+    let choice-is : c.is_in.result ≡ is_in choice c.args.rule = c.is_in.ensures ∙ ap (is_in choice) (is c.ranges.rule) in
+    linked-done c.args.edges.now c.args.rule c.args.standards.now c.args.base c.args.stem rule-is base-is stem-is
+    c.both_below-named.ensures own_is
+    choice-is c.edges_test-answer.ensures c.if-answer-gt0.false _ c.linked_in.ensures

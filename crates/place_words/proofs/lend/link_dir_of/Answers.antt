@@ -7,16 +7,15 @@ use Rattle.place.specs.declared.adjust.LinkDir.TheVariants.{Prev, Next}
 use Rattle.words.specs.Field.{choice_of}
 use Rattle.place_words.specs.Lent.{link_dir_of}
 use Rattle.place_words.proofs.lend.link_dir_of.Goals as goal
-use Rattle.place_words.proofs.lend.link_dir_of.Goals.{After-choice_of}
-
--- what the word chooses
-chosen : (c : After-choice_of) → c.choice_of.result ≡ choice_of c.args.word
-chosen c = c.choice_of.ensures ∙ ap choice_of (is c.ranges.word)
 
 pub returns-then-choice_of : goal.returns-then-choice_of
 unfolding link_dir_of
-returns-then-choice_of c = ap (λ (b : Bool). cond b Next Prev) (sym c.if-choice_of.true ∙ chosen c.before)
+returns-then-choice_of c =
+    let chosen : c.choice_of.result ≡ choice_of c.args.word = c.choice_of.ensures ∙ ap choice_of (is c.ranges.word) in
+    ap (λ (b : Bool). cond b Next Prev) (sym c.if-choice_of.true ∙ chosen)
 
 pub returns : goal.returns
 unfolding link_dir_of
-returns c = ap (λ (b : Bool). cond b Next Prev) (sym c.if-choice_of.false ∙ chosen c.before)
+returns c =
+    let chosen : c.choice_of.result ≡ choice_of c.args.word = c.choice_of.ensures ∙ ap choice_of (is c.ranges.word) in
+    ap (λ (b : Bool). cond b Next Prev) (sym c.if-choice_of.false ∙ chosen)

@@ -42,7 +42,7 @@ fixed_mul_div-part-requires c =
 
 -- the part of the way, and where it starts
 abbrev part_of : Start → ℤ
-part_of s = let a = s.args in mul_div (a.at -ℤ a.before_at) (a.after-pos -ℤ a.before-pos) (a.after-at -ℤ a.before_at)
+part_of s = let a = s.args in mul_div (a.at -ℤ a.before_at) (a.after_pos -ℤ a.before_pos) (a.after_at -ℤ a.before_at)
 
 part-is : (c : After-fixed_mul_div-part) → to_z w64 (of_z w64 c.fixed_mul_div-part.result) ≡ part_of c.before.before
 part-is c =
@@ -50,8 +50,8 @@ part-is c =
     let f = e.ranges in
     is (got w64 c.fixed_mul_div-part.result c.fixed_mul_div-part.type_inv) ∙ c.fixed_mul_div-part.ensures
     ∙ λ i. mul_div ((is (overflow_sub-at e) ∙ λ j. is f.at j -ℤ is f.before_at j) i)
-    ((is (overflow_sub-after_pos e) ∙ λ j. is f.after-pos j -ℤ is f.before-pos j) i)
-    ((is (overflow_sub-after_at e) ∙ λ j. is f.after-at j -ℤ is f.before_at j) i)
+    ((is (overflow_sub-after_pos e) ∙ λ j. is f.after_pos j -ℤ is f.before_pos j) i)
+    ((is (overflow_sub-after_at e) ∙ λ j. is f.after_at j -ℤ is f.before_at j) i)
 
 start_is : (c : After-wide-2) → to_z w64 (of_z w64 c.wide-2.result) ≡ c.args.before_pos
 start_is c = is (got w64 c.wide-2.result c.wide-2.type_inv) ∙ c.wide-2.ensures ∙ is c.ranges.before_pos
@@ -63,9 +63,9 @@ overflow_add-result c =
     let a = s.args in
     let p = s.requires in
     let r = part_of s in
-    let most = part-most a.at a.before_at a.after-at a.before-pos a.after-pos p.0.0 p.0.1 p.1.0 p.1.1
-    (apart-abs a.after-at a.before_at (not_same e)) in
-    rw (start_is c, part-is c.before) (fits (omega (arith, signed, nat_abs-is r, most, p.1.0)))
+    let most = part-most a.at a.before_at a.after_at a.before_pos a.after_pos p.between.0 p.between.1 p.between_2.0 p.between_2.1
+    (apart-abs a.after_at a.before_at (not_same e)) in
+    rw (start_is c, part-is c.before) (fits (omega (arith, signed, nat_abs-is r, most, p.between_2.0)))
 
 pub returns : goal.returns
 unfolding between_pos
@@ -73,4 +73,4 @@ returns c =
     let e = c.before.before in
     let a = e.args in
     is (overflow_add-result c) ∙ (λ i. start_is c i +ℤ part-is c.before i)
-    ∙ sym (cond-false (eq_z a.after-at a.before_at) _ _ (eq_z-no a.after-at a.before_at (not_same e)))
+    ∙ sym (cond-false (eq_z a.after_at a.before_at) _ _ (eq_z-no a.after_at a.before_at (not_same e)))

@@ -11,7 +11,7 @@ adjust_in-requires c =
     let f = c in
     let s = f in
     let a = f.put_fixed.ensures in
-    (a.whole, fixed_in s.args.i s.requires.between s.requires.2 _ _ (rw (is s.ranges.pos) s.requires.3) a, below_in s.args.i a s.requires.2)
+    (a.whole, fixed_in s.args.i s.requires.1 s.requires.2 _ _ (rw (is s.ranges.pos) s.requires.3) a, below_in s.args.i a s.requires.2)
 
 pub adjust_in-requires-2 : goal.adjust_in-requires-2
 adjust_in-requires-2 c =
@@ -22,7 +22,7 @@ adjust_in-requires-2 c =
     let b = g.adjust_in.ensures in
     let h = below_in s.args.i a s.requires.2 in (
       b.whole,
-      adjusted-in s.args.i (fixed_in s.args.i s.requires.between s.requires.2 _ _ (rw (is s.ranges.pos) s.requires.3) a) h Prev b,
+      adjusted-in s.args.i (fixed_in s.args.i s.requires.1 s.requires.2 _ _ (rw (is s.ranges.pos) s.requires.3) a) h Prev b,
       below_in
           s.args.i b h,
     )

@@ -1,5 +1,4 @@
 -- `shown_count::accept::most_before` meets its contract.
-use borrow.Author.Rules.{rules}
 use native.Mathlib.Nat.{div-le_self}
 use native.Mathlib.Omega.{arith}
 use Rattle.signed.proofs.Signed.{signed, fits, is}

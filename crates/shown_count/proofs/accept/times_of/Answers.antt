@@ -10,8 +10,7 @@ use Rattle.signed.proofs.Signed.{signed, is, range, to-unsigned}
 use Rattle.shown_count.proofs.accept.times_of.Goals as goal
 
 pub overflow_cast-result : goal.overflow_cast-result
-overflow_cast-result c =
-    subst (λ (z : ℤ). T (non_neg z) × Fits w32 (nat_abs z)) (sym (is c.ranges.magnify))
+overflow_cast-result c = subst (λ (z : ℤ). T (non_neg z) × Fits w32 (nat_abs z)) (sym (is c.ranges.magnify))
     (to-unsigned w32 c.args.magnify (omega (arith, signed, range c.ranges.magnify, c.requires)))
 
 pub returns : goal.returns

@@ -1,15 +1,10 @@
 -- `shown_lines::line::cross_curve` meets its contract. The invariant: the lines from k / 16 on are left to add.
-use mathlib.Core.Path.{◌≡◌, ◌∙◌}
-use mathlib.Core.List.{[], ◌∷◌}
-use Prim.Native.Nat.{suc, ◌+◌, ◌-◌, ◌≤◌, ◌<◌}
-use native.Mathlib.Omega.{arith}
-use borrow.Author.Rules.{rules}
-use Rattle.shown.specs.Shown.{side}
+use mathlib.Core.Path.{◌≡◌}
+use Prim.Native.Nat.{◌-◌, ◌≤◌, ◌<◌}
 use Rattle.shown_rows.specs.Chains.{place_at}
 use Rattle.shown_rows.specs.Crossing.{most_place}
-use Rattle.shown_lines.specs.Lines.{place_on, curve_sides}
-use Rattle.shown_lines.proofs.Winding.{Owing, owing, owing-as, owing-more, owing-done, wound-still}
-use Rattle.shown_lines.proofs.Curves.{still-curve, curve-one, curve-none}
+use Rattle.shown_lines.specs.Lines.{curve_sides}
+use Rattle.shown_lines.proofs.Winding.{Owing}
 use Rattle.shown_lines.proofs.line.cross_curve.Given as goal
 
 abbrev pub invariant-loop-k : goal.invariant-loop-k

@@ -1,6 +1,5 @@
 -- `shown_lines::line::one_side` meets its contract.
 use mathlib.Core.Path.{refl}
-use borrow.Author.Rules.{rules}
 use borrow.Author.Tests.{ltb-true, leb-true}
 use Rattle.signed.proofs.Choices.{clash}
 use Rattle.shown_lines.specs.Lines.{none_above, all_above}

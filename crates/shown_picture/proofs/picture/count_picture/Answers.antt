@@ -1,5 +1,4 @@
 -- `shown_picture::picture::count_picture` meets its contract.
-use borrow.Author.Rules.{rules}
 use Prim.Native.Nat.{◌+◌, ◌≤◌}
 use native.Mathlib.Omega.{arith}
 use Rattle.path_trip.specs.Path.{points}
@@ -10,23 +9,17 @@ use Rattle.shown_picture.proofs.Reading.{picture-counted}
 use Rattle.shown_picture.proofs.picture.count_picture.Goals as goal
 
 pub count_rows-requires : goal.count_rows-requires
-count_rows-requires c =
-    let w = c in
-    let s = w in
-    let n = w.window_of-window.result.columns + 1 in
-    let h : n ≤ most_columns = omega (arith, w.window_of-window.ensures.wide) in
+count_rows-requires c = let n = c.window_of-window.result.columns + 1 in
+    let h : n ≤ most_columns = omega (arith, c.window_of-window.ensures.wide) in
     record {
-      admitted = s.requires.admitted;
-      ends_value = s.requires.ends_value;
-      in_field = s.requires.in_field;
-      bounds = w.window_of-window.ensures;
+      admitted = c.requires.admitted;
+      ends_value = c.requires.ends_value;
+      in_field = c.requires.in_field;
+      bounds = c.window_of-window.ensures;
       below_len = (zeros-long n h, zeros-long n h, zeros-white n);
     }
 
 pub returns : goal.returns
-returns c =
-    let r = c in
-    let w = r in
-    let a = w.args in
-    picture-counted (picture a.magnify (points a.xs.now a.ys.now a.marks.now) a.ends.now) w.window_of-window.result w.window_of-window.ensures
-    r.count_rows.ensures
+returns c = let a = c.args in
+    picture-counted (picture a.magnify (points a.xs.now a.ys.now a.marks.now) a.ends.now) c.window_of-window.result c.window_of-window.ensures
+    c.count_rows.ensures

@@ -1,9 +1,7 @@
 -- `shown_picture::rows::clear` meets its contract. The invariant: the places passed are 0.
-use borrow.Author.Rules.{rules}
-use native.Mathlib.Omega.{arith}
 use Prim.Native.Nat.{◌≤◌, ◌-◌}
 use lib.ListN.{length}
-use Rattle.shown_picture.proofs.Clearing.{Passed, passed_none, passed-more, passed-all}
+use Rattle.shown_picture.proofs.Clearing.{Passed}
 use Rattle.shown_picture.proofs.rows.clear.Given as goal
 
 abbrev pub invariant-loop-i : goal.invariant-loop-i

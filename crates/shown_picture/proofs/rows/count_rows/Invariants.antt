@@ -1,14 +1,12 @@
 -- `shown_picture::rows::count_rows` meets its contract. The invariant: the rows passed are counted, and the last of them is the row below.
-use mathlib.Core.Path.{◌≡◌, refl, sym, subst, ◌∙◌}
-use mathlib.Core.Bool.{Bool}
-use Prim.Native.Nat.{ℕ, ◌+◌, ◌-◌, ◌≤◌}
-use native.Mathlib.Omega.{arith}
+use mathlib.Core.Path.{◌≡◌}
+use Prim.Native.Nat.{◌+◌, ◌-◌, ◌≤◌}
 use lib.ListN.{length}
 use Rattle.path_trip.specs.Path.{points}
-use Rattle.shown_rows.specs.Rows.{black_at, CountsBy}
+use Rattle.shown_rows.specs.Rows.{CountsBy}
 use Rattle.shown_picture.specs.Window.{picture}
-use Rattle.shown_picture.specs.Rows.{RowRead, shifted, rows_to}
-use Rattle.shown_picture.proofs.Reading.{white-read, Lower, lower-none, rows_none, lower-more, rows_more, rows-read, row_small, rows-small}
+use Rattle.shown_picture.specs.Rows.{shifted, rows_to}
+use Rattle.shown_picture.proofs.Reading.{Lower}
 use Rattle.shown_picture.proofs.rows.count_rows.Given as goal
 
 abbrev pub invariant-loop-j : goal.invariant-loop-j

@@ -1,10 +1,6 @@
 -- `shown_picture::window::extremes_of` meets its contract. The invariant: the extremes are those of what was passed.
-use borrow.Author.Rules.{rules}
-use mathlib.Core.Path.{◌≡◌, subst}
-use Prim.Native.Nat.{ℕ, ◌≤◌, ◌-◌}
-use native.Mathlib.Omega.{arith}
+use Prim.Native.Nat.{◌≤◌, ◌-◌}
 use Rattle.shown_picture.specs.Window.{Spread}
-use Rattle.shown_picture.proofs.Extremes.{spread-one, spread-more}
 use Rattle.shown_picture.proofs.window.extremes_of.Given as goal
 
 abbrev pub invariant-loop-i : goal.invariant-loop-i

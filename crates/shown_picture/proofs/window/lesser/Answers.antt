@@ -1,28 +1,19 @@
 -- `shown_picture::window::lesser` meets its contract.
-use borrow.Author.Rules.{rules}
-use mathlib.Core.Path.{◌≡◌, sym, ◌∙◌}
-use lib.Signed.{lt_z}
+use native.Mathlib.Omega.{arith}
 use mir.Syntax.{w32}
-use mir.Val.{to_z, of_z}
-use Rattle.signed.proofs.Signed.{is, got}
+use Rattle.signed.proofs.Signed.{is, got, to-lt-true, to-lt-false, signed}
 use Rattle.weak_contour.specs.Contour.{at}
 use Rattle.shown_picture.proofs.Extremes.{lesser-second, lesser-first}
 use Rattle.shown_picture.proofs.window.lesser.Goals as goal
-use Rattle.shown_picture.proofs.window.lesser.Goals.{After-y-1}
-
--- the test of the two numbers
-compared : (c : After-y-1) → lt_z (at c.args.list.now c.args.j)
-    (at c.args.list.now c.args.i)
-    ≡ lt_z (to_z w32 (of_z w32 (at c.args.list.now c.args.j)))
-    (to_z w32 (of_z w32 (at c.args.list.now c.args.i)))
-compared c =
-    let a = c.args in
-    let p = is (got w32 (at a.list.now a.i) c.x-1.given) in
-    let q = is (got w32 (at a.list.now a.j) c.y-1.given) in
-    sym (λ k. lt_z (q k) (p k))
 
 pub returns-then-y-x : goal.returns-then-y-x
-returns-then-y-x c = let a = c.args in lesser-second a.list.now a.i a.j (compared c.before ∙ c.if-y-x.true)
+returns-then-y-x c =
+    let p = is (got w32 (at c.args.list.now c.args.i) c.x-1.given) in
+    let q = is (got w32 (at c.args.list.now c.args.j) c.y-1.given) in
+    lesser-second c.args.list.now c.args.i c.args.j (to-lt-true (at c.args.list.now c.args.j) (at c.args.list.now c.args.i) (omega (arith, signed)))
 
 pub returns : goal.returns
-returns c = let a = c.args in lesser-first a.list.now a.i a.j (compared c.before ∙ c.if-y-x.false)
+returns c =
+    let p = is (got w32 (at c.args.list.now c.args.i) c.x-1.given) in
+    let q = is (got w32 (at c.args.list.now c.args.j) c.y-1.given) in
+    lesser-first c.args.list.now c.args.i c.args.j (to-lt-false (at c.args.list.now c.args.j) (at c.args.list.now c.args.i) (omega (arith, signed)))

@@ -10,8 +10,8 @@ returns-then-k-changes c =
     let f = p in
     let s = f in
     added s.args.left s.args.lx s.args.ly s.args.hx s.args.hy s.args.y s.args.by
-    f.first_column.result p.IsPlace-in.result c.gained.result
-    s.args.changes.now f.first_column.ensures p.IsPlace-in.ensures (omega arith) c.gained.ensures.sum
+    f.first_column.result p.place_in-k.result c.gained.result
+    s.args.changes.now f.first_column.ensures p.place_in-k.ensures (omega arith) c.gained.ensures.sum
 
 pub returns-else-k-changes : goal.returns-else-k-changes
 returns-else-k-changes c =
@@ -19,5 +19,5 @@ returns-else-k-changes c =
     let f = p in
     let s = f in
     added_none s.args.left s.args.lx s.args.ly s.args.hx s.args.hy s.args.y s.args.by
-    f.first_column.result p.IsPlace-in.result s.args.changes.now
-    f.first_column.ensures p.IsPlace-in.ensures (omega arith)
+    f.first_column.result p.place_in-k.result s.args.changes.now
+    f.first_column.ensures p.place_in-k.ensures (omega arith)

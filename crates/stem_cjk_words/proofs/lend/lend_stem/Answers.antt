@@ -15,72 +15,54 @@ use Rattle.words_call.specs.Lent.{choices, named_edge}
 use Rattle.stem_cjk_words.proofs.Lending.{stem-ready, stem-right, stem-refused, stem-done}
 use borrow.Author.Rules.{rules}
 use Rattle.stem_cjk_words.proofs.lend.lend_stem.Goals as goal
-use Rattle.stem_cjk_words.proofs.lend.lend_stem.Goals.{After-both_below-named, After-edges_test-answer, Start}
-
-abbrev below : After-edges_test-answer → After-both_below-named
-below c = c.before.before.before.before.before.before
-
-abbrev start : After-edges_test-answer → Start
-start c = (below c).before.before.before.before
-
--- the rule and the two edges named
-rule-is : (c : After-edges_test-answer) → (below c).before.before.before.rule-of.result ≡ rule_of (start c).args.rule
-rule-is c = (below c).before.before.before.rule-of.ensures ∙ ap rule_of (is (start c).ranges.rule)
-
-edge-is : (c : After-edges_test-answer) → (below c).before.before.named-edge.result ≡ named_edge (start c).args.edge
-edge-is c = (below c).before.before.named-edge.ensures ∙ ap named_edge (is (start c).ranges.edge)
-
-edge2-is : (c : After-edges_test-answer) → (below c).before.named-edge2.result ≡ named_edge (start c).args.edge2
-edge2-is c = (below c).before.named-edge2.ensures ∙ ap named_edge (is (start c).ranges.edge2)
-
--- the tests of the rule, of the choices and of the passed delta
-own_is : (c : After-edges_test-answer)
-    → c.or_refused-own.result ≡ or_refused 0
-    (rule_holds (below c).before.before.before.rule-of.result (start c).args.standards.now) bad_parameter
-own_is c = let o = c.before.before.before.before in o.or_refused-own.ensures ∙ ap (λ (t : Bool). or_refused 0 t bad_parameter) o.rule_holds.ensures
-
-choices-are : (c : After-edges_test-answer) → c.are_choices-others.result
-    ≡ choices (start c).args.dim (start c).args.stem-adjust (start c).args.rule
-choices-are c =
-    let s = start c in
-    by₃ choices c.are_choices-others.ensures (is s.ranges.dim) (is s.ranges.stem_adjust) (is s.ranges.rule)
-
-near-is : (c : After-edges_test-answer) → c.is_inside-passed.result ≡ within most_passed (start c).args.delta
-near-is c = c.is_inside-passed.ensures ∙ ap (within most_passed) (is (start c).ranges.delta)
 
 pub returns-then-answer-gt0 : goal.returns-then-answer-gt0
 returns-then-answer-gt0 c =
-    let t = c.before in
-    let s = start t in
-    stem-refused s.args.edges.now s.args.dim s.args.stem_adjust s.args.rule s.args.standards.now s.args.edge s.args.edge2
-    s.args.delta s.args.own_delta.now
-    (rule-is t) (edge-is t) (edge2-is t) (below t).both_below-named.ensures (own_is t) (choices-are t) (near-is t) t.edges_test-answer.ensures c.if-answer-gt0.true
+    let rule-is : c.rule_of-width.result ≡ rule_of c.args.rule = c.rule_of-width.ensures ∙ ap rule_of (is c.ranges.rule) in
+    let edge-is : c.named_edge-one.result ≡ named_edge c.args.edge = c.named_edge-one.ensures ∙ ap named_edge (is c.ranges.edge) in
+    let edge2-is : c.named_edge-two.result ≡ named_edge c.args.edge2 = c.named_edge-two.ensures ∙ ap named_edge (is c.ranges.edge2) in
+    let own_is : c.or_refused-own.result ≡ or_refused 0
+    (rule_holds c.rule_of-width.result c.args.standards.now) bad_parameter = c.or_refused-own.ensures ∙ ap (λ (t : Bool). or_refused 0 t bad_parameter) c.rule_holds.ensures in
+    let choices-are : c.are_choices-others.result
+    ≡ choices c.args.dim c.args.stem_adjust c.args.rule = by₃ choices c.are_choices-others.ensures (is c.ranges.dim) (is c.ranges.stem_adjust) (is c.ranges.rule) in
+    let near-is : c.is_inside-passed.result ≡ within most_passed c.args.delta = c.is_inside-passed.ensures ∙ ap (within most_passed) (is c.ranges.delta) in
+    stem-refused c.args.edges.now c.args.dim c.args.stem_adjust c.args.rule c.args.standards.now c.args.edge c.args.edge2
+    c.args.delta c.args.own_delta.now
+    rule-is edge-is edge2-is c.both_below-named.ensures own_is choices-are near-is c.edges_test-answer.ensures c.if-answer-gt0.true
 
 pub stem_in-requires : goal.stem_in-requires
 stem_in-requires c =
-    let o = c.before.before.before in
-    let t = o.before in
-    let s = start t in
+    let rule-is : c.rule_of-width.result ≡ rule_of c.args.rule = c.rule_of-width.ensures ∙ ap rule_of (is c.ranges.rule) in
+    let edge-is : c.named_edge-one.result ≡ named_edge c.args.edge = c.named_edge-one.ensures ∙ ap named_edge (is c.ranges.edge) in
+    let edge2-is : c.named_edge-two.result ≡ named_edge c.args.edge2 = c.named_edge-two.ensures ∙ ap named_edge (is c.ranges.edge2) in
+    let own_is : c.or_refused-own.result ≡ or_refused 0
+    (rule_holds c.rule_of-width.result c.args.standards.now) bad_parameter = c.or_refused-own.ensures ∙ ap (λ (t : Bool). or_refused 0 t bad_parameter) c.rule_holds.ensures in
+    let choices-are : c.are_choices-others.result
+    ≡ choices c.args.dim c.args.stem_adjust c.args.rule = by₃ choices c.are_choices-others.ensures (is c.ranges.dim) (is c.ranges.stem_adjust) (is c.ranges.rule) in
+    let near-is : c.is_inside-passed.result ≡ within most_passed c.args.delta = c.is_inside-passed.ensures ∙ ap (within most_passed) (is c.ranges.delta) in
     let a =
-    stem-ready s.args.edges.now s.args.dim s.args.stem_adjust s.args.rule s.args.standards.now s.args.edge s.args.edge2
-    s.args.delta s.args.own_delta.now
-    (rule-is t) (edge-is t) (edge2-is t) (below t).both_below-named.ensures (own_is t) (choices-are t) (near-is t) t.edges_test-answer.ensures o.if-answer-gt0.false in
+    stem-ready c.args.edges.now c.args.dim c.args.stem_adjust c.args.rule c.args.standards.now c.args.edge c.args.edge2
+    c.args.delta c.args.own_delta.now
+    rule-is edge-is edge2-is c.both_below-named.ensures own_is choices-are near-is c.edges_test-answer.ensures c.if-answer-gt0.false in
     let r =
-    stem-right s.args.edges.now s.args.dim s.args.stem_adjust s.args.rule s.args.standards.now s.args.edge s.args.edge2
-    s.args.delta s.args.own_delta.now
-    (rule-is t) (edge-is t) (edge2-is t) (below t).both_below-named.ensures (own_is t) (choices-are t) (near-is t) t.edges_test-answer.ensures o.if-answer-gt0.false in
-    (r, (a.words, (a.numbers.0, a.numbers.1, subst (Between most_passed most_passed) (sym (is s.ranges.delta)) a.numbers.2)))
+    stem-right c.args.edges.now c.args.dim c.args.stem_adjust c.args.rule c.args.standards.now c.args.edge c.args.edge2
+    c.args.delta c.args.own_delta.now
+    rule-is edge-is edge2-is c.both_below-named.ensures own_is choices-are near-is c.edges_test-answer.ensures c.if-answer-gt0.false in
+    record { standards_value = r; whole = a.words; in_reach = (a.numbers.0, a.numbers.1, subst (Between most_passed most_passed) (sym (is c.ranges.delta)) a.numbers.2) }
 
 pub returns : goal.returns
 returns c =
-    let i = c.before in
-    let a = i.before.before in
-    let o = a.before.before in
-    let t = o.before in
-    let s = start t in
-    stem-done s.args.edges.now s.args.dim s.args.stem_adjust s.args.rule s.args.standards.now s.args.edge s.args.edge2
-    s.args.delta s.args.own_delta.now
-    (rule-is t) (edge-is t) (edge2-is t) (below t).both_below-named.ensures (own_is t) (choices-are t) (near-is t) t.edges_test-answer.ensures o.if-answer-gt0.false
-    (a.dimension_of-axis.ensures ∙ ap dimension_of (is s.ranges.dim)) (a.choice_of-adjust.ensures ∙ ap choice_of (is s.ranges.stem_adjust))
-    (is s.ranges.delta)
-    (kept w32 i.stem_in.result i.stem_in.type_inv) i.stem_in.ensures
+    let rule-is : c.rule_of-width.result ≡ rule_of c.args.rule = c.rule_of-width.ensures ∙ ap rule_of (is c.ranges.rule) in
+    let edge-is : c.named_edge-one.result ≡ named_edge c.args.edge = c.named_edge-one.ensures ∙ ap named_edge (is c.ranges.edge) in
+    let edge2-is : c.named_edge-two.result ≡ named_edge c.args.edge2 = c.named_edge-two.ensures ∙ ap named_edge (is c.ranges.edge2) in
+    let own_is : c.or_refused-own.result ≡ or_refused 0
+    (rule_holds c.rule_of-width.result c.args.standards.now) bad_parameter = c.or_refused-own.ensures ∙ ap (λ (t : Bool). or_refused 0 t bad_parameter) c.rule_holds.ensures in
+    let choices-are : c.are_choices-others.result
+    ≡ choices c.args.dim c.args.stem_adjust c.args.rule = by₃ choices c.are_choices-others.ensures (is c.ranges.dim) (is c.ranges.stem_adjust) (is c.ranges.rule) in
+    let near-is : c.is_inside-passed.result ≡ within most_passed c.args.delta = c.is_inside-passed.ensures ∙ ap (within most_passed) (is c.ranges.delta) in
+    stem-done c.args.edges.now c.args.dim c.args.stem_adjust c.args.rule c.args.standards.now c.args.edge c.args.edge2
+    c.args.delta c.args.own_delta.now
+    rule-is edge-is edge2-is c.both_below-named.ensures own_is choices-are near-is c.edges_test-answer.ensures c.if-answer-gt0.false
+    (c.dimension_of-axis.ensures ∙ ap dimension_of (is c.ranges.dim)) (c.choice_of-adjust.ensures ∙ ap choice_of (is c.ranges.stem_adjust))
+    (is c.ranges.delta)
+    (kept w32 c.stem_in.result c.stem_in.type_inv) c.stem_in.ensures

@@ -1,6 +1,8 @@
 -- `stem_cjk_words::stem::place_stem_in` meets its contract.
 use mathlib.Core.Path.{◌∙◌}
 use native.Mathlib.Omega.{arith}
+use mir.Syntax.{w32}
+use mir.Val.{SFits, to_z, of_z}
 use lib.IntN.{◌+ℤ◌}
 use Rattle.signed.proofs.Signed.{fits, is, signed}
 use Rattle.stem_cjk_words.proofs.Stems.{pair-law}
@@ -12,10 +14,8 @@ overflow_add-pos c = let k = c.requires.between in fits (omega (arith, signed))
 
 pub returns : goal.returns
 returns c =
-    let two = c.before in
-    let arg = two.before in
-    let one = arg.before.before in
-    let s = one.before.before in
-    pair-law s.args.lower s.args.upper s.args.pos s.args.width (is s.ranges.pos)
-    (is (overflow_add-pos arg) ∙ λ i. is s.ranges.pos i +ℤ is s.ranges.width i)
-    one.put_pos.ensures two.put_pos-2.ensures
+    let k = c.requires.between in
+    let sum-fits : SFits w32 (to_z w32 (of_z w32 c.args.pos) +ℤ to_z w32 (of_z w32 c.args.width)) = fits (omega (arith, signed)) in
+    pair-law c.args.lower c.args.upper c.args.pos c.args.width (is c.ranges.pos)
+    (is sum-fits ∙ λ i. is c.ranges.pos i +ℤ is c.ranges.width i)
+    c.put_pos.ensures c.put_pos-2.ensures

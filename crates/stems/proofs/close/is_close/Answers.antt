@@ -45,7 +45,7 @@ unfolding is_close
 returns-then-edge-end c =
     let u = c.before.before.before in
     let s = start u in
-    first_holds _ _ (sym (behind u s.args.edge s.pre.1) ∙ c.if-edge-end.true)
+    first_holds _ _ (sym (behind u s.args.edge s.requires.1) ∙ c.if-edge-end.true)
     ∙ ap (λ (l : LastStem). is_close l s.args.edge s.args.edge2) (sym u.in-At.is)
 
 pub returns : goal.returns
@@ -54,5 +54,5 @@ returns c =
     let o = c.before.before in
     let u = o.before.before.before in
     let s = start u in
-    second-decides _ _ (sym (behind u s.args.edge s.pre.1) ∙ o.if-edge-end.false) (behind u s.args.edge2 s.pre.2)
+    second-decides _ _ (sym (behind u s.args.edge s.requires.1) ∙ o.if-edge-end.false) (behind u s.args.edge2 s.requires.2)
     ∙ ap (λ (l : LastStem). is_close l s.args.edge s.args.edge2) (sym u.in-At.is)

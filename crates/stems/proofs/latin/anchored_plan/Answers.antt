@@ -13,9 +13,9 @@ use Rattle.stems.proofs.latin.anchored_plan.Goals as goal
 use Rattle.stems.proofs.latin.anchored_plan.Goals.{After-original_len-org_len, After-start_beside-start, After-width_of-width}
 
 -- the fitted width, read back
-width_is : (c : After-width_of-width) → to_z w32 (of_z w32 c.width_of_lem.result)
+width_is : (c : After-width_of-width) → to_z w32 (of_z w32 c.width_of-width.result)
     ≡ width_of c.args.mode.rule c.args.standards.now c.args.edge c.args.edge2
-width_is c = rw (is (got w32 c.width_of_lem.result c.width_of_lem.type_inv)) c.width_of_lem.ensures
+width_is c = rw (is (got w32 c.width_of-width.result c.width_of-width.type_inv)) c.width_of-width.ensures
 
 pub behind_plan-requires : goal.behind_plan-requires
 behind_plan-requires c =

@@ -25,7 +25,7 @@ first_is : (c : After-anchored_first-first)
 first_is c =
     let f = c.ranges in
     is (got w32 c.anchored_first-first.result c.anchored_first-first.type_inv)
-    ∙ by₃ anchored_first c.anchored_first-first.ensures (is f.start) (is f.org-len) (is f.width)
+    ∙ by₃ anchored_first c.anchored_first-first.ensures (is f.start) (is f.org_len) (is f.width)
 
 second_is : (c : After-anchored_second-second)
     → to_z w32 (of_z w32 c.anchored_second-second.result) ≡ anchored_second c.args.start c.args.org_len
@@ -33,7 +33,7 @@ second_is : (c : After-anchored_second-second)
 second_is c =
     let f = c.ranges in
     is (got w32 c.anchored_second-second.result c.anchored_second-second.type_inv)
-    ∙ by₃ anchored_second c.anchored_second-second.ensures (is f.start) (is f.org-len) (is f.width)
+    ∙ by₃ anchored_second c.anchored_second-second.ensures (is f.start) (is f.org_len) (is f.width)
 
 pub returns : goal.returns
 returns c =

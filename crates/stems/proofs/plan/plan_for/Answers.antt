@@ -10,7 +10,7 @@ returns-then-falls_back c =
     let s = t in
     let a = s.args in
     c.linked_plan.ensures
-    ∙ by-link a.mode a.standards.now a.edge a.edge2 a.base a.anchor a.is-before a.trail a.fallback a.edge2.blue
+    ∙ by-link a.mode a.standards.now a.edge a.edge2 a.base a.anchor a.is_before a.trail a.fallback a.edge2.blue
     (sym t.falls_back.ensures ∙ t.if-falls_back.true)
 
 pub returns : goal.returns
@@ -19,6 +19,6 @@ returns c =
     let s = t in
     let a = s.args in
     c.group_plan.ensures
-    ∙ by-group a.mode a.standards.now a.edge a.edge2 a.base a.anchor a.is-before a.trail a.fallback a.edge2.blue
+    ∙ by-group a.mode a.standards.now a.edge a.edge2 a.base a.anchor a.is_before a.trail a.fallback a.edge2.blue
     s.requires.bare_without.bare
     (sym t.falls_back.ensures ∙ t.if-falls_back.false)

@@ -20,7 +20,7 @@ returns-then-round c =
     let m = c.before in
     let o = m.before in
     let k = m.max_gap-gap.ensures.1 in
-    (rw (o.if-stem_adjust.false, c.if-round.true, is k.ranges) m.max_gap-gap.ensures.0, i32 (omega (arith, signed)) tt tt)
+    (rw (o.if-stem_adjust.false, c.if-round.true, is k.fits) m.max_gap-gap.ensures.0, i32 (omega (arith, signed)) tt tt)
 
 -- a third fits
 quotient : (c : Else-round) → SFits w32 (quot_z (to_z w32 (of_z w32 c.max_gap-gap.result)) (pos 3))
@@ -36,4 +36,4 @@ returns c =
     let o = m.before in
     let k = m.max_gap-gap.ensures.1 in
     let q = quotient c in
-    (rw (o.if-stem_adjust.false, c.if-round.false, is q, is k.ranges, m.max_gap-gap.ensures.0), i32 (omega (arith, signed)) tt tt)
+    (rw (o.if-stem_adjust.false, c.if-round.false, is q, is k.fits, m.max_gap-gap.ensures.0), i32 (omega (arith, signed)) tt tt)

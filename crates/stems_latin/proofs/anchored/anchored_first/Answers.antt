@@ -22,7 +22,7 @@ unfolding anchored_first
 returns-then-width-lt96 c =
     let s = c.before.before in
     let f = s.ranges in
-    is (got w32 c.thin_first.result c.thin_first.type_inv) ∙ by₃ thin_first c.thin_first.ensures (is f.start) (is f.org-len) (is f.width)
+    is (got w32 c.thin_first.result c.thin_first.type_inv) ∙ by₃ thin_first c.thin_first.ensures (is f.start) (is f.org_len) (is f.width)
     ∙ sym (cond-true _ _ _ (thin s true c.if-width-lt96.true))
 
 pub returns : goal.returns
@@ -30,5 +30,5 @@ unfolding anchored_first
 returns c =
     let s = c.before.before in
     let f = s.ranges in
-    is (got w32 c.wide_first.result c.wide_first.type_inv) ∙ by₃ wide_first c.wide_first.ensures (is f.start) (is f.org-len) (is f.width)
+    is (got w32 c.wide_first.result c.wide_first.type_inv) ∙ by₃ wide_first c.wide_first.ensures (is f.start) (is f.org_len) (is f.width)
     ∙ sym (cond-false _ _ _ (thin s false c.if-width-lt96.false))

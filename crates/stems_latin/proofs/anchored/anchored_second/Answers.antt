@@ -48,5 +48,5 @@ unfolding anchored_second
 returns c =
     let s = c.before.before in
     let f = s.ranges in
-    is (got w32 c.thin_second.result c.thin_second.type_inv) ∙ by₃ thin_second c.thin_second.ensures (is f.start) (is f.org-len) (is f.width)
+    is (got w32 c.thin_second.result c.thin_second.type_inv) ∙ by₃ thin_second c.thin_second.ensures (is f.start) (is f.org_len) (is f.width)
     ∙ sym (cond-true _ _ _ (thin s.args.width (wide s false c.if-width-ge96.false)))

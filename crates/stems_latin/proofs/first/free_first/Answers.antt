@@ -26,7 +26,7 @@ unfolding free_first
 returns-then-width-lt96 c =
     let s = c.before.before in
     let f = s.ranges in
-    is (got w32 c.thin_first.result c.thin_first.type_inv) ∙ by₃ thin_first c.thin_first.ensures (is f.opos) (is f.org-len) (is f.width)
+    is (got w32 c.thin_first.result c.thin_first.type_inv) ∙ by₃ thin_first c.thin_first.ensures (is f.opos) (is f.org_len) (is f.width)
     ∙ sym (cond-true _ _ _ (thin s true c.if-width-lt96.true))
 
 pub pix_round-requires : goal.pix_round-requires

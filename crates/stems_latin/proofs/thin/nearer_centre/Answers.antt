@@ -39,8 +39,8 @@ unfolding nearer_centre
 returns c =
     let r = c.before in
     let f = r.ranges in
-    let lower = by₂ ◌-ℤ◌ (is (overflow_sub-lower r)) (round_is r) (is f.u-off) in
-    let upper = by₂ ◌+ℤ◌ (is (overflow_add-upper r)) (round_is r) (is f.d-off) in
+    let lower = by₂ ◌-ℤ◌ (is (overflow_sub-lower r)) (round_is r) (is f.u_off) in
+    let upper = by₂ ◌+ℤ◌ (is (overflow_add-upper r)) (round_is r) (is f.d_off) in
     is (got w32 c.nearer_of.result c.nearer_of.type_inv)
     ∙ by₄ (λ (a b p q : ℤ). cond (ltb (nat_abs a) (nat_abs b)) p q) c.nearer_of.ensures
     (by₂ ◌-ℤ◌ (is (overflow_sub-centre r)) (is f.centre) lower)

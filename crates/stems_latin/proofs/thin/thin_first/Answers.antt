@@ -16,7 +16,7 @@ use Rattle.stems_latin.proofs.thin.thin_first.Goals.{After-centre_of, After-half
 
 -- the centre that the start and the length give
 centre-is : (c : After-centre_of) → c.centre_of.result ≡ centre_of c.args.start c.args.org_len
-centre-is c = let f = c.ranges in by₂ centre_of c.centre_of.ensures (is f.start) (is f.org-len)
+centre-is c = let f = c.ranges in by₂ centre_of c.centre_of.ensures (is f.start) (is f.org_len)
 
 pub thin_centre-requires : goal.thin_centre-requires
 thin_centre-requires c =

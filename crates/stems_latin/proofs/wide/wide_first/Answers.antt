@@ -20,7 +20,7 @@ use Rattle.stems_latin.proofs.wide.wide_first.Goals.{After-centre_of-centre, Aft
 -- the centre that the start and the length give
 centre-is : (c : After-centre_of-centre) → to_z w32 (of_z w32 c.centre_of-centre.result) ≡ centre_of c.args.start c.args.org_len
 centre-is c =
-    let f = c.ranges in is (got w32 c.centre_of-centre.result c.centre_of-centre.type_inv) ∙ by₂ centre_of c.centre_of-centre.ensures (is f.start) (is f.org-len)
+    let f = c.ranges in is (got w32 c.centre_of-centre.result c.centre_of-centre.type_inv) ∙ by₂ centre_of c.centre_of-centre.ensures (is f.start) (is f.org_len)
 
 -- half the width, rounded down
 half_is : (c : After-half-half_width) → to_z w32 (of_z w32 c.half-half_width.result) ≡ shr_z c.args.width 2
@@ -44,11 +44,11 @@ abbrev start : After-pix_round → Start
 start c = c.before.before.before.before
 
 -- the pixel edge nearest to the end
-end-round-is : (c : After-pix_round) → to_z w32 (of_z w32 c.pix_round.result) ≡ pix_round ((start c).args.start +ℤ (start c).args.org-len)
+end-round-is : (c : After-pix_round) → to_z w32 (of_z w32 c.pix_round.result) ≡ pix_round ((start c).args.start +ℤ (start c).args.org_len)
 end-round-is c =
     let f = (start c).ranges in
     is (got w32 c.pix_round.result c.pix_round.type_inv) ∙ c.pix_round.ensures
-    ∙ ap pix_round (by₂ ◌+ℤ◌ (is (overflow_add-start c.before)) (is f.start) (is f.org-len))
+    ∙ ap pix_round (by₂ ◌+ℤ◌ (is (overflow_add-start c.before)) (is f.start) (is f.org_len))
 
 pub overflow_sub-cur_pos2 : goal.overflow_sub-cur_pos2
 overflow_sub-cur_pos2 c =
@@ -59,7 +59,7 @@ overflow_sub-cur_pos2 c =
 -- the first edge where the second is on that pixel edge
 second_is : (c : After-pix_round)
     → to_z w32 (of_z w32 (to_z w32 (of_z w32 c.pix_round.result) -ℤ to_z w32 (of_z w32 (start c).args.width)))
-    ≡ by_second (start c).args.start (start c).args.org-len (start c).args.width
+    ≡ by_second (start c).args.start (start c).args.org_len (start c).args.width
 second_is c = by₂ ◌-ℤ◌ (is (overflow_sub-cur_pos2 c)) (end-round-is c) (is (start c).ranges.width)
 
 pub overflow_add-cur_pos1 : goal.overflow_add-cur_pos1
@@ -77,8 +77,8 @@ overflow_sub-cur_pos1 c =
       signed,
       round-law s.args.start,
       shr-law s.args.width 2 tt,
-      centre-range s.args.start s.args.org_len s.pre.0
-          s.pre.1,
+      centre-range s.args.start s.args.org_len s.requires.0
+          s.requires.1,
     ))
 
 pub overflow_add-cur_pos2 : goal.overflow_add-cur_pos2
@@ -92,7 +92,7 @@ overflow_sub-cur_pos2-2 c =
     let s = start c in
     let k = end-round-is c also half_is c.before.before also overflow_sub-cur_pos2 c also overflow_add-cur_pos2 c also centre-is c.before.before.before in
     let end = add-law s.args.start s.args.org_len in
-    let centre = centre-range s.args.start s.args.org_len s.pre.0 s.pre.1 in
+    let centre = centre-range s.args.start s.args.org_len s.requires.0 s.requires.1 in
     fits (omega (arith, signed, round-law (s.args.start +ℤ s.args.org_len), end, shr-law s.args.width 2 tt, centre))
 
 pub returns : goal.returns

@@ -16,7 +16,7 @@ returns-then-answer-gt0 c = answered-no _ _ (stems 0 Links.None c.args.axis) _ c
 pub align_stems-requires : goal.align_stems-requires
 align_stems-requires c =
     let a = c.args in
-    let t = all_held {ts = stems_tests a.axis a.top-to-bottom a.anchor a.rule a.standards.now}
+    let t = all_held {ts = stems_tests a.axis a.top_to_bottom a.anchor a.rule a.standards.now}
     (record { refused = c.stems_refusal-answer.ensures; numbers = refl }) c.if-answer-gt0.false in
     let indexed = t.1.1.1 in
     record {

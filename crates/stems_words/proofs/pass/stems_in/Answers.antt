@@ -1,23 +1,22 @@
 -- `stems_words::pass::stems_in` meets its contract.
-use Prim.Native.Nat.{◌-◌}
 use native.Mathlib.Omega.{arith}
-use Rattle.stems_words.proofs.Passes.{Aligning, aligning-starts, aligning-ready, aligning-next, aligning-ends}
+use Rattle.stems_words.proofs.Passes.{aligning-starts, aligning-ready, aligning-next, aligning-ends}
 use Rattle.stems_words.proofs.pass.stems_in.Goals as goal
 
 pub loop-i-init : goal.loop-i-init
 loop-i-init c = let h = c.requires.whole in aligning-starts _ _ _ _ h.0 h.1 h.2 h.3
 
 pub visit_in-past-requires : goal.visit_in-past-requires
-visit_in-past-requires c = let t = c in let l = t in (l.requires.standards_value, aligning-ready _ _ _ _ l.loop-i.invariant t.loop-i-test.true)
+visit_in-past-requires c = record { standards_value = c.requires.standards_value; ready_visit = aligning-ready _ _ _ _ c.loop-i.invariant c.loop-i-test.true }
 
 pub overflow_step-i : goal.overflow_step-i
-overflow_step-i c = let t = c in let few = t.loop-i.invariant.few in omega (arith, few, t.loop-i-test.true)
+overflow_step-i c = let few = c.loop-i.invariant.few in omega (arith, few, c.loop-i-test.true)
 
 pub loop-i-smaller : goal.loop-i-smaller
 loop-i-smaller c = let h = c.loop-i-test.true in omega (arith, h)
 
 pub loop-i-preserved : goal.loop-i-preserved
-loop-i-preserved c = let t = c in aligning-next _ _ _ _ t.loop-i.invariant t.loop-i-test.true c.visit_in-past.ensures
+loop-i-preserved c = aligning-next _ _ _ _ c.loop-i.invariant c.loop-i-test.true c.visit_in-past.ensures
 
 pub shape_of-words : goal.shape_of-words
 shape_of-words c = c.loop-i.invariant.long

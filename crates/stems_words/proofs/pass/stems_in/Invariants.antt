@@ -1,7 +1,6 @@
 -- `stems_words::pass::stems_in` meets its contract.
 use Prim.Native.Nat.{◌-◌}
-use native.Mathlib.Omega.{arith}
-use Rattle.stems_words.proofs.Passes.{Aligning, aligning-starts, aligning-ready, aligning-next, aligning-ends}
+use Rattle.stems_words.proofs.Passes.{Aligning}
 use Rattle.stems_words.proofs.pass.stems_in.Given as goal
 
 abbrev pub invariant-loop-i : goal.invariant-loop-i

@@ -6,18 +6,10 @@ use borrow.Author.Rules.{rules}
 use Rattle.stems_words.proofs.store.second_in.Goals as goal
 
 pub returns-in-Stays : goal.returns-in-Stays
-returns-in-Stays c = let s = c in second-stays s.args.k s.requires.0 c.in-Stays.is
+returns-in-Stays c = second-stays c.args.k c.requires.0 c.in-Stays.is
 
 pub returns-in-Placed : goal.returns-in-Placed
-returns-in-Placed c =
-    let place = c in
-    let known = place in
-    let s = known in
-    second-placed s.args.k known.in-Placed.is (is (got w32 _ known.in-Placed.known_told-1-own.given.0.1)) place.put_pos.ensures
+returns-in-Placed c = second-placed c.args.k c.in-Placed.is (is (got w32 _ c.in-Placed.known_told-1-own.given.0.1)) c.put_pos.ensures
 
 pub returns-in-Fixed : goal.returns-in-Fixed
-returns-in-Fixed c =
-    let fix = c in
-    let known = fix in
-    let s = known in
-    second-fixed s.args.k known.in-Fixed.is (is (got w32 _ known.in-Fixed.known_told-in-Fixed-1-own.given.0.1)) fix.put_fixed.ensures
+returns-in-Fixed c = second-fixed c.args.k c.in-Fixed.is (is (got w32 _ c.in-Fixed.known_told-in-Fixed-1-own.given.0.1)) c.put_fixed.ensures

@@ -79,9 +79,9 @@ pub fixed_mul-requires : goal.fixed_mul-requires
 fixed_mul-requires c =
     let s = start c in
     let a = s.args in
-    let p = s.pre in
+    let p = s.requires in
     subst (SFits w32) (sym (by₂ mul_fix refl (gap c) (scale c)))
-    (step_fits a.u a.f1 a.p1 a.f2 a.p2 p.0.0 p.0.1 p.0.2 p.0.3 p.1.0 p.1.1)
+    (step_fits a.u a.f1 a.p1 a.f2 a.p2 p.f1_lt_u.0 p.f1_lt_u.1 p.f1_lt_u.2 p.f1_lt_u.3 p.between.0 p.between.1)
 
 -- the product
 product : (c : After-fixed_mul) → to_z w32 (of_z w32 c.fixed_mul.result) ≡ far (start c.before)
@@ -96,7 +96,7 @@ sum_fits : (s : Start) → SFits w32 (s.args.p1 +ℤ far s)
 sum_fits s =
     let a = s.args in
     let p = s.requires in
-    fits-in w32 (sum-between a.u a.f1 a.p1 a.f2 a.p2 p.0.0 p.0.1 p.0.2 p.0.3 p.1.0 p.1.1) tt tt
+    fits-in w32 (sum-between a.u a.f1 a.p1 a.f2 a.p2 p.f1_lt_u.0 p.f1_lt_u.1 p.f1_lt_u.2 p.f1_lt_u.3 p.between.0 p.between.1) tt tt
 
 pub overflow_add-result : goal.overflow_add-result
 overflow_add-result c = subst (SFits w32) (sym (sum_is c)) (sum_fits (start c.before))

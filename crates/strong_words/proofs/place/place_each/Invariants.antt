@@ -24,6 +24,13 @@ use Rattle.strong.specs.Strong.{strong_at, current_after, mark_after, is_placed,
 use Rattle.strong_words.proofs.Walks.{Upto, upto-none, upto-set, upto_all, upto-same, held, strong-held, strong-free}
 use Rattle.strong_words.proofs.place.place_each.Given as goal
 
+-- the currents and the marks that the points come to
+abbrev pub new_current : List ℤ → List ℤ → List ℤ → List ℤ → List ℕ → List ℕ → ℕ → ℤ
+new_current ws f o c t w i = current_after (at c i) (strong_at (edges_of ws) f o t w i)
+
+abbrev pub new_mark : List ℤ → List ℤ → List ℤ → List ℕ → List ℕ → ℕ → ℕ
+new_mark ws f o t w i = mark_after (get_or t i 0) (strong_at (edges_of ws) f o t w i)
+
 abbrev pub invariant-loop-i : goal.invariant-loop-i
 invariant-loop-i l = (l.i ≤ length l.fonts)
     × Upto (pos 0) (new_current l.words l.fonts l.originals l.initial.currents l.initial.touched l.weak) l.i l.initial.currents l.currents

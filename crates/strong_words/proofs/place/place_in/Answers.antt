@@ -1,7 +1,7 @@
 -- `strong_words::place::place_in` meets its contract: by which rule the point comes to its place.
 use native.Mathlib.Omega.{arith}
 use mathlib.Core.Path.{◌≡◌, sym, ap, subst, ◌∙◌}
-use mathlib.Core.Bool.{Bool, false}
+use mathlib.Core.Bool.{Bool, true, false}
 use mathlib.Core.List.{List}
 use Prim.Native.Nat.{ℕ, ◌-◌, ◌<◌}
 use lib.IntN.{ℤ}
@@ -26,184 +26,201 @@ use Rattle.strong.proofs.Places.{place-on, place-before}
 use Rattle.strong.proofs.Search.{strictly}
 use Rattle.strong_words.proofs.Reading.{fpos-short, asked, none-placed, low-placed, high-placed, inner-placed, is-around}
 use Rattle.strong_words.proofs.place.place_in.Goals as goal
-use Rattle.strong_words.proofs.place.place_in.Goals.{After-find_edge-k, After-read_fpos, After-read_fpos-2, After-read_pos, After-read_pos-pos, Start}
+
+-- what a test of u and a font position as the machine reads them told
+module _ {u z : ℤ} {t : Bool} (f : ℤ) (a : to_z w32 (of_z w32 u) ≡ u) (b : to_z w32 (of_z w32 f) ≡ z) where
+  told-le : le_z (to_z w32 (of_z w32 u)) (to_z w32 (of_z w32 f)) ≡ t → le_z u z ≡ t
+  told-le e = sym (λ x. le_z (a x) (b x)) ∙ e
+
+  told-ge : le_z (to_z w32 (of_z w32 f)) (to_z w32 (of_z w32 u)) ≡ t → le_z z u ≡ t
+  told-ge e = sym (λ x. le_z (b x) (a x)) ∙ e
 
 -- ---- no edge, or the first one
 pub returns-then-n-eq0 : goal.returns-then-n-eq0
-returns-then-n-eq0 c = let s = c.before in sym (none-placed s.args.words.now s.args.u s.args.v c.if-n-eq0.true)
+returns-then-n-eq0 c = sym (none-placed c.args.words.now c.args.u c.args.v c.if-n-eq0.true)
 
 pub read_fpos-requires : goal.read_fpos-requires
 read_fpos-requires c = (c.requires.0, omega (arith, c.if-n-eq0.false))
 
--- what the test of the first tells
-first : (c : After-read_fpos) {t : Bool} → le_z (to_z w32 (of_z w32 c.args.u)) (to_z w32 (of_z w32 c.read_fpos.result)) ≡ t
-    → le_z c.args.u (fpos_at (edges_of c.args.words.now) 0) ≡ t
-first c e =
-    let q = kept w32 c.read_fpos.result c.read_fpos.type_inv ∙ c.read_fpos.ensures in
-    sym (λ x. le_z (is c.ranges.u x) (q x)) ∙ e
-
 pub with_edge-requires : goal.with_edge-requires
-with_edge-requires c =
-    let e = c.before.before in
-    let s = e.before in
-    (s.requires.0, s.requires.1, omega (arith, e.if-n-eq0.false), subst Coordinate (sym (is s.ranges.v)) s.requires.2)
+with_edge-requires c = (c.requires.0, c.requires.1, omega (arith, c.if-n-eq0.false), subst Coordinate (sym (is c.ranges.v)) c.requires.2)
 
 pub returns-then-u-read_fpos : goal.returns-then-u-read_fpos
 returns-then-u-read_fpos c =
-    let f = c.before.before in
-    let e = f.before in
-    let s = e.before in
     c.with_edge.ensures
-    ∙ ap (with_edge (edges_of s.args.words.now) 0) (is s.ranges.v)
-    ∙ sym (low-placed s.args.words.now s.args.u s.args.v e.if-n-eq0.false (first f c.if-u-read_fpos.true))
+    ∙ ap (with_edge (edges_of c.args.words.now) 0) (is c.ranges.v)
+    ∙ sym (low-placed c.args.words.now c.args.u c.args.v c.if-n-eq0.false (told-le c.read_fpos.result (is c.ranges.u) (kept w32 c.read_fpos.result c.read_fpos.type_inv ∙ c.read_fpos.ensures) c.if-u-read_fpos.true))
 
 -- ---- the last one
 pub overflow_sub-n : goal.overflow_sub-n
 overflow_sub-n c = omega (arith, c.if-n-eq0.false)
 
 pub read_fpos-requires-2 : goal.read_fpos-requires-2
-read_fpos-requires-2 c = let e = c.before.before in (e.requires.0, omega (arith, e.if-n-eq0.false))
-
-abbrev start2 : After-read_fpos-2 → Start
-start2 c = c.before.before.before.before
-
-last : (c : After-read_fpos-2) {t : Bool} → le_z (to_z w32 (of_z w32 c.read_fpos-2.result)) (to_z w32 (of_z w32 (start2 c).args.u)) ≡ t
-    → le_z (fpos_at (edges_of (start2 c).args.words.now) (edges_in (start2 c).args.words.now - 1)) (start2 c).args.u ≡ t
-last c e =
-    let q = kept w32 c.read_fpos-2.result c.read_fpos-2.type_inv ∙ c.read_fpos-2.ensures in
-    sym (λ x. le_z (q x) (is (start2 c).ranges.u x)) ∙ e
+read_fpos-requires-2 c = (c.requires.0, omega (arith, c.if-n-eq0.false))
 
 pub overflow_sub-n-then-read_fpos-u : goal.overflow_sub-n-then-read_fpos-u
 overflow_sub-n-then-read_fpos-u c = omega (arith, c.if-n-eq0.false)
 
 pub with_edge-requires-then-read_fpos-u : goal.with_edge-requires-then-read_fpos-u
-with_edge-requires-then-read_fpos-u c =
-    let e = c.before.before.before.before in
-    let s = e.before in
-    (s.requires.0, s.requires.1, omega (arith, e.if-n-eq0.false), subst Coordinate (sym (is s.ranges.v)) s.requires.2)
+with_edge-requires-then-read_fpos-u c = (c.requires.0, c.requires.1, omega (arith, c.if-n-eq0.false), subst Coordinate (sym (is c.ranges.v)) c.requires.2)
 
 pub returns-then-read_fpos-u : goal.returns-then-read_fpos-u
 returns-then-read_fpos-u c =
-    let l = c.before.before in
-    let f = l.before.before in
-    let e = f.before in
-    let s = e.before in
-    let ws = s.args.words.now in
+    let ws : List ℤ = c.args.words.now in
     c.with_edge-then-read_fpos-u.ensures
-    ∙ ap (with_edge (edges_of ws) (edges_in ws - 1)) (is s.ranges.v)
-    ∙ sym (high-placed ws s.args.u s.args.v e.if-n-eq0.false (first f l.if-u-read_fpos.false) (last l c.if-read_fpos-u.true))
+    ∙ ap (with_edge (edges_of ws) (edges_in ws - 1)) (is c.ranges.v)
+    ∙ sym (high-placed ws c.args.u c.args.v c.if-n-eq0.false (told-le c.read_fpos.result (is c.ranges.u) (kept w32 c.read_fpos.result c.read_fpos.type_inv ∙ c.read_fpos.ensures) c.if-u-read_fpos.false) (told-ge c.read_fpos-2.result (is c.ranges.u) (kept w32 c.read_fpos-2.result c.read_fpos-2.type_inv ∙ c.read_fpos-2.ensures) c.if-read_fpos-u.true))
 
 -- ---- inside
 pub find_edge-k-requires : goal.find_edge-k-requires
-find_edge-k-requires c = (start2 c.before).requires.0
-
-module _ (c : After-find_edge-k) where
-  abbrev start : Start
-  start = start2 c.before.before
-
-  abbrev ws : List ℤ
-  ws = start.args.words.now
-
-  none : edges_in ws ≡ 0 → ⊥
-  none = c.if-n-eq0.false
-
-  above-first : le_z start.args.u (fpos_at (edges_of ws) 0) ≡ false
-  above-first = first c.before.before.before.before c.if-u-read_fpos.false
-
-  below_last : le_z (fpos_at (edges_of ws) (edges_in ws - 1)) start.args.u ≡ false
-  below_last = last c.before.before c.if-read_fpos-u.false
-
-  -- the edge that is found
-  found_is : c.find_edge-k.result ≡ found (edges_of ws) start.args.u
-  found_is = c.find_edge-k.ensures ∙ ap (found (edges_of ws)) (is start.ranges.u)
-
-  is-there : Around (edges_of ws) start.args.u c.find_edge-k.result
-  is-there = subst (Around (edges_of ws) start.args.u) (sym found_is) (is-around ws start.args.u start.args.v none above-first below_last)
-
-  below : c.find_edge-k.result < edges_in ws
-  below = omega (arith, is-there.inside, edges-len ws)
-
-  -- what is known of the edges' numbers
-  short : (j : ℕ) → j < edges_in ws → Short (fpos_at (edges_of ws) j)
-  short j h = fpos-short ws j start.pre.0 h
-
-  within : (j : ℕ) → j < edges_in ws → Between most_pos most_pos (edge_at (edges_of ws) j).pos
-  within j h = (start.pre.1.edge j (omega (arith, edges-len ws))).pos
-
-  placed : place_of (edges_of ws) start.args.u start.args.v ≡ on_or_before (edges_of ws) start.args.u c.find_edge-k.result
-  placed = inner-placed ws start.args.u start.args.v none above-first below_last ∙ ap (on_or_before (edges_of ws) start.args.u) (sym found_is)
+find_edge-k-requires c = c.requires.0
 
 pub read_fpos-fpos-requires : goal.read_fpos-fpos-requires
-read_fpos-fpos-requires c = ((start c).requires.0, below c)
+read_fpos-fpos-requires c =
+    let ws : List ℤ = c.args.words.now in
+    let none : edges_in ws ≡ 0 → ⊥ = c.if-n-eq0.false in
+    let above-first : le_z c.args.u (fpos_at (edges_of ws) 0) ≡ false = told-le c.read_fpos.result (is c.ranges.u) (kept w32 c.read_fpos.result c.read_fpos.type_inv ∙ c.read_fpos.ensures) c.if-u-read_fpos.false in
+    let below_last : le_z (fpos_at (edges_of ws) (edges_in ws - 1)) c.args.u ≡ false = told-ge c.read_fpos-2.result (is c.ranges.u) (kept w32 c.read_fpos-2.result c.read_fpos-2.type_inv ∙ c.read_fpos-2.ensures) c.if-read_fpos-u.false in
+    let found_is : c.find_edge-k.result ≡ found (edges_of ws) c.args.u =
+    c.find_edge-k.ensures ∙ ap (found (edges_of ws)) (is c.ranges.u) in
+    let is-there : Around (edges_of ws) c.args.u c.find_edge-k.result =
+    subst (Around (edges_of ws) c.args.u) (sym found_is) (is-around ws c.args.u c.args.v none above-first below_last) in
+    let below : c.find_edge-k.result < edges_in ws = omega (arith, is-there.inside, edges-len ws) in
+    (c.requires.0, below)
 
 pub read_pos-pos-requires : goal.read_pos-pos-requires
-read_pos-pos-requires c = ((start c.before).pre.0, below c.before)
-
--- its font position and its position as they are read
-module _ (c : After-read_pos-pos) where
-  abbrev edge : After-find_edge-k
-  edge = c.before.before
-
-  font : to_z w32 (of_z w32 c.read_fpos-fpos.result) ≡ fpos_at (edges_of (ws edge)) edge.find_edge-k.result
-  font = kept w32 c.read_fpos-fpos.result c.read_fpos-fpos.type_inv ∙ c.read_fpos-fpos.ensures
-
-  position : to_z w32 (of_z w32 c.read_pos-pos.result) ≡ (edge_at (edges_of (ws edge)) edge.find_edge-k.result).pos
-  position = kept w32 c.read_pos-pos.result c.read_pos-pos.type_inv ∙ c.read_pos-pos.ensures
+read_pos-pos-requires c =
+    let ws : List ℤ = c.args.words.now in
+    let none : edges_in ws ≡ 0 → ⊥ = c.if-n-eq0.false in
+    let above-first : le_z c.args.u (fpos_at (edges_of ws) 0) ≡ false = told-le c.read_fpos.result (is c.ranges.u) (kept w32 c.read_fpos.result c.read_fpos.type_inv ∙ c.read_fpos.ensures) c.if-u-read_fpos.false in
+    let below_last : le_z (fpos_at (edges_of ws) (edges_in ws - 1)) c.args.u ≡ false = told-ge c.read_fpos-2.result (is c.ranges.u) (kept w32 c.read_fpos-2.result c.read_fpos-2.type_inv ∙ c.read_fpos-2.ensures) c.if-read_fpos-u.false in
+    let found_is : c.find_edge-k.result ≡ found (edges_of ws) c.args.u =
+    c.find_edge-k.ensures ∙ ap (found (edges_of ws)) (is c.ranges.u) in
+    let is-there : Around (edges_of ws) c.args.u c.find_edge-k.result =
+    subst (Around (edges_of ws) c.args.u) (sym found_is) (is-around ws c.args.u c.args.v none above-first below_last) in
+    let below : c.find_edge-k.result < edges_in ws = omega (arith, is-there.inside, edges-len ws) in
+    (c.requires.0, below)
 
 pub returns-then-u-fpos : goal.returns-then-u-fpos
 returns-then-u-fpos c =
-    let p = c.before in
-    let s = start (edge p) in
-    ap At (position p)
-    ∙ sym (placed (edge p) ∙ place-on (edges_of (ws (edge p))) s.args.u (edge p).find_edge-k.result
-    (sym (is s.ranges.u) ∙ ap (to_z w32) c.if-u-fpos.true ∙ font p))
+    let ws : List ℤ = c.args.words.now in
+    let none : edges_in ws ≡ 0 → ⊥ = c.if-n-eq0.false in
+    let above-first : le_z c.args.u (fpos_at (edges_of ws) 0) ≡ false = told-le c.read_fpos.result (is c.ranges.u) (kept w32 c.read_fpos.result c.read_fpos.type_inv ∙ c.read_fpos.ensures) c.if-u-read_fpos.false in
+    let below_last : le_z (fpos_at (edges_of ws) (edges_in ws - 1)) c.args.u ≡ false = told-ge c.read_fpos-2.result (is c.ranges.u) (kept w32 c.read_fpos-2.result c.read_fpos-2.type_inv ∙ c.read_fpos-2.ensures) c.if-read_fpos-u.false in
+    let found_is : c.find_edge-k.result ≡ found (edges_of ws) c.args.u =
+    c.find_edge-k.ensures ∙ ap (found (edges_of ws)) (is c.ranges.u) in
+    let placed : place_of (edges_of ws) c.args.u c.args.v ≡ on_or_before (edges_of ws) c.args.u c.find_edge-k.result =
+    inner-placed ws c.args.u c.args.v none above-first below_last ∙ ap (on_or_before (edges_of ws) c.args.u) (sym found_is) in
+    let font : to_z w32 (of_z w32 c.read_fpos-fpos.result) ≡ fpos_at (edges_of ws) c.find_edge-k.result =
+    kept w32 c.read_fpos-fpos.result c.read_fpos-fpos.type_inv ∙ c.read_fpos-fpos.ensures in
+    let position : to_z w32 (of_z w32 c.read_pos-pos.result) ≡ (edge_at (edges_of ws) c.find_edge-k.result).pos =
+    kept w32 c.read_pos-pos.result c.read_pos-pos.type_inv ∙ c.read_pos-pos.ensures in
+    ap At position
+    ∙ sym (placed ∙ place-on (edges_of ws) c.args.u c.find_edge-k.result
+    (sym (is c.ranges.u) ∙ ap (to_z w32) c.if-u-fpos.true ∙ font))
 
 -- ---- between two
 pub overflow_sub-k : goal.overflow_sub-k
-overflow_sub-k c = omega (arith, (is-there (edge c.before)).behind_one)
+overflow_sub-k c =
+    let ws : List ℤ = c.args.words.now in
+    let none : edges_in ws ≡ 0 → ⊥ = c.if-n-eq0.false in
+    let above-first : le_z c.args.u (fpos_at (edges_of ws) 0) ≡ false = told-le c.read_fpos.result (is c.ranges.u) (kept w32 c.read_fpos.result c.read_fpos.type_inv ∙ c.read_fpos.ensures) c.if-u-read_fpos.false in
+    let below_last : le_z (fpos_at (edges_of ws) (edges_in ws - 1)) c.args.u ≡ false = told-ge c.read_fpos-2.result (is c.ranges.u) (kept w32 c.read_fpos-2.result c.read_fpos-2.type_inv ∙ c.read_fpos-2.ensures) c.if-read_fpos-u.false in
+    let found_is : c.find_edge-k.result ≡ found (edges_of ws) c.args.u =
+    c.find_edge-k.ensures ∙ ap (found (edges_of ws)) (is c.ranges.u) in
+    let is-there : Around (edges_of ws) c.args.u c.find_edge-k.result =
+    subst (Around (edges_of ws) c.args.u) (sym found_is) (is-around ws c.args.u c.args.v none above-first below_last) in
+    omega (arith, is-there.behind_one)
 
 pub read_fpos-requires-3 : goal.read_fpos-requires-3
-read_fpos-requires-3 c = let k = edge c.before in ((start k).pre.0, omega (arith, below k))
+read_fpos-requires-3 c =
+    let ws : List ℤ = c.args.words.now in
+    let none : edges_in ws ≡ 0 → ⊥ = c.if-n-eq0.false in
+    let above-first : le_z c.args.u (fpos_at (edges_of ws) 0) ≡ false = told-le c.read_fpos.result (is c.ranges.u) (kept w32 c.read_fpos.result c.read_fpos.type_inv ∙ c.read_fpos.ensures) c.if-u-read_fpos.false in
+    let below_last : le_z (fpos_at (edges_of ws) (edges_in ws - 1)) c.args.u ≡ false = told-ge c.read_fpos-2.result (is c.ranges.u) (kept w32 c.read_fpos-2.result c.read_fpos-2.type_inv ∙ c.read_fpos-2.ensures) c.if-read_fpos-u.false in
+    let found_is : c.find_edge-k.result ≡ found (edges_of ws) c.args.u =
+    c.find_edge-k.ensures ∙ ap (found (edges_of ws)) (is c.ranges.u) in
+    let is-there : Around (edges_of ws) c.args.u c.find_edge-k.result =
+    subst (Around (edges_of ws) c.args.u) (sym found_is) (is-around ws c.args.u c.args.v none above-first below_last) in
+    let below : c.find_edge-k.result < edges_in ws = omega (arith, is-there.inside, edges-len ws) in
+    (c.requires.0, omega (arith, below))
 
 pub overflow_sub-k-2 : goal.overflow_sub-k-2
-overflow_sub-k-2 c = omega (arith, (is-there (edge c.before.before)).behind_one)
+overflow_sub-k-2 c =
+    let ws : List ℤ = c.args.words.now in
+    let none : edges_in ws ≡ 0 → ⊥ = c.if-n-eq0.false in
+    let above-first : le_z c.args.u (fpos_at (edges_of ws) 0) ≡ false = told-le c.read_fpos.result (is c.ranges.u) (kept w32 c.read_fpos.result c.read_fpos.type_inv ∙ c.read_fpos.ensures) c.if-u-read_fpos.false in
+    let below_last : le_z (fpos_at (edges_of ws) (edges_in ws - 1)) c.args.u ≡ false = told-ge c.read_fpos-2.result (is c.ranges.u) (kept w32 c.read_fpos-2.result c.read_fpos-2.type_inv ∙ c.read_fpos-2.ensures) c.if-read_fpos-u.false in
+    let found_is : c.find_edge-k.result ≡ found (edges_of ws) c.args.u =
+    c.find_edge-k.ensures ∙ ap (found (edges_of ws)) (is c.ranges.u) in
+    let is-there : Around (edges_of ws) c.args.u c.find_edge-k.result =
+    subst (Around (edges_of ws) c.args.u) (sym found_is) (is-around ws c.args.u c.args.v none above-first below_last) in
+    omega (arith, is-there.behind_one)
 
 pub read_pos-requires : goal.read_pos-requires
-read_pos-requires c = let k = edge c.before.before in ((start k).pre.0, omega (arith, below k))
-
-module _ (c : After-read_pos) where
-  abbrev at : After-read_pos-pos
-  at = c.before.before.before
-
-  abbrev k : After-find_edge-k
-  k = edge at
-
-  -- u is not on it
-  apart : (start k).args.u ≡ fpos_at (edges_of (ws k)) k.find_edge-k.result → ⊥
-  apart e = c.if-u-fpos.false (ap (of_z w32) (e ∙ sym at.read_fpos-fpos.ensures))
-
-  around : (fpos_at (edges_of (ws k)) (k.find_edge-k.result - 1) <ℤ (start k).args.u) × ((start k).args.u <ℤ fpos_at (edges_of (ws k)) k.find_edge-k.result)
-  around = strictly (edges_of (ws k)) (start k).args.u k.find_edge-k.result (is-there k) apart
-
-  font-before : to_z w32 (of_z w32 c.read_fpos-3.result) ≡ fpos_at (edges_of (ws k)) (k.find_edge-k.result - 1)
-  font-before = kept w32 c.read_fpos-3.result c.read_fpos-3.type_inv ∙ c.read_fpos-3.ensures
-
-  position-before : to_z w32 (of_z w32 c.read_pos.result) ≡ (edge_at (edges_of (ws k)) (k.find_edge-k.result - 1)).pos
-  position-before = kept w32 c.read_pos.result c.read_pos.type_inv ∙ c.read_pos.ensures
+read_pos-requires c =
+    let ws : List ℤ = c.args.words.now in
+    let none : edges_in ws ≡ 0 → ⊥ = c.if-n-eq0.false in
+    let above-first : le_z c.args.u (fpos_at (edges_of ws) 0) ≡ false = told-le c.read_fpos.result (is c.ranges.u) (kept w32 c.read_fpos.result c.read_fpos.type_inv ∙ c.read_fpos.ensures) c.if-u-read_fpos.false in
+    let below_last : le_z (fpos_at (edges_of ws) (edges_in ws - 1)) c.args.u ≡ false = told-ge c.read_fpos-2.result (is c.ranges.u) (kept w32 c.read_fpos-2.result c.read_fpos-2.type_inv ∙ c.read_fpos-2.ensures) c.if-read_fpos-u.false in
+    let found_is : c.find_edge-k.result ≡ found (edges_of ws) c.args.u =
+    c.find_edge-k.ensures ∙ ap (found (edges_of ws)) (is c.ranges.u) in
+    let is-there : Around (edges_of ws) c.args.u c.find_edge-k.result =
+    subst (Around (edges_of ws) c.args.u) (sym found_is) (is-around ws c.args.u c.args.v none above-first below_last) in
+    let below : c.find_edge-k.result < edges_in ws = omega (arith, is-there.inside, edges-len ws) in
+    (c.requires.0, omega (arith, below))
 
 pub between-requires : goal.between-requires
 between-requires c =
-    let e = k c in
-    let s = start e in
-    let i = e.find_edge-k.result in
-    let b = around c in
-    asked (is s.ranges.u) (font-before c) (position-before c) (font (at c)) (position (at c))
-    ((b.0, b.1, short e (i - 1) (omega (arith, below e)), short e i (below e)), (within e (i - 1) (omega (arith, below e)), within e i (below e)))
+    let ws : List ℤ = c.args.words.now in
+    let none : edges_in ws ≡ 0 → ⊥ = c.if-n-eq0.false in
+    let above-first : le_z c.args.u (fpos_at (edges_of ws) 0) ≡ false = told-le c.read_fpos.result (is c.ranges.u) (kept w32 c.read_fpos.result c.read_fpos.type_inv ∙ c.read_fpos.ensures) c.if-u-read_fpos.false in
+    let below_last : le_z (fpos_at (edges_of ws) (edges_in ws - 1)) c.args.u ≡ false = told-ge c.read_fpos-2.result (is c.ranges.u) (kept w32 c.read_fpos-2.result c.read_fpos-2.type_inv ∙ c.read_fpos-2.ensures) c.if-read_fpos-u.false in
+    let found_is : c.find_edge-k.result ≡ found (edges_of ws) c.args.u =
+    c.find_edge-k.ensures ∙ ap (found (edges_of ws)) (is c.ranges.u) in
+    let is-there : Around (edges_of ws) c.args.u c.find_edge-k.result =
+    subst (Around (edges_of ws) c.args.u) (sym found_is) (is-around ws c.args.u c.args.v none above-first below_last) in
+    let below : c.find_edge-k.result < edges_in ws = omega (arith, is-there.inside, edges-len ws) in
+    let short : (j : ℕ) → j < edges_in ws → Short (fpos_at (edges_of ws) j) = λ j h. fpos-short ws j c.requires.0 h in
+    let within : (j : ℕ) → j < edges_in ws → Between most_pos most_pos (edge_at (edges_of ws) j).pos =
+    λ j h. (c.requires.1.edge j (omega (arith, edges-len ws))).pos in
+    let font : to_z w32 (of_z w32 c.read_fpos-fpos.result) ≡ fpos_at (edges_of ws) c.find_edge-k.result =
+    kept w32 c.read_fpos-fpos.result c.read_fpos-fpos.type_inv ∙ c.read_fpos-fpos.ensures in
+    let position : to_z w32 (of_z w32 c.read_pos-pos.result) ≡ (edge_at (edges_of ws) c.find_edge-k.result).pos =
+    kept w32 c.read_pos-pos.result c.read_pos-pos.type_inv ∙ c.read_pos-pos.ensures in
+    let apart : c.args.u ≡ fpos_at (edges_of ws) c.find_edge-k.result → ⊥ =
+    λ e. c.if-u-fpos.false (ap (of_z w32) (e ∙ sym c.read_fpos-fpos.ensures)) in
+    let around : (fpos_at (edges_of ws) (c.find_edge-k.result - 1) <ℤ c.args.u) × (c.args.u <ℤ fpos_at (edges_of ws) c.find_edge-k.result) =
+    strictly (edges_of ws) c.args.u c.find_edge-k.result is-there apart in
+    let font-before : to_z w32 (of_z w32 c.read_fpos-3.result) ≡ fpos_at (edges_of ws) (c.find_edge-k.result - 1) =
+    kept w32 c.read_fpos-3.result c.read_fpos-3.type_inv ∙ c.read_fpos-3.ensures in
+    let position-before : to_z w32 (of_z w32 c.read_pos.result) ≡ (edge_at (edges_of ws) (c.find_edge-k.result - 1)).pos =
+    kept w32 c.read_pos.result c.read_pos.type_inv ∙ c.read_pos.ensures in
+    let i = c.find_edge-k.result in
+    let b = around in
+    let r = asked (is c.ranges.u) font-before position-before font position
+    ((b.0, b.1, short (i - 1) (omega (arith, below)), short i below), (within (i - 1) (omega (arith, below)), within i below)) in
+    record { f1_lt_u = r.0; between = r.1 }
 
 pub returns : goal.returns
 returns c =
-    let p = c.before in
-    let e = k p in
-    let s = start e in
-    by₅ between c.between.ensures (is s.ranges.u) (font-before p) (position-before p) (font (at p)) (position (at p))
-    ∙ sym (placed e ∙ place-before (edges_of (ws e)) s.args.u e.find_edge-k.result (apart p))
+    let ws : List ℤ = c.args.words.now in
+    let none : edges_in ws ≡ 0 → ⊥ = c.if-n-eq0.false in
+    let above-first : le_z c.args.u (fpos_at (edges_of ws) 0) ≡ false = told-le c.read_fpos.result (is c.ranges.u) (kept w32 c.read_fpos.result c.read_fpos.type_inv ∙ c.read_fpos.ensures) c.if-u-read_fpos.false in
+    let below_last : le_z (fpos_at (edges_of ws) (edges_in ws - 1)) c.args.u ≡ false = told-ge c.read_fpos-2.result (is c.ranges.u) (kept w32 c.read_fpos-2.result c.read_fpos-2.type_inv ∙ c.read_fpos-2.ensures) c.if-read_fpos-u.false in
+    let found_is : c.find_edge-k.result ≡ found (edges_of ws) c.args.u =
+    c.find_edge-k.ensures ∙ ap (found (edges_of ws)) (is c.ranges.u) in
+    let placed : place_of (edges_of ws) c.args.u c.args.v ≡ on_or_before (edges_of ws) c.args.u c.find_edge-k.result =
+    inner-placed ws c.args.u c.args.v none above-first below_last ∙ ap (on_or_before (edges_of ws) c.args.u) (sym found_is) in
+    let font : to_z w32 (of_z w32 c.read_fpos-fpos.result) ≡ fpos_at (edges_of ws) c.find_edge-k.result =
+    kept w32 c.read_fpos-fpos.result c.read_fpos-fpos.type_inv ∙ c.read_fpos-fpos.ensures in
+    let position : to_z w32 (of_z w32 c.read_pos-pos.result) ≡ (edge_at (edges_of ws) c.find_edge-k.result).pos =
+    kept w32 c.read_pos-pos.result c.read_pos-pos.type_inv ∙ c.read_pos-pos.ensures in
+    let apart : c.args.u ≡ fpos_at (edges_of ws) c.find_edge-k.result → ⊥ =
+    λ e. c.if-u-fpos.false (ap (of_z w32) (e ∙ sym c.read_fpos-fpos.ensures)) in
+    let font-before : to_z w32 (of_z w32 c.read_fpos-3.result) ≡ fpos_at (edges_of ws) (c.find_edge-k.result - 1) =
+    kept w32 c.read_fpos-3.result c.read_fpos-3.type_inv ∙ c.read_fpos-3.ensures in
+    let position-before : to_z w32 (of_z w32 c.read_pos.result) ≡ (edge_at (edges_of ws) (c.find_edge-k.result - 1)).pos =
+    kept w32 c.read_pos.result c.read_pos.type_inv ∙ c.read_pos.ensures in
+    by₅ between c.between.ensures (is c.ranges.u) font-before position-before font position
+    ∙ sym (placed ∙ place-before (edges_of ws) c.args.u c.find_edge-k.result apart)

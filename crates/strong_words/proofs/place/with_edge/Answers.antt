@@ -17,35 +17,29 @@ use Rattle.words_edge.proofs.Wholes.{edges-len}
 use Rattle.strong.specs.Strong.{moved_with}
 use Rattle.strong_words.proofs.Reading.{opos-word}
 use Rattle.strong_words.proofs.place.with_edge.Goals as goal
-use Rattle.strong_words.proofs.place.with_edge.Goals.{After-read_pos, Start}
 
 pub read_pos-requires : goal.read_pos-requires
-read_pos-requires c = let s = c.before in (s.requires.0, s.requires.2)
-
--- the numbers as they are read
-module _ (c : After-read_pos) where
-  abbrev start : Start
-  start = c.before.before
-
-  original : to_z w32 (of_z w32 c.read_word-opos.result) ≡ (edge_at (edges_of start.args.words.now) start.args.i).opos
-  original =
-      let w = c.read_word-opos in
-      kept w32 w.result w.type_inv ∙ w.ensures ∙ opos-word start.args.words.now start.args.i start.pre.0 start.pre.2
-
-  position : to_z w32 (of_z w32 c.read_pos.result) ≡ (edge_at (edges_of start.args.words.now) start.args.i).pos
-  position = kept w32 c.read_pos.result c.read_pos.type_inv ∙ c.read_pos.ensures
-
-  below : start.args.i < (edges_of start.args.words.now).len
-  below = omega (arith, edges-len start.args.words.now, start.pre.2)
+read_pos-requires c = (c.requires.0, c.requires.2)
 
 pub moved_with-requires : goal.moved_with-requires
 moved_with-requires c =
-    let s = start c in
-    let e = s.pre.1.edge s.args.i (below c) in (
-      subst Coordinate (sym (is s.ranges.v)) s.pre.3,
-      subst (Between most_units most_units) (sym (original c)) e.opos,
-      subst (Between most_pos most_pos) (sym (position c)) e.pos,
+    let original : to_z w32 (of_z w32 c.read_word-opos.result) ≡ (edge_at (edges_of c.args.words.now) c.args.i).opos =
+    let w = c.read_word-opos in
+    kept w32 w.result w.type_inv ∙ w.ensures ∙ opos-word c.args.words.now c.args.i c.requires.0 c.requires.2 in
+    let position : to_z w32 (of_z w32 c.read_pos.result) ≡ (edge_at (edges_of c.args.words.now) c.args.i).pos =
+    kept w32 c.read_pos.result c.read_pos.type_inv ∙ c.read_pos.ensures in
+    let below : c.args.i < (edges_of c.args.words.now).len = omega (arith, edges-len c.args.words.now, c.requires.2) in
+    let e = c.requires.1.edge c.args.i below in (
+      subst Coordinate (sym (is c.ranges.v)) c.requires.3,
+      subst (Between most_units most_units) (sym original) e.opos,
+      subst (Between most_pos most_pos) (sym position) e.pos,
     )
 
 pub returns : goal.returns
-returns c = let b = c.before in by₃ moved_with c.moved_with.ensures (is (start b).ranges.v) (original b) (position b)
+returns c =
+    let original : to_z w32 (of_z w32 c.read_word-opos.result) ≡ (edge_at (edges_of c.args.words.now) c.args.i).opos =
+    let w = c.read_word-opos in
+    kept w32 w.result w.type_inv ∙ w.ensures ∙ opos-word c.args.words.now c.args.i c.requires.0 c.requires.2 in
+    let position : to_z w32 (of_z w32 c.read_pos.result) ≡ (edge_at (edges_of c.args.words.now) c.args.i).pos =
+    kept w32 c.read_pos.result c.read_pos.type_inv ∙ c.read_pos.ensures in
+    by₃ moved_with c.moved_with.ensures (is c.ranges.v) original position

@@ -1,7 +1,6 @@
 -- `strong_words::search::by_halving` meets its contract. The invariant: what is left is halved on.
 use native.Mathlib.Omega.{arith}
 use mathlib.Core.Path.{◌≡◌, sym, ap, ◌∙◌}
-use mathlib.Core.Bool.{Bool}
 use Prim.Native.Nat.{ℕ, ◌-◌, ◌≤◌}
 use lib.IntN.{ℤ}
 use lib.Signed.{lt_z}
@@ -14,32 +13,6 @@ use Rattle.words_call.specs.Lent.{edges_of}
 use Rattle.strong.specs.Strong.{middle, by_halving, fpos_at}
 use Rattle.strong.proofs.Search.{steps-start, step-low, step-on, step-high, steps-end}
 use Rattle.strong_words.proofs.search.by_halving.Goals as goal
-use Rattle.strong_words.proofs.search.by_halving.Goals.{After-read_fpos-fpos, At-loop-low, Else-u-fpos-2}
-
--- the font positions, and u as the loop reads it
-abbrev fpos : At-loop-low → ℕ → ℤ
-fpos l = fpos_at (edges_of l.args.words.now)
-
-abbrev back : At-loop-low → ℤ
-back l = to_z w32 (of_z w32 l.args.u)
-
--- the edge in the middle, and its font position as it is read
-abbrev mid : At-loop-low → ℕ
-mid l = middle l.loop-low.low l.loop-low.high
-
-read : (c : After-read_fpos-fpos) → to_z w32 (of_z w32 c.read_fpos-fpos.result) ≡ fpos c.before.before (mid c.before.before)
-read c = kept w32 c.read_fpos-fpos.result c.read_fpos-fpos.type_inv ∙ c.read_fpos-fpos.ensures
-
--- what the test of it tells
-told : (c : After-read_fpos-fpos) {v : Bool} → lt_z (back c.before.before) (to_z w32 (of_z w32 c.read_fpos-fpos.result)) ≡ v
-    → lt_z (back c.before.before) (fpos c.before.before (mid c.before.before)) ≡ v
-told c e = sym (ap (lt_z (back c.before.before)) (read c)) ∙ e
-
--- what is searched, by u itself
-from-u : (l : At-loop-low)
-    → by_halving (fpos l) l.args.u (edges_in l.args.words.now) 0 (edges_in l.args.words.now)
-    ≡ by_halving (fpos l) (back l) (l.loop-low.high - l.loop-low.low) l.loop-low.low l.loop-low.high
-from-u l = let n = edges_in l.args.words.now in ap (λ (z : ℤ). by_halving (fpos l) z n 0 n) (sym (is l.ranges.u)) ∙ l.loop-low.invariant.1
 
 pub loop-low-init : goal.loop-low-init
 loop-low-init c = (omega arith, steps-start _ _ _)
@@ -55,35 +28,46 @@ loop-low-smaller-then-u-fpos c = omega (arith, c.loop-low-test.true)
 
 pub loop-low-preserved-then-u-fpos : goal.loop-low-preserved-then-u-fpos
 loop-low-preserved-then-u-fpos c =
-    let l = c.before.before.before in
+    let fpos : ℕ → ℤ = fpos_at (edges_of c.args.words.now) in
+    let back : ℤ = to_z w32 (of_z w32 c.args.u) in
+    let mid : ℕ = middle c.loop-low.low c.loop-low.high in
+    let read : to_z w32 (of_z w32 c.read_fpos-fpos.result) ≡ fpos mid =
+    kept w32 c.read_fpos-fpos.result c.read_fpos-fpos.type_inv ∙ c.read_fpos-fpos.ensures in
     let t = c.loop-low-test.true in
-    (omega (arith, t, l.loop-low.invariant.0), l.loop-low.invariant.1 ∙ step-low _ _ _ _ t (told c.before c.if-u-fpos.true))
+    (omega (arith, t, c.loop-low.invariant.0), c.loop-low.invariant.1 ∙ step-low _ _ _ _ t (sym (ap (lt_z back) read) ∙ c.if-u-fpos.true))
 
 pub returns-then-u-fpos-2 : goal.returns-then-u-fpos-2
 returns-then-u-fpos-2 c =
-    let f = c.before.before in
-    let l = f.before.before in
-    sym (from-u l ∙ step-on _ _ _ _ f.loop-low-test.true (ap (to_z w32) c.if-u-fpos-2.true ∙ read f))
+    let fpos : ℕ → ℤ = fpos_at (edges_of c.args.words.now) in
+    let mid : ℕ = middle c.loop-low.low c.loop-low.high in
+    let read : to_z w32 (of_z w32 c.read_fpos-fpos.result) ≡ fpos mid =
+    kept w32 c.read_fpos-fpos.result c.read_fpos-fpos.type_inv ∙ c.read_fpos-fpos.ensures in
+    let back : ℤ = to_z w32 (of_z w32 c.args.u) in
+    let from-u : by_halving fpos c.args.u (edges_in c.args.words.now) 0 (edges_in c.args.words.now) ≡ by_halving fpos back (c.loop-low.high - c.loop-low.low) c.loop-low.low c.loop-low.high =
+    let n = edges_in c.args.words.now in ap (λ (z : ℤ). by_halving fpos z n 0 n) (sym (is c.ranges.u)) ∙ c.loop-low.invariant.1 in
+    sym (from-u ∙ step-on _ _ _ _ c.loop-low-test.true (ap (to_z w32) c.if-u-fpos-2.true ∙ read))
 
 pub overflow_add-low : goal.overflow_add-low
-overflow_add-low c = let f = c.before.before in omega (arith, f.loop-low-test.true, f.loop-low.invariant.0, f.requires.few)
+overflow_add-low c = omega (arith, c.loop-low-test.true, c.loop-low.invariant.0, c.requires.few)
 
 pub loop-low-smaller : goal.loop-low-smaller
 loop-low-smaller c = omega (arith, c.loop-low-test.true)
 
--- u is not on the edge
-apart : (c : Else-u-fpos-2) → back c.before.before.before.before
-    ≡ fpos c.before.before.before.before (mid c.before.before.before.before) → ⊥
-apart c e =
-    let f = c.before.before in
-    let s = f.before.before.before in
-    c.if-u-fpos-2.false (ap (of_z w32) (sym (is s.ranges.u) ∙ e ∙ sym f.read_fpos-fpos.ensures))
-
 pub loop-low-preserved : goal.loop-low-preserved
 loop-low-preserved c =
-    let f = c.before.before in
-    let l = f.before.before in
-    (l.loop-low.invariant.0, l.loop-low.invariant.1 ∙ step-high _ _ _ _ f.loop-low-test.true (told f c.if-u-fpos.false) (apart c))
+    let fpos : ℕ → ℤ = fpos_at (edges_of c.args.words.now) in
+    let back : ℤ = to_z w32 (of_z w32 c.args.u) in
+    let mid : ℕ = middle c.loop-low.low c.loop-low.high in
+    let read : to_z w32 (of_z w32 c.read_fpos-fpos.result) ≡ fpos mid =
+    kept w32 c.read_fpos-fpos.result c.read_fpos-fpos.type_inv ∙ c.read_fpos-fpos.ensures in
+    let apart : back ≡ fpos mid → ⊥ =
+    λ e. c.if-u-fpos-2.false (ap (of_z w32) (sym (is c.ranges.u) ∙ e ∙ sym c.read_fpos-fpos.ensures)) in
+    (c.loop-low.invariant.0, c.loop-low.invariant.1 ∙ step-high _ _ _ _ c.loop-low-test.true (sym (ap (lt_z back) read) ∙ c.if-u-fpos.false) apart)
 
 pub returns : goal.returns
-returns c = let l = c.before in sym (from-u l ∙ steps-end _ _ _ _ c.loop-low-test.false)
+returns c =
+    let fpos : ℕ → ℤ = fpos_at (edges_of c.args.words.now) in
+    let back : ℤ = to_z w32 (of_z w32 c.args.u) in
+    let from-u : by_halving fpos c.args.u (edges_in c.args.words.now) 0 (edges_in c.args.words.now) ≡ by_halving fpos back (c.loop-low.high - c.loop-low.low) c.loop-low.low c.loop-low.high =
+    let n = edges_in c.args.words.now in ap (λ (z : ℤ). by_halving fpos z n 0 n) (sym (is c.ranges.u)) ∙ c.loop-low.invariant.1 in
+    sym (from-u ∙ steps-end _ _ _ _ c.loop-low-test.false)

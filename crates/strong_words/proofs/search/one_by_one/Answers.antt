@@ -1,7 +1,6 @@
 -- `strong_words::search::one_by_one` meets its contract. The invariant: what is left is searched.
 use native.Mathlib.Omega.{arith}
 use mathlib.Core.Path.{◌≡◌, sym, ap, ◌∙◌}
-use mathlib.Core.Bool.{Bool}
 use Prim.Native.Nat.{ℕ, ◌-◌, ◌≤◌}
 use lib.IntN.{ℤ}
 use lib.Signed.{le_z}
@@ -14,24 +13,6 @@ use Rattle.words_call.specs.Lent.{edges_of}
 use Rattle.strong.specs.Strong.{one_by_one, fpos_at}
 use Rattle.strong.proofs.Search.{one-start, one-here, one_on, one_end}
 use Rattle.strong_words.proofs.search.one_by_one.Goals as goal
-use Rattle.strong_words.proofs.search.one_by_one.Goals.{After-read_fpos, At-loop-i}
-
--- the font positions, and u as the loop reads it
-abbrev fpos : At-loop-i → ℕ → ℤ
-fpos l = fpos_at (edges_of l.args.words.now)
-
-abbrev back : At-loop-i → ℤ
-back l = to_z w32 (of_z w32 l.args.u)
-
--- what the test tells of the edge
-told : (c : After-read_fpos) {v : Bool} → le_z (back c.before.before) (to_z w32 (of_z w32 c.read_fpos.result)) ≡ v
-    → le_z (back c.before.before) (fpos c.before.before c.loop-i.i) ≡ v
-told c e = sym (ap (le_z (back c.before.before)) (kept w32 c.read_fpos.result c.read_fpos.type_inv ∙ c.read_fpos.ensures)) ∙ e
-
--- what is searched, by u itself
-from-u : (l : At-loop-i) → one_by_one (fpos l) l.args.u 0 (edges_in l.args.words.now)
-    ≡ one_by_one (fpos l) (back l) l.loop-i.i (edges_in l.args.words.now - l.loop-i.i)
-from-u l = ap (λ (z : ℤ). one_by_one (fpos l) z 0 (edges_in l.args.words.now)) (sym (is l.ranges.u)) ∙ l.loop-i.invariant.1
 
 pub loop-i-init : goal.loop-i-init
 loop-i-init c = (omega arith, one-start _ _ _)
@@ -40,7 +21,12 @@ pub read_fpos-requires : goal.read_fpos-requires
 read_fpos-requires c = (c.requires, c.loop-i-test.true)
 
 pub returns-then-u-read_fpos : goal.returns-then-u-read_fpos
-returns-then-u-read_fpos c = let l = c.before.before.before in sym (from-u l ∙ one-here _ _ _ _ c.loop-i-test.true (told c.before c.if-u-read_fpos.true))
+returns-then-u-read_fpos c =
+    let fpos : ℕ → ℤ = fpos_at (edges_of c.args.words.now) in
+    let back : ℤ = to_z w32 (of_z w32 c.args.u) in
+    let from-u : one_by_one fpos c.args.u 0 (edges_in c.args.words.now) ≡ one_by_one fpos back c.loop-i.i (edges_in c.args.words.now - c.loop-i.i) =
+    ap (λ (z : ℤ). one_by_one fpos z 0 (edges_in c.args.words.now)) (sym (is c.ranges.u)) ∙ c.loop-i.invariant.1 in
+    sym (from-u ∙ one-here _ _ _ _ c.loop-i-test.true (sym (ap (le_z back) (kept w32 c.read_fpos.result c.read_fpos.type_inv ∙ c.read_fpos.ensures)) ∙ c.if-u-read_fpos.true))
 
 pub overflow_step-i : goal.overflow_step-i
 overflow_step-i c = omega (arith, c.loop-i-test.true, c.requires.few)
@@ -50,12 +36,16 @@ loop-i-smaller c = omega (arith, c.loop-i-test.true)
 
 pub loop-i-preserved : goal.loop-i-preserved
 loop-i-preserved c =
-    let l = c.before.before.before in
+    let fpos : ℕ → ℤ = fpos_at (edges_of c.args.words.now) in
+    let back : ℤ = to_z w32 (of_z w32 c.args.u) in
     let t = c.loop-i-test.true in
-    (omega arith, l.loop-i.invariant.1 ∙ one_on _ _ _ _ t (told c.before c.if-u-read_fpos.false))
+    (omega arith, c.loop-i.invariant.1 ∙ one_on _ _ _ _ t (sym (ap (le_z back) (kept w32 c.read_fpos.result c.read_fpos.type_inv ∙ c.read_fpos.ensures)) ∙ c.if-u-read_fpos.false))
 
 pub returns : goal.returns
 returns c =
-    let l = c.before in
-    let e : l.loop-i.i ≡ edges_in l.args.words.now = omega (arith, l.loop-i.invariant.0, c.loop-i-test.false) in
-    sym (from-u l ∙ one_end _ _ _ _ c.loop-i-test.false ∙ e)
+    let fpos : ℕ → ℤ = fpos_at (edges_of c.args.words.now) in
+    let back : ℤ = to_z w32 (of_z w32 c.args.u) in
+    let from-u : one_by_one fpos c.args.u 0 (edges_in c.args.words.now) ≡ one_by_one fpos back c.loop-i.i (edges_in c.args.words.now - c.loop-i.i) =
+    ap (λ (z : ℤ). one_by_one fpos z 0 (edges_in c.args.words.now)) (sym (is c.ranges.u)) ∙ c.loop-i.invariant.1 in
+    let e : c.loop-i.i ≡ edges_in c.args.words.now = omega (arith, c.loop-i.invariant.0, c.loop-i-test.false) in
+    sym (from-u ∙ one_end _ _ _ _ c.loop-i-test.false ∙ e)

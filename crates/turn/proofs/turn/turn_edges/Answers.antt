@@ -9,11 +9,6 @@ use Rattle.axis.proofs.Declared.{typed-axis}
 use Rattle.axis.proofs.Tests.{every-at}
 use Rattle.turn.proofs.Places.{edges_to, edges_more, edges-all}
 use Rattle.turn.proofs.turn.turn_edges.Goals as goal
-use Rattle.turn.proofs.turn.turn_edges.Goals.{Start}
-
--- the table has all its places
-whole : (c : Start) → c.args.t1.len ≤ length c.args.t1.edges
-whole c = omega (arith, (typed-axis c.args.t1 _ c.well_formed.0).places, c.requires.0)
 
 pub loop-i-init : goal.loop-i-init
 loop-i-init c = (omega arith, c.requires.0, refl)
@@ -32,9 +27,7 @@ bounds-axis-count c = omega arith
 
 pub turned_edge-requires : goal.turned_edge-requires
 unfolding edges_indices
-turned_edge-requires c =
-    let start = c.before.before.before in
-    (start.requires.0, every-at _ _ (min start.args.t1.len most_edges) start.requires.1 (omega arith))
+turned_edge-requires c = (c.requires.0, every-at _ _ (min c.args.axis.len most_edges) c.requires.1 (omega arith))
 
 pub offset_bounds-turned-i : goal.offset_bounds-turned-i
 offset_bounds-turned-i c = omega arith
@@ -50,16 +43,14 @@ loop-i-smaller c = omega arith
 
 pub loop-i-preserved : goal.loop-i-preserved
 loop-i-preserved c =
-    let loop = c.before.before.before in
-    let start = loop.before in (
+    let whole : c.args.axis.len ≤ length c.args.axis.edges = omega (arith, (typed-axis c.args.axis _ c.well_formed.0).places, c.requires.0) in (
       omega arith,
-      loop.loop-i.invariant.1,
-      edges_more start.args.t1 (whole start) _ _ _ c.loop-i-test.true loop.loop-i.invariant.2
+      c.loop-i.invariant.1,
+      edges_more c.args.axis whole _ _ _ c.loop-i-test.true c.loop-i.invariant.2
           c.turned_edge.ensures,
     )
 
 pub returns : goal.returns
 returns c =
-    let loop = c.before in
-    let start = loop.before in
-    loop.loop-i.invariant.2 ∙ edges-all start.args.t1 (whole start) _ loop.loop-i.invariant.0 c.loop-i-test.false
+    let whole : c.args.axis.len ≤ length c.args.axis.edges = omega (arith, (typed-axis c.args.axis _ c.well_formed.0).places, c.requires.0) in
+    c.loop-i.invariant.2 ∙ edges-all c.args.axis whole _ c.loop-i.invariant.0 c.loop-i-test.false

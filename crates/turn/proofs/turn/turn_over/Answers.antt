@@ -6,31 +6,24 @@ use Rattle.axis.specs.Limits.{most_edges, most_segments}
 use Rattle.turn.specs.Turning as T
 use Rattle.turn.proofs.Calls.{Taken, took}
 use Rattle.turn.proofs.turn.turn_over.Goals as goal
-use Rattle.turn.proofs.turn.turn_over.Goals.{Else-answer-gt0}
-
--- where the code goes on, the call is accepted
-accepted : (c : Else-answer-gt0) → Taken c.args.axis c.args.segments
-accepted c = took _ _ c.turning_refusal-answer.result c.turning_refusal-answer.ensures c.if-answer-gt0.false
 
 pub returns-then-answer-gt0 : goal.returns-then-answer-gt0
 unfolding T.turn_over
-returns-then-answer-gt0 c =
-    let s = c.args in
+returns-then-answer-gt0 c = let s = c.args in
     answered-no _ _ (T.beside s.axis s.segments) _ c.turning_refusal-answer.ensures c.if-answer-gt0.true
 
 pub turn_edges-requires : goal.turn_edges-requires
-turn_edges-requires c = let a = accepted c in (leb-true _ most_edges a.edges.short, a.edges.indexed)
+turn_edges-requires c =
+    let accepted : Taken c.args.axis c.args.segments = took _ _ c.turning_refusal-answer.result c.turning_refusal-answer.ensures c.if-answer-gt0.false in
+    let a = accepted in (leb-true _ most_edges a.edges.short, a.edges.indexed)
 
 pub turn_segments-requires : goal.turn_segments-requires
 turn_segments-requires c =
-    let a = accepted c.before in (leb-true _ most_segments a.segments.short, leb-true _ most_edges a.edges.short, a.to_edges)
+    let accepted : Taken c.args.axis c.args.segments = took _ _ c.turning_refusal-answer.result c.turning_refusal-answer.ensures c.if-answer-gt0.false in
+    let a = accepted in (leb-true _ most_segments a.segments.short, leb-true _ most_edges a.edges.short, a.to_edges)
 
 pub returns : goal.returns
 unfolding T.turn_over
-returns c =
-    let edges = c.before in
-    let else1 = edges.before in
-    let refusal = else1.before in
-    let s = refusal.args in
-    answered-yes _ _ (T.beside s.axis s.segments) _ _ refusal.turning_refusal-answer.ensures else1.if-answer-gt0.false
-    (λ i. record { answer = 0; axis = edges.turn_edges.ensures i; segments = c.turn_segments.ensures i })
+returns c = let s = c.args in
+    answered-yes _ _ (T.beside s.axis s.segments) _ _ c.turning_refusal-answer.ensures c.if-answer-gt0.false
+    (λ i. record { answer = 0; axis = c.turn_edges.ensures i; segments = c.turn_segments.ensures i })

@@ -9,11 +9,6 @@ use Rattle.axis.proofs.Tests.{every-at}
 use Rattle.turn.specs.Indices.{segments_edges}
 use Rattle.turn.proofs.Places.{segments_to, segments-more, segments-all}
 use Rattle.turn.proofs.turn.turn_segments.Goals as goal
-use Rattle.turn.proofs.turn.turn_segments.Goals.{Start}
-
--- the table has all its places
-whole : (c : Start) → c.args.t1.len ≤ length c.args.t1.segments
-whole c = omega (arith, (typed c.args.t1 _ c.well_formed.0).places, c.requires.0)
 
 pub loop-i-init : goal.loop-i-init
 loop-i-init c = (omega arith, c.requires.0, refl)
@@ -26,9 +21,7 @@ bounds-segments-i c = omega arith
 
 pub turned_segment-requires : goal.turned_segment-requires
 unfolding segments_edges
-turned_segment-requires c =
-    let start = c.before.before.before in
-    (start.requires.1, every-at _ _ (min start.args.t1.len most_segments) start.requires.2 (omega arith))
+turned_segment-requires c = (c.requires.1, every-at _ _ (min c.args.segments.len most_segments) c.requires.2 (omega arith))
 
 pub offset_bounds-turned-i : goal.offset_bounds-turned-i
 offset_bounds-turned-i c = omega arith
@@ -44,16 +37,14 @@ loop-i-smaller c = omega arith
 
 pub loop-i-preserved : goal.loop-i-preserved
 loop-i-preserved c =
-    let loop = c.before.before.before in
-    let start = loop.before in (
+    let whole : c.args.segments.len ≤ length c.args.segments.segments = omega (arith, (typed c.args.segments _ c.well_formed.0).places, c.requires.0) in (
       omega arith,
-      loop.loop-i.invariant.1,
-      segments-more start.args.count start.args.t1 (whole start) _ _ _ c.loop-i-test.true loop.loop-i.invariant.2
+      c.loop-i.invariant.1,
+      segments-more c.args.count c.args.segments whole _ _ _ c.loop-i-test.true c.loop-i.invariant.2
           c.turned_segment.ensures,
     )
 
 pub returns : goal.returns
 returns c =
-    let loop = c.before in
-    let start = loop.before in
-    loop.loop-i.invariant.2 ∙ segments-all start.args.count start.args.t1 (whole start) _ loop.loop-i.invariant.0 c.loop-i-test.false
+    let whole : c.args.segments.len ≤ length c.args.segments.segments = omega (arith, (typed c.args.segments _ c.well_formed.0).places, c.requires.0) in
+    c.loop-i.invariant.2 ∙ segments-all c.args.count c.args.segments whole _ c.loop-i.invariant.0 c.loop-i-test.false

@@ -1,8 +1,5 @@
 -- `weak::accept::all_near` meets its contract.
-use borrow.Author.Rules.{rules}
-use borrow.Author.Tests.{not-true, not-false}
-use mathlib.Core.Path.{◌≡◌, sym, ◌∙◌}
-use mathlib.Core.Bool.{true, false}
+use mathlib.Core.Path.{sym, ◌∙◌}
 use Rattle.weak.proofs.Refusals.{near-not, near-then}
 use Rattle.weak.proofs.accept.all_near.Goals as goal
 

@@ -1,11 +1,8 @@
 -- `weak::accept::ends_hold` meets its contract. The invariant: the ends hold where those that are left do, from `start` on.
-use borrow.Author.Rules.{rules}
-use native.Mathlib.Omega.{arith}
-use mathlib.Core.Path.{◌≡◌, sym, ap, ◌∙◌}
-use Prim.Native.Nat.{ℕ, ◌+◌, ◌≤◌, ◌-◌}
+use mathlib.Core.Path.{◌≡◌}
+use Prim.Native.Nat.{◌≤◌, ◌-◌}
 use lib.ListN.{length, drop}
 use Rattle.weak.specs.Weak.{ends_hold}
-use Rattle.weak.proofs.Refusals.{ends_low, ends-high, ends_on, ends-end}
 use Rattle.weak.proofs.accept.ends_hold.Given as goal
 
 abbrev pub invariant-loop-k : goal.invariant-loop-k

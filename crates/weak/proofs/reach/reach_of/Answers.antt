@@ -1,32 +1,23 @@
 -- `weak::reach::reach_of` meets its contract. The invariant: the least and the largest are those of what was passed.
-use borrow.Author.Rules.{rules}
 use native.Mathlib.Omega.{arith}
-use mathlib.Core.Path.{◌≡◌}
-use Prim.Native.Nat.{◌≤◌, ◌-◌}
-use lib.ListN.{length}
 use mir.Syntax.{w32}
-use mir.Val.{to_z}
 use Rattle.signed.proofs.Signed.{is, got}
 use Rattle.weak_contour.specs.Contour.{at}
-use Rattle.weak.proofs.Reaching.{Reached, reached-none, reached-next, reached-all}
+use Rattle.weak.proofs.Reaching.{reached-none, reached-next, reached-all}
 use Rattle.weak.proofs.reach.reach_of.Goals as goal
 
 pub loop-i-init : goal.loop-i-init
 loop-i-init c = (omega arith, reached-none _)
 
 pub loop-i-preserved : goal.loop-i-preserved
-loop-i-preserved c =
-    let b = c in
-    let r = b in
-    let l = r in
-    let x = at l.args.list.now l.loop-i.i in
-    let e = is (got w32 x r.x-1.given) in
-    let p = is (got w32 b.lesser-least.result b.lesser-least.type_inv) in
+loop-i-preserved c = let x = at c.args.list.now c.loop-i.i in
+    let e = is (got w32 x c.x-1.given) in
+    let p = is (got w32 c.lesser-least.result c.lesser-least.type_inv) in
     let q = is (got w32 c.greater-most.result c.greater-most.type_inv) in (
       omega arith,
-      reached-next _ _ _ _ _ _ l.loop-i.invariant.1 (rw p b.lesser-least.ensures.0) (rw (p, ← e) b.lesser-least.ensures.1)
+      reached-next _ _ _ _ _ _ c.loop-i.invariant.1 (rw p c.lesser-least.ensures.0) (rw (p, ← e) c.lesser-least.ensures.1)
           (rw q c.greater-most.ensures.0) (rw (q, ← e) c.greater-most.ensures.1),
     )
 
 pub returns : goal.returns
-returns c = let l = c in reached-all _ _ _ _ (omega arith) l.loop-i.invariant.1
+returns c = reached-all _ _ _ _ (omega arith) c.loop-i.invariant.1

@@ -9,31 +9,24 @@ use Rattle.weak.proofs.Determined.{result-refused, result-done}
 use Rattle.weak.proofs.weak.align_unrefused.Goals as goal
 
 pub returns-then-answer-gt0 : goal.returns-then-answer-gt0
-returns-then-answer-gt0 c =
-    let s = c in
-    let a = s.args in
-    let e = s.requires in
-    record { answer = e; currents = result-refused a.originals.now a.currents-1.now a.touched.now a.ends.now _ e c.if-answer-gt0.true }
+returns-then-answer-gt0 c = let a = c.args in
+    let e = c.requires in
+    record { answer = e; currents = result-refused a.originals.now a.currents.now a.touched.now a.ends.now _ e c.if-answer-gt0.true }
 
 pub align_contours-requires : goal.align_contours-requires
-align_contours-requires c =
-    let s = c in
-    let a = s.args in
-    let z : refusal (weak_tests a.originals.now a.currents-1.now a.touched.now a.ends.now) ≡ 0 = omega (arith, s.requires, c.if-answer-gt0.false) in
+align_contours-requires c = let a = c.args in
+    let z : refusal (weak_tests a.originals.now a.currents.now a.touched.now a.ends.now) ≡ 0 = omega (arith, c.requires, c.if-answer-gt0.false) in
     record {
-      accepted = accepted a.originals.now a.currents-1.now a.touched.now a.ends.now z;
-      gentle_all = accepted-gentle a.originals.now a.currents-1.now
+      accepted = accepted a.originals.now a.currents.now a.touched.now a.ends.now z;
+      gentle_all = accepted-gentle a.originals.now a.currents.now
           a.touched.now a.ends.now z;
     }
 
 pub returns : goal.returns
-returns c =
-    let e = c in
-    let s = e in
-    let a = s.args in
-    let z : refusal (weak_tests a.originals.now a.currents-1.now a.touched.now a.ends.now) ≡ 0 = omega (arith, s.requires, e.if-answer-gt0.false) in
+returns c = let a = c.args in
+    let z : refusal (weak_tests a.originals.now a.currents.now a.touched.now a.ends.now) ≡ 0 = omega (arith, c.requires, c.if-answer-gt0.false) in
     record {
       answer = sym z;
-      currents = result-done a.originals.now a.currents-1.now a.touched.now a.ends.now _ z
+      currents = result-done a.originals.now a.currents.now a.touched.now a.ends.now _ z
           c.align_contours.ensures;
     }

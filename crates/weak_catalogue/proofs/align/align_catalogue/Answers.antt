@@ -11,7 +11,4 @@ pub align_outlines-requires : goal.align_outlines-requires
 align_outlines-requires c = adding _ _ _ _ _ _ _ (omega (arith, c.catalogue_refusal-answer.ensures, c.if-answer-gt0.false))
 
 pub returns : goal.returns
-returns c =
-    let o = c in
-    let e = o in
-    when-accepted _ _ _ _ _ _ _ _ _ (omega (arith, e.catalogue_refusal-answer.ensures, e.if-answer-gt0.false)) o.align_outlines.ensures
+returns c = when-accepted _ _ _ _ _ _ _ _ _ (omega (arith, c.catalogue_refusal-answer.ensures, c.if-answer-gt0.false)) c.align_outlines.ensures

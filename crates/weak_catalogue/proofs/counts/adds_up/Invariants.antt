@@ -1,13 +1,10 @@
 -- `weak_catalogue::counts::adds_up` meets its contract. The invariant: the counts add up to the length where those that are left add up to what remains of it.
 --
-use borrow.Author.Rules.{rules}
-use native.Mathlib.Omega.{arith}
-use mathlib.Core.Path.{◌≡◌, sym, ap, ◌∙◌}
+use mathlib.Core.Path.{◌≡◌}
 use Prim.Native.Nat.{◌≤◌, ◌-◌}
 use lib.Dec.{eqb}
 use lib.ListN.{length as len, drop}
 use Rattle.weak_catalogue.specs.Catalogue.{total}
-use Rattle.weak_catalogue.proofs.Adding.{total-none, adds-over, adds_on}
 use Rattle.weak_catalogue.proofs.counts.adds_up.Given as goal
 
 abbrev pub invariant-loop-j : goal.invariant-loop-j

@@ -6,17 +6,9 @@ use Rattle.refusals.proofs.Tests.{none-tested, then-tested}
 use Rattle.weak_catalogue.proofs.counts.catalogue_refusal.Goals as goal
 
 pub returns : goal.returns
-returns c =
-    let contours = c in
-    let added = contours in
-    let points = added in
-    let marks = points in
-    let currents = marks in
-    let contour-counts = currents in
-    let point-counts = contour-counts in
-    let one = then-tested too_long none-tested refl point-counts.or_refused-answer.ensures refl in
-    let two = then-tested too_long one refl contour-counts.or_refused-answer-2.ensures refl in
-    let three = then-tested too_long two refl currents.or_refused-answer-3.ensures refl in
-    let four = then-tested too_long three refl marks.or_refused-answer-4.ensures refl in
-    let five = then-tested too_long four refl added.or_refused-answer-5.ensures points.adds_up.ensures in
-    (then-tested too_long five refl c.or_refused.ensures contours.adds_up-2.ensures).refused
+returns c = let one = then-tested too_long none-tested refl c.or_refused-answer.ensures refl in
+    let two = then-tested too_long one refl c.or_refused-answer-2.ensures refl in
+    let three = then-tested too_long two refl c.or_refused-answer-3.ensures refl in
+    let four = then-tested too_long three refl c.or_refused-answer-4.ensures refl in
+    let five = then-tested too_long four refl c.or_refused-answer-5.ensures c.adds_up.ensures in
+    (then-tested too_long five refl c.or_refused.ensures c.adds_up-2.ensures).refused

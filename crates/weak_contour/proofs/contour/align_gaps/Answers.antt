@@ -9,21 +9,18 @@ use Rattle.weak_contour.proofs.Stretch.{upto-first, upto_next, at_p, at-q, gentl
 use Rattle.weak_contour.proofs.contour.align_gaps.Goals as goal
 
 pub loop-next-init : goal.loop-next-init
-loop-next-init c =
-    let s = c in (
-      upto-first s.args.originals.now s.args.currents.now s.args.touched.now s.args.first (omega arith) s.requires.first_in_bounds.1,
-      c.next_touched-next.ensures,
-    )
+loop-next-init c = (
+  upto-first c.args.originals.now c.args.currents.now c.args.touched.now c.args.first (omega arith) c.requires.first_in_bounds.1,
+  c.next_touched-next.ensures,
+)
 
 pub interpolate_some-requires : goal.interpolate_some-requires
-interpolate_some-requires c =
-    let s = c in
-    let l = c.loop-next in
+interpolate_some-requires c = let l = c.loop-next in
     let u = l.invariant.0 in
     let x = l.invariant.1 in
-    let r = s.requires.coordinates in
+    let r = c.requires.coordinates in
     record {
-      currents_len = (u.len ∙ s.requires.currents_len.0, x.low, omega arith);
+      currents_len = (u.len ∙ c.requires.currents_len.0, x.low, omega arith);
       ref1_in_bounds = (omega (arith, u.high), omega arith);
       coordinates = (
         r.0,
@@ -35,17 +32,13 @@ interpolate_some-requires c =
     }
 
 pub loop-next-preserved : goal.loop-next-preserved
-loop-next-preserved c =
-    let i = c in
-    let t = i in
-    let l = t.loop-next in
-    (upto_next _ _ _ _ _ _ _ l.invariant.0 l.invariant.1 _ t.loop-next-test.true i.interpolate_some.ensures, c.next_touched-next-in-loop-next.ensures)
+loop-next-preserved c = let l = c.loop-next in
+    (upto_next _ _ _ _ _ _ _ l.invariant.0 l.invariant.1 _ c.loop-next-test.true c.interpolate_some.ensures, c.next_touched-next-in-loop-next.ensures)
 
 pub shape_of-currents : goal.shape_of-currents
 shape_of-currents c = c.loop-next.invariant.0.len
 
 pub returns : goal.returns
-returns c =
-    let l = c.loop-next in
+returns c = let l = c.loop-next in
     let e : l.next ≡ length c.args.touched.now = omega (arith, l.invariant.1.high) in
     (l.invariant.0, rw e at l.invariant.1)

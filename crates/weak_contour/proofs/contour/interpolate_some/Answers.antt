@@ -6,7 +6,6 @@ use Rattle.weak_contour.proofs.Writing.{wrote_none}
 use Rattle.weak_contour.proofs.contour.interpolate_some.Goals as goal
 
 pub returns-else-from-to : goal.returns-else-from-to
-returns-else-from-to c =
-    let a = c.args in
+returns-else-from-to c = let a = c.args in
     let e : a.from ≡ a.to = omega arith in
-    rw (sym e) (wrote_none _ a.from a.currents-1.now)
+    rw (sym e) (wrote_none _ a.from a.currents.now)

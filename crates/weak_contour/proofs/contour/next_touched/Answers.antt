@@ -1,15 +1,10 @@
 -- `weak_contour::contour::next_touched` meets its contract. The invariant: no point passed is touched.
 use borrow.Author.Count.{below_more}
-use borrow.Author.Rules.{rules}
 use native.Mathlib.Omega.{arith}
-use mathlib.Core.Path.{◌≡◌}
-use Prim.Native.Nat.{ℕ, ◌≤◌, ◌<◌, ◌-◌}
-use lib.ListN.{length, get_or}
 use Rattle.weak_contour.proofs.contour.next_touched.Goals as goal
 
 pub returns-then-touched-i-ne0 : goal.returns-then-touched-i-ne0
-returns-then-touched-i-ne0 c =
-    let v = c.loop-i.invariant in
+returns-then-touched-i-ne0 c = let v = c.loop-i.invariant in
     record { low = v.0; high = v.1; clear = v.2; here = λ _. omega (arith, c.if-touched-i-ne0.true) }
 
 pub loop-i-preserved : goal.loop-i-preserved

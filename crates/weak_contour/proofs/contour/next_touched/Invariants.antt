@@ -1,7 +1,4 @@
 -- `weak_contour::contour::next_touched` meets its contract. The invariant: no point passed is touched.
-use borrow.Author.Count.{below_more}
-use borrow.Author.Rules.{rules}
-use native.Mathlib.Omega.{arith}
 use mathlib.Core.Path.{◌≡◌}
 use Prim.Native.Nat.{ℕ, ◌≤◌, ◌<◌, ◌-◌}
 use lib.ListN.{length, get_or}

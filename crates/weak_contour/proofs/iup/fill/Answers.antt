@@ -14,42 +14,36 @@ use Rattle.weak_contour.specs.Contour.{at, interpolated, steep_between}
 use Rattle.weak_contour.specs.Steps.{Wrote, spanned_at}
 use Rattle.weak_contour.proofs.Writing.{wrote_none, wrote-more}
 use Rattle.weak_contour.proofs.iup.fill.Goals as goal
-use Rattle.weak_contour.proofs.iup.fill.Goals.{After-place-arg-1}
 
 pub loop-i-init : goal.loop-i-init
 loop-i-init c = (omega arith, omega arith, wrote_none _ _ _)
 
--- the original that a turn reads, and that the machine reads it whole
-abbrev original : After-place-arg-1 → ℤ
-original c = at c.args.originals.now c.loop-i.i
-
-whole : (c : After-place-arg-1) → SFits w32 (original c)
-whole c = fits-in w32 (c.requires.coordinates.0 c.loop-i.i) tt tt
-
 pub place-u-requires : goal.place-u-requires
 place-u-requires c =
+    let original : ℤ = at c.args.originals.now c.loop-i.i in
+    let whole : SFits w32 original = fits-in w32 (c.requires.coordinates.0 c.loop-i.i) tt tt in
     let p = c.requires.coordinates in
     let l = c.loop-i in
     let s = c.args.span in
-    let e : steep_between (original c) s.v1 s.u1 s.v2 s.u2 ≡ false = p.2 l.i l.invariant.0 (omega arith) in
+    let e : steep_between original s.v1 s.u1 s.v2 s.u2 ≡ false = p.2 l.i l.invariant.0 (omega arith) in
     record {
-      coordinate = subst (Between most_coordinate most_coordinate) (sym (is (whole c))) (p.0 l.i);
-      span_holds = (p.1, ap (λ (z : ℤ). steep_between z s.v1 s.u1 s.v2 s.u2) (is (whole c)) ∙ e);
+      coordinate = subst (Between most_coordinate most_coordinate) (sym (is whole)) (p.0 l.i);
+      span_holds = (p.1, ap (λ (z : ℤ). steep_between z s.v1 s.u1 s.v2 s.u2) (is whole) ∙ e);
     }
 
 pub loop-i-preserved : goal.loop-i-preserved
 unfolding spanned_at
 loop-i-preserved c =
+    let whole : SFits w32 (at c.args.originals.now c.loop-i.i) = fits-in w32 (c.requires.coordinates.0 c.loop-i.i) tt tt in
     let l = c.loop-i in
     let s = c.args.span in
     let e = is (got w32 c.place-u.result c.place-u.type_inv) ∙ c.place-u.ensures
-    ∙ ap (λ (z : ℤ). interpolated z s.v1 s.u1 s.v2 s.u2) (is (whole c.before)) in
+    ∙ ap (λ (z : ℤ). interpolated z s.v1 s.u1 s.v2 s.u2) (is whole) in
     (omega arith, omega arith, wrote-more _ _ _ _ _ _ l.invariant.0 (omega arith) l.invariant.2 e)
 
 pub shape_of-currents : goal.shape_of-currents
 shape_of-currents c = c.loop-i.invariant.2.len
 
 pub returns : goal.returns
-returns c =
-    let e : c.loop-i.i ≡ c.args.to = omega arith in
+returns c = let e : c.loop-i.i ≡ c.args.to = omega arith in
     rw e at c.loop-i.invariant.2

@@ -1,16 +1,6 @@
 -- `weak_contour::iup::move_by` meets its contract. The invariant: the points passed are moved.
-use borrow.Author.Rules.{rules}
-use native.Mathlib.Omega.{arith}
-use mathlib.Core.Path.{◌≡◌, refl}
 use Prim.Native.Nat.{◌≤◌, ◌-◌}
-use lib.IntN.{ℤ, ◌+ℤ◌}
-use mir.Syntax.{w32}
-use mir.Val.{to_z, SFits}
-use Rattle.signed.proofs.Signed.{signed, fits, is, got, ◌also◌}
-use Rattle.weak_contour.specs.Contour.{at}
 use Rattle.weak_contour.specs.Steps.{Wrote, moved_by}
-use Rattle.signed.proofs.By.{by₂}
-use Rattle.weak_contour.proofs.Writing.{wrote_none, wrote-more}
 use Rattle.weak_contour.proofs.iup.move_by.Given as goal
 
 abbrev pub invariant-loop-i : goal.invariant-loop-i

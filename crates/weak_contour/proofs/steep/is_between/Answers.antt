@@ -8,10 +8,8 @@ use Rattle.weak_contour.proofs.Steepness.{between_low, between-rest}
 use Rattle.weak_contour.proofs.steep.is_between.Goals as goal
 
 pub returns-then-v-v1 : goal.returns-then-v-v1
-returns-then-v-v1 c = let s = c in let f = s.ranges in between_low s.args.v s.args.v1 s.args.v2 (omega (arith, signed))
+returns-then-v-v1 c = let f = c.ranges in between_low c.args.v c.args.v1 c.args.v2 (omega (arith, signed))
 
 pub returns : goal.returns
-returns c =
-    let s = c in
-    let f = s.ranges in
-    by₂ lt_z refl (is f.v) (is f.v2) ∙ between-rest s.args.v s.args.v1 s.args.v2 (omega (arith, signed))
+returns c = let f = c.ranges in
+    by₂ lt_z refl (is f.v) (is f.v2) ∙ between-rest c.args.v c.args.v1 c.args.v2 (omega (arith, signed))

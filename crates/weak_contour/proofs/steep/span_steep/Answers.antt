@@ -7,7 +7,7 @@ use mathlib.Core.Bool.{true, false}
 use Prim.Native.Nat.{ℕ, ◌+◌, ◌<◌}
 use lib.IntN.{ℤ, nat_abs, ◌-ℤ◌}
 use mir.Syntax.{w32}
-use mir.Val.{to_z, of_z}
+use mir.Val.{SFits, to_z, of_z}
 use Rattle.signed.specs.Parts.{up, dn}
 use Rattle.signed.specs.Range.{Between}
 use Rattle.signed.proofs.Signed.{signed, fits, is, sub-law}
@@ -18,63 +18,54 @@ use Rattle.weak_contour.specs.Steps.{between_originals}
 use Rattle.weak_contour.proofs.Spans.{apart, span-some}
 use Rattle.weak_contour.proofs.Steepness.{missed, tells_as, level-for, gentle-for, between-for}
 use Rattle.weak_contour.proofs.steep.span_steep.Goals as goal
-use Rattle.weak_contour.proofs.steep.span_steep.Goals.{After-is_steep, Else-v1-v2}
 
 pub returns-then-v1-v2 : goal.returns-then-v1-v2
-returns-then-v1-v2 c =
-    let s = c.before in
-    let a = s.args in
-    let e = sym (is s.ranges.v1) ∙ ap (to_z w32) c.if-v1-v2.true ∙ is s.ranges.v2 in
+returns-then-v1-v2 c = let a = c.args in
+    let e = sym (is c.ranges.v1) ∙ ap (to_z w32) c.if-v1-v2.true ∙ is c.ranges.v2 in
     missed _ _ _ (λ i l h. level-for a.originals.now a.v1 a.u1 a.v2 a.u2 e i)
 
--- where the code goes on, the originals differ
-spanned : (c : Else-v1-v2) → up c.args.v1 + dn c.args.v2 < up c.args.v2 + dn c.args.v1
-spanned c =
-    let s = c.before in
-    let a = s.args in
-    apart a.v1 a.u1 a.v2 a.u2 s.requires.ordered.order (λ e. c.if-v1-v2.false (ap (of_z w32) e))
-
 pub overflow_sub-u2 : goal.overflow_sub-u2
-overflow_sub-u2 c = let s = c.before in let f = s.ranges in let h = s.requires.ordered in fits (omega (arith, signed))
+overflow_sub-u2 c = let f = c.ranges in let h = c.requires.ordered in fits (omega (arith, signed))
 
 pub overflow_sub-v2 : goal.overflow_sub-v2
-overflow_sub-v2 c = let s = c.before in let f = s.ranges in let h = s.requires.ordered in fits (omega (arith, signed))
-
--- the spans as the machine reads them
-module _ (c : Else-v1-v2) where
-  currents : to_z w32 (of_z w32 (to_z w32 (of_z w32 c.args.u2) -ℤ to_z w32 (of_z w32 c.args.u1))) ≡ c.args.u2 -ℤ c.args.u1
-  currents = by₂ ◌-ℤ◌ (is (overflow_sub-u2 c)) (is c.ranges.u2) (is c.ranges.u1)
-
-  originals : to_z w32 (of_z w32 (to_z w32 (of_z w32 c.args.v2) -ℤ to_z w32 (of_z w32 c.args.v1)))
-      ≡ c.args.v2 -ℤ c.args.v1
-  originals = by₂ ◌-ℤ◌ (is (overflow_sub-v2 c)) (is c.ranges.v2) (is c.ranges.v1)
+overflow_sub-v2 c = let f = c.ranges in let h = c.requires.ordered in fits (omega (arith, signed))
 
 pub is_steep-requires : goal.is_steep-requires
 is_steep-requires c =
-    let s = c.before in
-    let a = s.args in
-    let h = s.requires.ordered in
-    let l = spanned c in (
-      subst (Between 0 most_delta) (sym (originals c)) (omega (arith, sub-law a.v2 a.v1, h.original1, h.original2)),
-      subst (λ (z : ℤ). 0 < nat_abs z) (sym (originals c)) (span-some a.v1 a.v2 l),
+    let spanned : up c.args.v1 + dn c.args.v2 < up c.args.v2 + dn c.args.v1 = let a = c.args in
+    apart a.v1 a.u1 a.v2 a.u2 c.requires.ordered.order (λ e. c.if-v1-v2.false (ap (of_z w32) e)) in
+    let originals : to_z w32 (of_z w32 (to_z w32 (of_z w32 c.args.v2) -ℤ to_z w32 (of_z w32 c.args.v1)))
+    ≡ c.args.v2 -ℤ c.args.v1 = by₂ ◌-ℤ◌ (is (overflow_sub-v2 c)) (is c.ranges.v2) (is c.ranges.v1) in
+    let a = c.args in
+    let h = c.requires.ordered in
+    let l = spanned in (
+      subst (Between 0 most_delta) (sym originals) (omega (arith, sub-law a.v2 a.v1, h.original1, h.original2)),
+      subst (λ (z : ℤ). 0 < nat_abs z) (sym originals) (span-some a.v1 a.v2 l),
     )
-
--- what the test says of the quotient
-told : (c : After-is_steep) → c.is_steep.result ≡ too_steep (c.args.u2 -ℤ c.args.u1)
-    (c.args.v2 -ℤ c.args.v1)
-told c = by₂ too_steep c.is_steep.ensures (currents c.before) (originals c.before)
 
 pub returns-then-not-is_steep : goal.returns-then-not-is_steep
 returns-then-not-is_steep c =
+    let sub-u2 : SFits w32 (to_z w32 (of_z w32 c.args.u2) -ℤ to_z w32 (of_z w32 c.args.u1)) = let f = c.ranges in let h = c.requires.ordered in fits (omega (arith, signed)) in
+    let sub-v2 : SFits w32 (to_z w32 (of_z w32 c.args.v2) -ℤ to_z w32 (of_z w32 c.args.v1)) = let f = c.ranges in let h = c.requires.ordered in fits (omega (arith, signed)) in
+    let currents : to_z w32 (of_z w32 (to_z w32 (of_z w32 c.args.u2) -ℤ to_z w32 (of_z w32 c.args.u1))) ≡ c.args.u2 -ℤ c.args.u1 = by₂ ◌-ℤ◌ (is sub-u2) (is c.ranges.u2) (is c.ranges.u1) in
+    let originals : to_z w32 (of_z w32 (to_z w32 (of_z w32 c.args.v2) -ℤ to_z w32 (of_z w32 c.args.v1)))
+    ≡ c.args.v2 -ℤ c.args.v1 = by₂ ◌-ℤ◌ (is sub-v2) (is c.ranges.v2) (is c.ranges.v1) in
+    let told : c.is_steep.result ≡ too_steep (c.args.u2 -ℤ c.args.u1)
+    (c.args.v2 -ℤ c.args.v1) = by₂ too_steep c.is_steep.ensures currents originals in
     let a = c.args in
-    missed _ _ _ (λ i l h. gentle-for a.originals.now a.v1 a.u1 a.v2 a.u2 (sym (told c.before) ∙ c.if-not-is_steep.true) i)
+    missed _ _ _ (λ i l h. gentle-for a.originals.now a.v1 a.u1 a.v2 a.u2 (sym told ∙ c.if-not-is_steep.true) i)
 
 pub returns : goal.returns
 returns c =
-    let e = c.before in
-    let s = e.before.before.before in
-    let a = s.args in
+    let sub-u2 : SFits w32 (to_z w32 (of_z w32 c.args.u2) -ℤ to_z w32 (of_z w32 c.args.u1)) = let f = c.ranges in let h = c.requires.ordered in fits (omega (arith, signed)) in
+    let sub-v2 : SFits w32 (to_z w32 (of_z w32 c.args.v2) -ℤ to_z w32 (of_z w32 c.args.v1)) = let f = c.ranges in let h = c.requires.ordered in fits (omega (arith, signed)) in
+    let currents : to_z w32 (of_z w32 (to_z w32 (of_z w32 c.args.u2) -ℤ to_z w32 (of_z w32 c.args.u1))) ≡ c.args.u2 -ℤ c.args.u1 = by₂ ◌-ℤ◌ (is sub-u2) (is c.ranges.u2) (is c.ranges.u1) in
+    let originals : to_z w32 (of_z w32 (to_z w32 (of_z w32 c.args.v2) -ℤ to_z w32 (of_z w32 c.args.v1)))
+    ≡ c.args.v2 -ℤ c.args.v1 = by₂ ◌-ℤ◌ (is sub-v2) (is c.ranges.v2) (is c.ranges.v1) in
+    let told : c.is_steep.result ≡ too_steep (c.args.u2 -ℤ c.args.u1)
+    (c.args.v2 -ℤ c.args.v1) = by₂ too_steep c.is_steep.ensures currents originals in
+    let a = c.args in
     tells_as _ _ _ _ _
-    (λ i. between-for a.originals.now a.v1 a.u1 a.v2 a.u2 (sym (told e.before) ∙ e.if-not-is_steep.false) i
-    ∙ λ k. between_originals a.originals.now (sym (is s.ranges.v1) k) (sym (is s.ranges.v2) k) i)
+    (λ i. between-for a.originals.now a.v1 a.u1 a.v2 a.u2 (sym told ∙ c.if-not-is_steep.false) i
+    ∙ λ k. between_originals a.originals.now (sym (is c.ranges.v1) k) (sym (is c.ranges.v2) k) i)
     c.some_between.ensures

@@ -2,28 +2,17 @@
 use native.Mathlib.Omega.{arith}
 use Rattle.weak_drag.proofs.Arcs as Arcs
 use Rattle.weak_drag.proofs.around.prior_around.Goals as goal
-use Rattle.weak_drag.proofs.around.prior_around.Goals.{After-last_touched-prior, Start}
-
-abbrev start : After-last_touched-prior → Start
-start c = c.before.before
 
 pub last_touched-prior-requires : goal.last_touched-prior-requires
-last_touched-prior-requires c = let s = c.before in (s.requires.0, omega (arith, s.requires.1, s.requires.2))
+last_touched-prior-requires c = (c.requires.0, omega (arith, c.requires.1, c.requires.2))
 
 pub returns-then-prior-p : goal.returns-then-prior-p
-returns-then-prior-p c =
-    let f = c.before in
-    let s = start f in
-    Arcs.prior-found s.args.touched.now s.args.s s.args.e s.args.p s.pre.0 s.pre.1 s.pre.3 _ f.last_touched-prior.ensures
+returns-then-prior-p c = Arcs.prior-found c.args.touched.now c.args.s c.args.e c.args.p c.requires.0 c.requires.1 c.requires.3 _ c.last_touched-prior.ensures
     c.if-prior-p.true
 
 pub last_touched-requires : goal.last_touched-requires
-last_touched-requires c = let s = start c.before in (omega (arith, s.pre.0, s.pre.1), s.pre.2)
+last_touched-requires c = (omega (arith, c.requires.0, c.requires.1), c.requires.2)
 
 pub returns : goal.returns
-returns c =
-    let l = c.before in
-    let f = l.before in
-    let s = start f in
-    Arcs.prior-around s.args.touched.now s.args.s s.args.e s.args.p s.pre.0 s.pre.1 s.pre.3 _ _ f.last_touched-prior.ensures
-    (omega (arith, l.if-prior-p.false)) c.last_touched.ensures
+returns c = Arcs.prior-around c.args.touched.now c.args.s c.args.e c.args.p c.requires.0 c.requires.1 c.requires.3 _ _ c.last_touched-prior.ensures
+    (omega (arith, c.if-prior-p.false)) c.last_touched.ensures

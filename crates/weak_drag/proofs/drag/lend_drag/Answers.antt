@@ -4,7 +4,5 @@ use Rattle.weak_drag.proofs.Drags.{dragged-as}
 use Rattle.weak_drag.proofs.drag.lend_drag.Goals as goal
 
 pub returns : goal.returns
-returns c =
-    let d = c in
-    let a = d.args in
-    dragged-as a.originals.now a.currents-1.now a.touched.now a.ends.now _ _ _ _ d.index_of.ensures d.drag_point.ensures
+returns c = let a = c.args in
+    dragged-as a.originals.now a.currents.now a.touched.now a.ends.now _ _ _ _ c.index_of.ensures c.drag_point.ensures

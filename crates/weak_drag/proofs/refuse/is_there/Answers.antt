@@ -1,5 +1,4 @@
 -- `weak_drag::refuse::is_there` meets its contract.
-use borrow.Author.Rules.{rules}
 use native.Mathlib.Omega.{arith}
 use Rattle.weak_drag.proofs.Refusals.{not_there, there}
 use Rattle.weak_drag.proofs.refuse.is_there.Goals as goal

@@ -8,19 +8,15 @@ pub returns-then-e-p : goal.returns-then-e-p
 returns-then-e-p c = lone-still _ _ _ _ _ _ (omega arith) c.first_touched-p.ensures (omega arith)
 
 pub iup_shift-requires : goal.iup_shift-requires
-iup_shift-requires c =
-    let s = c in
-    let a = s.args in
+iup_shift-requires c = let a = c.args in
     record {
-      currents_len = (s.requires.currents_len.0, s.requires.currents_len.2, s.requires.currents_len.3, omega arith);
+      currents_len = (c.requires.currents_len.0, c.requires.currents_len.2, c.requires.currents_len.3, omega arith);
       coordinates = (
-        s.requires.coordinates.0,
-        s.requires.coordinates.1 _ (lone-low a.originals.now a.currents-1.now a.touched.now a.s a.e _ (omega arith)
+        c.requires.coordinates.0,
+        c.requires.coordinates.1 _ (lone-low a.originals.now a.currents.now a.touched.now a.s a.e _ (omega arith)
             c.first_touched-p.ensures (omega arith)) (omega arith),
       );
     }
 
 pub returns : goal.returns
-returns c =
-    let f = c in
-    lone-shift _ _ _ _ _ _ (omega arith) f.first_touched-p.ensures (omega arith) f.requires.coordinates.2 _ c.iup_shift.ensures
+returns c = lone-shift _ _ _ _ _ _ (omega arith) c.first_touched-p.ensures (omega arith) c.requires.coordinates.2 _ c.iup_shift.ensures

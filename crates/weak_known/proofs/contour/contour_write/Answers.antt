@@ -1,5 +1,4 @@
 -- `weak_known::contour::contour_write` meets its contract.
-use borrow.Author.Rules.{rules}
 use native.Mathlib.Omega.{arith}
 use mathlib.Core.Path.{ap, ◌∙◌}
 use Prim.Native.Nat.{ℕ}
@@ -8,42 +7,26 @@ use Rattle.weak_known.proofs.Rounds.{first-most, last-most, put-by, lone-is-befo
 use Rattle.weak_known.proofs.contour.contour_write.Goals as goal
 
 pub returns-then-first-last : goal.returns-then-first-last
-returns-then-first-last c =
-    let at-plain-write = c in
-    let h = c in
-    let l = h in
-    let s = l in
-    let t = s.args.touched.now in
-    let ef = l.first_touched-first.ensures in
-    let ep = l.last_touched-last.ensures in (
-      put-by _ _ _ _ _ _ (lone-is-before t s.args.s s.args.e _ _ ef ep h.if-first-last.true)
-          at-plain-write.plain_write.ensures,
-      put-by _ _ _ _ _ _ (lone-is-behind t s.args.s s.args.e _ _ ef ep h.if-first-last.true) c.plain_write-then-first-last.ensures,
+returns-then-first-last c = let t = c.args.touched.now in
+    let ef = c.first_touched-first.ensures in
+    let ep = c.last_touched-last.ensures in (
+      put-by _ _ _ _ _ _ (lone-is-before t c.args.s c.args.e _ _ ef ep c.if-first-last.true)
+          c.plain_write.ensures,
+      put-by _ _ _ _ _ _ (lone-is-behind t c.args.s c.args.e _ _ ef ep c.if-first-last.true) c.plain_write-then-first-last.ensures,
     )
 
 pub narrow-requires : goal.narrow-requires
-narrow-requires c =
-    let l = c in
-    let s = l in
-    omega (arith, l.last_touched-last.ensures, last-most s.args.touched.now s.args.s s.args.e (omega arith))
+narrow-requires c = omega (arith, c.last_touched-last.ensures, last-most c.args.touched.now c.args.s c.args.e (omega arith))
 
 pub narrow-requires-2 : goal.narrow-requires-2
-narrow-requires-2 c =
-    let l = c in
-    let s = l in
-    omega (arith, l.first_touched-first.ensures, first-most s.args.touched.now s.args.s s.args.e (omega arith))
+narrow-requires-2 c = omega (arith, c.first_touched-first.ensures, first-most c.args.touched.now c.args.s c.args.e (omega arith))
 
 pub returns : goal.returns
-returns c =
-    let w = c in
-    let h = w in
-    let l = h in
-    let s = l in
-    let t = s.args.touched.now in
-    let ef = l.first_touched-first.ensures in
-    let ep = l.last_touched-last.ensures in (
-      put-by _ _ _ _ _ _ (λ i a b. ap (λ (z : ℕ). prior_at t s.args.s z i) w.narrow.ensures
-          ∙ more-is-before t s.args.s s.args.e _ _ ef ep h.if-first-last.false i a b) w.prior_write.ensures,
-      put-by _ _ _ _ _ _ (λ i a b. ap (λ (z : ℕ). later_at t s.args.e z i) c.narrow-2.ensures
-          ∙ more-is-behind t s.args.s s.args.e _ _ ef ep h.if-first-last.false i a b) c.Later-write.ensures,
+returns c = let t = c.args.touched.now in
+    let ef = c.first_touched-first.ensures in
+    let ep = c.last_touched-last.ensures in (
+      put-by _ _ _ _ _ _ (λ i a b. ap (λ (z : ℕ). prior_at t c.args.s z i) c.narrow.ensures
+          ∙ more-is-before t c.args.s c.args.e _ _ ef ep c.if-first-last.false i a b) c.prior_write.ensures,
+      put-by _ _ _ _ _ _ (λ i a b. ap (λ (z : ℕ). later_at t c.args.e z i) c.narrow-2.ensures
+          ∙ more-is-behind t c.args.s c.args.e _ _ ef ep c.if-first-last.false i a b) c.later_write.ensures,
     )

@@ -1,5 +1,4 @@
 -- `weak_known::number::handed` meets its contract.
-use borrow.Author.Rules.{rules}
 use mathlib.Core.Path.{sym, ◌∙◌}
 use borrow.Author.Tests.{lt-ltb, le-ltb}
 use Rattle.signed.proofs.Choices.{cond-true, cond-false}

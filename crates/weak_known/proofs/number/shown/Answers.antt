@@ -1,5 +1,4 @@
 -- `weak_known::number::shown` meets its contract.
-use borrow.Author.Rules.{rules}
 use mathlib.Core.Path.{sym, ◌∙◌}
 use borrow.Author.Tests.{eq-eqb, ne_eqb}
 use Rattle.signed.proofs.Choices.{cond-true, cond-false}

@@ -1,15 +1,9 @@
 -- `weak_known::remember::remember` meets its contract. The invariant: the contours passed are written.
-use borrow.Author.Rules.{rules}
-use native.Mathlib.Omega.{arith}
-use mathlib.Core.Path.{◌≡◌, ap, ◌∙◌}
-use Prim.Native.Nat.{ℕ, ◌+◌, ◌-◌, ◌≤◌, ◌<◌}
-use lib.ListN.{length, get_or}
+use Prim.Native.Nat.{◌-◌}
+use lib.ListN.{length}
 use Rattle.weak_known.specs.Known.{before_at, behind_at}
 use Rattle.weak_known.specs.Walks.{Put}
-use Rattle.weak_known.proofs.Entries.{plain-before, plain-behind}
-use Rattle.weak_known.proofs.Walking.{put-none}
-use Rattle.weak_known.proofs.Rounds.{Passed, passed_none, passed-next, turn_low, turn-high, before-is, behind-is, on_none}
-use Rattle.weak_known.proofs.Remembering.{put_then}
+use Rattle.weak_known.proofs.Rounds.{Passed}
 use Rattle.weak_known.proofs.remember.remember.Given as goal
 
 abbrev pub invariant-loop-k : goal.invariant-loop-k

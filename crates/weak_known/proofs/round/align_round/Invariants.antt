@@ -27,10 +27,11 @@ use Rattle.weak_known.proofs.Aligning.{
   to_high,
   stretch-gentle,
   turn-past,
+}
 use Rattle.weak_known.proofs.round.align_round.Given as goal
 
 abbrev pub invariant-loop-i : goal.invariant-loop-i
-invariant-loop-i l =     (l.s ≤ l.i) × WroteTo (weak_at l.originals l.initial.currents l.touched (contour l.s l.e)) l.s l.e l.i l.initial.currents l.currents
+invariant-loop-i l = (l.s ≤ l.i) × WroteTo (weak_at l.originals l.initial.currents l.touched (contour l.s l.e)) l.s l.e l.i l.initial.currents l.currents
 
 abbrev pub decreases-loop-i : goal.decreases-loop-i
 decreases-loop-i l = l.e - l.i

@@ -1,9 +1,7 @@
 -- `weak_known::same::eight_same` meets its contract. The invariant: the neighbours passed are compared.
-use borrow.Author.Rules.{rules}
 use native.Mathlib.Omega.{arith}
 use mathlib.Core.Path.{◌≡◌, refl, ◌∙◌}
-use Prim.Native.Nat.{◌-◌, ◌≤◌}
-use Rattle.weak_known.specs.Walks.{fits_at, all_from}
+use Rattle.weak_known.specs.Walks.{all_from}
 use Rattle.weak_known.proofs.Fitting.{fits-here, all_more}
 use Rattle.weak_known.proofs.same.eight_same.Goals as goal
 
@@ -12,11 +10,8 @@ unfolding all_from
 loop-k-init c = (omega arith, refl)
 
 pub loop-k-preserved : goal.loop-k-preserved
-loop-k-preserved c =
-    let l = c in
-    (omega arith, all_more _ _ _ _ _ l.loop-k.invariant.1 (c.pair_same-here.ensures ∙ fits-here _ _ _ _))
+loop-k-preserved c = (omega arith, all_more _ _ _ _ _ c.loop-k.invariant.1 (c.pair_same-here.ensures ∙ fits-here _ _ _ _))
 
 pub returns : goal.returns
-returns c =
-    let e : c.loop-k.k ≡ 8 = omega arith in
+returns c = let e : c.loop-k.k ≡ 8 = omega arith in
     rw e at c.loop-k.invariant.1

@@ -1,10 +1,7 @@
 -- `weak_known::same::eight_same` meets its contract. The invariant: the neighbours passed are compared.
-use borrow.Author.Rules.{rules}
-use native.Mathlib.Omega.{arith}
-use mathlib.Core.Path.{◌≡◌, refl, ◌∙◌}
+use mathlib.Core.Path.{◌≡◌}
 use Prim.Native.Nat.{◌-◌, ◌≤◌}
 use Rattle.weak_known.specs.Walks.{fits_at, all_from}
-use Rattle.weak_known.proofs.Fitting.{fits-here, all_more}
 use Rattle.weak_known.proofs.same.eight_same.Given as goal
 
 abbrev pub invariant-loop-k : goal.invariant-loop-k

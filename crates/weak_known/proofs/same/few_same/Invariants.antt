@@ -1,11 +1,7 @@
 -- `weak_known::same::few_same` meets its contract. The invariant: what is left decides.
-use borrow.Author.Rules.{rules}
-use native.Mathlib.Omega.{arith}
-use borrow.Author.Tests.{not-true, not-false}
-use mathlib.Core.Path.{◌≡◌, sym, ◌∙◌}
+use mathlib.Core.Path.{◌≡◌}
 use Prim.Native.Nat.{suc, ◌-◌, ◌≤◌, ◌<◌}
 use Rattle.weak_known.specs.Walks.{fits_at, all_from}
-use Rattle.weak_known.proofs.Fitting.{fits_next, all_none, all-next, all-fails, all_end}
 use Rattle.weak_known.proofs.same.few_same.Given as goal
 
 abbrev pub invariant-loop-i : goal.invariant-loop-i

@@ -1,10 +1,8 @@
 -- `weak_known::same::lone_same` meets its contract. The invariant: the weights passed are summed up.
-use borrow.Author.Rules.{rules}
 use native.Mathlib.Omega.{arith}
-use mathlib.Core.Path.{◌≡◌, sym, ◌∙◌, ap}
-use Prim.Native.Nat.{ℕ, ◌+◌, ◌-◌, ◌≤◌}
+use mathlib.Core.Path.{sym, ◌∙◌, ap}
+use Prim.Native.Nat.{ℕ}
 use lib.Dec.{ltb}
-use Rattle.weak_known.specs.Walks.{weight_at, sum_from}
 use Rattle.weak_known.proofs.Fitting.{weights-next, weights-end, weights-most}
 use Rattle.weak_known.proofs.same.lone_same.Goals as goal
 
@@ -12,26 +10,21 @@ pub loop-i-init : goal.loop-i-init
 loop-i-init c = (omega arith, omega arith, omega arith)
 
 pub overflow_add-sum : goal.overflow_add-sum
-overflow_add-sum c =
-    let l = c in
-    let s = l in
-    let a = s.args in
+overflow_add-sum c = let a = c.args in
     omega (
       arith,
-      weights-most a.touched.now a.now a.behind.now a.s a.e l.loop-i.i l.loop-i.sum _ l.loop-i.invariant.0 (omega arith)
-          c.weigh-w.ensures l.loop-i.invariant.2,
-      s.requires,
+      weights-most a.touched.now a.before.now a.behind.now a.s a.e c.loop-i.i c.loop-i.sum _ c.loop-i.invariant.0 (omega arith)
+          c.weigh-w.ensures c.loop-i.invariant.2,
+      c.requires,
     )
 
 pub loop-i-preserved : goal.loop-i-preserved
-loop-i-preserved c =
-    let l = c in
-    let a = l.args in (
-      omega arith,
-      omega arith,
-      sym (weights-next a.touched.now a.now a.behind.now a.e l.loop-i.i _ _ (omega arith)
-          c.weigh-w.ensures) ∙ l.loop-i.invariant.2,
-    )
+loop-i-preserved c = let a = c.args in (
+  omega arith,
+  omega arith,
+  sym (weights-next a.touched.now a.before.now a.behind.now a.e c.loop-i.i _ _ (omega arith)
+      c.weigh-w.ensures) ∙ c.loop-i.invariant.2,
+)
 
 pub returns : goal.returns
 returns c = ap (λ (x : ℕ). ltb x 2) (sym (weights-end _ _ _ _ (omega (arith, c.loop-i-test.false))) ∙ c.loop-i.invariant.2)

@@ -1,10 +1,7 @@
 -- `weak_known::same::pairs_same` meets its contract. The invariant: the neighbours passed are compared.
-use borrow.Author.Rules.{rules}
-use native.Mathlib.Omega.{arith}
 use mathlib.Core.Path.{◌≡◌}
 use Prim.Native.Nat.{◌+◌, ◌-◌, ◌≤◌}
 use Rattle.weak_known.specs.Walks.{fits_at, all_from}
-use Rattle.weak_known.proofs.Fitting.{runs_none, runs-more, runs-end}
 use Rattle.weak_known.proofs.same.pairs_same.Given as goal
 
 abbrev pub invariant-loop-i : goal.invariant-loop-i

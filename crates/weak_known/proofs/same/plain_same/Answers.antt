@@ -1,9 +1,6 @@
 -- `weak_known::same::plain_same` meets its contract. The invariant: the entries passed are compared.
-use borrow.Author.Rules.{rules}
 use native.Mathlib.Omega.{arith}
 use mathlib.Core.Path.{◌≡◌}
-use Prim.Native.Nat.{◌-◌, ◌≤◌}
-use Rattle.weak_known.specs.Known.{same_as}
 use Rattle.weak_known.specs.Walks.{plain_at}
 use Rattle.weak_known.proofs.Walking.{walk_none, walk-to}
 use Rattle.weak_known.proofs.same.plain_same.Goals as goal
@@ -13,11 +10,8 @@ loop-i-init c = (omega arith, omega arith, walk_none _ _ _)
 
 pub loop-i-preserved : goal.loop-i-preserved
 unfolding plain_at
-loop-i-preserved c =
-    let l = c in
-    (omega arith, omega arith, walk-to _ _ _ _ _ _ _ l.loop-i.invariant.0 l.loop-i.invariant.2 c.same-here.ensures (λ _. c.number-x.ensures))
+loop-i-preserved c = (omega arith, omega arith, walk-to _ _ _ _ _ _ _ c.loop-i.invariant.0 c.loop-i.invariant.2 c.same-here.ensures (λ _. c.number-x.ensures))
 
 pub returns : goal.returns
-returns c =
-    let e : c.loop-i.i ≡ c.args.e = omega arith in
+returns c = let e : c.loop-i.i ≡ c.args.e = omega arith in
     rw e at c.loop-i.invariant.2

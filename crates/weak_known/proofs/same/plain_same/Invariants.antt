@@ -1,11 +1,8 @@
 -- `weak_known::same::plain_same` meets its contract. The invariant: the entries passed are compared.
-use borrow.Author.Rules.{rules}
-use native.Mathlib.Omega.{arith}
 use mathlib.Core.Path.{◌≡◌}
 use Prim.Native.Nat.{◌-◌, ◌≤◌}
 use Rattle.weak_known.specs.Known.{same_as}
 use Rattle.weak_known.specs.Walks.{plain_at}
-use Rattle.weak_known.proofs.Walking.{walk_none, walk-to}
 use Rattle.weak_known.proofs.same.plain_same.Given as goal
 
 abbrev pub invariant-loop-i : goal.invariant-loop-i

@@ -1,10 +1,6 @@
 -- `weak_known::search::first_touched` meets its contract. The invariant: what is left is searched.
-use borrow.Author.Rules.{rules}
 use native.Mathlib.Omega.{arith}
-use mathlib.Core.Path.{◌≡◌, sym, ◌∙◌}
-use Prim.Native.Nat.{◌-◌, ◌≤◌}
-use Rattle.weak_contour.specs.Contour.{first_touched}
-use Rattle.weak_known.specs.Walks.{found_or}
+use mathlib.Core.Path.{sym, ◌∙◌}
 use Rattle.weak_known.proofs.Entries.{first-here, first_on, first-end}
 use Rattle.weak_known.proofs.search.first_touched.Goals as goal
 

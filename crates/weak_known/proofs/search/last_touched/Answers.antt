@@ -1,10 +1,6 @@
 -- `weak_known::search::last_touched` meets its contract. The invariant: what is left is searched.
-use borrow.Author.Rules.{rules}
 use native.Mathlib.Omega.{arith}
-use mathlib.Core.Path.{◌≡◌, sym, ◌∙◌}
-use Prim.Native.Nat.{◌-◌, ◌≤◌}
-use Rattle.weak_contour.specs.Contour.{last_touched}
-use Rattle.weak_known.specs.Walks.{found_or}
+use mathlib.Core.Path.{sym, ◌∙◌}
 use Rattle.weak_known.proofs.Entries.{last-here, last_on, last_end}
 use Rattle.weak_known.proofs.search.last_touched.Goals as goal
 

@@ -1,10 +1,6 @@
 -- `weak_known::write::later_write` meets its contract. The invariant: the entries passed are written.
-use borrow.Author.Rules.{rules}
 use native.Mathlib.Omega.{arith}
 use mathlib.Core.Path.{◌≡◌}
-use Prim.Native.Nat.{◌-◌, ◌≤◌}
-use Rattle.weak_contour.specs.Contour.{first_touched}
-use Rattle.weak_known.specs.Walks.{later_at, found_or, Put}
 use Rattle.weak_known.proofs.Walking.{put-none, put_front, held-end, later-number, later-held}
 use Rattle.weak_known.proofs.write.later_write.Goals as goal
 
@@ -12,22 +8,18 @@ pub loop-i-init : goal.loop-i-init
 loop-i-init c = (omega arith, omega arith, put-none _ _ _, held-end _ _ _)
 
 pub loop-i-preserved : goal.loop-i-preserved
-loop-i-preserved c =
-    let l = c in
-    let v = l.loop-i.invariant in
-    let s = l in
-    let t = s.args.touched.now in (
+loop-i-preserved c = let v = c.loop-i.invariant in
+    let t = c.args.touched.now in (
       omega arith,
       omega arith,
       put_front _ _ _ _ _ _ (omega arith) (omega arith) v.2
-          (later-number t s.args.e s.args.first l.loop-i.i _ _ (omega arith) c.number-x.ensures v.3) v.1,
-      later-held t s.args.e s.args.first l.loop-i.i _ _ (omega arith) v.1 c.handed-held.ensures v.3,
+          (later-number t c.args.e c.args.first c.loop-i.i _ _ (omega arith) c.number-x.ensures v.3) v.1,
+      later-held t c.args.e c.args.first c.loop-i.i _ _ (omega arith) v.1 c.handed-held.ensures v.3,
     )
 
 pub shape_of-list : goal.shape_of-list
 shape_of-list c = c.loop-i.invariant.2.len
 
 pub returns : goal.returns
-returns c =
-    let e : c.loop-i.i ≡ c.args.s = omega arith in
+returns c = let e : c.loop-i.i ≡ c.args.s = omega arith in
     rw e at c.loop-i.invariant.2

@@ -1,11 +1,8 @@
 -- `weak_known::write::later_write` meets its contract. The invariant: the entries passed are written.
-use borrow.Author.Rules.{rules}
-use native.Mathlib.Omega.{arith}
 use mathlib.Core.Path.{◌≡◌}
 use Prim.Native.Nat.{◌-◌, ◌≤◌}
 use Rattle.weak_contour.specs.Contour.{first_touched}
 use Rattle.weak_known.specs.Walks.{later_at, found_or, Put}
-use Rattle.weak_known.proofs.Walking.{put-none, put_front, held-end, later-number, later-held}
 use Rattle.weak_known.proofs.write.later_write.Given as goal
 
 abbrev pub invariant-loop-i : goal.invariant-loop-i

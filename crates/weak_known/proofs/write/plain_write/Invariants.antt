@@ -1,10 +1,6 @@
 -- `weak_known::write::plain_write` meets its contract. The invariant: the entries passed are written.
-use borrow.Author.Rules.{rules}
-use native.Mathlib.Omega.{arith}
-use mathlib.Core.Path.{◌≡◌}
 use Prim.Native.Nat.{◌-◌, ◌≤◌}
 use Rattle.weak_known.specs.Walks.{plain_at, Put}
-use Rattle.weak_known.proofs.Walking.{put-none, put-more}
 use Rattle.weak_known.proofs.write.plain_write.Given as goal
 
 abbrev pub invariant-loop-i : goal.invariant-loop-i

@@ -1,11 +1,8 @@
 -- `weak_known::write::prior_write` meets its contract. The invariant: the entries passed are written.
-use borrow.Author.Rules.{rules}
-use native.Mathlib.Omega.{arith}
 use mathlib.Core.Path.{◌≡◌}
 use Prim.Native.Nat.{◌-◌, ◌≤◌}
 use Rattle.weak_contour.specs.Contour.{last_touched}
 use Rattle.weak_known.specs.Walks.{prior_at, found_or, Put}
-use Rattle.weak_known.proofs.Walking.{put-none, put-more, held_none, prior-number, prior-held}
 use Rattle.weak_known.proofs.write.prior_write.Given as goal
 
 abbrev pub invariant-loop-i : goal.invariant-loop-i

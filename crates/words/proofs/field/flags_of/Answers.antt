@@ -9,8 +9,8 @@ use Rattle.words.proofs.field.flags_of.Goals as goal
 use Rattle.words.proofs.field.flags_of.Goals.{After-size_of-n}
 
 -- the number is the word's
-number : (c : After-size_of-n) → c.type_size.result ≡ up c.args.word
-number c = c.type_size.ensures ∙ ap up (is c.ranges.word)
+number : (c : After-size_of-n) → c.size_of-n.result ≡ up c.args.word
+number c = c.size_of-n.ensures ∙ ap up (is c.ranges.word)
 
 pub returns : goal.returns
 unfolding flags_of

@@ -7,4 +7,4 @@ use Rattle.signed.proofs.Signed.{is}
 use Rattle.words.proofs.field.index_of.Goals as goal
 
 pub returns : goal.returns
-returns c = ap (λ (n : ℕ). n % 65536) (c.type_size.ensures ∙ ap up (is c.ranges.word))
+returns c = ap (λ (n : ℕ). n % 65536) (c.size_of.ensures ∙ ap up (is c.ranges.word))

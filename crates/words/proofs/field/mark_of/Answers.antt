@@ -12,8 +12,8 @@ use Rattle.words.proofs.field.mark_of.Goals as goal
 use Rattle.words.proofs.field.mark_of.Goals.{After-size_of-number}
 
 -- the number is the word's
-number : (c : After-size_of-number) → c.type_size.result ≡ up c.args.word
-number c = c.type_size.ensures ∙ ap up (is c.ranges.word)
+number : (c : After-size_of-number) → c.size_of-number.result ≡ up c.args.word
+number c = c.size_of-number.ensures ∙ ap up (is c.ranges.word)
 
 pub returns-then-number-lt13 : goal.returns-then-number-lt13
 unfolding mark_of

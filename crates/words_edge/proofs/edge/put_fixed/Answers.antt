@@ -10,6 +10,6 @@ returns c =
     let flags = put in
     let one = flags in
     let s = one in
-    fix-law s.args.words.now _ _ s.args.i s.args.pos _ s.args.mark flags.read-Flags.result s.requires.1 s.requires.0 (is s.ranges.pos)
+    fix-law s.args.words.now _ _ s.args.i s.args.pos _ s.args.mark c.read_flags-flags.result s.requires.1 s.requires.0 (is s.ranges.pos)
     one.put_pos.ensures
-    flags.read-Flags.ensures put.put_flags.ensures
+    c.read_flags-flags.ensures put.put_flags.ensures

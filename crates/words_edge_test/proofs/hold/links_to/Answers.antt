@@ -14,6 +14,4 @@ pub overflow_sub-last : goal.overflow_sub-last
 overflow_sub-last c = let k = overflow_cast-last c in fits (omega (arith, signed))
 
 pub returns : goal.returns
-returns c =
-    let s = c.before in
-    λ i. record { low = negsuc 0; high = (is (overflow_sub-last s) ∙ ap (λ (z : ℤ). z -ℤ pos 1) (read_low w32 s.args.n (omega (arith, s.requires)))) i }
+returns c = λ i. record { low = negsuc 0; high = (is (overflow_sub-last c.before) ∙ ap (λ (z : ℤ). z -ℤ pos 1) (read_low w32 c.args.n (omega (arith, c.requires)))) i }

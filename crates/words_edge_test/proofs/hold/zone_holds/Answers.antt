@@ -11,24 +11,16 @@ use Rattle.words.proofs.Fields.{kept}
 use Rattle.words_edge_test.proofs.Holding.{zone-there, zone-none}
 use borrow.Author.Rules.{rules}
 use Rattle.words_edge_test.proofs.hold.zone_holds.Goals as goal
-use Rattle.words_edge_test.proofs.hold.zone_holds.Goals.{After-choice_of}
-
--- the choice, by the word that is read
-chosen : (c : After-choice_of) → c.choice_of.result ≡ choice_of (word_at c.args.words.now (c.args.at + blue_place))
-chosen c = let w = c.read_word in c.choice_of.ensures ∙ ap choice_of (kept w32 w.result w.type_inv ∙ w.ensures)
 
 pub returns-then-choice_of : goal.returns-then-choice_of
 returns-then-choice_of c =
-    let k = c.before.before in
-    let s = k.before.before in
-    zone-there (word_at s.args.words.now (s.args.at + blue_place)) (word_at s.args.words.now (s.args.at + fitted_place)) _ _ (chosen k)
+    let chosen : c.choice_of.result ≡ choice_of (word_at c.args.words.now (c.args.at + blue_place)) = let w = c.read_word in c.choice_of.ensures ∙ ap choice_of (kept w32 w.result w.type_inv ∙ w.ensures) in
+    zone-there (word_at c.args.words.now (c.args.at + blue_place)) (word_at c.args.words.now (c.args.at + fitted_place)) _ _ chosen
     c.if-choice_of.true c.in_at.ensures
 
 pub returns : goal.returns
 returns c =
+    let chosen : c.choice_of.result ≡ choice_of (word_at c.args.words.now (c.args.at + blue_place)) = let w = c.read_word in c.choice_of.ensures ∙ ap choice_of (kept w32 w.result w.type_inv ∙ w.ensures) in
     let w = c.read_word-2 in
-    let e = c.before.before in
-    let k = e.before in
-    let s = k.before.before in
-    zone-none (word_at s.args.words.now (s.args.at + blue_place)) (word_at s.args.words.now (s.args.at + fitted_place)) _ _ (chosen k) e.if-choice_of.false
+    zone-none (word_at c.args.words.now (c.args.at + blue_place)) (word_at c.args.words.now (c.args.at + fitted_place)) _ _ chosen c.if-choice_of.false
     (c.is_zero.ensures ∙ ap (λ (z : ℤ). eq_z z (pos 0)) (kept w32 w.result w.type_inv ∙ w.ensures))

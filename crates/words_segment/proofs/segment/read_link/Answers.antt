@@ -11,24 +11,21 @@ use Rattle.axis.specs.declared.kinds.Link.TheVariants as Links
 use Rattle.words.proofs.Fields.{link-none, link-to}
 use borrow.Author.Rules.{rules}
 use Rattle.words_segment.proofs.segment.read_link.Goals as goal
-use Rattle.words_segment.proofs.segment.read_link.Goals.{After-size_of-index, After-word-1}
-
--- the word
-abbrev word : After-word-1 → ℤ
-word c = get_or c.args.words.now c.args.at (pos 0)
 
 pub returns-then-word-lt0 : goal.returns-then-word-lt0
-returns-then-word-lt0 c = let k = got w32 (word c.before) c.word-1.given in link-none (word c.before) (omega (arith, signed))
-
--- how large it is
-size : (c : After-size_of-index) → c.type_size.result ≡ up (word c.before.before)
-size c = c.type_size.ensures ∙ ap up (is (got w32 (word c.before.before) c.word-1.given))
+returns-then-word-lt0 c =
+    let word : ℤ = get_or c.args.words.now c.args.at (pos 0) in
+    let k = got w32 word c.word-1.given in link-none word (omega (arith, signed))
 
 pub overflow_cast-index : goal.overflow_cast-index
-overflow_cast-index c = omega (arith, size c, c.requires.1)
+overflow_cast-index c =
+    let word : ℤ = get_or c.args.words.now c.args.at (pos 0) in
+    let size : c.size_of-index.result ≡ up word = c.size_of-index.ensures ∙ ap up (is (got w32 word c.word-1.given)) in
+    omega (arith, size, c.requires.1)
 
 pub returns : goal.returns
 returns c =
-    let w = c.before.before in
-    let k = got w32 (word w) w.word-1.given in
-    ap Links.To (size c ∙ sym (mod-eq_of_lt w.requires.1)) ∙ link-to (word w) (omega (arith, signed))
+    let word : ℤ = get_or c.args.words.now c.args.at (pos 0) in
+    let size : c.size_of-index.result ≡ up word = c.size_of-index.ensures ∙ ap up (is (got w32 word c.word-1.given)) in
+    let k = got w32 word c.word-1.given in
+    ap Links.To (size ∙ sym (mod-eq_of_lt c.requires.1)) ∙ link-to word (omega (arith, signed))

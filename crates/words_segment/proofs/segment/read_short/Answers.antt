@@ -9,8 +9,7 @@ use borrow.Author.Rules.{rules}
 use Rattle.words_segment.proofs.segment.read_short.Goals as goal
 
 pub overflow_cast-result : goal.overflow_cast-result
-overflow_cast-result c =
-    let s = c.before in let k = got w32 (get_or s.args.words.now s.args.at (pos 0)) c.word-1.given in fits (omega (arith, signed, s.requires.1))
+overflow_cast-result c = let k = got w32 (get_or c.args.words.now c.args.at (pos 0)) c.word-1.given in fits (omega (arith, signed, c.requires.1))
 
 pub returns : goal.returns
 returns c = is (overflow_cast-result c) ∙ is (got w32 (get_or c.args.words.now c.args.at (pos 0)) c.word-1.given)

@@ -2,20 +2,31 @@
 use borrow.Author.Rules.{rules}
 use native.Mathlib.Omega.{arith}
 use mathlib.Core.Path.{◌≡◌, refl, sym, ap, ◌∙◌}
-use Prim.Native.Nat.{◌+◌, ◌≤◌, ◌-◌}
-use lib.ListN.{drop}
+use Prim.Native.Nat.{ℕ, ◌+◌, ◌<◌}
+use mathlib.Core.List.{List}
+use lib.IntN.{ℤ}
+use lib.ListN.{length, drop, get_or}
+use Rattle.words_shape.specs.declared.element.Record.{Record}
 use Rattle.words_shape.specs.declared.field.Place.{Place}
 use Rattle.words_shape.specs.declared.field.Range.{Range}
 use Rattle.words_shape.specs.Shape.{and_then, no_range, field, fields, ranges_of}
 use Rattle.words_shape.proofs.Shapes.{Goes, then-nowhere, then_at, fields-step, fields-end}
 use Rattle.words_shape.proofs.element.skip_record.Goals as goal
-use Rattle.words_shape.proofs.element.skip_record.Goals.{After-skip_field, At-loop-i, Start}
 
-abbrev head : After-skip_field → At-loop-i
-head c = c.before.before.before
-
-abbrev start : After-skip_field → Start
-start c = (head c).before.before
+-- the reading goes on from what a turn's field gives
+step :
+    (kind : Record) (ws : List ℤ) (at i here : ℕ) (r : Range) (next : Place)
+    → i < length (ranges_of kind)
+    → fields (ranges_of kind) ws at ≡ fields (drop i (ranges_of kind)) ws here
+    → r ≡ get_or (ranges_of kind) i no_range
+    → next ≡ field r ws here
+    → Goes (fields (ranges_of kind) ws at) next (fields (drop (i + 1) (ranges_of kind)) ws)
+step kind ws at i here r next below held is went = record {
+  on =
+      held ∙ fields-step (ranges_of kind) no_range ws i here below
+      ∙ ap (λ (p : Place). and_then p (fields (drop (i + 1) (ranges_of kind)) ws))
+      (sym (went ∙ ap (λ (r : Range). field r ws here) is));
+}
 
 pub loop-i-init : goal.loop-i-init
 loop-i-init c = (omega arith, refl)
@@ -23,23 +34,12 @@ loop-i-init c = (omega arith, refl)
 pub range_of-requires : goal.range_of-requires
 range_of-requires c = omega (arith, c.size-n.ensures)
 
--- the reading goes on from what this turn's field gives
-step :
-    (c : After-skip_field)
-    → Goes (fields (ranges_of (start c).args.kind) (start c).args.words.now (start c).args.at) c.skip_field.result
-    (fields (drop ((head c).loop-i.i + 1) (ranges_of (start c).args.kind)) (start c).args.words.now)
-step c =
-    let a = (start c).args in
-    let l = (head c).loop-i in
-    record {
-      on =
-          l.inv.1 ∙ fields-step (ranges_of a.kind) no_range a.words.now l.i l.here (omega (arith, (head c).before.size.ensures))
-          ∙ ap (λ (p : Place). and_then p (fields (drop (l.i + 1) (ranges_of a.kind)) a.words.now))
-          (sym (c.skip_field.ensures ∙ ap (λ (r : Range). field r a.words.now l.here) c.range_of.ensures));
-    }
-
 pub returns-in_default : goal.returns-in_default
-returns-in_default c = then-nowhere (step c.before) c.in_default.is
+returns-in_default c =
+    let a = c.args in
+    let l = c.loop-i in
+    let goes = step a.kind a.words.now a.at l.i l.here _ _ (omega (arith, c.size-n.ensures)) l.invariant.1 c.range_of.ensures c.skip_field.ensures in
+    then-nowhere goes c.in_default.is
 
 pub overflow_add-i : goal.overflow_add-i
 overflow_add-i c = omega arith
@@ -48,7 +48,11 @@ pub loop-i-smaller : goal.loop-i-smaller
 loop-i-smaller c = omega arith
 
 pub loop-i-preserved : goal.loop-i-preserved
-loop-i-preserved c = (omega arith, then_at (step c.before) c.in-At.is)
+loop-i-preserved c =
+    let a = c.args in
+    let l = c.loop-i in
+    let goes = step a.kind a.words.now a.at l.i l.here _ _ (omega (arith, c.size-n.ensures)) l.invariant.1 c.range_of.ensures c.skip_field.ensures in
+    (omega arith, then_at goes c.in-At.is)
 
 pub returns : goal.returns
 returns c =

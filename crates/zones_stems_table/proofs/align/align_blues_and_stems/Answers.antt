@@ -1,7 +1,5 @@
 -- `zones_stems_table::align::align_blues_and_stems` meets its contract.
 use mathlib.Core.Path.{refl, sym, ap, subst, ◌∙◌}
-use mathlib.Core.List.{List}
-use Rattle.refusals.specs.Refusal.{Test}
 use Rattle.refusals.proofs.Tests.{AllHold, all_held, answered-no, answered-yes}
 use Rattle.axis.specs.declared.kinds.Link.TheVariants as Links
 use Rattle.axis.specs.Accepted.{Below, AxisWithin}
@@ -15,50 +13,43 @@ use Rattle.zones_stems.proofs.Rows.{edges, zoned-edges, zoned-anchor, in_a_row}
 use Rattle.zones_stems.proofs.Unreached.{zoned-settled}
 use borrow.Author.Rules.{rules}
 use Rattle.zones_stems_table.proofs.align.align_blues_and_stems.Goals as goal
-use Rattle.zones_stems_table.proofs.align.align_blues_and_stems.Goals.{Else-answer-gt0, Start}
 
 pub returns-then-answer-gt0 : goal.returns-then-answer-gt0
 unfolding align_blues_and_stems
 returns-then-answer-gt0 c = answered-no _ _ (stems 0 Links.None c.args.axis) _ c.joined_refusal-answer.ensures c.if-answer-gt0.true
 
 -- ---- what acceptance yields
-abbrev tests_of : Start → List Test
-tests_of s = joined_tests s.args.axis s.args.group s.args.top_to_bottom s.args.rule s.args.standards.now
-
-tests-hold : (c : Else-answer-gt0) → AllHold (tests_of c.before.before)
-tests-hold c = all_held {ts = tests_of c.before.before} (record { refused = c.joined_refusal-answer.ensures; numbers = refl }) c.if-answer-gt0.false
-
 pub returns : goal.returns
 unfolding align_blues_and_stems
 returns c =
-    let z = c.before in
-    let o = z.before in
-    let tested = o.before in
-    let a = tested.args in
-    answered-yes _ _ (stems 0 Links.None a.axis) _ _ tested.joined_refusal-answer.ensures o.if-answer-gt0.false
+    let a = c.args in
+    let ts = joined_tests a.axis a.group a.top_to_bottom a.rule a.standards.now in
+    let h : AllHold ts = all_held {ts = ts} (record { refused = c.joined_refusal-answer.ensures; numbers = refl }) c.if-answer-gt0.false in
+    answered-yes _ _ (stems 0 Links.None a.axis) _ _ c.joined_refusal-answer.ensures c.if-answer-gt0.false
     (c.align_stems.ensures
-    ∙ ap (λ (r : Anchored). stems_of (mode_of a.axis a.group a.stem-adjust a.rule) a.standards.now r.anchor r.axis)
-    z.align_where_zoned-zoned.ensures
-    ∙ in_a_row a.axis a.group a.stem-adjust a.top-to-bottom a.rule a.standards.now (tests-hold o))
+    ∙ ap (λ (r : Anchored). stems_of (mode_of a.axis a.group a.stem_adjust a.rule) a.standards.now r.anchor r.axis)
+    c.align_where_zoned-zoned.ensures
+    ∙ in_a_row a.axis a.group a.stem_adjust a.top_to_bottom a.rule a.standards.now h)
 
 pub align_where_zoned-zoned-requires : goal.align_where_zoned-zoned-requires
 align_where_zoned-zoned-requires c =
     let a = c.args in
-    let h = tests-hold c in
+    let ts = joined_tests a.axis a.group a.top_to_bottom a.rule a.standards.now in
+    let h : AllHold ts = all_held {ts = ts} (record { refused = c.joined_refusal-answer.ensures; numbers = refl }) c.if-answer-gt0.false in
     record {
       standards_value = h.1.1.0;
-      axis_within = edges-within a.axis (edges a.axis a.group a.stem-adjust a.top-to-bottom a.rule a.standards.now h);
+      axis_within = edges-within a.axis (edges a.axis a.group a.stem_adjust a.top_to_bottom a.rule a.standards.now h);
     }
 
 pub align_stems-requires : goal.align_stems-requires
 align_stems-requires c =
-    let o = c.before in
-    let a = o.args in
-    let h = tests-hold o in
+    let a = c.args in
+    let ts = joined_tests a.axis a.group a.top_to_bottom a.rule a.standards.now in
+    let h : AllHold ts = all_held {ts = ts} (record { refused = c.joined_refusal-answer.ensures; numbers = refl }) c.if-answer-gt0.false in
     let found = sym c.align_where_zoned-zoned.ensures in
-    let zoned = zoned-edges a.axis a.group a.stem-adjust a.top-to-bottom a.rule a.standards.now h in
-    let anchor = zoned-anchor a.axis a.group a.stem-adjust a.top-to-bottom a.rule a.standards.now h in
-    let settled = zoned-settled a.axis a.group a.stem-adjust a.top-to-bottom a.rule a.standards.now h in
+    let zoned = zoned-edges a.axis a.group a.stem_adjust a.top_to_bottom a.rule a.standards.now h in
+    let anchor = zoned-anchor a.axis a.group a.stem_adjust a.top_to_bottom a.rule a.standards.now h in
+    let settled = zoned-settled a.axis a.group a.stem_adjust a.top_to_bottom a.rule a.standards.now h in
     record {
       standards_value = h.1.1.0;
       axis_within = (

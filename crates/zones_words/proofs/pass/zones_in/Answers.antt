@@ -9,7 +9,7 @@ pub loop-i-init : goal.loop-i-init
 loop-i-init c = zoning-starts c.args.rule c.args.standards.now c.requires.whole.0 refl c.requires.whole.1
 
 pub visit_in-anchor-requires : goal.visit_in-anchor-requires
-visit_in-anchor-requires c = let l = c in (l.requires.standards_value, zoning-ready _ _ l.loop-i.invariant c.loop-i-test.true)
+visit_in-anchor-requires c = record { standards_value = c.requires.standards_value; whole = zoning-ready _ _ c.loop-i.invariant c.loop-i-test.true }
 
 pub overflow_step-i : goal.overflow_step-i
 overflow_step-i c = let p = c.loop-i.invariant in let h = c.loop-i-test.true in omega (arith, p.few, h)

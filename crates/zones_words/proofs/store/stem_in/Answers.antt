@@ -14,16 +14,16 @@ returns-then-has_blue c =
     let e = b in
     let s = e in
     stem-zoned s.args.rule s.args.standards.now s.args.words.now s.args.one s.args.two e.read_edge-stem.ensures b.has_blue.ensures
-    s.requires.1.0 c.if-has_blue.true
+    s.requires.whole.0 c.if-has_blue.true
 
 pub linked_edge-moved-requires : goal.linked_edge-moved-requires
 linked_edge-moved-requires c =
     let e = c in
     let s = e in
-    let p = s.requires.1 in
+    let p = s.requires.whole in
     let ws = s.args.words.now in
     record {
-      standards_value = s.requires.0;
+      standards_value = s.requires.standards_value;
       in_reach = (
         read-reach c.read_edge-base.result c.read_edge-base.ensures (edge-reach ws most_reach s.args.one (omega arith) p.3 p.1),
         read-reach e.read_edge-stem.result e.read_edge-stem.ensures (edge-reach ws most_reach s.args.two (omega arith) p.3 p.2),

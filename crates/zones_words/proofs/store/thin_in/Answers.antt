@@ -10,8 +10,8 @@ returns-then-skipped c =
     let f = a in
     let t = f in
     let s = t in
-    thin-law s.args.words.now _ _ s.args.i s.args.skipped f.read-Flags.result s.requires.0 s.requires.1 t.if-skipped.true
-    f.read-Flags.ensures a.put_flags.ensures
+    thin-law s.args.words.now _ _ s.args.i s.args.skipped f.read_flags-flags.result s.requires.0 s.requires.1 t.if-skipped.true
+    f.read_flags-flags.ensures a.put_flags.ensures
     b.put_no_zone.ensures
 
 pub returns-else-skipped : goal.returns-else-skipped
