@@ -10,61 +10,64 @@ use Rattle.words_segment.proofs.Wholes.{pos-short}
 use Rattle.build_words.specs.Edges.{listed_words, Room}
 use Rattle.build_words.proofs.Built.{room-there, made-long, made-whole, rings-there, properties-ready, built_in}
 use Rattle.build_words.proofs.pass.build_listed.Goals as goal
-use Rattle.build_words.proofs.pass.build_listed.Goals.{After-struct_told-1, After-write_edges, Start}
-
-abbrev start : After-struct_told-1 → Start
-start c = c
-
--- the scale, as the call is given it
-scale-is : (c : After-struct_told-1) → to_z w32 (of_z w32 (start c).args.rules.scale) ≡ (start c).args.rules.scale
-scale-is c = back w32 (start c).args.rules.scale c.struct_told-1.given.1.1.1.0.1
-
--- what the edges are written as
-wrote : (c : After-write_edges)
-    → c.write_edges.new.1.0
-    ≡ written (start c.before).args.room.now 0
-    (joined (listed_words (start c.before).args.segments.now (start c.before).args.rules.scale (start c.before).args.first.now
-    (start c.before).args.last.now)
-    (edges_in (start c.before).args.room.now))
-wrote c =
-    let a = (start c.before).args in
-    c.write_edges.ensures
-    ∙ ap (λ (z : ℤ). written a.room-1.now 0 (joined (listed_words a.segments-1.now z a.first.now a.last.now) (edges_in a.room-1.now)))
-    (scale-is c.before)
 
 pub write_edges-requires : goal.write_edges-requires
 write_edges-requires c =
-    let s = start c in
-    subst (λ (z : ℤ). Room s.args.segments.now z s.args.first.now (edges_in s.args.room.now)) (sym (scale-is c)) (room-there s.pre)
+    let scale-is : to_z w32 (of_z w32 c.args.rules.scale) ≡ c.args.rules.scale = back w32 c.args.rules.scale c.struct_told-1.given.1.1.1.0.1 in
+    subst (λ (z : ℤ). Room c.args.segments.now z c.args.first.now (edges_in c.args.room.now)) (sym scale-is) (room-there c.requires)
 
 pub mark_in-requires : goal.mark_in-requires
 mark_in-requires c =
-    let w = c.before.before in
-    let s = start w.before in
-    (s.pre.whole, rings-there s.pre (wrote w) _ refl)
+    let scale-is : to_z w32 (of_z w32 c.args.rules.scale) ≡ c.args.rules.scale = back w32 c.args.rules.scale c.struct_told-1.given.1.1.1.0.1 in
+    let wrote : c.write_edges.new.room
+    ≡ written c.args.room.now 0
+    (joined (listed_words c.args.segments.now c.args.rules.scale c.args.first.now
+    c.args.last.now)
+    (edges_in c.args.room.now)) = let a = c.args in
+    c.write_edges.ensures
+    ∙ ap (λ (z : ℤ). written a.room.now 0 (joined (listed_words a.segments.now z a.first.now a.last.now) (edges_in a.room.now)))
+    scale-is in
+    (c.requires.whole, rings-there c.requires wrote _ refl)
 
 pub properties_in-requires : goal.properties_in-requires
 properties_in-requires c =
-    let m = c.before.before.before in
-    let w = m.before.before.before in
-    let s = start w.before in
-    let after = m.mark_in.ensures in
-    (made-whole s.pre (wrote w), properties-ready s.pre (wrote w) refl after, λ i h. pos-short _ i after.whole h)
+    let scale-is : to_z w32 (of_z w32 c.args.rules.scale) ≡ c.args.rules.scale = back w32 c.args.rules.scale c.struct_told-1.given.1.1.1.0.1 in
+    let wrote : c.write_edges.new.room
+    ≡ written c.args.room.now 0
+    (joined (listed_words c.args.segments.now c.args.rules.scale c.args.first.now
+    c.args.last.now)
+    (edges_in c.args.room.now)) = let a = c.args in
+    c.write_edges.ensures
+    ∙ ap (λ (z : ℤ). written a.room.now 0 (joined (listed_words a.segments.now z a.first.now a.last.now) (edges_in a.room.now)))
+    scale-is in
+    let after = c.mark_in.ensures in
+    (made-whole c.requires wrote, properties-ready c.requires wrote refl after, λ i h. pos-short _ i after.whole h)
 
 pub shape_of-segments : goal.shape_of-segments
-shape_of-segments c =
-    let at-mark-in = c.before.before.before.before.before in
-    at-mark-in.mark_in.ensures.long
+shape_of-segments c = c.mark_in.ensures.long
 
 pub shape_of-room : goal.shape_of-room
 shape_of-room c =
-    let w = c.before.before.before.before.before.before.before.before in
-    c.properties_in.ensures.long ∙ made-long (start w.before).requires (wrote w)
+    let scale-is : to_z w32 (of_z w32 c.args.rules.scale) ≡ c.args.rules.scale = back w32 c.args.rules.scale c.struct_told-1.given.1.1.1.0.1 in
+    let wrote : c.write_edges.new.room
+    ≡ written c.args.room.now 0
+    (joined (listed_words c.args.segments.now c.args.rules.scale c.args.first.now
+    c.args.last.now)
+    (edges_in c.args.room.now)) = let a = c.args in
+    c.write_edges.ensures
+    ∙ ap (λ (z : ℤ). written a.room.now 0 (joined (listed_words a.segments.now z a.first.now a.last.now) (edges_in a.room.now)))
+    scale-is in
+    c.properties_in.ensures.long ∙ made-long c.requires wrote
 
 pub returns : goal.returns
 returns c =
-    let p = c.before in
-    let m = p.before.before.before.before in
-    let w = m.before.before.before in
-    let s = start w.before in
-    built_in s.pre (wrote w) refl m.mark_in.ensures p.properties_in.ensures
+    let scale-is : to_z w32 (of_z w32 c.args.rules.scale) ≡ c.args.rules.scale = back w32 c.args.rules.scale c.struct_told-1.given.1.1.1.0.1 in
+    let wrote : c.write_edges.new.room
+    ≡ written c.args.room.now 0
+    (joined (listed_words c.args.segments.now c.args.rules.scale c.args.first.now
+    c.args.last.now)
+    (edges_in c.args.room.now)) = let a = c.args in
+    c.write_edges.ensures
+    ∙ ap (λ (z : ℤ). written a.room.now 0 (joined (listed_words a.segments.now z a.first.now a.last.now) (edges_in a.room.now)))
+    scale-is in
+    built_in c.requires wrote refl c.mark_in.ensures c.properties_in.ensures

@@ -11,32 +11,34 @@ use Rattle.remaining_words.proofs.Copying.{room-long}
 use Rattle.fit_back_words.proofs.Tests.{few-points, same-marks}
 use borrow.Author.Rules.{rules}
 use Rattle.fit_words.proofs.rooms.fit_large.Goals as goal
-use Rattle.fit_words.proofs.rooms.fit_large.Goals.{Start}
-
--- what is given and lent
-abbrev gave : Start → Given
-gave s = let a = s.args in given a.segments.now a.standards.now a.fonts.now a.originals.now a.weak.now a.ends.now
-
-abbrev lent : Start → Fitted
-lent s = let a = s.args in fitted a.edges-1.now (points a.currents-1.now a.touched-1.now) a.told-1.now
 
 pub slice_bounds-spare-end : goal.slice_bounds-spare-end
-slice_bounds-spare-end c = let s = c.before.before.before.before.before.before.before.before in few-points s.args.by (gave s) (lent s) s.requires
+slice_bounds-spare-end c =
+    let gave : Given =
+    let a = c.args in given a.segments.now a.standards.now a.fonts.now a.originals.now a.weak.now a.ends.now in
+    let lent : Fitted = let a = c.args in fitted a.edges.now (points a.currents.now a.touched.now) a.told.now in
+    few-points c.args.by gave lent c.requires
 
 pub slice_bounds-marks-end : goal.slice_bounds-marks-end
-slice_bounds-marks-end c = let s = c.before.before.before.before.before.before.before.before.before in few-points s.args.by (gave s) (lent s) s.requires
+slice_bounds-marks-end c =
+    let gave : Given =
+    let a = c.args in given a.segments.now a.standards.now a.fonts.now a.originals.now a.weak.now a.ends.now in
+    let lent : Fitted = let a = c.args in fitted a.edges.now (points a.currents.now a.touched.now) a.told.now in
+    few-points c.args.by gave lent c.requires
 
 pub fit_in_rooms-requires : goal.fit_in_rooms-requires
 fit_in_rooms-requires c =
-    let s = c.before.before.before.before.before.before.before.before.before.before in
-    let a = s.args in
-    let w = s.requires.edges in
-    let few = few-points a.by (gave s) (lent s) s.requires in
+    let gave : Given =
+    let a = c.args in given a.segments.now a.standards.now a.fonts.now a.originals.now a.weak.now a.ends.now in
+    let lent : Fitted = let a = c.args in fitted a.edges.now (points a.currents.now a.touched.now) a.told.now in
+    let a = c.args in
+    let w = c.requires.edges in
+    let few = few-points a.by gave lent c.requires in
     record {
-      accepted = s.requires;
+      accepted = c.requires;
       rooms = record {
-        edges_long = room-long table_size (length a.edges-1.now) (pos 0) (omega (arith, w.few, w.long));
-        currents_long = room-long most_points (length a.currents-1.now) (pos 0) few;
-        marks_long = room-long most_points (length a.currents-1.now) 0 few ∙ sym (same-marks a.by (gave s) (lent s) s.requires);
+        edges_long = room-long table_size (length a.edges.now) (pos 0) (omega (arith, w.few, w.long));
+        currents_long = room-long most_points (length a.currents.now) (pos 0) few;
+        marks_long = room-long most_points (length a.currents.now) 0 few ∙ sym (same-marks a.by gave lent c.requires);
       };
     }

@@ -9,24 +9,18 @@ use Rattle.fit_back_words.proofs.Tests.{same-marks}
 use Rattle.fit_words.specs.Rooms.{few_words, few_points}
 use borrow.Author.Rules.{rules}
 use Rattle.fit_words.proofs.rooms.fit_small.Goals as goal
-use Rattle.fit_words.proofs.rooms.fit_small.Goals.{Start}
-
--- what is given and lent
-abbrev gave : Start → Given
-gave s = let a = s.args in given a.segments.now a.standards.now a.fonts.now a.originals.now a.weak.now a.ends.now
-
-abbrev lent : Start → Fitted
-lent s = let a = s.args in fitted a.edges-1.now (points a.currents-1.now a.touched-1.now) a.told-1.now
 
 pub fit_in_rooms-requires : goal.fit_in_rooms-requires
 fit_in_rooms-requires c =
-    let s = c.before.before.before.before.before.before.before.before.before.before in
-    let a = s.args in
+    let gave : Given =
+    let a = c.args in given a.segments.now a.standards.now a.fonts.now a.originals.now a.weak.now a.ends.now in
+    let lent : Fitted = let a = c.args in fitted a.edges.now (points a.currents.now a.touched.now) a.told.now in
+    let a = c.args in
     record {
-      accepted = s.requires.accepted;
+      accepted = c.requires.accepted;
       rooms = record {
-        edges_long = room-long few_words (length a.edges-1.now) (pos 0) s.requires.small.edges;
-        currents_long = room-long few_points (length a.currents-1.now) (pos 0) s.requires.small.points;
-        marks_long = room-long few_points (length a.currents-1.now) 0 s.requires.small.points ∙ sym (same-marks a.by (gave s) (lent s) s.requires.accepted);
+        edges_long = room-long few_words (length a.edges.now) (pos 0) c.requires.small.edges;
+        currents_long = room-long few_points (length a.currents.now) (pos 0) c.requires.small.points;
+        marks_long = room-long few_points (length a.currents.now) 0 c.requires.small.points ∙ sym (same-marks a.by gave lent c.requires.accepted);
       };
     }

@@ -24,27 +24,35 @@ use Rattle.gaps_words.proofs.find.lend_gaps.Goals as goal
 
 pub returns-then-answer-gt0 : goal.returns-then-answer-gt0
 returns-then-answer-gt0 c =
-    let own_is : c.or_refused-own.result ≡ or_refused 0 (inside (pos 0) (pos most_units) c.args.least) bad_parameter = c.or_refused-own.ensures ∙ ap (λ (t : Bool). or_refused 0 t bad_parameter)
+    let old : Places = let a = c.args in (a.count.now, (a.first.now, (a.second.now, (a.before.now, (a.after.now, (a.stems.now, a.not_done.now)))))) in
+    let own_is : c.or_refused-own.result ≡ or_refused 0 (inside (pos 0) (pos most_units) c.args.least) bad_parameter =
+    c.or_refused-own.ensures ∙ ap (λ (t : Bool). or_refused 0 t bad_parameter)
     (c.is_inside.ensures ∙ ap (inside (pos 0) (pos most_units)) (is c.ranges.least)) in
     let choice-is : c.is_in.result ≡ is_in choice c.args.linked = c.is_in.ensures ∙ ap (is_in choice) (is c.ranges.linked) in
-    gaps-refused c.args.edges.now c.args.least c.args.linked (let a = c.args in (a.count.now, (a.first.now, (a.second.now, (a.before.now, (a.after.now, (a.stems.now, a.not_done.now))))))) own_is choice-is c.edges_test-answer.ensures c.if-answer-gt0.true
+    gaps-refused c.args.edges.now c.args.least c.args.linked old own_is choice-is c.edges_test-answer.ensures c.if-answer-gt0.true
 
 pub find_in-found-requires : goal.find_in-found-requires
 find_in-found-requires c =
-    let own_is : c.or_refused-own.result ≡ or_refused 0 (inside (pos 0) (pos most_units) c.args.least) bad_parameter = c.or_refused-own.ensures ∙ ap (λ (t : Bool). or_refused 0 t bad_parameter)
+    let old : Places = let a = c.args in (a.count.now, (a.first.now, (a.second.now, (a.before.now, (a.after.now, (a.stems.now, a.not_done.now)))))) in
+    let own_is : c.or_refused-own.result ≡ or_refused 0 (inside (pos 0) (pos most_units) c.args.least) bad_parameter =
+    c.or_refused-own.ensures ∙ ap (λ (t : Bool). or_refused 0 t bad_parameter)
     (c.is_inside.ensures ∙ ap (inside (pos 0) (pos most_units)) (is c.ranges.least)) in
     let choice-is : c.is_in.result ≡ is_in choice c.args.linked = c.is_in.ensures ∙ ap (is_in choice) (is c.ranges.linked) in
-    let allowed : Ready c.args.edges.now c.or_refused-own.result true true = gaps-ready c.args.edges.now c.args.least c.args.linked (let a = c.args in (a.count.now, (a.first.now, (a.second.now, (a.before.now, (a.after.now, (a.stems.now, a.not_done.now))))))) own_is choice-is c.edges_test-answer.ensures c.if-answer-gt0.false in
+    let allowed : Ready c.args.edges.now c.or_refused-own.result true true =
+    gaps-ready c.args.edges.now c.args.least c.args.linked old own_is choice-is c.edges_test-answer.ensures c.if-answer-gt0.false in
     (allowed.whole, allowed.axis)
 
 pub returns : goal.returns
 returns c =
     let old : Places = let a = c.args in (a.count.now, (a.first.now, (a.second.now, (a.before.now, (a.after.now, (a.stems.now, a.not_done.now)))))) in
-    let own_is : c.or_refused-own.result ≡ or_refused 0 (inside (pos 0) (pos most_units) c.args.least) bad_parameter = c.or_refused-own.ensures ∙ ap (λ (t : Bool). or_refused 0 t bad_parameter)
+    let own_is : c.or_refused-own.result ≡ or_refused 0 (inside (pos 0) (pos most_units) c.args.least) bad_parameter =
+    c.or_refused-own.ensures ∙ ap (λ (t : Bool). or_refused 0 t bad_parameter)
     (c.is_inside.ensures ∙ ap (inside (pos 0) (pos most_units)) (is c.ranges.least)) in
     let choice-is : c.is_in.result ≡ is_in choice c.args.linked = c.is_in.ensures ∙ ap (is_in choice) (is c.ranges.linked) in
-    let allowed : Ready c.args.edges.now c.or_refused-own.result true true = gaps-ready c.args.edges.now c.args.least c.args.linked old own_is choice-is c.edges_test-answer.ensures c.if-answer-gt0.false in
-    let found : c.find_in-found.result ≡ found_in c.args.least (choice_of c.args.linked) (edges_of c.args.edges.now) = let k = c.choice_of.ensures ∙ ap choice_of (is c.ranges.linked) in
+    let allowed : Ready c.args.edges.now c.or_refused-own.result true true =
+    gaps-ready c.args.edges.now c.args.least c.args.linked old own_is choice-is c.edges_test-answer.ensures c.if-answer-gt0.false in
+    let found : c.find_in-found.result ≡ found_in c.args.least (choice_of c.args.linked) (edges_of c.args.edges.now) =
+    let k = c.choice_of.ensures ∙ ap choice_of (is c.ranges.linked) in
     c.find_in-found.ensures ∙ (λ x. found_in (is c.ranges.least x) (k x) (edges_of c.args.edges.now)) in
     let n = c.count_word-3 in
     let few = few-found c.args.least (choice_of c.args.linked) (edges_of c.args.edges.now) allowed.axis in

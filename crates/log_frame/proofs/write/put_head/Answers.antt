@@ -1,7 +1,7 @@
 -- `log_frame::write::put_head` meets its contract: three bytes, one behind the other.
 use native.Mathlib.Omega.{arith}
 use mathlib.Core.Path.{refl}
-use mathlib.Core.List.{◌∷◌}
+use mathlib.Core.List.{◌∷◌, []}
 use Rattle.log_digits.proofs.Writing.{written_then}
 use Rattle.log_frame.specs.Frame.{kind_byte}
 use Rattle.log_frame.proofs.write.put_head.Goals as goal

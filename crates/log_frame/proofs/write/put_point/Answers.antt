@@ -1,7 +1,7 @@
 -- `log_frame::write::put_point` meets its contract: a mark and two numbers, one behind the other.
 use native.Mathlib.Omega.{arith}
 use mathlib.Core.Path.{refl, ap, ◌∙◌}
-use mathlib.Core.List.{◌∷◌}
+use mathlib.Core.List.{◌∷◌, []}
 use Prim.Native.Nat.{◌+◌}
 use lib.IntN.{ℤ}
 use Rattle.signed.proofs.Signed.{is}

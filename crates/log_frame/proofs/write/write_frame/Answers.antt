@@ -1,7 +1,7 @@
 -- `log_frame::write::write_frame` meets its contract: what is not refused is written, its head, its points and its ends.
 use native.Mathlib.Omega.{arith}
 use mathlib.Core.Path.{◌≡◌, sym, ap, subst, ◌∙◌}
-use mathlib.Core.List.{◌∷◌}
+use mathlib.Core.List.{◌∷◌, []}
 use lib.ListN.{length}
 use Rattle.refusals.specs.Refusal.{refusal}
 use Rattle.log_digits.specs.Digits.{Bytes}

@@ -1,7 +1,7 @@
 -- `log_text::text::put_results` meets its contract. The invariant: what is written so far.
 use native.Mathlib.Omega.{arith}
 use mathlib.Core.Path.{◌≡◌, ap, ◌∙◌}
-use mathlib.Core.List.{◌∷◌}
+use mathlib.Core.List.{[], ◌∷◌}
 use Prim.Native.Nat.{◌≤◌}
 use lib.ListN.{length, get_or}
 use lib.IntN.{pos}

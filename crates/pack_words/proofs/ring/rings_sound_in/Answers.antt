@@ -9,42 +9,25 @@ use Rattle.mend_rings_words.proofs.Follows.{followed-told}
 use Rattle.words_edge.proofs.Wholes.{edges-len}
 use Rattle.pack_words.proofs.Sounding.{none-sound}
 use Rattle.pack_words.proofs.ring.rings_sound_in.Goals as goal
-use Rattle.pack_words.proofs.ring.rings_sound_in.Goals.{After-find_broken, After-gather_in, After-tally, Start}
-
--- where the call starts
-abbrev start : After-gather_in → Start
-start c = c.before.before.before
 
 pub gather_in-requires : goal.gather_in-requires
 gather_in-requires c = (c.requires.0, refl, refl)
 
 pub tally-requires : goal.tally-requires
-tally-requires c = ((start c.before.before.before.before).requires.0, refl, refl, refl)
-
--- counted, and where the lists were gathered
-abbrev gathered : After-tally → After-gather_in
-gathered c = c.before.before.before.before.before
+tally-requires c = (c.requires.0, refl, refl, refl)
 
 pub find_broken-requires : goal.find_broken-requires
-find_broken-requires c = let s = start (gathered c.before.before.before.before) in (s.pre.0, s.pre.1, refl)
-
--- followed, and where the segments were counted
-abbrev tallied : After-find_broken → After-tally
-tallied c = c.before.before.before.before.before
+find_broken-requires c = (c.requires.0, c.requires.1, refl)
 
 pub none_broken-requires : goal.none_broken-requires
-none_broken-requires c = (start (gathered (tallied c.before))).requires.1
+none_broken-requires c = c.requires.1
 
 pub returns : goal.returns
 unfolding flat_segments segments_run flat_axis axis_run
 returns c =
-    let f = c.before.before in
-    let t = tallied f in
-    let g = gathered t in
-    let s = start g in
-    let es = s.args.edges.now in
+    let es = c.args.edges.now in
     c.none_broken.ensures
-    ∙ none-sound (edges_of es) (flat_segments s.args.segments.now) _ _ (sym (edges-len es))
-    (followed-told es Dimensions.Horizontal Directions.None (flat_segments s.args.segments.now) _ _ _ _ _ _ s.pre.0 s.pre.1
-    g.gather_in.ensures.gathered t.tally.ensures
-    f.find_broken.ensures)
+    ∙ none-sound (edges_of es) (flat_segments c.args.segments.now) _ _ (sym (edges-len es))
+    (followed-told es Dimensions.Horizontal Directions.None (flat_segments c.args.segments.now) _ _ _ _ _ _ c.requires.0 c.requires.1
+    c.gather_in.ensures.gathered c.tally.ensures
+    c.find_broken.ensures)

@@ -1,6 +1,6 @@
 -- `path_lay::lay::lay_walk` meets its contract. The invariant: what is left of the walk, laid behind what is laid, gives the whole.
 use mathlib.Core.Bool.{true}
-use mathlib.Core.List.{List, ◌∷◌}
+use mathlib.Core.List.{List, ◌∷◌, []}
 use Prim.Native.Nat.{ℕ, ◌-◌}
 use native.Mathlib.Omega.{arith}
 use lib.ListN.{drop}

@@ -1,6 +1,6 @@
 -- `shown_lines::line::cross_curve` meets its contract. The invariant: the lines from k / 16 on are left to add.
 use mathlib.Core.Path.{◌≡◌, ◌∙◌}
-use mathlib.Core.List.{◌∷◌}
+use mathlib.Core.List.{◌∷◌, []}
 use Prim.Native.Nat.{suc, ◌+◌, ◌-◌}
 use native.Mathlib.Omega.{arith}
 use Rattle.shown.specs.Shown.{side}

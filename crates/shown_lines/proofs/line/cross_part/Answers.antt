@@ -1,6 +1,6 @@
 -- `shown_lines::line::cross_part` meets its contract.
 use mathlib.Core.Path.{◌≡◌, subst}
-use mathlib.Core.List.{List, ◌∷◌}
+use mathlib.Core.List.{List, ◌∷◌, []}
 use Prim.Native.Nat.{ℕ, ◌+◌}
 use Rattle.shown.specs.Shown.{Side, side}
 use Rattle.shown_lines.specs.Lines.{placed, place_on, Wound}

@@ -1,5 +1,4 @@
 -- `tool_lists::list::nth_list` is safe: each list has at most so many numbers.
-use borrow.Author.Rules.{rules}
 use Prim.Native.Nat.{◌+◌, ◌*◌, ◌-◌, ◌≤◌}
 use Rattle.tool_lines.specs.Limits.{most_numbers}
 use Rattle.tool_lists.proofs.list.nth_list.Given as goal

@@ -1,5 +1,4 @@
 -- `tool_lists::number::read_bytes` is safe: every store keeps the length.
-use borrow.Author.Rules.{rules}
 use Prim.Native.Nat.{◌≤◌, ◌-◌}
 use lib.ListN.{length}
 use mathlib.Core.Path.{◌≡◌}

@@ -1,7 +1,5 @@
 -- `tool_values::tables::axis_from` meets its contract.
 use Prim.Native.Nat.{◌-◌, ◌≤◌}
-use native.Mathlib.Omega.{arith}
-use borrow.Author.Rules.{rules}
 use Rattle.axis.specs.Limits.{most_edges}
 use Rattle.tool_values.proofs.tables.axis_from.Given as goal
 

@@ -1,7 +1,5 @@
 -- `tool_values::tables::segments_from` meets its contract.
 use Prim.Native.Nat.{◌-◌, ◌≤◌}
-use native.Mathlib.Omega.{arith}
-use borrow.Author.Rules.{rules}
 use Rattle.axis.specs.Limits.{most_segments}
 use Rattle.tool_values.proofs.tables.segments_from.Given as goal
 

@@ -1,8 +1,6 @@
 -- `tool_values::tables::write_edges` meets its contract.
-use mathlib.Core.Path.{◌≡◌, refl}
+use mathlib.Core.Path.{◌≡◌}
 use Prim.Native.Nat.{◌-◌, ◌*◌, ◌≤◌}
-use native.Mathlib.Omega.{arith}
-use borrow.Author.Rules.{rules}
 use lib.ListN.{length}
 use Rattle.axis.specs.Limits.{most_edges}
 use Rattle.words.specs.Edge.{edge_size}

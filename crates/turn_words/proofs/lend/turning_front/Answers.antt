@@ -17,7 +17,11 @@ use Rattle.turn_words.proofs.lend.turning_front.Goals as goal
 
 pub returns-then-not-both : goal.returns-then-not-both
 unfolding turn_front
-returns-then-not-both c = not-whole (eqb (length c.args.segments.now % segment_size) 0 && eqb (length c.args.edges.now % edge_size) 0) (leb (segments_in c.args.segments.now) most_segments && leb (edges_in c.args.edges.now) most_edges) (segments_shown c.args.segments.now && edges_shown c.args.edges.now) (sym c.both.ensures ∙ c.if-not-both.true)
+returns-then-not-both c =
+    let whole : Bool = eqb (length c.args.segments.now % segment_size) 0 && eqb (length c.args.edges.now % edge_size) 0 in
+    let short : Bool = leb (segments_in c.args.segments.now) most_segments && leb (edges_in c.args.edges.now) most_edges in
+    let shown : Bool = segments_shown c.args.segments.now && edges_shown c.args.edges.now in
+    not-whole whole short shown (sym c.both.ensures ∙ c.if-not-both.true)
 
 pub returns-then-not-both-2 : goal.returns-then-not-both-2
 unfolding turn_front

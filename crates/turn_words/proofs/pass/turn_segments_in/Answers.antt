@@ -25,13 +25,15 @@ overflow_add-i c = omega (arith, c.requires.0.few)
 pub turned_link-turned-requires : goal.turned_link-turned-requires
 turned_link-turned-requires c =
     let below : c.loop-i.i < segments_in c.args.segments.now = omega arith in
-    let held : link_holds c.args.count c.link_at-edge.result ≡ true = next-holds _ c.args.segments.now c.requires.0 _ c.loop-i.i below c.loop-i.invariant.1 _ c.requires.2 c.link_at-edge.ensures in
+    let held : link_holds c.args.count c.link_at-edge.result ≡ true =
+    next-holds _ c.args.segments.now c.requires.0 _ c.loop-i.i below c.loop-i.invariant.1 _ c.requires.2 c.link_at-edge.ensures in
     (c.requires.1, held)
 
 pub put_edge-requires : goal.put_edge-requires
 put_edge-requires c =
     let below : c.loop-i.i < segments_in c.args.segments.now = omega arith in
-    let held : link_holds c.args.count c.link_at-edge.result ≡ true = next-holds _ c.args.segments.now c.requires.0 _ c.loop-i.i below c.loop-i.invariant.1 _ c.requires.2 c.link_at-edge.ensures in (
+    let held : link_holds c.args.count c.link_at-edge.result ≡ true =
+    next-holds _ c.args.segments.now c.requires.0 _ c.loop-i.i below c.loop-i.invariant.1 _ c.requires.2 c.link_at-edge.ensures in (
       c.loop-i.invariant.1.whole,
       below_in c.loop-i.i c.loop-i.invariant.1 below,
       turned-in _ _ _ c.requires.1 held
