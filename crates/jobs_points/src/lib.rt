@@ -4,7 +4,7 @@
 pub mod catalogue;
 pub mod drag;
 mod float;
-pub mod path;
+pub mod path_job;
 pub mod references;
-pub mod shown;
-pub mod weak;
+pub mod shown_job;
+pub mod weak_job;

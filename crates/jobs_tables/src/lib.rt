@@ -2,7 +2,7 @@
 #![tactic(auto)]
 
 mod by_value;
-pub mod gaps;
+pub mod gaps_job;
 pub mod mending;
-pub mod pack;
+pub mod pack_job;
 pub mod table;

@@ -5,7 +5,7 @@ ghost use Rattle.tool_lines.specs.Limits.{most_words};
 use label_fit::edges::{fitting, m, remaining};
 use label_fit::glyph::Glyph;
 use label_fit::topo::{build, link};
-use label_points::path::path;
+use label_points::path_steps::path;
 use label_points::points::{strong, weak};
 use label_print::print::text;
 use tool_lines::limits::MOST_WORDS;

@@ -17,7 +17,7 @@ use Rattle.lowercase_m.specs.declared.hint.Hinted.{Hinted}
 use Rattle.lowercase_m.specs.M.{stems_of, aligned, mTests, hint_lowercase_m, hinted}
 use Rattle.lowercase_m_list.specs.declared.hint.Table.{Table}
 use Rattle.lowercase_m_list.specs.Table.{empty_table, copied, axis_with, table_of, hint_table}
-use Rattle.lowercase_m_list.specs.M.{axis_of, hint_lowercase_mList, HintsLowercaseMList}
+use Rattle.lowercase_m_list.specs.M.{axis_of, hint_lowercase_m_list, HintsLowercaseMList}
 use Rattle.lowercase_m_list.proofs.Tabled.{table_edges, table_axis, aligned-same, refusal-same}
 
 -- ---- the table form's answer
@@ -103,7 +103,7 @@ back l group =
 pub outcome : (l : List Edge) (group : Group) (t : Table) {m : List Edge}
     → t ≡ hint_table (copied (min (length l) most_edges) l empty_table) (length l) group → m ≡ copied t.count t.edges l
     → HintsLowercaseMList l group t.answer m
-unfolding hint_table hint_lowercase_mList
+unfolding hint_table hint_lowercase_m_list
 outcome l group t p e =
     let q : t ≡ table_of (hint_lowercase_m (table_axis l) group) (length l) = p ∙ ap (λ (es : List Edge). hint_table es (length l) group) (loaded l) in
     record {

@@ -18,7 +18,7 @@ use Rattle.axis.specs.Edge.{fresh_edge, empty_edge, placed, finished, joined_to}
 use Rattle.axis.specs.Link.{links_to}
 use Rattle.axis.specs.Refusals as R
 use Rattle.lowercase_m.specs.M as M
-use Rattle.lowercase_m_list.specs.M.{Hinted, hinted, hint_lowercase_mList}
+use Rattle.lowercase_m_list.specs.M.{Hinted, hinted, hint_lowercase_m_list}
 
 -- a group and a list, and what the call should hand back
 pub record Row : Type 0 where
@@ -89,10 +89,10 @@ worked =
 -- the definition gives the value of each row
 abbrev pub All : List Row → Type 0
 All [] = Unit {0}
-All (r ∷ rs) = (hint_lowercase_mList r.list r.group ≡ r.value) × All rs
+All (r ∷ rs) = (hint_lowercase_m_list r.list r.group ≡ r.value) × All rs
 
 pub all-worked : All worked
-unfolding hint_lowercase_mList M.hint_lowercase_m M.aligned M.applies M.group_holds M.linked_on M.move_stem M.move_serifs M.move_link M.move_done M.move_only links_to
+unfolding hint_lowercase_m_list M.hint_lowercase_m M.aligned M.applies M.group_holds M.linked_on M.move_stem M.move_serifs M.move_link M.move_done M.move_only links_to
     refusal R.edges_indices
     R.edges_numbers R.edge_indices R.edge_numbers R.link_holds R.blue_holds R.every
 all-worked = (refl, (refl, (refl, (refl, (refl, (refl, (refl, (refl, (refl, (refl, (refl, (refl, (refl, (refl, (refl, tt)))))))))))))))

@@ -24,13 +24,13 @@ abbrev pub without_marks : Hinted → Hinted
 without_marks r = hinted (map unmarked r.edges) r.answer
 
 -- the refusal and the list as it came, or 0 and the list after the rule
-unfoldable pub hint_lowercase_mList : List Edge → Group → Hinted
-hint_lowercase_mList l group = hinted (hint_lowercase_m (axis_of l) group).axis.edges (hint_lowercase_m (axis_of l) group).answer
+unfoldable pub hint_lowercase_m_list : List Edge → Group → Hinted
+hint_lowercase_m_list l group = hinted (hint_lowercase_m (axis_of l) group).axis.edges (hint_lowercase_m (axis_of l) group).answer
 
 -- what the call owes its caller: the answer a, and the list m that it leaves
 pub record HintsLowercaseMList (l : List Edge) (group : Group) (a : ℕ) (m : List Edge) : Type 0 where
-  pub answer : a ≡ (hint_lowercase_mList l group).answer
-  pub edges : m ≡ (hint_lowercase_mList l group).edges
+  pub answer : a ≡ (hint_lowercase_m_list l group).answer
+  pub edges : m ≡ (hint_lowercase_m_list l group).edges
 
 -- positions are as without marks, as `Blind` has it of an axis
 pub record BlindList (call : List Edge → Hinted) : Type 0 where

@@ -12,6 +12,11 @@ use std::io::{Read, Write};
 // The bytes of a block.
 const BLOCK: usize = 65536;
 
+// Writes replies.
+fn put<W: Write>(to: &mut W, replies: &[u8]) -> io::Result<()> {
+    to.write_all(replies)
+}
+
 // Answers the lines that end in a block, up to the first reply that cannot be written.
 fn answer_block<W: Write>(
     to: &mut W,
@@ -28,7 +33,7 @@ fn answer_block<W: Write>(
     let mut count = begun;
     while at < block.len() {
         let done = refit_block(block, at, line, count, out);
-        to.write_all(&out[..done.size])?;
+        put(to, &out[..done.size])?;
         at = done.at;
         count = done.count;
     }
@@ -40,7 +45,7 @@ fn answer_rest<W: Write>(to: &mut W, line: &[u8], count: usize, out: &mut [u8]) 
     requires { (count ≤ length line.now) × (most_reply ≤ length out.old) }
 {
     let size = refit_rest(line, count, out);
-    to.write_all(&out[..size])
+    put(to, &out[..size])
 }
 
 // Reads a log, and writes a reply to each of its lines.

@@ -18,6 +18,11 @@ use tool_lists::limits::LONGEST;
 // The bytes of a block.
 const BLOCK: usize = 65536;
 
+// Writes an answer.
+fn put<W: Write>(to: &mut W, answer: &[u8]) -> io::Result<()> {
+    to.write_all(answer)
+}
+
 // Writes the answer to the words that a line has, by the library and by value.
 fn reply<W: Write>(
     to: &mut W,
@@ -31,7 +36,7 @@ fn reply<W: Write>(
     let n = words_of(line);
     let count = answer_both(&words[..n], out);
     let size = spell(out, count, text);
-    to.write_all(&text[..size])
+    put(to, &text[..size])
 }
 
 // Feeds the first n bytes of a block, and answers each line that ends in them, up to the first answer that cannot be written.
