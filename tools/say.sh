@@ -61,7 +61,7 @@ needs() {
         ! command -v "$tool" >/dev/null || continue
         case $need in
         skrifa) [ -d "$sources" ] || cannot "skrifa's sources are not in $sources; KHS_SKRIFA_SRC names the folder that has them" ;;
-        rt) cannot "there is no rt: the Rattle kit is needed, rattle-kit-5 or later" ;;
+        rt) cannot "there is no rt: the Rattle kit is needed, rattle-kit-13f" ;;
         cargo) cannot "there is no cargo: Rust is needed" ;;
         cc) cannot "there is no $tool: a C compiler is needed" ;;
         *) cannot "there is no $need, which is needed" ;;
