@@ -20,7 +20,7 @@
 //!
 //! An axis of a glyph goes through the calls so; `include/khsaemudol.h`, which is beside the library, says more of each.
 //!
-//! 1. The caller finds the segments, and begins each with [`Segment::default`]. [`link_segments_cjk`] links those of [`Group::Cjk`]. Those of [`Group::Latin`] the caller links: the two
+//! 1. The caller finds the segments, and begins each with [`Segment::default`] and a score of 32,000. [`link_segments_cjk`] links those of [`Group::Cjk`]. Those of [`Group::Latin`] the caller links: the two
 //!    sides of a stem name each other by `link`; a serif names by `serif` the segment that it is a serif of, and no link.
 //! 2. [`compute_edges`] makes edges of them.
 //! 3. The caller gives the edges at heights that glyphs share their zones, by [`Edge::set_blue`].
@@ -217,7 +217,7 @@ impl Catalogue<'_> {
 /// ```
 /// use khsaemudol::{link_segments_cjk, Direction, Segment};
 ///
-/// let side = Segment::default().with_max_coord(200);
+/// let side = Segment::default().with_max_coord(200).with_score(32_000);
 /// let mut segments = [side.with_dir(Direction::Up), side.with_dir(Direction::Down).with_pos(100)];
 /// link_segments_cjk(&mut segments, Direction::Up, 1_000, 65_536)?;
 /// assert_eq!(segments.map(|segment| segment.link()), [Some(1), Some(0)]);
