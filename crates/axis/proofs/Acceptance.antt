@@ -1,4 +1,5 @@
 -- From tests that hold to the facts that a call may use.
+use Rattle.std.specs.Prelude.{None, Some}
 use mathlib.Core.Path.{◌≡◌}
 use mathlib.Core.Bool.{true}
 use Prim.Native.Nat.{ℕ, ◌<◌, ◌≤◌, min}
@@ -9,10 +10,8 @@ use lib.IntN.{ℤ, pos, neg_ℤ}
 use lib.Signed.{le_z}
 use Rattle.signed.specs.Range.{Between}
 use Rattle.signed.proofs.Signed.{signed, up_neg, dn-neg}
-use Rattle.axis.specs.declared.kinds.Link.{Link}
-use Rattle.axis.specs.declared.kinds.Link.TheVariants as Links
-use Rattle.axis.specs.declared.kinds.Blue.{Blue}
-use Rattle.axis.specs.declared.kinds.Blue.TheVariants as Blues
+use Rattle.axis.specs.Link.{Link}
+use Rattle.axis.specs.Link.{Blue}
 use Rattle.axis.specs.declared.edge.Edge.{Edge}
 use Rattle.axis.specs.declared.edge.Axis.{Axis}
 use Rattle.axis.specs.declared.segment.Segment.{Segment}
@@ -50,22 +49,22 @@ inside-between n z h = let a = and_first (le_z (pos 0) z) _ h in let b = and_sec
 
 pub link-below : (n : ℕ) (l : Link) → link_holds n l ≡ true → Below n l
 unfolding link_holds
-link-below n l h = record { at = λ (k : ℕ) (e : l ≡ Links.To k). at k (rw e at h) }
+link-below n l h = record { at = λ (k : ℕ) (e : l ≡ Some k). at k (rw e at h) }
   where
-    at : (k : ℕ) → link_holds n (Links.To k) ≡ true → k < n
+    at : (k : ℕ) → link_holds n (Some k) ≡ true → k < n
     at k h = ltb-true k n h
 
-pub below_none : (n : ℕ) → Below n Links.None
+pub below_none : (n : ℕ) → Below n None
 below_none n = record { at = λ k e. absurd (let z : ◌≡◌ {A = ℕ} 0 1 = cc in omega arith) }
 
-pub below-to : (n k : ℕ) → k < n → Below n (Links.To k)
+pub below-to : (n k : ℕ) → k < n → Below n (Some k)
 below-to n k h = record { at = λ j e. let q : k ≡ j = cc in omega arith }
 
 blue-in-zone : (b : Blue) → blue_holds b ≡ true → InZone b
 unfolding blue_holds
-blue-in-zone b h = record { at = λ (z : ℤ) (e : b ≡ Blues.Fitted z). at z (rw e at h) }
+blue-in-zone b h = record { at = λ (z : ℤ) (e : b ≡ Some z). at z (rw e at h) }
   where
-    at : (z : ℤ) → blue_holds (Blues.Fitted z) ≡ true → Between most_units most_units z
+    at : (z : ℤ) → blue_holds (Some z) ≡ true → Between most_units most_units z
     at z h = within-between most_units z h
 
 -- ---- edges

@@ -1,4 +1,5 @@
 -- From the facts of a table back to its tests: a table within document 01's limits is no reason for a refusal.
+use Rattle.std.specs.Prelude.{None, Some}
 use mathlib.Core.Path.{◌≡◌, refl}
 use mathlib.Core.Bool.{Bool, true}
 use Prim.Native.Nat.{ℕ, zero, suc, ◌<◌, min}
@@ -7,10 +8,8 @@ use borrow.Author.Tests.{lt-ltb, le-leb}
 use lib.IntN.{ℤ, pos, neg_ℤ}
 use Rattle.signed.specs.Range.{Between}
 use Rattle.signed.proofs.Signed.{to-le-true, up_neg, dn-neg}
-use Rattle.axis.specs.declared.kinds.Blue.{Blue}
-use Rattle.axis.specs.declared.kinds.Blue.TheVariants as Blues
-use Rattle.axis.specs.declared.kinds.Link.{Link}
-use Rattle.axis.specs.declared.kinds.Link.TheVariants as Links
+use Rattle.axis.specs.Link.{Blue}
+use Rattle.axis.specs.Link.{Link}
 use Rattle.axis.specs.declared.edge.Axis.{Axis}
 use Rattle.axis.specs.declared.edge.Edge.{Edge}
 use Rattle.axis.specs.declared.segment.Segment.{Segment}
@@ -33,13 +32,13 @@ inside-holds n z h = rw (to-le-true (pos 0) z (omega arith), to-le-true z (pos n
 
 pub link-holds : (n : ℕ) (l : Link) → Below n l → link_holds n l ≡ true
 unfolding link_holds
-link-holds n Links.None b = refl
-link-holds n (Links.To k) b = lt-ltb k n (b.at k refl)
+link-holds n None b = refl
+link-holds n (Some k) b = lt-ltb k n (b.at k refl)
 
 blue-holds : (b : Blue) → InZone b → blue_holds b ≡ true
 unfolding blue_holds
-blue-holds Blues.None h = refl
-blue-holds (Blues.Fitted z) h = within-holds most_units z (h.at z refl)
+blue-holds None h = refl
+blue-holds (Some z) h = within-holds most_units z (h.at z refl)
 
 pub every_holds : (p : ℕ → Bool) (n : ℕ) → ((i : ℕ) → i < n → p i ≡ true) → every p n ≡ true
 unfolding every

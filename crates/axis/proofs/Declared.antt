@@ -1,6 +1,7 @@
 -- What every value of the declared types meets (specs/Handed.antt), by the kit's own meaning of them. At the entry of a function `c.good` has this relation
 -- for each
 -- parameter, in their order, so that `typed-segment c.args.s _ c.good.0` is what a proof there writes.
+use Rattle.std.specs.Prelude.{None, Some}
 use mathlib.Core.Path.{sym, ◌∙◌}
 use mathlib.Core.List.{List, [], ◌∷◌, map}
 use Prim.Native.Nat.{ℕ, zero, suc}
@@ -8,6 +9,7 @@ use native.Mathlib.Omega.{arith}
 use lib.ListN.{get_or, length-map}
 use mir.Val.{Val}
 use denote.Array.{each}
+use denote.Builtin.{u16}
 use denote.Enum.Declared as Enum
 use denote.Laws.{Is}
 use denote.Shadow.{shadow}
@@ -15,8 +17,7 @@ use denote.Struct.Declared.{row}
 use Rattle.signed.proofs.Reading.{short}
 use Rattle.axis.specs.declared.edge.Axis.{Axis}
 use Rattle.axis.specs.declared.edge.Edge.{Edge}
-use Rattle.axis.specs.declared.kinds.Link.{Link}
-use Rattle.axis.specs.declared.kinds.Link.TheVariants as Links
+use Rattle.axis.specs.Link.{Link}
 use Rattle.axis.specs.declared.segment.Segment.{Segment}
 use Rattle.axis.specs.declared.segment.Segments.{Segments}
 use Rattle.axis.specs.Accepted.{Below}
@@ -25,7 +26,7 @@ use Rattle.axis.specs.Segment.{empty_segment}
 use Rattle.axis.proofs.Acceptance.{below_none, below-to}
 use Rattle.axis.specs.contracts.edge.Axis as AxisType
 use Rattle.axis.specs.contracts.edge.Edge as EdgeType
-use Rattle.axis.specs.contracts.kinds.Link as LinkType
+use Rattle.std.specs.contracts.option.Option.{the_row as OptionOf}
 use Rattle.axis.specs.contracts.segment.Segment as SegmentType
 use Rattle.axis.specs.contracts.segment.Segments as SegmentsType
 
@@ -53,9 +54,9 @@ typed t vs p =
     record { places = q.1.0.1; segment = all_typed t.segments q.0 q.1.1 }
 
 -- ---- edges
-typed-link : (l : Link) (vs : List Val) → Is (Enum.row LinkType.the_type) l vs → Below 65536 l
-typed-link Links.None vs p = below_none 65536
-typed-link (Links.To k) vs p = below-to 65536 k p.1.1.1.1.0.1
+typed-link : (l : Link) (vs : List Val) → Is (OptionOf u16) l vs → Below 65536 l
+typed-link None vs p = below_none 65536
+typed-link (Some k) vs p = below-to 65536 k p.1.1.1.1.0.1
 
 pub typed-edge : (e : Edge) (vs : List Val) → Is (row EdgeType.the_type) e vs → TypedEdge e
 typed-edge e vs p =

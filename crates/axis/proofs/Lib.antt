@@ -2,7 +2,7 @@
 -- back; `Rings`,
 -- walks along rings; `Walks`, what they meet; `Sound`, sound rings; `Worked`, rings by hand; `Visits`, the visits of a pass; `Only`, changes of edges; `Alike`,
 -- edges that are alike but for their marks; `Declared`, what every value of the
--- declared types meets.
+-- declared types meets; `Equal`, what the library's `==` says of links and directions.
 pub mod Tests
 pub mod Acceptance
 pub mod Accepting
@@ -14,3 +14,4 @@ pub mod Visits
 pub mod Only
 pub mod Alike
 pub mod Declared
+pub mod Equal

@@ -1,4 +1,5 @@
 -- Changes of edges: none, one after the other, in one place, by a call.
+use Rattle.std.specs.Prelude.{None, Some}
 use mathlib.Core.Path.{◌≡◌, refl, sym, ap, subst, ◌∙◌}
 use mathlib.Core.Bool.{Bool, true, false, cond, ◌&&◌, ◌||◌}
 use mathlib.Core.List.{List, [], ◌∷◌, ◌++◌}
@@ -9,8 +10,7 @@ use lib.Dec.{eqb}
 use lib.IntN.{ℤ}
 use lib.ListN.{get_or, set, length-set}
 use Rattle.refusals.specs.Refusal.{answered}
-use Rattle.axis.specs.declared.kinds.Blue.{Blue}
-use Rattle.axis.specs.declared.kinds.Blue.TheVariants as Blues
+use Rattle.axis.specs.Link.{Blue}
 use Rattle.axis.specs.declared.kinds.Mark.{Mark}
 use Rattle.axis.specs.declared.edge.Edge.{Edge}
 use Rattle.axis.specs.declared.edge.Axis.{Axis}
@@ -28,8 +28,8 @@ and_self true = refl
 and_self false = refl
 
 left-self : (b : Blue) → b ≡ zone_left b b
-left-self Blues.None = refl
-left-self (Blues.Fitted z) = refl
+left-self None = refl
+left-self (Some z) = refl
 
 pub or-true : (a : Bool) → true ≡ (a || true)
 or-true true = refl
@@ -50,8 +50,8 @@ and_then true false c p q = sym q
 and_then false b c p q = rw p
 
 left-then : (a b c : Blue) → b ≡ zone_left a b → c ≡ zone_left b c → zone_left b c ≡ zone_left a c
-left-then a b Blues.None p q = refl
-left-then a b (Blues.Fitted z) p q = p ∙ ap (zone_left a) (sym q)
+left-then a b None p q = refl
+left-then a b (Some z) p q = p ∙ ap (zone_left a) (sym q)
 
 -- ---- one edge
 -- an edge at a position, with such a mark, flag done and neutral, and a zone
@@ -85,14 +85,14 @@ told-then ms a b c (inl p) (inl q) = inl (stayed-then a b c p q)
 told-then ms a b c (inr p) (inl q) = inr (marked-then ms b c q.mark p)
 
 -- a zone that is there still was there before
-zone-before : (a b : Edge) (z : ℤ) → b.blue ≡ zone_left a.blue b.blue → b.blue ≡ Blues.Fitted z → a.blue ≡ Blues.Fitted z
+zone-before : (a b : Edge) (z : ℤ) → b.blue ≡ zone_left a.blue b.blue → b.blue ≡ Some z → a.blue ≡ Some z
 zone-before a b z l e = sym (l ∙ ap (zone_left a.blue) e) ∙ e
 
 zoned-then : (ms : List Mark) (a b c : Edge) → b.blue ≡ zone_left a.blue b.blue → Told (zone ms) a b → Told (zone ms) b c → Told (zone ms) a c
 zoned-then ms a b c l p (inr (inl q)) = inr (inl q)
 zoned-then ms a b c l (inl p) (inl q) = inl (stayed-then a b c p q)
 zoned-then ms a b c l (inr (inl p)) (inl q) = inr (inl (marked-then ms b c q.mark p))
-zoned-then ms a b c l (inr (inr p)) (inl q) = inr (inr (record { done = p.done; mark = q.mark ∙ p.mark; zone = p.zone ∙ ap Blues.Fitted (sym q.pos) }))
+zoned-then ms a b c l (inr (inr p)) (inl q) = inr (inr (record { done = p.done; mark = q.mark ∙ p.mark; zone = p.zone ∙ ap Some (sym q.pos) }))
 zoned-then ms a b c l (inl p) (inr (inr q)) =
     inr (inr (record { done = sym p.done ∙ q.done; mark = q.mark ∙ p.mark; zone = zone-before a b c.pos l q.zone }))
 zoned-then ms a b c l (inr (inl p)) (inr (inr q)) = inr (inl (marked-then ms b c q.mark p))
@@ -169,16 +169,16 @@ pub fixed-only : (ms : List Mark) (e : Edge) (p : ℤ) (m : Mark) → among ms m
 fixed-only ms e p m h = record { rest = λ i. remade e p m (or-true e.flags.done i) e.flags.neutral e.blue; told = inr h }
 
 -- one that is done already, on its zone
-pub rezoned-only : (ms : List Mark) (e : Edge) (z : ℤ) → e.flags.done ≡ true → e.blue ≡ Blues.Fitted z → Only (zone ms) e (fixed_at e z e.mark)
+pub rezoned-only : (ms : List Mark) (e : Edge) (z : ℤ) → e.flags.done ≡ true → e.blue ≡ Some z → Only (zone ms) e (fixed_at e z e.mark)
 rezoned-only ms e z d b = record {
   rest = λ i. remade e z e.mark (or-true e.flags.done i) (and_self e.flags.neutral i) (left-self e.blue i);
   told = inr (inr (record { done = d; mark = refl; zone = b }));
 }
 
 -- and one that is neutral no longer, and has no zone
-pub without-zone : (ms : List Mark) (e : Edge) → Only (zone ms) e (remade e e.pos e.mark e.flags.done false Blues.None)
+pub without-zone : (ms : List Mark) (e : Edge) → Only (zone ms) e (remade e e.pos e.mark e.flags.done false None)
 without-zone ms e = record {
-  rest = λ i. remade e e.pos e.mark (or_self e.flags.done i) (and-false e.flags.neutral i) Blues.None;
+  rest = λ i. remade e e.pos e.mark (or_self e.flags.done i) (and-false e.flags.neutral i) None;
   told = inl (record { pos = refl; mark = refl; done = refl });
 }
 

@@ -1,4 +1,5 @@
 -- Sound rings: the test and the record, what a sound ring holds, and the parts that make one.
+use Rattle.std.specs.Prelude.{None, Some}
 use mathlib.Core.Path.{◌≡◌, refl, sym, ap, subst, ◌∙◌}
 use mathlib.Core.Bool.{Bool, true, false, cond, ◌&&◌}
 use mathlib.Core.List.{List, [], ◌∷◌}
@@ -10,8 +11,7 @@ use lib.Dec.{eqb, ltb}
 use Rattle.signed.proofs.Signed.{lt-or-le}
 use Rattle.refusals.proofs.Tests.{and_first, and_second}
 use Rattle.axis.specs.declared.edge.Axis.{Axis}
-use Rattle.axis.specs.declared.kinds.Link.{Link}
-use Rattle.axis.specs.declared.kinds.Link.TheVariants as Links
+use Rattle.axis.specs.Link.{Link}
 use Rattle.axis.specs.declared.segment.Segments.{Segments}
 use Rattle.axis.specs.Edge.{edge_at}
 use Rattle.axis.specs.Limits.{most_segments}
@@ -128,25 +128,25 @@ module _ (next next' : ℕ → ℕ) (most last : ℕ) where
 
 -- ---- an index that there is
 linked-below : (n : ℕ) (l : Link) → index_or n l < n → is_linked l ≡ true
-linked-below n Links.None h = absurd (omega arith)
-linked-below n (Links.To k) h = refl
+linked-below n None h = absurd (omega arith)
+linked-below n (Some k) h = refl
 
 any-default : (l : Link) (a b : ℕ) → is_linked l ≡ true → index_or a l ≡ index_or b l
-any-default Links.None a b h = never h
-any-default (Links.To k) a b h = refl
+any-default None a b h = never h
+any-default (Some k) a b h = refl
 
-is-index : (n k : ℕ) (l : Link) → index_or n l ≡ k → k < n → l ≡ Links.To k
-is-index n k Links.None e h = absurd (omega arith)
-is-index n k (Links.To j) e h = ap Links.To e
+is-index : (n k : ℕ) (l : Link) → index_or n l ≡ k → k < n → l ≡ Some k
+is-index n k None e h = absurd (omega arith)
+is-index n k (Some j) e h = ap Some e
 
-pub of-link : (l : Link) (k : ℕ) → l ≡ Links.To k → links_to l k ≡ true
+pub of-link : (l : Link) (k : ℕ) → l ≡ Some k → links_to l k ≡ true
 unfolding links_to
 of-link l k e = ap (λ (x : Link). links_to x k) e ∙ eq-eqb k k refl
 
-pub links-to : (l : Link) (k : ℕ) → links_to l k ≡ true → l ≡ Links.To k
+pub links-to : (l : Link) (k : ℕ) → links_to l k ≡ true → l ≡ Some k
 unfolding links_to
-links-to Links.None k h = never h
-links-to (Links.To j) k h = ap Links.To (eqb-true j k h)
+links-to None k h = never h
+links-to (Some j) k h = ap Some (eqb-true j k h)
 
 -- ---- the ring of edge k
 module _ (axis : Axis) (t : Segments) (k : ℕ) where
@@ -166,7 +166,7 @@ module _ (axis : Axis) (t : Segments) (k : ℕ) where
         by false e = absurd (omega arith)
 
     -- every segment of the edge has a next
-    pub sound-led : (i : ℕ) → i < t.len → (segment_at t i).edge ≡ Links.To k → is_linked (segment_at t i).next ≡ true
+    pub sound-led : (i : ℕ) → i < t.len → (segment_at t i).edge ≡ Some k → is_linked (segment_at t i).next ≡ true
     sound-led i h e =
         linked-below t.len (segment_at t i).next (leads-inside (is_of t k) (led_to t) t.len first last s i h (of-link (segment_at t i).edge k e))
 
@@ -182,10 +182,10 @@ module _ (axis : Axis) (t : Segments) (k : ℕ) where
   -- ---- a ring is sound where its segments are walked, once each, are those of the edge, and each has a next, the last the first
   module _ (walked : Walked t first last)
       (once : (i : ℕ) → times i (members axis t k) ≤ 1)
-      (own : (i : ℕ) → 0 < times i (members axis t k) → (segment_at t i).edge ≡ Links.To k)
-      (every_one : (i : ℕ) → i < t.len → (segment_at t i).edge ≡ Links.To k → 0 < times i (members axis t k))
+      (own : (i : ℕ) → 0 < times i (members axis t k) → (segment_at t i).edge ≡ Some k)
+      (every_one : (i : ℕ) → i < t.len → (segment_at t i).edge ≡ Some k → 0 < times i (members axis t k))
       (led : (i : ℕ) → 0 < times i (members axis t k) → is_linked (segment_at t i).next ≡ true)
-      (closed : (segment_at t last).next ≡ Links.To first) where
+      (closed : (segment_at t last).next ≡ Some first) where
     agree : (i : ℕ) → 0 < times i (members axis t k) → next_of t last i ≡ led_to t i
     agree i p = any-default (segment_at t i).next last t.len (led i p)
 

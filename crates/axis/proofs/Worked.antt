@@ -1,4 +1,5 @@
 -- Rings by hand: the edges of segments, the segment behind each, the first and the last.
+use Rattle.std.specs.Prelude.{None, Some}
 use mathlib.Core.Path.{◌≡◌, refl}
 use mathlib.Core.Bool.{Bool, true, false}
 use mathlib.Core.List.{List, [], ◌∷◌}
@@ -7,11 +8,9 @@ use lib.Dec.{eqb}
 use lib.IntN.{pos}
 use lib.ListN.{length, get_or}
 use Rattle.axis.specs.declared.edge.Axis.{Axis}
-use Rattle.axis.specs.declared.kinds.Blue.TheVariants as Blues
 use Rattle.axis.specs.declared.kinds.Direction.TheVariants as Directions
 use Rattle.axis.specs.declared.kinds.Dimension.TheVariants as Dimensions
-use Rattle.axis.specs.declared.kinds.Link.{Link}
-use Rattle.axis.specs.declared.kinds.Link.TheVariants as Links
+use Rattle.axis.specs.Link.{Link}
 use Rattle.axis.specs.declared.kinds.Mark.TheVariants as Marks
 use Rattle.axis.specs.declared.segment.Segment.{Segment}
 use Rattle.axis.specs.declared.segment.Segments.{Segments}
@@ -83,11 +82,11 @@ member next = record {
   height = empty_segment.height;
   score = empty_segment.score;
   len = empty_segment.len;
-  link = Links.None;
-  serif = Links.None;
+  link = None;
+  serif = None;
   first = 0;
   last = 0;
-  edge = Links.To 0;
+  edge = Some 0;
   next = next;
 }
 
@@ -96,19 +95,19 @@ edges =
     record {
       dim = Dimensions.Vertical;
       major_dir = Directions.Right;
-      edges = changed empty_edge (pos 0) Marks.Nothing empty_edge.flags Blues.None
-          Links.None Links.None 1 ∷ [];
+      edges = changed empty_edge (pos 0) Marks.Nothing empty_edge.flags None
+          None None 1 ∷ [];
       len = 1;
     }
 
 abbrev leading : Link → Segments
-leading next = record { segments = member next ∷ member (Links.To 0) ∷ []; len = 2 }
+leading next = record { segments = member next ∷ member (Some 0) ∷ []; len = 2 }
 
-round : is_sound edges (leading (Links.To 1)) 0 ≡ true
+round : is_sound edges (leading (Some 1)) 0 ≡ true
 unfolding sound_ring ends walk times every links_to
 round = refl
 
 -- following the ring from segment 0 leads nowhere, though segment 1 leads back
-led-nowhere : is_sound edges (leading Links.None) 0 ≡ false
+led-nowhere : is_sound edges (leading None) 0 ≡ false
 unfolding sound_ring ends walk times every links_to
 led-nowhere = refl

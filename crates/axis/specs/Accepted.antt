@@ -1,10 +1,9 @@
 -- What a call may use of edges and segments that it accepts; inner functions require these.
+use Rattle.std.specs.Prelude.{Some}
 use Rattle.std.specs.Prelude.{◌≡◌, ℕ, ◌≤◌, ◌<◌, ℤ}
 use Rattle.signed.specs.Range.{Between}
-use Rattle.axis.specs.declared.kinds.Link.{Link}
-use Rattle.axis.specs.declared.kinds.Link.TheVariants as Links
-use Rattle.axis.specs.declared.kinds.Blue.{Blue}
-use Rattle.axis.specs.declared.kinds.Blue.TheVariants as Blues
+use Rattle.axis.specs.Link.{Link}
+use Rattle.axis.specs.Link.{Blue}
 use Rattle.axis.specs.declared.edge.Edge.{Edge}
 use Rattle.axis.specs.declared.edge.Axis.{Axis}
 use Rattle.axis.specs.declared.segment.Segment.{Segment}
@@ -15,11 +14,11 @@ use Rattle.axis.specs.Limits.{most_segments, most_edges, most_units, most_score}
 
 -- an index, where there is one, is below n
 pub record Below (n : ℕ) (l : Link) : Type 0 where
-  pub at : (k : ℕ) → l ≡ Links.To k → k < n
+  pub at : (k : ℕ) → l ≡ Some k → k < n
 
 -- a blue's fitted position, where there is one, is within the table
 pub record InZone (b : Blue) : Type 0 where
-  pub at : (z : ℤ) → b ≡ Blues.Fitted z → Between most_units most_units z
+  pub at : (z : ℤ) → b ≡ Some z → Between most_units most_units z
 
 -- an edge of n, with its position within m: document 01's limit at first, and what a pass has come to later
 pub record EdgeWithin (m n : ℕ) (e : Edge) : Type 0 where

@@ -1,8 +1,8 @@
 -- What a call may change of the edges that it is given: of the edge in each place so much, by these marks, and nothing else; a refusal changes nothing at all.
+use Rattle.std.specs.Prelude.{None, Some}
 use Rattle.std.specs.Prelude.{◌≡◌, Bool, true, cond, ◌&&◌, ◌||◌, List, ◌⊎◌, ℕ, ◌<◌, length, get_or}
 use Rattle.axis.specs.declared.flags.Flags.{Flags}
-use Rattle.axis.specs.declared.kinds.Blue.{Blue}
-use Rattle.axis.specs.declared.kinds.Blue.TheVariants as Blues
+use Rattle.axis.specs.Link.{Blue}
 use Rattle.axis.specs.declared.kinds.Mark.{Mark}
 use Rattle.axis.specs.declared.edge.Edge.{Edge}
 use Rattle.axis.specs.declared.edge.Axis.{Axis}
@@ -26,8 +26,8 @@ flags_left old done neutral = record { round = old.round; serif = old.serif; don
 
 -- the old zone, where there is one still
 abbrev pub zone_left : Blue → Blue → Blue
-zone_left old Blues.None = Blues.None
-zone_left old (Blues.Fitted z) = old
+zone_left old None = None
+zone_left old (Some z) = old
 
 -- the old edge, with so much taken from the new one
 abbrev pub taking : Extent → Edge → Edge → Edge
@@ -49,7 +49,7 @@ pub record Stayed (old new : Edge) : Type 0 where
 pub record Rezoned (old new : Edge) : Type 0 where
   pub done : old.flags.done ≡ true
   pub mark : new.mark ≡ old.mark
-  pub zone : old.blue ≡ Blues.Fitted new.pos
+  pub zone : old.blue ≡ Some new.pos
 
 -- what the mark of the new edge tells: it is one of these, or the edge stayed
 abbrev pub Told : Extent → Edge → Edge → Type 0

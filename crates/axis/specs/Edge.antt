@@ -1,4 +1,5 @@
 -- Edges, and the table of an axis.
+use Rattle.std.specs.Prelude.{None, Some}
 use Rattle.std.specs.Prelude.{Bool, true, false, ℕ, ℤ, pos, get_or, set, replicate}
 use Rattle.axis.specs.declared.edge.Edge.{Edge}
 use Rattle.axis.specs.declared.edge.Axis.{Axis}
@@ -6,10 +7,8 @@ use Rattle.axis.specs.declared.kinds.Dimension.{Dimension}
 use Rattle.axis.specs.declared.kinds.Direction.{Direction}
 use Rattle.axis.specs.declared.kinds.Direction.TheVariants as Directions
 use Rattle.axis.specs.declared.flags.Flags.{Flags}
-use Rattle.axis.specs.declared.kinds.Blue.{Blue}
-use Rattle.axis.specs.declared.kinds.Blue.TheVariants as Blues
-use Rattle.axis.specs.declared.kinds.Link.{Link}
-use Rattle.axis.specs.declared.kinds.Link.TheVariants as Links
+use Rattle.axis.specs.Link.{Blue}
+use Rattle.axis.specs.Link.{Link}
 use Rattle.axis.specs.declared.kinds.Mark.{Mark}
 use Rattle.axis.specs.declared.kinds.Mark.TheVariants as Marks
 use Rattle.axis.specs.Limits.{most_edges}
@@ -18,7 +17,7 @@ use Rattle.axis.specs.Flags.{normal, as_done}
 -- a new edge at a font position and a position in units, with a direction and its only segment: nothing special, without zone, link and serif, placed by nothing yet
 abbrev pub fresh_edge : ℤ → ℤ → Direction → ℕ → Edge
 fresh_edge f o d i =
-    record { fpos = f; opos = o; pos = o; flags = normal; dir = d; blue = Blues.None; link = Links.None; serif = Links.None; first = i; last = i; mark = Marks.Nothing }
+    record { fpos = f; opos = o; pos = o; flags = normal; dir = d; blue = None; link = None; serif = None; first = i; last = i; mark = Marks.Nothing }
 
 -- the edge of an unused place
 abbrev pub empty_edge : Edge
@@ -38,8 +37,8 @@ put_edge axis i e = record { dim = axis.dim; major_dir = axis.major_dir; edges =
 
 -- there is a blue zone
 unfoldable pub has_blue : Blue → Bool
-has_blue Blues.None = false
-has_blue (Blues.Fitted z) = true
+has_blue None = false
+has_blue (Some z) = true
 
 -- ---- an edge of which something is changed
 -- the edge with this position and what gave it, these flags, zone, link and serif, and this last segment; nothing else of an edge is ever changed

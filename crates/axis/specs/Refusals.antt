@@ -1,11 +1,10 @@
 -- The tests that calls over edges and segments share (document 01, "Five refusals, tested in this order"); each call lists them in its order, with its own.
+use Rattle.std.specs.Prelude.{None, Some}
 use Rattle.std.specs.Prelude.{Bool, true, not, ◌&&◌, ℕ, zero, suc, min, ltb, leb, ℤ, pos, neg_ℤ}
 use Rattle.std.specs.Int.Signed.{le_z}
 use Rattle.refusals.specs.Refusal.{Test, ◌unless◌, too_long, bad_index, out_of_range, retired}
-use Rattle.axis.specs.declared.kinds.Link.{Link}
-use Rattle.axis.specs.declared.kinds.Link.TheVariants as Links
-use Rattle.axis.specs.declared.kinds.Blue.{Blue}
-use Rattle.axis.specs.declared.kinds.Blue.TheVariants as Blues
+use Rattle.axis.specs.Link.{Link}
+use Rattle.axis.specs.Link.{Blue}
 use Rattle.axis.specs.declared.accept.EdgeTest.{EdgeTest}
 use Rattle.axis.specs.declared.accept.EdgeTest.TheVariants as EdgeTests
 use Rattle.axis.specs.declared.accept.SegmentTest.{SegmentTest}
@@ -29,13 +28,13 @@ within n z = inside (neg_ℤ (pos n)) (pos n) z
 
 -- an index is below n; where there is none, there is nothing to test
 unfoldable pub link_holds : ℕ → Link → Bool
-link_holds n Links.None = true
-link_holds n (Links.To k) = ltb k n
+link_holds n None = true
+link_holds n (Some k) = ltb k n
 
 -- a present blue's fitted position is within the table
 unfoldable pub blue_holds : Blue → Bool
-blue_holds Blues.None = true
-blue_holds (Blues.Fitted z) = within most_units z
+blue_holds None = true
+blue_holds (Some z) = within most_units z
 
 -- ---- tests of every place
 -- a test holds of each number below n

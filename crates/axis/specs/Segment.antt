@@ -1,9 +1,9 @@
 -- Segments, and their table.
+use Rattle.std.specs.Prelude.{None}
 use Rattle.std.specs.Prelude.{ℕ, pos, get_or, set, replicate}
 use Rattle.axis.specs.declared.segment.Segment.{Segment}
 use Rattle.axis.specs.declared.segment.Segments.{Segments}
 use Rattle.axis.specs.declared.kinds.Direction.TheVariants as Directions
-use Rattle.axis.specs.declared.kinds.Link.TheVariants as Links
 use Rattle.axis.specs.Limits.{most_segments}
 use Rattle.axis.specs.Flags.{normal}
 
@@ -19,12 +19,12 @@ empty_segment = record {
   height = pos 0;
   score = pos 0;
   len = pos 0;
-  link = Links.None;
-  serif = Links.None;
+  link = None;
+  serif = None;
   first = 0;
   last = 0;
-  edge = Links.None;
-  next = Links.None;
+  edge = None;
+  next = None;
 }
 
 -- a table without segments

@@ -24,7 +24,6 @@ ghost use Rattle.axis.specs.Refusals.{
 };
 
 use super::edge::{Axis, Edge, has_blue};
-use super::kinds::{Blue, Link};
 use super::limits::{
     LEAST_POS, LEAST_UNITS, MOST_EDGES, MOST_POS, MOST_SCORE, MOST_SEGMENTS, MOST_UNITS,
 };
@@ -41,22 +40,22 @@ pub fn is_inside(x: i32, low: i32, high: i32) -> bool
 }
 
 // Whether an index, where there is one, is below a count.
-pub fn link_holds(link: Link, count: usize) -> bool
+pub fn link_holds(link: Option<u16>, count: usize) -> bool
     ensures { result ≡ link_holds count link }
 {
     match link {
-        Link::None => true,
-        Link::To(k) => (k as usize) < count,
+        None => true,
+        Some(k) => (k as usize) < count,
     }
 }
 
 // Whether a blue's fitted position, where there is one, is accepted.
-fn blue_holds(blue: Blue) -> bool
+fn blue_holds(blue: Option<i32>) -> bool
     ensures { result ≡ blue_holds blue }
 {
     match blue {
-        Blue::None => true,
-        Blue::Fitted(z) => is_inside(z, LEAST_UNITS, MOST_UNITS),
+        None => true,
+        Some(z) => is_inside(z, LEAST_UNITS, MOST_UNITS),
     }
 }
 

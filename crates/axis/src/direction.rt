@@ -1,28 +1,8 @@
 // Directions compared (document 01, "Helpers, completed").
 ghost use Rattle.std.specs.Prelude.{◌≡◌};
-ghost use Rattle.axis.specs.Direction.{number_of, same as same_as, opposite as opposite_to};
+ghost use Rattle.axis.specs.Direction.{opposite as opposite_to};
 
 use super::kinds::Direction;
-
-// The number of a direction, in the order of its enum.
-fn number(dir: Direction) -> u8
-    ensures { result ≡ number_of dir }
-{
-    match dir {
-        Direction::None => 0,
-        Direction::Right => 1,
-        Direction::Left => 2,
-        Direction::Up => 3,
-        Direction::Down => 4,
-    }
-}
-
-// Whether two directions are the same.
-pub fn same(a: Direction, b: Direction) -> bool
-    ensures { result ≡ same_as a b }
-{
-    number(a) == number(b)
-}
 
 // Right and left are opposite, up and down are opposite, none is opposite to nothing.
 pub fn opposite(a: Direction, b: Direction) -> bool
@@ -30,9 +10,9 @@ pub fn opposite(a: Direction, b: Direction) -> bool
 {
     match a {
         Direction::None => false,
-        Direction::Right => same(b, Direction::Left),
-        Direction::Left => same(b, Direction::Right),
-        Direction::Up => same(b, Direction::Down),
-        Direction::Down => same(b, Direction::Up),
+        Direction::Right => b == Direction::Left,
+        Direction::Left => b == Direction::Right,
+        Direction::Up => b == Direction::Down,
+        Direction::Down => b == Direction::Up,
     }
 }

@@ -3,7 +3,7 @@ ghost use Rattle.std.specs.Prelude.{◌≡◌};
 ghost use Rattle.axis.specs.Edge.{empty_axis, has_blue, placed, finished, fixed_at};
 
 use super::flags::{Flags, NORMAL};
-use super::kinds::{Blue, Dimension, Direction, Link, Mark};
+use super::kinds::{Dimension, Direction, Mark};
 use super::limits::MOST_EDGES;
 
 // Segments that share a position: the font position, the original and the fitted position in units, the edges that it is linked to, and what last gave it its position.
@@ -14,9 +14,9 @@ pub struct Edge {
     pub pos: i32,
     pub flags: Flags,
     pub dir: Direction,
-    pub blue: Blue,
-    pub link: Link,
-    pub serif: Link,
+    pub blue: Option<i32>,
+    pub link: Option<u16>,
+    pub serif: Option<u16>,
     pub first: u16,
     pub last: u16,
     pub mark: Mark,
@@ -38,9 +38,9 @@ pub const EMPTY_EDGE: Edge = Edge {
     pos: 0,
     flags: NORMAL,
     dir: Direction::None,
-    blue: Blue::None,
-    link: Link::None,
-    serif: Link::None,
+    blue: None,
+    link: None,
+    serif: None,
     first: 0,
     last: 0,
     mark: Mark::Nothing,
@@ -64,8 +64,8 @@ pub fn has_blue(edge: Edge) -> bool
 {
     let blue = edge.blue;
     match blue {
-        Blue::None => false,
-        Blue::Fitted(z) => true,
+        None => false,
+        Some(z) => true,
     }
 }
 

@@ -1,14 +1,7 @@
 // The choices that records and calls are made of.
 
-// An index into a list, or its absence.
-#[derive(Clone, Copy)]
-pub enum Link {
-    None,
-    To(u16),
-}
-
 // Where a segment or an edge points to.
-#[derive(Clone, Copy)]
+#[derive(Clone, Copy, Debug, PartialEq, Eq)]
 pub enum Direction {
     None,
     Right,
@@ -18,28 +11,21 @@ pub enum Direction {
 }
 
 // The dimension of an axis.
-#[derive(Clone, Copy)]
+#[derive(Clone, Copy, Debug, PartialEq, Eq)]
 pub enum Dimension {
     Horizontal,
     Vertical,
 }
 
 // The group of scripts whose rules apply: the default, Latin's, or CJK's.
-#[derive(Clone, Copy)]
+#[derive(Clone, Copy, Debug, PartialEq, Eq)]
 pub enum Group {
     Default,
     Cjk,
 }
 
-// The blue zone of an edge by its fitted position, or its absence.
-#[derive(Clone, Copy)]
-pub enum Blue {
-    None,
-    Fitted(i32),
-}
-
 // What last gave an edge its position (request #105; the last three are those of remaining edges).
-#[derive(Clone, Copy)]
+#[derive(Clone, Copy, Debug, PartialEq, Eq)]
 pub enum Mark {
     Nothing,
     BlueAnchor,

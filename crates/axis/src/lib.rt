@@ -8,5 +8,4 @@ pub mod edge;
 pub mod flags;
 pub mod kinds;
 pub mod limits;
-pub mod link;
 pub mod segment;

@@ -3,7 +3,7 @@ ghost use Rattle.std.specs.Prelude.{◌≡◌};
 ghost use Rattle.axis.specs.Segment.{empty_segments};
 
 use super::flags::{Flags, NORMAL};
-use super::kinds::{Direction, Link};
+use super::kinds::Direction;
 use super::limits::MOST_SEGMENTS;
 
 // Points in a row with one dominant direction: its position, how it is paired with others, its point indices, its edge and the next segment there.
@@ -18,12 +18,12 @@ pub struct Segment {
     pub height: i16,
     pub score: i32,
     pub len: i32,
-    pub link: Link,
-    pub serif: Link,
+    pub link: Option<u16>,
+    pub serif: Option<u16>,
     pub first: u16,
     pub last: u16,
-    pub edge: Link,
-    pub next: Link,
+    pub edge: Option<u16>,
+    pub next: Option<u16>,
 }
 
 // The segments of an axis are the first `len` of the working table.
@@ -44,12 +44,12 @@ const EMPTY_SEGMENT: Segment = Segment {
     height: 0,
     score: 0,
     len: 0,
-    link: Link::None,
-    serif: Link::None,
+    link: None,
+    serif: None,
     first: 0,
     last: 0,
-    edge: Link::None,
-    next: Link::None,
+    edge: None,
+    next: None,
 };
 
 // A table without segments.

@@ -12,7 +12,7 @@ use Rattle.axis.proofs.Alike.{AlikeAxis, unmarked-alike, answered-alike, blind}
 use Rattle.build_join.specs.declared.rules.Rules.{Rules}
 use Rattle.build_join.specs.Joining.{State}
 use Rattle.build_properties.specs.Properties.{edge_properties}
-use Rattle.build.specs.declared.built.Built.{Built}
+use Rattle.build.specs.Answer.{Built}
 use Rattle.build.specs.declared.numbers.Thresholds.{Thresholds}
 use Rattle.build.specs.Building.{building_tests, is_cjk, rules_of, last_state, built_segments, built_edges, beside, without_marks, built, compute_edges}
 

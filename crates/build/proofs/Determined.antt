@@ -1,4 +1,5 @@
 -- The outcome of the call: for refused segments, for accepted ones, what is built within its limits, and that the promise determines the outcome.
+use Rattle.std.specs.Prelude.{None}
 use mathlib.Core.Path.{◌≡◌, refl, sym, ◌∙◌}
 use mathlib.Core.Bool.{Bool, not}
 use mathlib.Core.List.{List, [], ◌∷◌}
@@ -9,7 +10,6 @@ use Rattle.signed.specs.Range.{Between}
 use Rattle.refusals.specs.Refusal.{refusal}
 use Rattle.fixed.specs.Point.{mul_fix}
 use Rattle.axis.specs.declared.edge.Axis.{Axis}
-use Rattle.axis.specs.declared.kinds.Blue.TheVariants as Blues
 use Rattle.axis.specs.declared.kinds.Group.{Group}
 use Rattle.axis.specs.declared.segment.Segments.{Segments}
 use Rattle.axis.specs.Accepted.{InZone, EdgeWithin, AxisWithin, SegmentsWithin}
@@ -25,14 +25,14 @@ use Rattle.build_join.proofs.Members.{times-head}
 use Rattle.build_join.proofs.Steps.{of-edge, of-len}
 use Rattle.build_properties.specs.Properties.{edge_properties}
 use Rattle.build_properties.proofs.Kept.{within-kept}
-use Rattle.build.specs.declared.built.Built.{Built}
+use Rattle.build.specs.Answer.{Built}
 use Rattle.build.specs.declared.numbers.Thresholds.{Thresholds}
 use Rattle.build.specs.Building.{building_tests, is_cjk, rules_of, last_state, built_segments, built_edges, beside, built, compute_edges, ComputesEdges}
 use Rattle.build.proofs.Handing.{built-rows, few-edges, ready}
 use Rattle.build.proofs.Joins.{last-good}
 
 -- ---- what is built is within the table
-no-blue : InZone Blues.None
+no-blue : InZone None
 no-blue = record { at = λ z e. absurd (let q : ◌≡◌ {A = ℕ} 0 1 = cc in omega arith) }
 
 edge-within : (t : Segments) (scale : ℤ) (n : ℕ) (g : List ℕ) → ((x : ℕ) → 0 < times x g → Between most_units most_units (mul_fix (segment_at t x).pos scale))

@@ -38,7 +38,7 @@ use Rattle.build_join.proofs.Steps.{of-len, of-edge}
 use Rattle.build_properties.specs.Properties.{edge_properties}
 use Rattle.build_properties.proofs.Kept.{properties-kept}
 use Rattle.build_mark.specs.Marks.{cleared, marks, group_marks}
-use Rattle.build.specs.declared.built.Built.{Built}
+use Rattle.build.specs.Answer.{Built}
 use Rattle.build.specs.declared.numbers.Thresholds.{Thresholds}
 use Rattle.build.specs.Building.{
   numbers_hold,

@@ -1,5 +1,6 @@
 -- Every edge of a built axis is a sound ring: following it from its first segment visits each segment of that edge once and no other, and ends at the last,
 -- whose next is the first.
+use Rattle.std.specs.Prelude.{None, Some}
 use mathlib.Core.Path.{◌≡◌, refl, sym, ap, subst, ◌∙◌}
 use mathlib.Core.Bool.{true, not, cond}
 use mathlib.Core.List.{List, [], ◌∷◌}
@@ -12,7 +13,6 @@ use lib.Dec.{eqb}
 use lib.ListN.{length, get_or, length-set}
 use lib.Seq.{get_or-set_same, get_or-set_other}
 use Rattle.signed.proofs.Signed.{lt-or-le}
-use Rattle.axis.specs.declared.kinds.Link.TheVariants as Links
 use Rattle.axis.specs.declared.segment.Segment.{Segment}
 use Rattle.axis.specs.declared.segment.Segments.{Segments}
 use Rattle.axis.specs.Accepted.{SegmentsWithin}
@@ -54,8 +54,8 @@ marks-out next k (m ∷ ms) u i h =
 
 -- a member of edge k
 pub record Member (next : List ℕ) (k i : ℕ) (u : Segments) : Type 0 where
-  pub edge : (segment_at u i).edge ≡ Links.To k
-  pub behind : (segment_at u i).next ≡ Links.To (get_or next i 0)
+  pub edge : (segment_at u i).edge ≡ Some k
+  pub behind : (segment_at u i).next ≡ Some (get_or next i 0)
 
 member-stays : (next : List ℕ) (k j i : ℕ) (ms : List ℕ) (u : Segments) → times i ms ≡ 0 → Member next k i u → Member next k i (marks next j ms u)
 member-stays next k j i ms u h M = let e = marks-out next j ms u i h in record { edge = rw e M.edge; behind = rw e M.behind }
@@ -105,11 +105,11 @@ module _ (t : Segments) (s : State) (T : Typed t) where
       (eq-or-lt_of_le (omega arith))
 
   -- and no other segment has
-  groups-own : (k i : ℕ) → i < most_segments → i < t.len → (n : ℕ) → (segment_at (group_marks s n (cleared t)) i).edge ≡ Links.To k → 0 < times i (group s k)
+  groups-own : (k i : ℕ) → i < most_segments → i < t.len → (n : ℕ) → (segment_at (group_marks s n (cleared t)) i).edge ≡ Some k → 0 < times i (group s k)
   unfolding group_marks cleared
   groups-own k i hi hl zero e = absurd (none (ap (λ (x : Segment). x.edge) (sym (clear_at t t.len i hl)) ∙ e))
     where
-      none : Links.None ≡ Links.To k → ⊥
+      none : None ≡ Some k → ⊥
       none e = let z : ◌≡◌ {A = ℕ} 0 1 = cc in omega arith
   groups-own k i hi hl (suc n) e = ⊎_elim
       (λ (p : 0 < times i (group s n)).
@@ -119,12 +119,12 @@ module _ (t : Segments) (s : State) (T : Typed t) where
       (λ (p : times i (group s n) ≤ 0). groups-own k i hi hl n (ap (λ (x : Segment). x.edge) (sym (marks-out s.next n (group s n) _ i (omega arith))) ∙ e))
       (lt-or-le 0 (times i (group s n)))
     where
-      to_same : (n k : ℕ) → Links.To n ≡ Links.To k → n ≡ k
+      to_same : (n k : ℕ) → Some n ≡ Some k → n ≡ k
       to_same n k e = cc
 
 -- ---- the walk
 walk-chain : (u : Segments) (next : List ℕ) (f m : ℕ) (ms : List ℕ) (n : ℕ)
-    → ((x : ℕ) → 0 < times x (m ∷ ms) → (segment_at u x).next ≡ Links.To (get_or next x 0)) → Once (m ∷ ms) → length ms ≤ n
+    → ((x : ℕ) → 0 < times x (m ∷ ms) → (segment_at u x).next ≡ Some (get_or next x 0)) → Once (m ∷ ms) → length ms ≤ n
     → Chain next f (m ∷ ms)
     → walk (next_of u (last_of m ms)) (last_of m ms) n m ≡ m ∷ ms
 unfolding Chain walk
@@ -170,26 +170,26 @@ module _ (t : Segments) (r : Rules) (W : SegmentsWithin t) (T : Typed t) where
       (λ x p. lt_of_lt_of_le (below k h x p) W.few) (λ x p. (member k h x p).behind) (G.rings k (omega (arith, G.room))))
     where
       all : (g : List ℕ) → 0 < length g → Once g → ((x : ℕ) → 0 < times x g → x < most_segments)
-          → ((x : ℕ) → 0 < times x g → (segment_at (group_marks s s.count (cleared t)) x).next ≡ Links.To (get_or s.next x 0))
+          → ((x : ℕ) → 0 < times x g → (segment_at (group_marks s s.count (cleared t)) x).next ≡ Some (get_or s.next x 0))
           → Chain s.next (head_or 0 g) g → walk (next_of (group_marks s s.count (cleared t)) (last_in g)) (last_in g) most_segments (head_or 0 g) ≡ g
       all [] p o b N c = absurd (omega arith)
       all (m ∷ ms) p o b N c =
           let f = few most_segments (m ∷ ms) o b in walk-chain (group_marks s s.count (cleared t)) s.next m m ms most_segments N o (omega arith) c
 
   -- the next of the last is the first
-  closed : (k : ℕ) → k < s.count → (segment_at (built_segments t s) (edge_at (built_edges t r s) k).last).next ≡ Links.To (edge_at (built_edges t r s) k).first
+  closed : (k : ℕ) → k < s.count → (segment_at (built_segments t s) (edge_at (built_edges t r s) k).last).next ≡ Some (edge_at (built_edges t r s) k).first
   unfolding built_segments
   closed k h =
       rw (first_is k, last_is k)
       ((member k h (last_in (group s k)) (omega (arith, last-in (group s k) (G.used k h)))).behind
-      ∙ ap Links.To (turn (group s k) (G.used k h) (G.rings k (omega (arith, G.room)))))
+      ∙ ap Some (turn (group s k) (G.used k h) (G.rings k (omega (arith, G.room)))))
     where
       turn : (g : List ℕ) → 0 < length g → Chain s.next (head_or 0 g) g → get_or s.next (last_in g) 0 ≡ head_or 0 g
       turn [] p c = absurd (omega arith)
       turn (m ∷ ms) p c = chain-last s.next m m ms c
 
   -- the members have this edge
-  own : (k : ℕ) → k < s.count → (i : ℕ) → 0 < times i (group s k) → (segment_at (built_segments t s) i).edge ≡ Links.To k
+  own : (k : ℕ) → k < s.count → (i : ℕ) → 0 < times i (group s k) → (segment_at (built_segments t s) i).edge ≡ Some k
   unfolding built_segments
   own k h i p = (member k h i p).edge
 
@@ -199,7 +199,7 @@ module _ (t : Segments) (r : Rules) (W : SegmentsWithin t) (T : Typed t) where
   led k h i p = ap is_linked (member k h i p).behind
 
   -- and no others have
-  every_one : (k i : ℕ) → i < (built_segments t s).len → (segment_at (built_segments t s) i).edge ≡ Links.To k → 0 < times i (group s k)
+  every_one : (k i : ℕ) → i < (built_segments t s).len → (segment_at (built_segments t s) i).edge ≡ Some k → 0 < times i (group s k)
   unfolding built_segments
   every_one k i l e =
       let size = (rows t s (λ k x h p. below k h x p)).size in groups-own t s T k i (lt_of_lt_of_le (rw size at l) W.few) (rw size at l) s.count e

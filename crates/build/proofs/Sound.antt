@@ -1,4 +1,5 @@
 -- What the segments of a built axis are: all but edge and next as they were, each edge index below the count, and each edge a ring.
+use Rattle.std.specs.Prelude.{None, Some}
 use mathlib.Core.Path.{◌≡◌, refl, sym, ap, ◌∙◌}
 use mathlib.Core.Bool.{true, ◌&&◌}
 use mathlib.Core.List.{List, [], ◌∷◌}
@@ -10,8 +11,7 @@ use borrow.Author.Tests.{ne_eqb, lt-ltb}
 use lib.Dec.{ltb}
 use lib.ListN.{length, get_or, set}
 use lib.Seq.{get_or-set_other}
-use Rattle.axis.specs.declared.kinds.Link.{Link}
-use Rattle.axis.specs.declared.kinds.Link.TheVariants as Links
+use Rattle.axis.specs.Link.{Link}
 use Rattle.axis.specs.declared.segment.Segment.{Segment}
 use Rattle.axis.specs.declared.segment.Segments.{Segments}
 use Rattle.axis.specs.Accepted.{Below}
@@ -64,7 +64,7 @@ clear-len t (suc n) = clear-len t n
 -- ---- rows
 -- where a segment has a next, it is this one
 pub record Behind (next : List ℕ) (i : ℕ) (l : Link) : Type 0 where
-  pub at : (k : ℕ) → l ≡ Links.To k → k ≡ get_or next i 0
+  pub at : (k : ℕ) → l ≡ Some k → k ≡ get_or next i 0
 
 -- segment i of a table, with all but edge and next as in t
 pub record Row (t : Segments) (next : List ℕ) (n i : ℕ) (s : Segment) : Type 0 where
@@ -86,7 +86,7 @@ module _ (t : Segments) (next : List ℕ) (n : ℕ) where
   rows-cleared = record {
     size = clear-len t t.len;
     row = λ i h.
-        let none : Behind next i Links.None = record { at = λ k e. absurd (let z : ◌≡◌ {A = ℕ} 0 1 = cc in omega arith) } in
+        let none : Behind next i None = record { at = λ k e. absurd (let z : ◌≡◌ {A = ℕ} 0 1 = cc in omega arith) } in
         rw (clear_at t t.len i h) (record { link = refl; serif = refl; score = refl; len = refl; edge = below_none n; next_is = none });
   }
 
@@ -145,6 +145,6 @@ module _ (u : Segments) (next : List ℕ) (N : (i : ℕ) → i < u.len → Behin
 
       by : ends (next_of u (last_of x ms)) u.len (last_of x ms) n x ≡ true → (l : Link) → Behind next m l
           → (ltb (index_or (last_of x ms) l) u.len && ends (next_of u (last_of x ms)) u.len (last_of x ms) n (index_or (last_of x ms) l)) ≡ true
-      by rest Links.None B = rw (lt-ltb (last_of x ms) u.len last-below) (ends_at (next_of u (last_of x ms)) u.len (last_of x ms) n (last_of x ms) refl)
-      by rest (Links.To j) B =
+      by rest None B = rw (lt-ltb (last_of x ms) u.len last-below) (ends_at (next_of u (last_of x ms)) u.len (last_of x ms) n (last_of x ms) refl)
+      by rest (Some j) B =
           let e : j ≡ x = B.at j refl ∙ r.0 in rw (e, lt-ltb x u.len (b x (omega (arith, times-head x ms, times_more x m (x ∷ ms))))) rest

@@ -1,4 +1,5 @@
 -- Edges worked out by hand.
+use Rattle.std.specs.Prelude.{None, Some}
 use mathlib.Core.Path.{◌≡◌, refl}
 use mathlib.Core.Bool.{Bool, true, false}
 use mathlib.Core.List.{List, [], ◌∷◌}
@@ -8,8 +9,7 @@ use lib.ListN.{length}
 use Rattle.axis.specs.declared.kinds.Dimension.TheVariants as Dimensions
 use Rattle.axis.specs.declared.kinds.Direction.{Direction}
 use Rattle.axis.specs.declared.kinds.Direction.TheVariants as Directions
-use Rattle.axis.specs.declared.kinds.Link.{Link}
-use Rattle.axis.specs.declared.kinds.Link.TheVariants as Links
+use Rattle.axis.specs.Link.{Link}
 use Rattle.axis.specs.declared.segment.Segment.{Segment}
 use Rattle.axis.specs.declared.segment.Segments.{Segments}
 use Rattle.axis.specs.Direction.{same}
@@ -51,11 +51,11 @@ segment p dir link = record {
   score = pos 0;
   len = pos 0;
   link = link;
-  serif = Links.None;
+  serif = None;
   first = 0;
   last = 0;
-  edge = Links.None;
-  next = Links.None;
+  edge = None;
+  next = None;
 }
 
 abbrev table : List Segment → Segments
@@ -70,10 +70,10 @@ abbrev pairs : List Segment → Bool → List (List ℕ)
 pairs ss cjk = group (last_state (table ss) (rules cjk)) 0 ∷ group (last_state (table ss) (rules cjk)) 1 ∷ []
 
 abbrev up : ℕ → Segment
-up p = segment p Directions.Up Links.None
+up p = segment p Directions.Up None
 
 abbrev down : ℕ → Segment
-down p = segment p Directions.Down Links.None
+down p = segment p Directions.Down None
 
 -- edges stand in the order of their positions, and a segment joins the first edge that is near
 in_order : pairs (up 100 ∷ up 50 ∷ up 109 ∷ []) false ≡ (1 ∷ []) ∷ (0 ∷ 2 ∷ []) ∷ []
@@ -100,11 +100,11 @@ unfolding same passed_over skips fits fits_in links_near agrees stops_behind set
 cjk-nearest = refl
 
 -- one whose link is far from those of an edge's segments makes an edge of its own in CJK
-links-apart : pairs (segment 100 Directions.Up (Links.To 2) ∷ segment 104 Directions.Up (Links.To 3) ∷ down 300 ∷ down 400 ∷ []) true ≡ (0 ∷ []) ∷ (1 ∷ []) ∷ []
+links-apart : pairs (segment 100 Directions.Up (Some 2) ∷ segment 104 Directions.Up (Some 3) ∷ down 300 ∷ down 400 ∷ []) true ≡ (0 ∷ []) ∷ (1 ∷ []) ∷ []
 unfolding same passed_over skips fits fits_in links_near agrees stops_behind settle start seek may_join behind place_of create join_or_create visit after begun
 links-apart = refl
 
 -- Latin's second loop finds an edge for a segment without direction
-undirected : pairs (segment 103 Directions.None Links.None ∷ up 100 ∷ []) false ≡ (1 ∷ 0 ∷ []) ∷ [] ∷ []
+undirected : pairs (segment 103 Directions.None None ∷ up 100 ∷ []) false ≡ (1 ∷ 0 ∷ []) ∷ [] ∷ []
 unfolding same passed_over skips fits fits_in stops_behind settle start seek may_join behind place_of create join_or_create visit after begun
 undirected = refl

@@ -18,7 +18,7 @@ use Rattle.build_join.specs.Joining.{State, shown}
 pub use Rattle.build_join.specs.Joining.{last_state}
 use Rattle.build_properties.specs.Properties.{edge_properties}
 use Rattle.build_mark.specs.Marks.{cleared, group_marks}
-use Rattle.build.specs.declared.built.Built.{Built}
+use Rattle.build.specs.Answer.{Built}
 use Rattle.build.specs.declared.numbers.Thresholds.{Thresholds}
 
 -- ---- the refusals

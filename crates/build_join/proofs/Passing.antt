@@ -1,14 +1,20 @@
 -- Segments that are passed over: one law for each way through the tests.
-use mathlib.Core.Path.{◌≡◌, ap}
+use Rattle.std.specs.Prelude.{None, Some, is_some}
+use mathlib.Core.Path.{◌≡◌, refl, ap}
 use mathlib.Core.Bool.{Bool, true, false, not}
 use lib.IntN.{pos, ◌*ℤ◌}
 use lib.Signed.{lt_z}
 use Rattle.axis.specs.declared.kinds.Direction.TheVariants as Directions
 use Rattle.axis.specs.declared.segment.Segment.{Segment}
 use Rattle.axis.specs.Direction.{same}
-use Rattle.axis.specs.Link.{is_linked}
+use Rattle.axis.specs.Link.{Link, is_linked}
 use Rattle.build_join.specs.declared.rules.Rules.{Rules}
 use Rattle.build_join.specs.Joining.{passed_over, skips}
+
+-- there is a link where the library has one
+pub linked-some : (l : Link) → is_linked l ≡ is_some l
+linked-some None = refl
+linked-some (Some k) = refl
 
 module _ (r : Rules) (s : Segment) where
   pub too_short : lt_z s.height r.length ≡ true → true ≡ passed_over r s

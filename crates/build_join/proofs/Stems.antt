@@ -1,4 +1,5 @@
 -- Links by their positions: the test along a ring, and that it is the test of the links.
+use Rattle.std.specs.Prelude.{None, Some}
 use mathlib.Core.Path.{◌≡◌, refl, sym, ap, ◌∙◌}
 use mathlib.Core.Bool.{Bool, true, false, cond, not, ◌||◌}
 use mathlib.Core.List.{List, [], ◌∷◌}
@@ -14,8 +15,7 @@ use lib.Signed.{le_z}
 use mir.Syntax.{w16}
 use mir.Val.{SFits}
 use Rattle.signed.proofs.Signed.{signed, range, to-le-false}
-use Rattle.axis.specs.declared.kinds.Link.{Link}
-use Rattle.axis.specs.declared.kinds.Link.TheVariants as Links
+use Rattle.axis.specs.Link.{Link}
 use Rattle.axis.specs.declared.segment.Segments.{Segments}
 use Rattle.axis.specs.Limits.{most_segments}
 use Rattle.axis.specs.Ring.{walk, times}
@@ -56,14 +56,14 @@ near_by : (z : ℤ) → SFits w16 z → le_z no_stem z ≡ false
 near_by z f = to-le-false no_stem z (omega (arith, signed, range f))
 
 -- the test of two numbers is the test of the two links
-stem-near : (t : Segments) (near j : ℕ) (k : Link) (a b : ℤ) → a ≡ (segment_at t j).pos → StemAt t k b → stem_near near a b ≡ links_near t near (Links.To j) k
+stem-near : (t : Segments) (near j : ℕ) (k : Link) (a b : ℤ) → a ≡ (segment_at t j).pos → StemAt t k b → stem_near near a b ≡ links_near t near (Some j) k
 unfolding stem_near links_near
-stem-near t near j Links.None a b p q = rw (far b (q.none refl))
-stem-near t near j (Links.To m) a b p q = rw (near_by b (q.short m refl), p, q.to m refl)
+stem-near t near j None a b p q = rw (far b (q.none refl))
+stem-near t near j (Some m) a b p q = rw (near_by b (q.short m refl), p, q.to m refl)
 
 all_near : (t : Segments) (stems : List ℤ) (near j : ℕ) (a : ℤ) (ms : List ℕ) → ((x : ℕ) → x < t.len → StemAt t (segment_at t x).link (get_or stems x (pos 0)))
     → a ≡ (segment_at t j).pos
-    → ((x : ℕ) → 0 < times x ms → x < t.len) → stems_agree stems near a ms ≡ agrees t near (Links.To j) ms
+    → ((x : ℕ) → 0 < times x ms → x < t.len) → stems_agree stems near a ms ≡ agrees t near (Some j) ms
 unfolding stems_agree agrees
 all_near t stems near j a [] S e h = refl
 all_near t stems near j a (m ∷ ms) S e h =
@@ -73,7 +73,7 @@ all_near t stems near j a (m ∷ ms) S e h =
           (λ x p. h x (omega (arith, times_more x m ms))),
     )
 
-agrees-none : (t : Segments) (near : ℕ) (ms : List ℕ) → agrees t near Links.None ms ≡ true
+agrees-none : (t : Segments) (near : ℕ) (ms : List ℕ) → agrees t near None ms ≡ true
 unfolding agrees links_near
 agrees-none t near [] = refl
 agrees-none t near (m ∷ ms) = agrees-none t near ms
@@ -82,8 +82,8 @@ agrees-none t near (m ∷ ms) = agrees-none t near ms
 by-link : (t : Segments) (stems : List ℤ) (near : ℕ) (l : Link) (z : ℤ) (ms : List ℕ)
     → ((x : ℕ) → x < t.len → StemAt t (segment_at t x).link (get_or stems x (pos 0))) → StemAt t l z
     → ((x : ℕ) → 0 < times x ms → x < t.len) → (le_z no_stem z || stems_agree stems near z ms) ≡ agrees t near l ms
-by-link t stems near Links.None z ms S A h = rw (far z (A.none refl)) (sym (agrees-none t near ms))
-by-link t stems near (Links.To j) z ms S A h = rw (near_by z (A.short j refl)) (all_near t stems near j z ms S (A.to j refl) h)
+by-link t stems near None z ms S A h = rw (far z (A.none refl)) (sym (agrees-none t near ms))
+by-link t stems near (Some j) z ms S A h = rw (near_by z (A.short j refl)) (all_near t stems near j z ms S (A.to j refl) h)
 
 pub stems-agree : (t : Segments) (cjk : Bool) (stems : List ℤ) (near i : ℕ) (ms : List ℕ) → StemsOf t cjk stems → i < t.len
     → ((x : ℕ) → 0 < times x ms → x < t.len)
@@ -92,10 +92,10 @@ stems-agree t true stems near i ms S hi h = by-link t stems near (segment_at t i
 stems-agree t false stems near i ms S hi h = rw (far (get_or stems i (pos 0)) (S.none refl i hi))
 
 -- ---- two links
-pub none-to : (k : ℕ) → Links.None ≡ Links.To k → ⊥
+pub none-to : (k : ℕ) → None ≡ Some k → ⊥
 none-to k e = let z : ◌≡◌ {A = ℕ} 0 1 = cc in omega arith
 
-pub to_same : (j k : ℕ) → Links.To j ≡ Links.To k → j ≡ k
+pub to_same : (j k : ℕ) → Some j ≡ Some k → j ≡ k
 to_same j k e = cc
 
 -- ---- filling them in
@@ -114,11 +114,11 @@ pub filled_none : (t : Segments) → Filled t (replicate most_segments no_stem) 
 filled_none t = record { size = refl; filled = λ k h. absurd (omega arith); rest = λ k h g. replicate-at no_stem (pos 0) most_segments k g }
 
 module _ (t : Segments) (stems : List ℤ) (i : ℕ) (hi : i < most_segments) (F : Filled t stems i) where
-  none-at : (segment_at t i).link ≡ Links.None → StemAt t (segment_at t i).link (get_or stems i (pos 0))
+  none-at : (segment_at t i).link ≡ None → StemAt t (segment_at t i).link (get_or stems i (pos 0))
   none-at e = record { none = λ q. F.rest i (omega arith) hi; to = λ k q. absurd (none-to k (sym e ∙ q)); short = λ k q. absurd (none-to k (sym e ∙ q)) }
 
   -- a segment without a link keeps the number for none
-  pub filled-skip : (segment_at t i).link ≡ Links.None → Filled t stems (i + 1)
+  pub filled-skip : (segment_at t i).link ≡ None → Filled t stems (i + 1)
   filled-skip e = record {
     size = F.size;
     filled = λ k h. ⊎_elim (λ (w : k ≡ i). rw w (none-at e)) (λ (w : k < i). F.filled k w) (eq-or-lt_of_le (omega arith));
@@ -126,7 +126,7 @@ module _ (t : Segments) (stems : List ℤ) (i : ℕ) (hi : i < most_segments) (F
   }
 
   -- one with a link gets that one's position
-  pub filled_more : (j : ℕ) (z : ℤ) → (segment_at t i).link ≡ Links.To j → z ≡ (segment_at t j).pos → SFits w16 z → Filled t (set stems i z) (i + 1)
+  pub filled_more : (j : ℕ) (z : ℤ) → (segment_at t i).link ≡ Some j → z ≡ (segment_at t j).pos → SFits w16 z → Filled t (set stems i z) (i + 1)
   filled_more j z e p f = record {
     size = length-set stems i z ∙ F.size;
     filled = λ k h. ⊎_elim (λ (w : k ≡ i). rw w (rw (get_or-set_same stems i z (pos 0) (rw F.size hi)) here))

@@ -1,5 +1,6 @@
 -- Segments join edges (document 01, module 4; the loops of the Rust's `compute_edges`). An edge is the list of its segments in the order in which they joined
 -- it: the first gives its position and its direction, and the ring is the list closed.
+use Rattle.std.specs.Prelude.{None, Some}
 use Rattle.std.specs.Prelude.{Bool, true, false, cond, not, ◌&&◌, ◌||◌, List, [], ◌∷◌, ◌++◌, map, ℕ, zero, suc, ◌+◌, ltb, ℤ, pos, ◌*ℤ◌, get_or, set, replicate}
 use Rattle.std.specs.Int.Signed.{lt_z}
 use Rattle.signed.specs.Distance.{distance}
@@ -8,8 +9,7 @@ use Rattle.axis.specs.declared.edge.Edge.{Edge}
 use Rattle.axis.specs.declared.kinds.Dimension.{Dimension}
 use Rattle.axis.specs.declared.kinds.Direction.{Direction}
 use Rattle.axis.specs.declared.kinds.Direction.TheVariants as Directions
-use Rattle.axis.specs.declared.kinds.Link.{Link}
-use Rattle.axis.specs.declared.kinds.Link.TheVariants as Links
+use Rattle.axis.specs.Link.{Link}
 use Rattle.axis.specs.declared.segment.Segment.{Segment}
 use Rattle.axis.specs.declared.segment.Segments.{Segments}
 use Rattle.axis.specs.Direction.{same}
@@ -51,9 +51,9 @@ new_edge s scale i = fresh_edge s.pos (mul_fix s.pos scale) s.dir i
 -- ---- the links of two segments
 -- where both have one, their positions are nearer than a limit
 unfoldable pub links_near : Segments → ℕ → Link → Link → Bool
-links_near t near Links.None l = true
-links_near t near (Links.To a) Links.None = true
-links_near t near (Links.To a) (Links.To b) = ltb (distance (segment_at t a).pos (segment_at t b).pos) near
+links_near t near None l = true
+links_near t near (Some a) None = true
+links_near t near (Some a) (Some b) = ltb (distance (segment_at t a).pos (segment_at t b).pos) near
 
 -- so it is for a link and every one of these segments
 unfoldable pub agrees : Segments → ℕ → Link → List ℕ → Bool

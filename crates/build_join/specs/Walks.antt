@@ -1,4 +1,5 @@
 -- What the steps of joining promise each other: walks along `next`, the positions of links, and what a table of segments must be to be joined.
+use Rattle.std.specs.Prelude.{None, Some}
 use Rattle.std.specs.Prelude.{◌≡◌, Bool, true, false, ◌&&◌, ◌||◌, List, [], ◌∷◌, ℕ, ◌≤◌, ◌<◌, ltb, ℤ, pos, get_or}
 use Rattle.std.specs.Int.Signed.{le_z}
 use Rattle.std.specs.Int.{w16}
@@ -6,8 +7,7 @@ use Rattle.std.proofs.Common.{SFits}
 use Rattle.signed.specs.Distance.{distance}
 use Rattle.signed.specs.Range.{Between}
 use Rattle.fixed.specs.Point.{mul_fix}
-use Rattle.axis.specs.declared.kinds.Link.{Link}
-use Rattle.axis.specs.declared.kinds.Link.TheVariants as Links
+use Rattle.axis.specs.Link.{Link}
 use Rattle.axis.specs.declared.segment.Segments.{Segments}
 use Rattle.axis.specs.Limits.{most_segments, most_units, most_score}
 use Rattle.axis.specs.Segment.{segment_at}
@@ -25,9 +25,9 @@ no_stem = pos 65536
 
 -- the position of a link, or the number that stands for none
 pub record StemAt (t : Segments) (l : Link) (z : ℤ) : Type 0 where
-  pub none : l ≡ Links.None → z ≡ no_stem
-  pub to : (k : ℕ) → l ≡ Links.To k → z ≡ (segment_at t k).pos
-  pub short : (k : ℕ) → l ≡ Links.To k → SFits w16 z
+  pub none : l ≡ None → z ≡ no_stem
+  pub to : (k : ℕ) → l ≡ Some k → z ≡ (segment_at t k).pos
+  pub short : (k : ℕ) → l ≡ Some k → SFits w16 z
 
 -- so it is for each segment in CJK; in Latin each has the number for none
 pub record StemsOf (t : Segments) (cjk : Bool) (stems : List ℤ) : Type 0 where

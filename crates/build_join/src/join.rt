@@ -105,6 +105,7 @@ pub fn join_segments(
         }
         let edge = new_edge(segment, rules.scale, i as u16);
         let mut ix = edges;
+        // a while: it counts down while it moves edges up
         while 0 < ix {
             let at = ix - 1;
             let prev = axis.edges[at];

@@ -8,7 +8,6 @@ ghost use Rattle.build_join.specs.Joining.{appended};
 ghost use Rattle.build_join.specs.Walks.{next_in, no_stem, stem_near, stems_agree, StemsOf};
 
 use super::rules::distance;
-use axis::kinds::Link;
 use axis::limits::MOST_SEGMENTS;
 use axis::segment::Segments;
 
@@ -39,7 +38,7 @@ pub fn stems_of(segments: Segments, cjk: bool) -> [i32; MOST_SEGMENTS]
     for i in 0..count {
         let segment = segments.segments[i];
         let link = segment.link;
-        let Link::To(ix) = link else {
+        let Some(ix) = link else {
             continue;
         };
         let at = ix as usize;
@@ -75,6 +74,7 @@ pub fn ring_agrees(
         return true;
     }
     let mut ix = first;
+    // a loop: the next segment is read from the ring
     loop {
         let at = ix as usize;
         if !stem_near(stem, stems[at], near) {

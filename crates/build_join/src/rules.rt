@@ -10,10 +10,8 @@ ghost use Rattle.axis.specs.Edge.{with_last};
 ghost use Rattle.axis.specs.Limits.{most_score};
 ghost use Rattle.build_join.specs.Joining.{passed_over, fits_in, stops_behind, new_edge, skips as skipped, limit_behind};
 
-use axis::direction::same;
 use axis::edge::{EMPTY_EDGE, Edge};
 use axis::kinds::{Dimension, Direction};
-use axis::link::is_linked;
 use axis::segment::Segment;
 use fixed::point::{fixed_mul, magnitude};
 
@@ -65,11 +63,11 @@ pub fn is_passed_over(segment: Segment, rules: Rules) -> bool
         return true;
     }
     let dir = segment.dir;
-    if same(dir, Direction::None) {
+    if dir == Direction::None {
         return true;
     }
     let serif = segment.serif;
-    if !is_linked(serif) {
+    if serif.is_none() {
         return false;
     }
     is_short_serif(height, rules.length)
@@ -87,7 +85,7 @@ pub fn fits(segment: Segment, edge: Edge, limit: u64, second: bool) -> bool
     }
     let own = segment.dir;
     let other = edge.dir;
-    same(other, own)
+    other == own
 }
 
 // Whether an edge that is added stops behind another: where that is before it, or equal while the new one has the major direction.
@@ -102,7 +100,7 @@ pub fn stops_behind(prev: Edge, edge: Edge, rules: Rules) -> bool
     }
     let dir = edge.dir;
     let major_dir = rules.major_dir;
-    same(dir, major_dir)
+    dir == major_dir
 }
 
 // The edge of segment i alone.
@@ -138,7 +136,7 @@ pub fn skips(segment: Segment, rules: Rules, second: bool) -> bool
 {
     if second {
         let dir = segment.dir;
-        return !same(dir, Direction::None);
+        return dir != Direction::None;
     }
     if rules.cjk {
         return false;

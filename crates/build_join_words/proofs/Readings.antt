@@ -1,4 +1,5 @@
 -- What is read of the words decides what the segments of the table decide.
+use Rattle.std.specs.Prelude.{None, Some}
 use mathlib.Core.Path.{◌≡◌, refl, sym, ap, subst, ◌∙◌}
 use mathlib.Core.Bool.{Bool, true, false, not, ◌||◌}
 use mathlib.Core.List.{List, [], ◌∷◌, append-nil}
@@ -11,8 +12,7 @@ use mir.Syntax.{w16}
 use mir.Val.{SFits}
 use Rattle.signed.proofs.Signed.{fits-in}
 use Rattle.axis.specs.declared.edge.Edge.{Edge}
-use Rattle.axis.specs.declared.kinds.Link.{Link}
-use Rattle.axis.specs.declared.kinds.Link.TheVariants as Links
+use Rattle.axis.specs.Link.{Link}
 use Rattle.axis.specs.declared.segment.Segment.{Segment}
 use Rattle.axis.specs.declared.segment.Segments.{Segments}
 use Rattle.axis.specs.Accepted.{Below, SegmentsWithin}
@@ -76,8 +76,8 @@ module _ (ws : List ℤ) (W : SegmentsWithin (flat_segments ws)) where
 
   stem-of : (l : Link) → Below t.len l → StemAt t l (stem_of ws l)
   unfolding stem_of
-  stem-of Links.None b = record { none = λ e. refl; to = λ k e. absurd (none-to k e); short = λ k e. absurd (none-to k e) }
-  stem-of (Links.To k) b = record {
+  stem-of None b = record { none = λ e. refl; to = λ k e. absurd (none-to k e); short = λ k e. absurd (none-to k e) }
+  stem-of (Some k) b = record {
     none = λ e. absurd (none-to k (sym e));
     to = λ j e. ap (λ (s : Segment). s.pos) (sym (segment-of k (b.at k refl))) ∙ ap (λ (m : ℕ). (segment_at t m).pos) (to_same k j e);
     short = λ j e. subst (λ (s : Segment). SFits w16 s.pos) (segment-of k (b.at k refl)) (fits-in w16 ((flat-typed ws).segment k).pos tt tt);

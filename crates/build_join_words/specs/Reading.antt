@@ -1,9 +1,9 @@
 -- What joining reads of segments, where their words stand; whatever the words are, they are read as some.
+use Rattle.std.specs.Prelude.{None, Some}
 use Rattle.std.specs.Prelude.{Bool, cond, List, ℕ, ◌*◌, ℤ, pos}
 use Rattle.axis.specs.declared.edge.Edge.{Edge}
 use Rattle.axis.specs.declared.kinds.Direction.TheVariants as Directions
-use Rattle.axis.specs.declared.kinds.Link.{Link}
-use Rattle.axis.specs.declared.kinds.Link.TheVariants as Links
+use Rattle.axis.specs.Link.{Link}
 use Rattle.axis.specs.declared.segment.Segment.{Segment}
 use Rattle.axis.specs.Edge.{fresh_edge, with_last}
 use Rattle.axis.specs.Flags.{normal}
@@ -25,12 +25,12 @@ asked s = record {
   height = s.height;
   score = pos 0;
   len = pos 0;
-  link = Links.None;
+  link = None;
   serif = s.serif;
   first = 0;
   last = 0;
-  edge = Links.None;
-  next = Links.None;
+  edge = None;
+  next = None;
 }
 
 -- the segment whose words are the i-th, and what is asked of it
@@ -55,8 +55,8 @@ edge_at_place place = fresh_edge place (pos 0) Directions.None 0
 -- ---- of a segment's link
 -- its position, or the number that stands for none
 unfoldable pub stem_of : List ℤ → Link → ℤ
-stem_of ws Links.None = no_stem
-stem_of ws (Links.To k) = (words_of ws k).pos
+stem_of ws None = no_stem
+stem_of ws (Some k) = (words_of ws k).pos
 
 abbrev pub stem_in : List ℤ → ℕ → ℤ
 stem_in ws i = stem_of ws (words_of ws i).link

@@ -8,10 +8,9 @@ ghost use Rattle.build_join.specs.Walks.{next_in, no_stem, stems_agree};
 ghost use Rattle.words.specs.Segment.{segments_in};
 ghost use Rattle.build_join_words.specs.Reading.{segment_in, edge_in, edge_at_place, stem_in, own_stem, stems_in};
 
-use axis::direction::same;
 use axis::edge::{EMPTY_EDGE, Edge};
 use axis::flags::NORMAL;
-use axis::kinds::{Direction, Link};
+use axis::kinds::Direction;
 use axis::limits::MOST_SEGMENTS;
 use axis::segment::Segment;
 use build_join::ring::{NO_STEM, stem_near};
@@ -37,12 +36,12 @@ pub fn read_segment(words: &[i32], i: u16) -> Segment
         height: short_of(read_word(words, at + HEIGHT_PLACE)),
         score: 0,
         len: 0,
-        link: Link::None,
+        link: None,
         serif: link_of(read_word(words, at + SERIF_PLACE)),
         first: 0,
         last: 0,
-        edge: Link::None,
-        next: Link::None,
+        edge: None,
+        next: None,
     }
 }
 
@@ -55,7 +54,7 @@ pub fn is_left_out(words: &[i32], i: u16, second: bool) -> bool
         return false;
     }
     let dir = direction_of(read_word(words, SEGMENT_WORDS * (i as usize) + DIR_PLACE));
-    !same(dir, Direction::None)
+    dir != Direction::None
 }
 
 // What joining asks of an edge by its first segment and its last one, its other fields empty.
@@ -88,8 +87,8 @@ fn read_stem(words: &[i32], i: u16) -> i32
 {
     let link = link_at(words, SEGMENT_WORDS * (i as usize) + LINK_PLACE);
     match link {
-        Link::None => NO_STEM,
-        Link::To(ix) => short_at(words, SEGMENT_WORDS * (ix as usize) + POS_PLACE) as i32,
+        None => NO_STEM,
+        Some(ix) => short_at(words, SEGMENT_WORDS * (ix as usize) + POS_PLACE) as i32,
     }
 }
 
@@ -119,6 +118,7 @@ pub fn ring_agrees(
         return true;
     }
     let mut ix = first;
+    // a loop: the next segment is read from the ring
     loop {
         if !stem_near(stem, read_stem(words, ix), near) {
             return false;

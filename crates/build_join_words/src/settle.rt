@@ -13,13 +13,10 @@ pub fn stop_at(places: &[i16; MOST_EDGES], count: usize, edge: Edge, rules: Rule
     requires { count ≤ most_edges }
     ensures { (result ≡ stop_at (stops_at rules edge) (pos 0) places.now count) × (result ≤ count) }
 {
-    let mut ix = count;
-    while 0 < ix {
-        let at = ix - 1;
+    for at in (0..count).rev() {
         if stops_behind(edge_at(places[at]), edge, rules) {
-            return ix;
+            return at + 1;
         }
-        ix = at;
     }
     0
 }
@@ -37,15 +34,12 @@ pub fn insert_at(
     requires { (at ≤ count) × (count < most_edges) }
     ensures { Inserted at count place i places.old first.old last.old places.new first.new last.new }
 {
-    let mut ix = count;
-    while at < ix {
-        let below = ix - 1;
-        places[ix] = places[below];
-        first[ix] = first[below];
-        last[ix] = last[below];
-        ix = below;
+    for below in (at..count).rev() {
+        places[below + 1] = places[below];
+        first[below + 1] = first[below];
+        last[below + 1] = last[below];
     }
-    places[ix] = place;
-    first[ix] = i;
-    last[ix] = i;
+    places[at] = place;
+    first[at] = i;
+    last[at] = i;
 }

@@ -1,7 +1,7 @@
 -- Segments learn their edges: old ones are forgotten, then each member of an edge gets the edge's index and its next.
+use Rattle.std.specs.Prelude.{None, Some}
 use Rattle.std.specs.Prelude.{List, [], ◌∷◌, ℕ, zero, suc, get_or}
-use Rattle.axis.specs.declared.kinds.Link.{Link}
-use Rattle.axis.specs.declared.kinds.Link.TheVariants as Links
+use Rattle.axis.specs.Link.{Link}
 use Rattle.axis.specs.declared.segment.Segment.{Segment}
 use Rattle.axis.specs.declared.segment.Segments.{Segments}
 use Rattle.axis.specs.Segment.{segment_at, put_segment}
@@ -29,7 +29,7 @@ ringed s edge next = record {
 
 -- the segment without them
 abbrev pub forgotten : Segment → Segment
-forgotten s = ringed s Links.None Links.None
+forgotten s = ringed s None None
 
 -- the first n segments without them
 unfoldable pub clear : ℕ → Segments → Segments
@@ -42,7 +42,7 @@ cleared t = clear t.len t
 
 -- a member of edge k, with n behind it
 abbrev pub member_of : Segment → ℕ → ℕ → Segment
-member_of s k n = ringed s (Links.To k) (Links.To n)
+member_of s k n = ringed s (Some k) (Some n)
 
 -- these segments are members of edge k
 unfoldable pub marks : List ℕ → ℕ → List ℕ → Segments → Segments

@@ -5,7 +5,6 @@ ghost use Rattle.build_mark.specs.Marks.{forgotten, cleared, member_of};
 ghost use Rattle.build_mark.specs.Steps.{marked, Ended};
 
 use axis::edge::Axis;
-use axis::kinds::Link;
 use axis::limits::MOST_SEGMENTS;
 use axis::segment::{Segment, Segments};
 
@@ -14,8 +13,8 @@ fn forget(segment: Segment) -> Segment
     ensures { result ≡ forgotten segment }
 {
     Segment {
-        edge: Link::None,
-        next: Link::None,
+        edge: None,
+        next: None,
         ..segment
     }
 }
@@ -39,8 +38,8 @@ fn member_of(segment: Segment, edge: u16, next: u16) -> Segment
     ensures { result ≡ member_of segment edge next }
 {
     Segment {
-        edge: Link::To(edge),
-        next: Link::To(next),
+        edge: Some(edge),
+        next: Some(next),
         ..segment
     }
 }
@@ -60,6 +59,7 @@ pub fn link_segments_to_edges(
         let edge = edges.edges[edge_ix];
         let last = edge.last;
         let mut ix = edge.first;
+        // a loop: the next segment is read from the ring
         loop {
             let at = ix as usize;
             let segment = table.segments[at];

@@ -1,4 +1,5 @@
 -- Segments learn their edges where their words stand: one turn of each loop, and that the walks are the groups.
+use Rattle.std.specs.Prelude.{None, Some}
 use mathlib.Core.Path.{◌≡◌, refl, sym, ap, subst, ◌∙◌}
 use mathlib.Core.Bool.{true}
 use mathlib.Core.List.{List, ◌∷◌}
@@ -7,7 +8,6 @@ use native.Mathlib.Numerals.{add-one}
 use native.Mathlib.Omega.{arith}
 use lib.IntN.{ℤ}
 use lib.ListN.{length, get_or}
-use Rattle.axis.specs.declared.kinds.Link.TheVariants as Links
 use Rattle.axis.specs.declared.segment.Segments.{Segments}
 use Rattle.axis.specs.Limits.{most_segments}
 use Rattle.axis.specs.Ring.{walk, ends}
@@ -31,7 +31,7 @@ module _ (ws₀ : List ℤ) where
   forget-start w = stays (clear 0) w (clear_none T)
 
   module _ {ws : List ℤ} {i : ℕ} (a : Became (clear i) ws₀ ws) where
-    pub forget-next : {ws' : List ℤ} → Became (ringing i Links.None Links.None) ws ws' → Became (clear (i + 1)) ws₀ ws'
+    pub forget-next : {ws' : List ℤ} → Became (ringing i None None) ws ws' → Became (clear (i + 1)) ws₀ ws'
     forget-next b = became-as (clear-more T (clear i T) i _ refl refl) (became-then a b)
 
     pub forget-end : i ≤ segments_in ws₀ → segments_in ws₀ ≤ i → Became cleared ws₀ ws
@@ -40,7 +40,7 @@ module _ (ws₀ : List ℤ) where
 -- ---- the members of an edge
 -- one of them
 mark-step : (next : List ℕ) (edge ix : ℕ) (ms all : List ℕ) (t : Segments) → all ≡ ix ∷ ms
-    → marks next edge ms (ringing ix (Links.To edge) (Links.To (get_or next ix 0)) t) ≡ marks next edge all t
+    → marks next edge ms (ringing ix (Some edge) (Some (get_or next ix 0)) t) ≡ marks next edge all t
 unfolding marks
 mark-step next edge ix ms all t e = ap (λ (l : List ℕ). marks next edge l t) (sym e)
 
@@ -63,7 +63,7 @@ module _ (next : List ℕ) (edge last first : ℕ) (ws₀ : List ℤ) where
     pub left-passes : (ix ≡ last → ⊥) → Passes (next_in next) (segments_in ws) last most_segments ix
     left-passes n = walk-passes (next_in next) (segments_in ws) last most_segments ix n p.stops
 
-    module _ {ws' : List ℤ} (b : Became (ringing ix (Links.To edge) (Links.To (get_or next ix 0))) ws ws') where
+    module _ {ws' : List ℤ} (b : Became (ringing ix (Some edge) (Some (get_or next ix 0))) ws ws') where
       pub left-next : (ix ≡ last → ⊥) → Left next edge last first ws₀ ws' (get_or next ix 0)
       left-next n =
           let q = left-passes n in

@@ -1,5 +1,5 @@
 // Segments learn their edges (the Rust's `link_segments_to_edges`), once these have their places.
-ghost use Rattle.std.specs.Prelude.{◌≡◌, true, ◌<◌};
+ghost use Rattle.std.specs.Prelude.{◌≡◌, true, ◌<◌, Some};
 ghost use Rattle.axis.specs.Limits.{most_edges, most_segments};
 ghost use Rattle.axis.specs.Ring.{walk, ends};
 ghost use Rattle.build_join.specs.Walks.{next_in};
@@ -8,7 +8,6 @@ ghost use Rattle.words.specs.Segment.{segments_in};
 ghost use Rattle.words_segment.specs.Whole.{Whole, Became, ringing};
 ghost use Rattle.build_mark_words.specs.Marking.{RingsIn, marked_by};
 
-use axis::kinds::Link;
 use axis::limits::{MOST_EDGES, MOST_SEGMENTS};
 use words::segment::SEGMENT_WORDS;
 use words_segment::segment::put_ring;
@@ -20,16 +19,16 @@ fn forget_in(words: &mut [i32])
 {
     let count = words.len() / SEGMENT_WORDS;
     for i in 0..count {
-        put_ring(words, i, Link::None, Link::None);
+        put_ring(words, i, None, None);
     }
 }
 
 // Makes a segment a member of an edge, with the segment behind it.
 fn member_in(words: &mut [i32], i: usize, edge: u16, next: u16)
     requires { Whole words.old × (i < segments_in words.old) × (edge < most_edges) }
-    ensures { Became (ringing i (Link.To edge) (Link.To next)) words.old words.new }
+    ensures { Became (ringing i (Some edge) (Some next)) words.old words.new }
 {
-    put_ring(words, i, Link::To(edge), Link::To(next));
+    put_ring(words, i, Some(edge), Some(next));
 }
 
 // Gives each segment of an edge's ring, from the first to the last, the edge's index and its next.
@@ -38,6 +37,7 @@ fn mark_ring_in(words: &mut [i32], next: &[u16; MOST_SEGMENTS], edge: u16, first
     ensures { Became (marks next.now edge (walk (next_in next.now) last most_segments first)) words.old words.new }
 {
     let mut ix = first;
+    // a loop: the next segment is read from the ring
     loop {
         let at = ix as usize;
         let after = next[at];

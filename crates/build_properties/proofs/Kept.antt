@@ -1,4 +1,5 @@
 -- What every edge keeps while the properties are computed: its positions, direction, blue, ring and mark; its link and its serif stay edges.
+use Rattle.std.specs.Prelude.{None, Some}
 use mathlib.Core.Path.{◌≡◌, refl, sym, subst}
 use mathlib.Core.Bool.{Bool, true, false, cond, ◌&&◌}
 use mathlib.Core.Logic.{◌⊎◌, inl, inr, ⊎_elim}
@@ -14,8 +15,7 @@ use lib.Signed.{lt_z}
 use Rattle.signed.specs.Distance.{distance}
 use Rattle.signed.proofs.Signed.{lt-or-le}
 use Rattle.signed.proofs.Choices.{either_way}
-use Rattle.axis.specs.declared.kinds.Link.{Link}
-use Rattle.axis.specs.declared.kinds.Link.TheVariants as Links
+use Rattle.axis.specs.Link.{Link}
 use Rattle.axis.specs.declared.edge.Axis.{Axis}
 use Rattle.axis.specs.declared.edge.Edge.{Edge}
 use Rattle.axis.specs.declared.flags.Flags.{Flags}
@@ -54,8 +54,8 @@ use Rattle.build_properties.specs.Steps.{Ready}
 
 -- ---- indices
 pub index_below : (n other : ℕ) (l : Link) → other < n → Below n l → index_or other l < n
-index_below n other Links.None h b = h
-index_below n other (Links.To k) h b = b.at k refl
+index_below n other None h b = h
+index_below n other (Some k) h b = b.at k refl
 
 -- ---- one edge
 -- an edge of n that was e₀
@@ -109,9 +109,9 @@ module _ (n : ℕ) (e₀ e : Edge) (h : KeptEdge n e₀ e) where
 
   nearer-below : (e2 : Edge) (delta : ℤ) (asked held : Link) → Below n asked → Below n held → Below n (nearer e e2 delta asked held)
   unfolding nearer
-  nearer-below e2 delta Links.None held p q = q
-  nearer-below e2 delta (Links.To k) Links.None p q = p
-  nearer-below e2 delta (Links.To k) (Links.To o) p q = either_way (Below n) (lt_z delta (pos (distance e.fpos e2.fpos))) (Links.To k) (Links.To o) p q
+  nearer-below e2 delta None held p q = q
+  nearer-below e2 delta (Some k) None p q = p
+  nearer-below e2 delta (Some k) (Some o) p q = either_way (Below n) (lt_z delta (pos (distance e.fpos e2.fpos))) (Some k) (Some o) p q
 
   joined-kept : (e2 : Edge) (j : Join) → Below n j.edge → KeptEdge n e₀ (joined_by e e2 j)
   unfolding joined_by
@@ -121,10 +121,10 @@ module _ (n : ℕ) (e₀ e : Edge) (h : KeptEdge n e₀ e) where
       (with-kept e.link (nearer e e2 j.delta j.edge e.serif) h.link (nearer-below e2 j.delta j.edge e.serif p h.serif))
       (with-kept (nearer e e2 j.delta j.edge e.link) e.serif (nearer-below e2 j.delta j.edge e.link p h.link) h.serif)
 
-  chosen-below : (axis : Axis) (delta : ℤ) (q : ℕ) (held : Link) → q < n → Below n held → Below n (Links.To (chosen axis e delta q held))
+  chosen-below : (axis : Axis) (delta : ℤ) (q : ℕ) (held : Link) → q < n → Below n held → Below n (Some (chosen axis e delta q held))
   unfolding chosen
-  chosen-below axis delta q Links.None p b = below-to n q p
-  chosen-below axis delta q (Links.To o) p b =
+  chosen-below axis delta q None p b = below-to n q p
+  chosen-below axis delta q (Some o) p b =
       below-to n _ (either_way (λ (k : ℕ). k < n) (lt_z delta (pos (distance e.fpos (edge_at axis o).fpos))) q o p (b.at o refl))
 
   with-properties-kept : (round straight : ℕ) → KeptEdge n e₀ (with_properties round straight e)
@@ -144,8 +144,8 @@ module _ (n : ℕ) (e₀ e : Edge) (h : KeptEdge n e₀ e) where
       }
     where
       beside : (l s : Link) → Below n s → Below n (serif_beside l s)
-      beside Links.None s b = b
-      beside (Links.To k) s b = below_none n
+      beside None s b = b
+      beside (Some k) s b = below_none n
 
 -- ---- the table
 -- an axis that was axis₀, and whose links and serifs are edges
@@ -178,8 +178,8 @@ put-kept axis₀ axis i e h p = record { dim = h.dim; major = h.major; len = h.l
 -- ---- the visits
 module _ (axis₀ : Axis) (t : Segments) (r : Ready axis₀ t) where
   edge-below : (ix : ℕ) (l : Link) → Below t.len l → Below axis₀.len (named_edge l (segment_at t (index_or ix l)))
-  edge-below ix Links.None b = below_none axis₀.len
-  edge-below ix (Links.To i) b = (r.segment i (b.at i refl)).edge
+  edge-below ix None b = below_none axis₀.len
+  edge-below ix (Some i) b = (r.segment i (b.at i refl)).edge
 
   -- an edge that a segment asks for
   pub asked-below : (k ix : ℕ) → ix < t.len → Below axis₀.len (join_at t k ix).edge
@@ -194,20 +194,20 @@ module _ (axis₀ : Axis) (t : Segments) (r : Ready axis₀ t) where
   module _ (k : ℕ) (hk : k < axis₀.len) where
     join_kept : (b : Bool) (delta : ℤ) (l : Link) (axis : Axis) → Below axis₀.len l → Kept axis₀ axis → Kept axis₀ (join_by k b delta l axis)
     unfolding join_by
-    join_kept b delta Links.None axis p h = h
-    join_kept b delta (Links.To q) axis p h =
+    join_kept b delta None axis p h = h
+    join_kept b delta (Some q) axis p h =
         let n = axis₀.len in
         let e = edge_at axis k in
         let g = h.edge k hk in
         let v = chosen axis e delta q e.serif in
         let w = chosen axis e delta q e.link in
-        let bv : Below n (Links.To v) = chosen-below n (edge_at axis₀ k) e g axis delta q e.serif (p.at q refl) g.serif in
-        let bw : Below n (Links.To w) = chosen-below n (edge_at axis₀ k) e g axis delta q e.link (p.at q refl) g.link in
-        let put = put-kept axis₀ axis k (joined_to e e.link (Links.To v)) h (with-kept n (edge_at axis₀ k) e g e.link (Links.To v) g.link bv) in
+        let bv : Below n (Some v) = chosen-below n (edge_at axis₀ k) e g axis delta q e.serif (p.at q refl) g.serif in
+        let bw : Below n (Some w) = chosen-below n (edge_at axis₀ k) e g axis delta q e.link (p.at q refl) g.link in
+        let put = put-kept axis₀ axis k (joined_to e e.link (Some v)) h (with-kept n (edge_at axis₀ k) e g e.link (Some v) g.link bv) in
         either_way (Kept axis₀) b (put_serif k v axis) (put_link k w axis)
-        (put-kept axis₀ (put_edge axis k (joined_to e e.link (Links.To v))) v (as_serif (edge_at (put_edge axis k (joined_to e e.link (Links.To v))) v)) put
-        (flagged-kept n (edge_at axis₀ v) (edge_at (put_edge axis k (joined_to e e.link (Links.To v))) v) (put.edge v (bv.at v refl)) _))
-        (put-kept axis₀ axis k (joined_to e (Links.To w) e.serif) h (with-kept n (edge_at axis₀ k) e g (Links.To w) e.serif bw g.serif))
+        (put-kept axis₀ (put_edge axis k (joined_to e e.link (Some v))) v (as_serif (edge_at (put_edge axis k (joined_to e e.link (Some v))) v)) put
+        (flagged-kept n (edge_at axis₀ v) (edge_at (put_edge axis k (joined_to e e.link (Some v))) v) (put.edge v (bv.at v refl)) _))
+        (put-kept axis₀ axis k (joined_to e (Some w) e.serif) h (with-kept n (edge_at axis₀ k) e g (Some w) e.serif bw g.serif))
 
     pub member-kept : (ix : ℕ) (axis : Axis) → ix < t.len → Kept axis₀ axis → Kept axis₀ (member t k ix axis)
     unfolding member

@@ -1,4 +1,5 @@
 -- One segment's visit as the code makes it, and the visits of a ring in their order.
+use Rattle.std.specs.Prelude.{None, Some}
 use mathlib.Core.Path.{◌≡◌, refl, ap, ◌∙◌}
 use mathlib.Core.Bool.{Bool, true, false, cond, not}
 use mathlib.Core.List.{List, [], ◌∷◌}
@@ -10,8 +11,7 @@ use lib.IntN.{ℤ, pos}
 use lib.ListN.{length, get_or, set}
 use lib.Signed.{lt_z}
 use Rattle.signed.specs.Distance.{distance}
-use Rattle.axis.specs.declared.kinds.Link.{Link}
-use Rattle.axis.specs.declared.kinds.Link.TheVariants as Links
+use Rattle.axis.specs.Link.{Link}
 use Rattle.axis.specs.declared.edge.Axis.{Axis}
 use Rattle.axis.specs.declared.edge.Edge.{Edge}
 use Rattle.axis.specs.declared.segment.Segment.{Segment}
@@ -51,22 +51,22 @@ put-own axis i = rw (set_own axis.edges i empty_edge)
 
 -- ---- what a segment asks for
 -- where it is for a serif's edge, there is one
-serif-asks : (k : ℕ) (s serif link : Segment) → (join_of k s serif link).is_serif ≡ true → (join_of k s serif link).edge ≡ Links.None → ⊥
+serif-asks : (k : ℕ) (s serif link : Segment) → (join_of k s serif link).is_serif ≡ true → (join_of k s serif link).edge ≡ None → ⊥
 unfolding join_of
 serif-asks k s serif link h e = by-edge (named_edge s.serif serif) (pos (distance s.pos serif.pos))
     (record { is_serif = false; edge = named_edge s.link link; delta = pos (distance s.pos link.pos) }) refl h e
   where
     by-test : (b : Bool) (q : ℕ) (x : ℤ) (j : Join) → j.is_serif ≡ false → (cond {A =
-        Join} b (record { is_serif = true; edge = Links.To q; delta = x }) j).is_serif ≡ true
-        → (cond {A = Join} b (record { is_serif = true; edge = Links.To q; delta = x }) j).edge ≡ Links.None → ⊥
+        Join} b (record { is_serif = true; edge = Some q; delta = x }) j).is_serif ≡ true
+        → (cond {A = Join} b (record { is_serif = true; edge = Some q; delta = x }) j).edge ≡ None → ⊥
     by-test true q x j f h e = let z : ◌≡◌ {A = ℕ} 0 1 = cc in omega arith
     by-test false q x j f h e = let z : ◌≡◌ {A = ℕ} 0 1 = cc in omega arith
 
     by-edge : (l : Link) (x : ℤ) (j : Join) → j.is_serif ≡ false → (cond {A =
         Join} (is_other k l) (record { is_serif = true; edge = l; delta = x }) j).is_serif ≡ true
-        → (cond {A = Join} (is_other k l) (record { is_serif = true; edge = l; delta = x }) j).edge ≡ Links.None → ⊥
-    by-edge Links.None x j f h e = let z : ◌≡◌ {A = ℕ} 0 1 = cc in omega arith
-    by-edge (Links.To q) x j f h e = by-test (not (eqb q k)) q x j f h e
+        → (cond {A = Join} (is_other k l) (record { is_serif = true; edge = l; delta = x }) j).edge ≡ None → ⊥
+    by-edge None x j f h e = let z : ◌≡◌ {A = ℕ} 0 1 = cc in omega arith
+    by-edge (Some q) x j f h e = by-test (not (eqb q k)) q x j f h e
 
 -- ---- one visit, from what the code computes
 module _ (axis : Axis) (k : ℕ) where
@@ -79,29 +79,29 @@ module _ (axis : Axis) (k : ℕ) where
       put_edge (put_edge axis k e) (index_or k (held_by j.is_serif e))
       (flagged_by j.is_serif (edge_at (put_edge axis k e) (index_or k (held_by j.is_serif e))))
 
-  cond-to : (b : Bool) (q o : ℕ) → cond b (Links.To q) (Links.To o) ≡ Links.To (cond b q o)
+  cond-to : (b : Bool) (q o : ℕ) → cond b (Some q) (Some o) ≡ Some (cond b q o)
   cond-to true q o = refl
   cond-to false q o = refl
 
-  nearer-is : (e : Edge) (delta : ℤ) (q : ℕ) (held : Link) → nearer e (edge_at axis (index_or k held)) delta (Links.To q) held
-      ≡ Links.To (chosen axis e delta q held)
+  nearer-is : (e : Edge) (delta : ℤ) (q : ℕ) (held : Link) → nearer e (edge_at axis (index_or k held)) delta (Some q) held
+      ≡ Some (chosen axis e delta q held)
   unfolding nearer chosen
-  nearer-is e delta q Links.None = refl
-  nearer-is e delta q (Links.To o) = cond-to (lt_z delta (pos (distance e.fpos (edge_at axis o).fpos))) q o
+  nearer-is e delta q None = refl
+  nearer-is e delta q (Some o) = cond-to (lt_z delta (pos (distance e.fpos (edge_at axis o).fpos))) q o
 
-  nearer-none : (e e2 : Edge) (delta : ℤ) (held : Link) → nearer e e2 delta Links.None held ≡ held
+  nearer-none : (e e2 : Edge) (delta : ℤ) (held : Link) → nearer e e2 delta None held ≡ held
   unfolding nearer
   nearer-none e e2 delta held = refl
 
-  written_is : (b : Bool) (delta : ℤ) (l : Link) → (b ≡ true → l ≡ Links.None → ⊥)
+  written_is : (b : Bool) (delta : ℤ) (l : Link) → (b ≡ true → l ≡ None → ⊥)
       → written (record { is_serif = b; edge = l; delta = delta }) (joined_edge (record { is_serif = b; edge = l; delta = delta })) ≡ join_by k b delta l axis
   unfolding join_by joined_by
-  written_is true delta Links.None h = absurd (h refl refl)
-  written_is false delta Links.None h =
+  written_is true delta None h = absurd (h refl refl)
+  written_is false delta None h =
       rw (nearer-none (edge_at axis k) (edge_at axis (index_or k (edge_at axis k).link)) delta (edge_at axis k).link)
       (put-own (put_edge axis k (edge_at axis k)) (index_or k (edge_at axis k).link) ∙ put-own axis k)
-  written_is true delta (Links.To q) h = rw (nearer-is (edge_at axis k) delta q (edge_at axis k).serif)
-  written_is false delta (Links.To q) h = rw (nearer-is (edge_at axis k) delta q (edge_at axis k).link) (put-own _ _)
+  written_is true delta (Some q) h = rw (nearer-is (edge_at axis k) delta q (edge_at axis k).serif)
+  written_is false delta (Some q) h = rw (nearer-is (edge_at axis k) delta q (edge_at axis k).link) (put-own _ _)
 
 -- the same by the results of the code's calls
 pub member_is : (t : Segments) (axis : Axis) (k ix at1 at2 held w : ℕ) (j : Join) (e g : Edge) → at1 ≡ index_or ix (segment_at t ix).serif

@@ -1,15 +1,14 @@
 -- Cases of a visit worked out by hand: one table, one statement.
+use Rattle.std.specs.Prelude.{None, Some}
 use mathlib.Core.Path.{◌≡◌, refl}
 use mathlib.Core.Bool.{Bool, true, false}
 use mathlib.Core.List.{List, [], ◌∷◌, ◌++◌, map}
 use Prim.Native.Nat.{ℕ, ◌-◌}
 use lib.IntN.{pos}
 use lib.ListN.{length, replicate}
-use Rattle.axis.specs.declared.kinds.Blue.TheVariants as Blues
 use Rattle.axis.specs.declared.kinds.Dimension.TheVariants.{Vertical}
 use Rattle.axis.specs.declared.kinds.Direction.TheVariants.{Right}
-use Rattle.axis.specs.declared.kinds.Link.{Link}
-use Rattle.axis.specs.declared.kinds.Link.TheVariants.{None, To}
+use Rattle.axis.specs.Link.{Link}
 use Rattle.axis.specs.declared.kinds.Mark.TheVariants.{Nothing}
 use Rattle.axis.specs.declared.edge.Axis.{Axis}
 use Rattle.axis.specs.declared.edge.Edge.{Edge}
@@ -38,7 +37,7 @@ flags round serif = record { round = round; serif = serif; done = false; neutral
 
 -- an edge at a position, of the segments from the first to the last, with these flags, link and serif
 abbrev edge : ℕ → ℕ → ℕ → Flags → Link → Link → Edge
-edge p first last f link serif = changed (fresh_edge (pos p) (pos p) Right first) (pos p) Nothing f Blues.None link serif last
+edge p first last f link serif = changed (fresh_edge (pos p) (pos p) Right first) (pos p) Nothing f None link serif last
 
 -- such an edge as building makes it
 abbrev bare : ℕ → ℕ → ℕ → Edge
@@ -78,45 +77,45 @@ call es l = P.edge_properties (axis es) (table l)
 unfoldable pub rows : List Row
 rows =
     -- edge 0 is a serif of edge 1, whose own visit resets the flag again
-    (call (bare 0 0 0 ∷ bare 100 1 1 ∷ []) (segment 0 false None (To 1) (To 0) (To 0) ∷ segment 100 false None None (To 1) (To 1) ∷ [])
-    is axis (edge 0 0 0 normal None (To 1) ∷ bare 100 1 1 ∷ [])) ∷
+    (call (bare 0 0 0 ∷ bare 100 1 1 ∷ []) (segment 0 false None (Some 1) (Some 0) (Some 0) ∷ segment 100 false None None (Some 1) (Some 1) ∷ [])
+    is axis (edge 0 0 0 normal None (Some 1) ∷ bare 100 1 1 ∷ [])) ∷
     -- edge 1 is a serif of edge 0, which was visited before and keeps the flag
-    (call (bare 0 0 0 ∷ bare 100 1 1 ∷ []) (segment 0 false None None (To 0) (To 0) ∷ segment 100 false None (To 0) (To 1) (To 1) ∷ [])
-    is axis (edge 0 0 0 (flags false true) None None ∷ edge 100 1 1 normal None (To 0) ∷ [])) ∷
+    (call (bare 0 0 0 ∷ bare 100 1 1 ∷ []) (segment 0 false None None (Some 0) (Some 0) ∷ segment 100 false None (Some 0) (Some 1) (Some 1) ∷ [])
+    is axis (edge 0 0 0 (flags false true) None None ∷ edge 100 1 1 normal None (Some 0) ∷ [])) ∷
     -- flags from before the visit go
-    (call (edge 0 0 0 (flags true true) None None ∷ []) (segment 0 false None None (To 0) (To 0) ∷ [])
+    (call (edge 0 0 0 (flags true true) None None ∷ []) (segment 0 false None None (Some 0) (Some 0) ∷ [])
     is axis (bare 0 0 0 ∷ [])) ∷
     -- edge 1 is a serif of edge 0 by its first segment, and linked to it by its second: the serif is dropped, the flag stays
-    (call (bare 0 0 0 ∷ bare 100 1 2 ∷ []) (segment 0 false None None (To 0) (To 0) ∷ segment 100 false None (To 0) (To 1) (To 2)
-    ∷ segment 100 false (To 0) None (To 1) (To 1) ∷ [])
-    is axis (edge 0 0 0 (flags false true) None None ∷ edge 100 1 2 normal (To 0) None ∷ [])) ∷
+    (call (bare 0 0 0 ∷ bare 100 1 2 ∷ []) (segment 0 false None None (Some 0) (Some 0) ∷ segment 100 false None (Some 0) (Some 1) (Some 2)
+    ∷ segment 100 false (Some 0) None (Some 1) (Some 1) ∷ [])
+    is axis (edge 0 0 0 (flags false true) None None ∷ edge 100 1 2 normal (Some 0) None ∷ [])) ∷
     -- edge 0 is linked to edge 1, 100 away; its second segment has a link that is 35 away, and takes it to edge 2
-    (call (bare 0 0 1 ∷ bare 100 2 2 ∷ bare 40 3 3 ∷ []) (segment 0 false (To 2) None (To 0) (To 1) ∷ segment 5 false (To 3) None (To 0) (To 0)
-    ∷ segment 100 false None None (To 1) (To 2) ∷ segment 40 false None None (To 2) (To 3) ∷ [])
-    is axis (edge 0 0 1 normal (To 2) None ∷ bare 100 2 2 ∷ bare 40 3 3 ∷ [])) ∷
+    (call (bare 0 0 1 ∷ bare 100 2 2 ∷ bare 40 3 3 ∷ []) (segment 0 false (Some 2) None (Some 0) (Some 1) ∷ segment 5 false (Some 3) None (Some 0) (Some 0)
+    ∷ segment 100 false None None (Some 1) (Some 2) ∷ segment 40 false None None (Some 2) (Some 3) ∷ [])
+    is axis (edge 0 0 1 normal (Some 2) None ∷ bare 100 2 2 ∷ bare 40 3 3 ∷ [])) ∷
     -- a link that is 100 away too does not
-    (call (bare 0 0 1 ∷ bare 100 2 2 ∷ bare 90 3 3 ∷ []) (segment 0 false (To 2) None (To 0) (To 1) ∷ segment 0 false (To 3) None (To 0) (To 0)
-    ∷ segment 100 false None None (To 1) (To 2) ∷ segment 100 false None None (To 2) (To 3) ∷ [])
-    is axis (edge 0 0 1 normal (To 1) None ∷ bare 100 2 2 ∷ bare 90 3 3 ∷ [])) ∷
+    (call (bare 0 0 1 ∷ bare 100 2 2 ∷ bare 90 3 3 ∷ []) (segment 0 false (Some 2) None (Some 0) (Some 1) ∷ segment 0 false (Some 3) None (Some 0) (Some 0)
+    ∷ segment 100 false None None (Some 1) (Some 2) ∷ segment 100 false None None (Some 2) (Some 3) ∷ [])
+    is axis (edge 0 0 1 normal (Some 1) None ∷ bare 100 2 2 ∷ bare 90 3 3 ∷ [])) ∷
     -- as with the links, so with the serifs: edge 0 leaves edge 1 for edge 2, and both lose the flag
-    (call (bare 0 0 1 ∷ bare 100 2 2 ∷ bare 40 3 3 ∷ []) (segment 0 false None (To 2) (To 0) (To 1) ∷ segment 5 false None (To 3) (To 0) (To 0)
-    ∷ segment 100 false None None (To 1) (To 2) ∷ segment 40 false None None (To 2) (To 3) ∷ [])
-    is axis (edge 0 0 1 normal None (To 2) ∷ bare 100 2 2 ∷ bare 40 3 3 ∷ [])) ∷
+    (call (bare 0 0 1 ∷ bare 100 2 2 ∷ bare 40 3 3 ∷ []) (segment 0 false None (Some 2) (Some 0) (Some 1) ∷ segment 5 false None (Some 3) (Some 0) (Some 0)
+    ∷ segment 100 false None None (Some 1) (Some 2) ∷ segment 40 false None None (Some 2) (Some 3) ∷ [])
+    is axis (edge 0 0 1 normal None (Some 2) ∷ bare 100 2 2 ∷ bare 40 3 3 ∷ [])) ∷
     -- a serif of the own edge is none, and the link counts
-    (call (bare 0 0 0 ∷ bare 100 1 1 ∷ []) (segment 0 false (To 1) (To 0) (To 0) (To 0) ∷ segment 100 false None None (To 1) (To 1) ∷ [])
-    is axis (edge 0 0 0 normal (To 1) None ∷ bare 100 1 1 ∷ [])) ∷
+    (call (bare 0 0 0 ∷ bare 100 1 1 ∷ []) (segment 0 false (Some 1) (Some 0) (Some 0) (Some 0) ∷ segment 100 false None None (Some 1) (Some 1) ∷ [])
+    is axis (edge 0 0 0 normal (Some 1) None ∷ bare 100 1 1 ∷ [])) ∷
     -- neither a serif nor a link counts whose segment has no edge
-    (call (bare 0 0 0 ∷ []) (segment 0 false (To 1) (To 1) (To 0) (To 0) ∷ segment 100 false None None None None ∷ [])
+    (call (bare 0 0 0 ∷ []) (segment 0 false (Some 1) (Some 1) (Some 0) (Some 0) ∷ segment 100 false None None None None ∷ [])
     is axis (bare 0 0 0 ∷ [])) ∷
     -- two segments are round and two are straight
-    (call (bare 0 0 3 ∷ []) (segment 0 true None None (To 0) (To 1) ∷ segment 0 false None None (To 0) (To 2) ∷ segment 0 true None None (To 0) (To 3)
-    ∷ segment 0 false None None (To 0) (To 0) ∷ [])
+    (call (bare 0 0 3 ∷ []) (segment 0 true None None (Some 0) (Some 1) ∷ segment 0 false None None (Some 0) (Some 2) ∷ segment 0 true None None (Some 0) (Some 3)
+    ∷ segment 0 false None None (Some 0) (Some 0) ∷ [])
     is axis (edge 0 0 3 (flags true false) None None ∷ [])) ∷
     -- one is round and two are straight
-    (call (bare 0 0 2 ∷ []) (segment 0 true None None (To 0) (To 1) ∷ segment 0 false None None (To 0) (To 2) ∷ segment 0 false None None (To 0) (To 0) ∷ [])
+    (call (bare 0 0 2 ∷ []) (segment 0 true None None (Some 0) (Some 1) ∷ segment 0 false None None (Some 0) (Some 2) ∷ segment 0 false None None (Some 0) (Some 0) ∷ [])
     is axis (bare 0 0 2 ∷ [])) ∷
     -- the segment behind one without a next is the last: the straight one between is passed over
-    (call (bare 0 0 2 ∷ []) (segment 0 true None None (To 0) None ∷ segment 0 false None None (To 0) (To 2) ∷ segment 0 false None None (To 0) (To 0) ∷ [])
+    (call (bare 0 0 2 ∷ []) (segment 0 true None None (Some 0) None ∷ segment 0 false None None (Some 0) (Some 2) ∷ segment 0 false None None (Some 0) (Some 0) ∷ [])
     is axis (edge 0 0 2 (flags true false) None None ∷ [])) ∷
     []
 

@@ -1,10 +1,10 @@
 -- The properties of edges (document 01, module 4; the Rust's `compute_edge_properties`): each edge in turn is visited by the segments of its ring, in their
 -- order. A visit reads the table that the visits before it left.
+use Rattle.std.specs.Prelude.{None, Some}
 use Rattle.std.specs.Prelude.{Bool, true, false, cond, not, ◌&&◌, List, [], ◌∷◌, ℕ, zero, suc, ◌+◌, eqb, ltb, leb, ℤ, pos}
 use Rattle.std.specs.Int.Signed.{lt_z}
 use Rattle.signed.specs.Distance.{distance}
-use Rattle.axis.specs.declared.kinds.Link.{Link}
-use Rattle.axis.specs.declared.kinds.Link.TheVariants as Links
+use Rattle.axis.specs.Link.{Link}
 use Rattle.axis.specs.declared.edge.Axis.{Axis}
 use Rattle.axis.specs.declared.edge.Edge.{Edge}
 use Rattle.axis.specs.declared.segment.Segment.{Segment}
@@ -18,13 +18,13 @@ use Rattle.build_properties.specs.declared.join.Join.{Join}
 -- ---- what a segment asks of its edge
 -- the edge of the segment that an index names, and none without an index
 abbrev pub named_edge : Link → Segment → Link
-named_edge Links.None named = Links.None
-named_edge (Links.To ix) named = named.edge
+named_edge None named = None
+named_edge (Some ix) named = named.edge
 
 -- an edge, and another one than k
 abbrev pub is_other : ℕ → Link → Bool
-is_other k Links.None = false
-is_other k (Links.To e) = not (eqb e k)
+is_other k None = false
+is_other k (Some e) = not (eqb e k)
 
 -- a segment of edge k, with the segments that it names as serif and as link, asks for the serif's edge where that is another one than k, and else for the
 -- link's edge, if any
@@ -45,8 +45,8 @@ as_serif e = flagged e (record { round = e.flags.round; serif = true; done = e.f
 
 -- the edge q that is asked for, or the one that e has: q where it has none, or where the segments are nearer than the edges
 unfoldable pub chosen : Axis → Edge → ℤ → ℕ → Link → ℕ
-chosen axis e delta q Links.None = q
-chosen axis e delta q (Links.To o) = cond (lt_z delta (pos (distance e.fpos (edge_at axis o).fpos))) q o
+chosen axis e delta q None = q
+chosen axis e delta q (Some o) = cond (lt_z delta (pos (distance e.fpos (edge_at axis o).fpos))) q o
 
 -- SERIF is set on edge w
 abbrev pub set_serif : ℕ → Axis → Axis
@@ -54,16 +54,16 @@ set_serif w axis = put_edge axis w (as_serif (edge_at axis w))
 
 -- edge k has edge w as its serif, and SERIF is set on that one
 abbrev pub put_serif : ℕ → ℕ → Axis → Axis
-put_serif k w axis = set_serif w (put_edge axis k (joined_to (edge_at axis k) (edge_at axis k).link (Links.To w)))
+put_serif k w axis = set_serif w (put_edge axis k (joined_to (edge_at axis k) (edge_at axis k).link (Some w)))
 
 -- edge k has edge w as its link
 abbrev pub put_link : ℕ → ℕ → Axis → Axis
-put_link k w axis = put_edge axis k (joined_to (edge_at axis k) (Links.To w) (edge_at axis k).serif)
+put_link k w axis = put_edge axis k (joined_to (edge_at axis k) (Some w) (edge_at axis k).serif)
 
 -- an edge that is asked for, in the way that it is
 unfoldable pub join_by : ℕ → Bool → ℤ → Link → Axis → Axis
-join_by k is-serif delta Links.None axis = axis
-join_by k is-serif delta (Links.To q) axis =
+join_by k is-serif delta None axis = axis
+join_by k is-serif delta (Some q) axis =
     cond is-serif
     (put_serif k (chosen axis (edge_at axis k) delta q (edge_at axis k).serif) axis)
     (put_link k (chosen axis (edge_at axis k) delta q (edge_at axis k).link) axis)
@@ -94,8 +94,8 @@ is_round round straight = ltb 0 round && leb straight round
 
 -- the serif that stays beside a link
 abbrev pub serif_beside : Link → Link → Link
-serif_beside Links.None serif = serif
-serif_beside (Links.To k) serif = Links.None
+serif_beside None serif = serif
+serif_beside (Some k) serif = None
 
 -- the edge at the end of its visit: of its flags only ROUND can be set, and a serif is dropped where a link is
 unfoldable pub with_properties : ℕ → ℕ → Edge → Edge

@@ -4,15 +4,13 @@ ghost use Rattle.signed.specs.Distance.{distance as distance_of};
 ghost use Rattle.axis.specs.Link.{index_or};
 ghost use Rattle.build_properties.specs.Properties.{named_edge, is_other, join_of};
 
-use axis::kinds::Link;
-use axis::link::index_or;
 use axis::segment::Segment;
 
 // The edge that a segment asks its own to join, if any: as a serif of it or as its link, and how far the segment there is.
 #[derive(Clone, Copy)]
 pub struct Join {
     pub is_serif: bool,
-    pub edge: Link,
+    pub edge: Option<u16>,
     pub delta: i32,
 }
 
@@ -33,7 +31,7 @@ pub fn serif_at(segment: Segment, own: usize) -> usize
     ensures { result ≡ index_or own segment.serif }
 {
     let serif = segment.serif;
-    index_or(serif, own)
+    serif.map_or(own, usize::from)
 }
 
 // The place of the segment's link, or its own where it has none.
@@ -41,7 +39,7 @@ pub fn link_at(segment: Segment, own: usize) -> usize
     ensures { result ≡ index_or own segment.link }
 {
     let link = segment.link;
-    index_or(link, own)
+    link.map_or(own, usize::from)
 }
 
 // The place of the segment behind, or the last one's where there is none.
@@ -49,27 +47,27 @@ pub fn next_at(segment: Segment, last: usize) -> usize
     ensures { result ≡ index_or last segment.next }
 {
     let next = segment.next;
-    index_or(next, last)
+    next.map_or(last, usize::from)
 }
 
 // The edge of the segment that an index names, and none without an index.
-fn named_edge(ix: Link, named: Segment) -> Link
+fn named_edge(ix: Option<u16>, named: Segment) -> Option<u16>
     ensures { result ≡ named_edge ix named }
 {
     let edge = named.edge;
     match ix {
-        Link::None => Link::None,
-        Link::To(_) => edge,
+        None => None,
+        Some(_) => edge,
     }
 }
 
 // Whether this is an edge, and another one than edge_ix.
-fn is_other(edge: Link, edge_ix: usize) -> bool
+fn is_other(edge: Option<u16>, edge_ix: usize) -> bool
     ensures { result ≡ is_other edge_ix edge }
 {
     match edge {
-        Link::None => false,
-        Link::To(k) => k as usize != edge_ix,
+        None => false,
+        Some(k) => k as usize != edge_ix,
     }
 }
 

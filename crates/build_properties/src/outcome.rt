@@ -7,8 +7,6 @@ ghost use Rattle.build_properties.specs.Properties.{is_round, serif_beside, with
 use super::join::{Join, distance};
 use axis::edge::Edge;
 use axis::flags::{Flags, NORMAL};
-use axis::kinds::Link;
-use axis::link::index_or;
 
 // The place of the edge that this one is joined to in the way of a join, or its own where there is none.
 pub fn edge2_at(edge: Edge, join: Join, own: usize) -> usize
@@ -16,21 +14,21 @@ pub fn edge2_at(edge: Edge, join: Join, own: usize) -> usize
 {
     if join.is_serif {
         let serif = edge.serif;
-        return index_or(serif, own);
+        return serif.map_or(own, usize::from);
     }
     let link = edge.link;
-    index_or(link, own)
+    link.map_or(own, usize::from)
 }
 
 // The edge asked for, where the segment there is nearer than edge2, the one joined before; else that one.
-fn nearer(edge: Edge, edge2: Edge, edge2_ix: Link, join: Join) -> Link
+fn nearer(edge: Edge, edge2: Edge, edge2_ix: Option<u16>, join: Join) -> Option<u16>
     ensures { result ≡ nearer_of edge edge2 join.delta join.edge edge2_ix }
 {
     let asked = join.edge;
-    let Link::To(_) = asked else {
+    let Some(_) = asked else {
         return edge2_ix;
     };
-    let Link::To(_) = edge2_ix else {
+    let Some(_) = edge2_ix else {
         return asked;
     };
     if join.delta < distance(edge.fpos, edge2.fpos) {
@@ -76,12 +74,12 @@ fn is_round(roundness: usize, straightness: usize) -> bool
 }
 
 // The serif of an edge with this link: none beside a link.
-fn serif_beside(link: Link, serif: Link) -> Link
+fn serif_beside(link: Option<u16>, serif: Option<u16>) -> Option<u16>
     ensures { result ≡ serif_beside link serif }
 {
     match link {
-        Link::None => serif,
-        Link::To(_) => Link::None,
+        None => serif,
+        Some(_) => None,
     }
 }
 

@@ -21,6 +21,7 @@ pub fn compute_edge_properties(axis: Axis, segments: Segments) -> Axis
         let mut segment_ix = visited.first as usize;
         let mut roundness: usize = 0;
         let mut straightness: usize = 0;
+        // a loop: the next segment is read from the ring
         loop {
             let edge = table.edges[edge_ix];
             let segment = segments.segments[segment_ix];

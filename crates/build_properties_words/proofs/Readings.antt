@@ -1,4 +1,5 @@
 -- What is read of the words of segments decides what the segments of their table decide.
+use Rattle.std.specs.Prelude.{None, Some}
 use mathlib.Core.Path.{◌≡◌, refl, sym, ap, subst, ◌∙◌}
 use mathlib.Core.Bool.{Bool, true, false, cond}
 use mathlib.Core.List.{List}
@@ -7,8 +8,7 @@ use native.Mathlib.Omega.{arith}
 use lib.IntN.{ℤ, pos}
 use Rattle.signed.specs.Distance.{distance}
 use Rattle.axis.specs.declared.edge.Axis.{Axis}
-use Rattle.axis.specs.declared.kinds.Link.{Link}
-use Rattle.axis.specs.declared.kinds.Link.TheVariants as Links
+use Rattle.axis.specs.Link.{Link}
 use Rattle.axis.specs.declared.segment.Segment.{Segment}
 use Rattle.axis.specs.declared.segment.Segments.{Segments}
 use Rattle.axis.specs.Accepted.{Below}
@@ -25,8 +25,8 @@ use Rattle.build_properties_words.specs.Reading.{asked, words_of, named_in, Nami
 
 -- ---- the other fields do not matter
 edge-asked : (l : Link) (s : Segment) → named_edge l (asked s) ≡ named_edge l s
-edge-asked Links.None s = refl
-edge-asked (Links.To i) s = refl
+edge-asked None s = refl
+edge-asked (Some i) s = refl
 
 join-asked : (k : ℕ) (s serif link : Segment) → join_of k (asked s) (asked serif) (asked link) ≡ join_of k s serif link
 unfolding join_of
@@ -36,8 +36,8 @@ join-asked k s serif link =
     (record { is_serif = false; edge = edge-asked s.link link n; delta = pos (distance s.pos link.pos) })
 
 named-asked : (ws : List ℤ) (ix : ℕ) (l : Link) → named_in ws (asked (words_of ws ix)) l ≡ asked (words_of ws (index_or ix l))
-named-asked ws ix Links.None = refl
-named-asked ws ix (Links.To i) = refl
+named-asked ws ix None = refl
+named-asked ws ix (Some i) = refl
 
 -- what a segment asks for, by what the code has read
 pub join-law : (ws : List ℤ) (k ix : ℕ) {s serif link : Segment} {j : Join} → s ≡ asked (words_of ws ix) → serif ≡ named_in ws s s.serif

@@ -1,4 +1,5 @@
 -- What becomes of an edge, by what the code has read.
+use Rattle.std.specs.Prelude.{None, Some}
 use mathlib.Core.Path.{◌≡◌, refl, sym, ap, subst, ◌∙◌}
 use mathlib.Core.Bool.{Bool, true, cond}
 use mathlib.Core.List.{List}
@@ -12,8 +13,7 @@ use Rattle.axis.specs.declared.edge.Axis.{Axis}
 use Rattle.axis.specs.declared.edge.Edge.{Edge}
 use Rattle.axis.specs.declared.flags.Flags.{Flags}
 use Rattle.axis.specs.declared.kinds.Dimension.{Dimension}
-use Rattle.axis.specs.declared.kinds.Link.{Link}
-use Rattle.axis.specs.declared.kinds.Link.TheVariants as Links
+use Rattle.axis.specs.Link.{Link}
 use Rattle.axis.specs.Accepted.{Below}
 use Rattle.axis.specs.Edge.{empty_edge, edge_at, put_edge, flagged, joined_to}
 use Rattle.axis.specs.Limits.{most_edges}
@@ -33,16 +33,16 @@ use Rattle.build_properties_words.specs.Steps.{Joined, taking_serif, taking_link
 -- it is one of n
 chosen-inside : (n : ℕ) (axis : Axis) (e : Edge) (delta : ℤ) (q : ℕ) (held : Link) → q < n → Below n held → chosen axis e delta q held < n
 unfolding chosen
-chosen-inside n axis e delta q Links.None h b = h
-chosen-inside n axis e delta q (Links.To o) h b =
+chosen-inside n axis e delta q None h b = h
+chosen-inside n axis e delta q (Some o) h b =
     either_way (λ (k : ℕ). k < n) (lt_z delta (pos (distance e.fpos (edge_at axis o).fpos))) q o h (b.at o refl)
 
 -- it is the same on every dimension
 chosen-same : (ws : List ℤ) (d : Dimension) (e : Edge) (delta : ℤ) (q : ℕ) (held : Link)
     → chosen (edges_of ws) e delta q held ≡ chosen (axis_in ws d) e delta q held
 unfolding chosen flat_axis axis_run
-chosen-same ws d e delta q Links.None = refl
-chosen-same ws d e delta q (Links.To o) = refl
+chosen-same ws d e delta q None = refl
+chosen-same ws d e delta q (Some o) = refl
 
 edge_same : (ws : List ℤ) (d : Dimension) (k : ℕ) → edge_at (edges_of ws) k ≡ edge_at (axis_in ws d) k
 unfolding flat_axis axis_run
@@ -57,11 +57,11 @@ fpos-in : (ws : List ℤ) (k : ℕ) → Whole ws → k < edges_in ws → short_o
 fpos-in ws k w h = sym (ap (λ (e : Edge). e.fpos) (edge_in ws _ k w h) ∙ fpos-from ws (edge_size * k))
 
 module _ (ws : List ℤ) (k : ℕ) (delta : ℤ) (q : ℕ) {held : Link} where
-  pub chosen_none : held ≡ Links.None → q ≡ chosen (edges_of ws) (edge_at (edges_of ws) k) delta q held
+  pub chosen_none : held ≡ None → q ≡ chosen (edges_of ws) (edge_at (edges_of ws) k) delta q held
   unfolding chosen
   chosen_none e = ap (chosen (edges_of ws) (edge_at (edges_of ws) k) delta q) (sym e)
 
-  pub chosen-held : (b : Bool) {o : ℕ} {v x y z : ℤ} → Whole ws → k < edges_in ws → Below (edges_in ws) held → held ≡ Links.To o
+  pub chosen-held : (b : Bool) {o : ℕ} {v x y z : ℤ} → Whole ws → k < edges_in ws → Below (edges_in ws) held → held ≡ Some o
       → x ≡ short_of (word_at ws (edge_size * k))
       → y ≡ short_of (word_at ws (edge_size * o)) → z ≡ pos (distance x y) → v ≡ delta → lt_z v z ≡ b
       → cond b q o ≡ chosen (edges_of ws) (edge_at (edges_of ws) k) delta q held
@@ -77,8 +77,8 @@ pub named-below : (ws : List ℤ) (l : Link) → Whole ws → Below (edges_in ws
 named-below ws l w b = record { at = λ k e. omega (arith, b.at k e, w.few) }
 
 beside-below : (l s : Link) → Below most_edges s → Below most_edges (serif_beside l s)
-beside-below Links.None s b = b
-beside-below (Links.To i) s b = below_none most_edges
+beside-below None s b = b
+beside-below (Some i) s b = below_none most_edges
 
 module _ (ws : List ℤ) (k : ℕ) (j : Joined ws k) where
   held_link : {l : Link} → l ≡ link_of (word_at ws (word_of_edge k link_place)) → l ≡ (edge_at (edges_of ws) k).link
@@ -101,20 +101,20 @@ module _ (ws : List ℤ) (k : ℕ) (j : Joined ws k) where
       subst (λ (x : ℕ). x < edges_in ws) (sym e) (chosen-inside (edges_in ws) (edges_of ws) (edge_at (edges_of ws) k) delta q held h b)
 
   pub taken-below : (delta : ℤ) (q : ℕ) {w : ℕ} {held : Link} → q < edges_in ws → Below (edges_in ws) held
-      → w ≡ chosen (edges_of ws) (edge_at (edges_of ws) k) delta q held → Below most_edges (Links.To w)
-  taken-below delta q {w} h b e = named-below ws (Links.To w) j.whole (below-to (edges_in ws) w (taken-inside delta q h b e))
+      → w ≡ chosen (edges_of ws) (edge_at (edges_of ws) k) delta q held → Below most_edges (Some w)
+  taken-below delta q {w} h b e = named-below ws (Some w) j.whole (below-to (edges_in ws) w (taken-inside delta q h b e))
 
   -- ---- the stores
   module _ (q : ℕ) {delta delta' : ℤ} {w : ℕ} {held : Link} (p : delta' ≡ delta) (e : w ≡ chosen (edges_of ws) (edge_at (edges_of ws) k) delta' q held) where
     taken : (d : Dimension) {l : Link} → held ≡ l → w ≡ chosen (axis_in ws d) (edge_at (axis_in ws d) k) delta q l
     taken d h = e ∙ chosen-same ws d _ delta' q held ∙ λ n. chosen (axis_in ws d) (edge_same ws d k n) (p n) q (h n)
 
-    pub link-taken : {w1 : List ℤ} → held ≡ link_of (word_at ws (word_of_edge k link_place)) → Became (linking k (Links.To w)) ws w1
+    pub link-taken : {w1 : List ℤ} → held ≡ link_of (word_at ws (word_of_edge k link_place)) → Became (linking k (Some w)) ws w1
         → Became (taking_link k delta q) ws w1
     link-taken h a =
         became-as (λ (d : Dimension). ap (λ (x : ℕ). put_link k x (axis_in ws d)) (taken d (held_link h ∙ ap (λ (x : Edge). x.link) (edge_same ws d k)))) a
 
-    pub serif-taken : {w1 w2 : List ℤ} → held ≡ link_of (word_at ws (word_of_edge k serif_place)) → Became (serifing k (Links.To w)) ws w1
+    pub serif-taken : {w1 w2 : List ℤ} → held ≡ link_of (word_at ws (word_of_edge k serif_place)) → Became (serifing k (Some w)) ws w1
         → Became (set_serif w) w1 w2
         → Became (taking_serif k delta q) ws w2
     serif-taken h a b =

@@ -1,4 +1,5 @@
 -- The properties of edges read neither the dimension of an axis nor its major direction.
+use Rattle.std.specs.Prelude.{None, Some}
 use mathlib.Core.Path.{◌≡◌, refl, ap, ◌∙◌}
 use mathlib.Core.Bool.{Bool, true, false}
 use mathlib.Core.List.{List, [], ◌∷◌}
@@ -8,8 +9,7 @@ use Rattle.axis.specs.declared.edge.Axis.{Axis}
 use Rattle.axis.specs.declared.edge.Edge.{Edge}
 use Rattle.axis.specs.declared.kinds.Dimension.{Dimension}
 use Rattle.axis.specs.declared.kinds.Direction.{Direction}
-use Rattle.axis.specs.declared.kinds.Link.{Link}
-use Rattle.axis.specs.declared.kinds.Link.TheVariants as Links
+use Rattle.axis.specs.Link.{Link}
 use Rattle.axis.specs.declared.segment.Segments.{Segments}
 use Rattle.axis.specs.Edge.{edge_at}
 use Rattle.axis.specs.Ring.{members}
@@ -22,14 +22,14 @@ faced d m a = record { dim = d; major_dir = m; edges = a.edges; len = a.len }
 module _ (t : Segments) (d : Dimension) (m : Direction) where
   chosen-unread : (a : Axis) (e : Edge) (delta : ℤ) (q : ℕ) (held : Link) → chosen (faced d m a) e delta q held ≡ chosen a e delta q held
   unfolding chosen
-  chosen-unread a e delta q Links.None = refl
-  chosen-unread a e delta q (Links.To o) = refl
+  chosen-unread a e delta q None = refl
+  chosen-unread a e delta q (Some o) = refl
 
   join-unread : (k : ℕ) (b : Bool) (delta : ℤ) (l : Link) (a : Axis) → join_by k b delta l (faced d m a) ≡ faced d m (join_by k b delta l a)
   unfolding join_by
-  join-unread k b delta Links.None a = refl
-  join-unread k true delta (Links.To q) a = ap (λ (w : ℕ). put_serif k w (faced d m a)) (chosen-unread a (edge_at a k) delta q (edge_at a k).serif)
-  join-unread k false delta (Links.To q) a = ap (λ (w : ℕ). put_link k w (faced d m a)) (chosen-unread a (edge_at a k) delta q (edge_at a k).link)
+  join-unread k b delta None a = refl
+  join-unread k true delta (Some q) a = ap (λ (w : ℕ). put_serif k w (faced d m a)) (chosen-unread a (edge_at a k) delta q (edge_at a k).serif)
+  join-unread k false delta (Some q) a = ap (λ (w : ℕ). put_link k w (faced d m a)) (chosen-unread a (edge_at a k) delta q (edge_at a k).link)
 
   member-unread : (k ix : ℕ) (a : Axis) → member t k ix (faced d m a) ≡ faced d m (member t k ix a)
   unfolding member

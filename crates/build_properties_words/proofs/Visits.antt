@@ -1,4 +1,5 @@
 -- The visit of a segment.
+use Rattle.std.specs.Prelude.{None, Some}
 use mathlib.Core.Path.{◌≡◌, sym, ap, subst, ◌∙◌}
 use mathlib.Core.Bool.{true, false}
 use mathlib.Core.List.{List}
@@ -6,7 +7,6 @@ use Prim.Native.Nat.{ℕ, ◌<◌}
 use native.Mathlib.Omega.{arith}
 use lib.IntN.{ℤ}
 use Rattle.axis.specs.declared.kinds.Dimension.{Dimension}
-use Rattle.axis.specs.declared.kinds.Link.TheVariants as Links
 use Rattle.axis.specs.declared.segment.Segments.{Segments}
 use Rattle.axis.specs.Edge.{edge_at}
 use Rattle.build_properties.specs.declared.join.Join.{Join}
@@ -51,7 +51,7 @@ module _ (sw ws : List ℤ) (k : ℕ) (w : Whole ws) (r : Ready (edges_of ws) (f
       asks : j ≡ join_at t k ix
       asks = e ∙ join-read sw r ix inside k
 
-      pub asked-inside : {q : ℕ} → j.edge ≡ Links.To q → q < edges_in ws
+      pub asked-inside : {q : ℕ} → j.edge ≡ Some q → q < edges_in ws
       asked-inside {q} p = let b = (asked-below (edges_of ws) t r k ix inside).at q (ap (λ (x : Join). x.edge) (sym asks) ∙ p) in omega (arith, b, edges-len ws)
 
       by-join : {x : Join} (d : Dimension) → j ≡ x → join_by k x.is_serif x.delta x.edge (axis_in ws d) ≡ member t k ix (axis_in ws d)
@@ -59,17 +59,17 @@ module _ (sw ws : List ℤ) (k : ℕ) (w : Whole ws) (r : Ready (edges_of ws) (f
       by-join d p = ap (λ (x : Join). join_by k x.is_serif x.delta x.edge (axis_in ws d)) (sym p ∙ asks)
 
       -- nothing
-      pub member-none : j.edge ≡ Links.None → Became (member t k ix) ws ws
+      pub member-none : j.edge ≡ None → Became (member t k ix) ws ws
       unfolding join_by
       member-none p = stays (member t k ix) w (λ (d : Dimension). by-join d (λ n. record { is_serif = j.is_serif; edge = p n; delta = j.delta }))
 
       -- an edge, in either way
-      pub member-serif : {q : ℕ} {delta : ℤ} {w1 : List ℤ} → j.edge ≡ Links.To q → j.is_serif ≡ true → delta ≡ j.delta
+      pub member-serif : {q : ℕ} {delta : ℤ} {w1 : List ℤ} → j.edge ≡ Some q → j.is_serif ≡ true → delta ≡ j.delta
           → Became (taking_serif k delta q) ws w1 → Became (member t k ix) ws w1
       unfolding join_by
       member-serif p s v a = became-as (λ (d : Dimension). by-join d (λ n. record { is_serif = s n; edge = p n; delta = sym v n })) a
 
-      pub member-link : {q : ℕ} {delta : ℤ} {w1 : List ℤ} → j.edge ≡ Links.To q → j.is_serif ≡ false → delta ≡ j.delta
+      pub member-link : {q : ℕ} {delta : ℤ} {w1 : List ℤ} → j.edge ≡ Some q → j.is_serif ≡ false → delta ≡ j.delta
           → Became (taking_link k delta q) ws w1 → Became (member t k ix) ws w1
       unfolding join_by
       member-link p s v a = became-as (λ (d : Dimension). by-join d (λ n. record { is_serif = s n; edge = p n; delta = sym v n })) a

@@ -1,8 +1,8 @@
 -- What the properties of edges read of segments, where their words stand; whatever the words are, they are read as some.
+use Rattle.std.specs.Prelude.{None, Some}
 use Rattle.std.specs.Prelude.{List, ℕ, ◌*◌, ◌<◌, ℤ, pos}
 use Rattle.axis.specs.declared.kinds.Direction.TheVariants as Directions
-use Rattle.axis.specs.declared.kinds.Link.{Link}
-use Rattle.axis.specs.declared.kinds.Link.TheVariants as Links
+use Rattle.axis.specs.Link.{Link}
 use Rattle.axis.specs.declared.segment.Segment.{Segment}
 use Rattle.axis.specs.Accepted.{Below}
 use Rattle.axis.specs.Flags.{normal}
@@ -29,7 +29,7 @@ asked s = record {
   first = 0;
   last = 0;
   edge = s.edge;
-  next = Links.None;
+  next = None;
 }
 
 -- the segment whose words are the i-th
@@ -42,8 +42,8 @@ Shorts ws = (i : ℕ) → i < segments_in ws → Short (word_at ws (word_of_segm
 
 -- what is asked of the segment that an index names, and without an index the segment's own
 abbrev pub named_in : List ℤ → Segment → Link → Segment
-named_in ws own Links.None = own
-named_in ws own (Links.To i) = asked (words_of ws i)
+named_in ws own None = own
+named_in ws own (Some i) = asked (words_of ws i)
 
 -- a segment of the words, whose link and serif are segments of them
 pub record Naming (ws : List ℤ) (ix : ℕ) : Type 0 where

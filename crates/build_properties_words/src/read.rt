@@ -9,7 +9,7 @@ ghost use Rattle.words.specs.Word.{word_at};
 ghost use Rattle.build_properties_words.specs.Reading.{asked, words_of, Shorts, named_in, Naming, join_in};
 
 use axis::flags::NORMAL;
-use axis::kinds::{Direction, Link};
+use axis::kinds::Direction;
 use axis::segment::Segment;
 use build_properties::join::{Join, join_of};
 use words::field::{flags_of, link_of};
@@ -46,18 +46,18 @@ fn read_segment(words: &[i32], i: u16) -> Segment
         first: 0,
         last: 0,
         edge: link_of(read_word(words, at + EDGE_PLACE)),
-        next: Link::None,
+        next: None,
     }
 }
 
 // The same of the segment that an index names; without an index it is the segment's own.
-fn read_named(words: &[i32], ix: Link, own: Segment) -> Segment
+fn read_named(words: &[i32], ix: Option<u16>, own: Segment) -> Segment
     requires { Below (segments_in words.now) ix × Shorts words.now }
     ensures { result ≡ named_in words.now own ix }
 {
     match ix {
-        Link::None => own,
-        Link::To(i) => read_segment(words, i),
+        None => own,
+        Some(i) => read_segment(words, i),
     }
 }
 
@@ -90,7 +90,7 @@ pub fn read_next(words: &[i32], ix: u16, last: u16) -> u16
 {
     let next = link_of(read_word(words, SEGMENT_WORDS * (ix as usize) + NEXT_PLACE));
     match next {
-        Link::None => last,
-        Link::To(i) => i,
+        None => last,
+        Some(i) => i,
     }
 }

@@ -9,7 +9,6 @@ ghost use Rattle.words_edge.specs.Whole.{Whole, Became};
 ghost use Rattle.build_properties_words.specs.Steps.{Joined, taking_serif, taking_link, ending};
 
 use axis::edge::{EMPTY_EDGE, Edge};
-use axis::kinds::Link;
 use build_properties::join::distance;
 use build_properties::outcome::with_properties;
 use words::edge::{EDGE_WORDS, LINK_PLACE, SERIF_PLACE};
@@ -18,11 +17,11 @@ use words::word::read_word;
 use words_edge::edge::{put_flags, put_link, put_serif, read_flags};
 
 // The edge that edge k is to have: the one asked for, where it holds none or where the segments are nearer than the edges.
-fn chosen_in(edges: &[i32], k: usize, delta: i32, asked: u16, held: Link) -> u16
+fn chosen_in(edges: &[i32], k: usize, delta: i32, asked: u16, held: Option<u16>) -> u16
     requires { Whole edges.now × (k < edges_in edges.now) × Below (edges_in edges.now) held }
     ensures { result ≡ chosen (edges_of edges.now) (edge_at (edges_of edges.now) k) delta asked held }
 {
-    let Link::To(other) = held else {
+    let Some(other) = held else {
         return asked;
     };
     let here = short_of(read_word(edges, EDGE_WORDS * k));
@@ -50,7 +49,7 @@ pub fn take_serif(edges: &mut [i32], k: usize, delta: i32, asked: u16)
 {
     let held = link_of(read_word(edges, EDGE_WORDS * k + SERIF_PLACE));
     let chosen = chosen_in(edges, k, delta, asked, held);
-    put_serif(edges, k, Link::To(chosen));
+    put_serif(edges, k, Some(chosen));
     mark_in(edges, chosen as usize);
 }
 
@@ -61,7 +60,7 @@ pub fn take_link(edges: &mut [i32], k: usize, delta: i32, asked: u16)
 {
     let held = link_of(read_word(edges, EDGE_WORDS * k + LINK_PLACE));
     let chosen = chosen_in(edges, k, delta, asked, held);
-    put_link(edges, k, Link::To(chosen));
+    put_link(edges, k, Some(chosen));
 }
 
 // Ends the visit of edge k: flags anew, and no serif beside a link.

@@ -11,7 +11,6 @@ ghost use Rattle.build_properties_words.specs.Reading.{Shorts};
 
 use super::read::{is_round, read_join, read_next};
 use super::store::{end_in, take_link, take_serif};
-use axis::kinds::Link;
 use words::edge::{EDGE_WORDS, FIRST_PLACE, LAST_PLACE};
 use words::field::index_of;
 use words::word::read_word;
@@ -23,7 +22,7 @@ fn member_in(segments: &[i32], edges: &mut [i32], k: usize, ix: u16)
 {
     let join = read_join(segments, k, ix);
     let edge = join.edge;
-    let Link::To(asked) = edge else {
+    let Some(asked) = edge else {
         return;
     };
     if join.is_serif {
@@ -43,6 +42,7 @@ pub fn visit_in(segments: &[i32], edges: &mut [i32], k: usize)
     let mut ix = index_of(read_word(edges, EDGE_WORDS * k + FIRST_PLACE));
     let mut roundness: usize = 0;
     let mut straightness: usize = 0;
+    // a loop: the next segment is read from the ring
     loop {
         member_in(segments, edges, k, ix);
         if is_round(segments, ix) {

@@ -1,10 +1,12 @@
 // The public call (the Rust's `compute_edges`).
 ghost use Rattle.std.specs.Prelude.{◌≡◌};
+ghost use Rattle.refusals.specs.Outcome.{answer_of};
 ghost use Rattle.refusals.specs.Refusal.{refusal};
 ghost use Rattle.axis.specs.Accepted.{SegmentsWithin};
 ghost use Rattle.build_join.specs.Joining.{shown};
 ghost use Rattle.build_join.specs.Walks.{Joinable};
 ghost use Rattle.build.specs.Building.{building_tests, last_state, ComputesEdges};
+ghost use Rattle.build.specs.Answer.{built_of};
 
 use super::products::products_hold;
 use axis::accept::{few_edges, few_segments, segments_indices, segments_numbers};
@@ -19,9 +21,7 @@ use build_join::ring::stems_of;
 use build_join::rules::Rules;
 use build_mark::mark::link_segments_to_edges;
 use build_properties::properties::compute_edge_properties;
-use refusals::order::{
-    BAD_INDEX, BAD_PARAMETER, NO_ROOM, OUT_OF_RANGE, RETIRED, TOO_LONG, or_refused,
-};
+use refusals::order::{Refusal, require};
 
 // Both loops, or CJK's one.
 fn join_all(segments: Segments, rules: Rules) -> Joined
@@ -42,27 +42,26 @@ fn join_all(segments: Segments, rules: Rules) -> Joined
     join_segments(segments, &stems, rules, true, joined)
 }
 
-// The refusal of the call, 1, 10 or 2 to 4, or 0.
+// The refusal of the call, 1, 10 or 2 to 4, if there is one.
 fn building_refusal(
     segments: Segments,
     edges: usize,
     top_to_bottom: bool,
     scale: i32,
     thresholds: Thresholds,
-) -> u8
-    ensures { result ≡ refusal (building_tests segments edges top_to_bottom scale thresholds) }
+) -> Result<(), Refusal>
+    ensures { answer_of result ≡ refusal (building_tests segments edges top_to_bottom scale thresholds) }
 {
-    let answer = or_refused(0, few_segments(segments.len), TOO_LONG);
-    let answer = or_refused(answer, few_edges(edges), TOO_LONG);
-    let answer = or_refused(answer, !top_to_bottom, RETIRED);
-    let answer = or_refused(answer, numbers_hold(scale, thresholds), BAD_PARAMETER);
-    let answer = or_refused(answer, segments_indices(segments), BAD_INDEX);
-    let answer = or_refused(answer, segments_numbers(segments), OUT_OF_RANGE);
-    or_refused(answer, products_hold(segments, scale), OUT_OF_RANGE)
+    require(few_segments(segments.len), Refusal::TooLong)?;
+    require(few_edges(edges), Refusal::TooLong)?;
+    require(!top_to_bottom, Refusal::Retired)?;
+    require(numbers_hold(scale, thresholds), Refusal::BadParameter)?;
+    require(segments_indices(segments), Refusal::BadIndex)?;
+    require(segments_numbers(segments), Refusal::OutOfRange)?;
+    require(products_hold(segments, scale), Refusal::OutOfRange)
 }
 
-// Builds the edges of an axis from its segments, from bottom to top. A refusal, 1 to 5, or 10 where top to bottom is asked for, which is retired, hands segments
-// and edges back as they were.
+// Builds the edges of an axis from its segments, from bottom to top. The refusals are 1 to 5, and 10 where top to bottom is asked for, which is retired.
 pub fn compute_edges(
     segments: Segments,
     old: Axis,
@@ -70,36 +69,24 @@ pub fn compute_edges(
     top_to_bottom: bool,
     scale: i32,
     thresholds: Thresholds,
-) -> Built
-    ensures { ComputesEdges segments old group top_to_bottom scale thresholds result }
+) -> Result<Built, Refusal>
+    ensures { ComputesEdges segments old group top_to_bottom scale thresholds (built_of segments old result) }
 {
-    let answer = building_refusal(segments, old.len, top_to_bottom, scale, thresholds);
-    if 0 < answer {
-        return Built {
-            answer,
-            segments,
-            axis: old,
-        };
-    }
+    building_refusal(segments, old.len, top_to_bottom, scale, thresholds)?;
     let dim = old.dim;
     let major_dir = old.major_dir;
     let cjk = is_cjk(group);
     let rules = rules_of(dim, major_dir, cjk, scale, thresholds);
     let joined = join_all(segments, rules);
     if joined.full {
-        return Built {
-            answer: NO_ROOM,
-            segments,
-            axis: old,
-        };
+        return Err(Refusal::NoRoom);
     }
     let edges = joined.axis;
     let next = joined.next;
     let linked = link_segments_to_edges(segments, edges, next);
     let axis = compute_edge_properties(edges, linked);
-    Built {
-        answer: 0,
+    Ok(Built {
         segments: linked,
         axis,
-    }
+    })
 }

@@ -9,7 +9,7 @@ use lib.IntN.{ℤ}
 use Rattle.signed.proofs.Choices.{either_way}
 use Rattle.refusals.specs.Refusal.{refusal}
 use Rattle.axis.specs.declared.kinds.Group.{Group}
-use Rattle.axis.specs.declared.kinds.Link.{Link}
+use Rattle.axis.specs.Link.{Link}
 use Rattle.axis.specs.declared.edge.Axis.{Axis}
 use Rattle.axis.specs.declared.segment.Segment.{Segment}
 use Rattle.axis.specs.declared.segment.Segments.{Segments}
@@ -17,7 +17,7 @@ use Rattle.axis.specs.Edge.{empty_axis}
 use Rattle.axis.specs.Segment.{empty_segment, segment_at, put_segment}
 use Rattle.build_join.specs.Joining.{State, group}
 use Rattle.build_mark.specs.Marks.{ringed, clear, cleared, marks, group_marks}
-use Rattle.build.specs.declared.built.Built.{Built}
+use Rattle.build.specs.Answer.{Built}
 use Rattle.build.specs.declared.numbers.Thresholds.{Thresholds}
 use Rattle.build.specs.Building.{building_tests, is_cjk, rules_of, last_state, built_segments, built, compute_edges}
 use Rattle.build.proofs.Determined as Building

@@ -22,7 +22,7 @@ use Rattle.build_join.specs.Joining.{State, shown, last_state}
 use Rattle.build_join.specs.Walks.{Joinable}
 use Rattle.build_properties.specs.Properties.{edge_properties}
 use Rattle.build_properties.proofs.Kept.{properties-kept}
-use Rattle.build.specs.declared.built.Built.{Built}
+use Rattle.build.specs.Answer.{Built}
 use Rattle.build.specs.declared.numbers.Thresholds.{Thresholds}
 use Rattle.build.specs.Building.{numbers_hold, products_hold, building_tests, is_cjk, rules_of, built_segments, built_edges, beside, built, compute_edges}
 use Rattle.build.proofs.Calls.{Accepted, accepted, joinable}

@@ -3,7 +3,7 @@
 use Rattle.std.specs.Prelude.{◌&&◌, List, ℕ, eqb, length, ℤ, pos}
 use Rattle.axis.specs.declared.edge.Axis.{Axis}
 use Rattle.axis.specs.Edge.{empty_axis}
-use Rattle.build.specs.declared.built.Built.{Built}
+use Rattle.build.specs.Answer.{Built}
 use Rattle.build.specs.declared.numbers.Thresholds.{Thresholds}
 use Rattle.build.specs.Building.{compute_edges}
 use Rattle.words.specs.Word.{written, joined}

@@ -1,17 +1,30 @@
 // Edge building over lent segments and room for edges: the segments are tested where their words stand, and the edges are built there.
+ghost use Rattle.std.specs.Prelude.{◌≡◌, [], ◌∷◌};
+ghost use Rattle.refusals.specs.Outcome.{answer_of};
+ghost use Rattle.refusals.specs.Refusal.{refusal, bad_parameter, ◌unless◌};
+ghost use Rattle.axis.specs.Refusals.{bottom_to_top};
+ghost use Rattle.build.specs.Building.{numbers_hold};
 ghost use Rattle.build_words.specs.Lent.{BuiltLent};
 
 use super::pass::build_in;
 use super::products::products_hold;
 use build::numbers::{Thresholds, numbers_hold};
 use build::told::{is_cjk, rules_of};
-use refusals::order::{BAD_PARAMETER, NO_ROOM, RETIRED, or_refused};
+use refusals::order::{Refusal, require};
 use words::edge::TABLE_WORDS;
 use words::field::{choice_of, dimension_of, direction_of, group_of};
 use words::word::count_word;
 use words_call::shown::{are_choices, both};
 use words_segment_test::test::segments_test;
 use words_shape::field::{DIRECTION, is_in};
+
+// The refusal by the call's own tests: the order of edges, and the numbers.
+fn own_refusal(top_to_bottom: bool, scale: i32, thresholds: Thresholds) -> Result<(), Refusal>
+    ensures { answer_of result ≡ refusal (bottom_to_top top_to_bottom ∷ bad_parameter unless numbers_hold scale thresholds ∷ []) }
+{
+    require(!top_to_bottom, Refusal::Retired)?;
+    require(numbers_hold(scale, thresholds), Refusal::BadParameter)
+}
 
 // Builds the edges of segments, and tells how many they are.
 pub fn lend_building(
@@ -24,22 +37,18 @@ pub fn lend_building(
     scale: i32,
     thresholds: Thresholds,
     count: &mut i32,
-) -> u8
+) -> Result<(), Refusal>
     ensures { BuiltLent segments.old edges.old dim major_dir group top_to_bottom scale thresholds count.old
-        result (segments.new, (edges.new, count.new)) }
+        (answer_of result) (segments.new, (edges.new, count.new)) }
 {
     let room = edges.len() == TABLE_WORDS;
     let others = both(
         is_in(major_dir, DIRECTION),
         are_choices(dim, group, top_to_bottom),
     );
-    let order = or_refused(0, !choice_of(top_to_bottom), RETIRED);
-    let own = or_refused(order, numbers_hold(scale, thresholds), BAD_PARAMETER);
+    let own = own_refusal(choice_of(top_to_bottom), scale, thresholds);
     let products = products_hold(segments, scale);
-    let answer = segments_test(segments, room, others, own, false, products);
-    if 0 < answer {
-        return answer;
-    }
+    segments_test(segments, room, others, own, false, products)?;
     let rules = rules_of(
         dimension_of(dim),
         direction_of(major_dir),
@@ -49,8 +58,8 @@ pub fn lend_building(
     );
     let joined = build_in(segments, edges, rules);
     if joined.full {
-        return NO_ROOM;
+        return Err(Refusal::NoRoom);
     }
     *count = count_word(joined.count);
-    0
+    Ok(())
 }

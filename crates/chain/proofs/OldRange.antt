@@ -1,4 +1,5 @@
 -- Edges whose numbers are all within document 01's old limit have the old answers: the limit stands in the tests alone, and they refuse what they refused.
+use Rattle.std.specs.Prelude.{None, Some}
 use mathlib.Core.Path.{◌≡◌, refl, sym, ap, ◌∙◌}
 use mathlib.Core.Bool.{Bool, true, ◌&&◌}
 use mathlib.Core.List.{List}
@@ -10,8 +11,7 @@ use Rattle.signed.proofs.Order.{le-true, to-le-true}
 use Rattle.refusals.specs.Refusal.{Test, ◌unless◌, refusal, out_of_range}
 use Rattle.refusals.proofs.Tests.{and_first, and_second}
 use Rattle.fixed.specs.Point.{mul_fix}
-use Rattle.axis.specs.declared.kinds.Blue.{Blue}
-use Rattle.axis.specs.declared.kinds.Blue.TheVariants as Blues
+use Rattle.axis.specs.Link.{Blue}
 use Rattle.axis.specs.declared.edge.Edge.{Edge}
 use Rattle.axis.specs.declared.edge.Axis.{Axis}
 use Rattle.axis.specs.declared.segment.Segment.{Segment}
@@ -30,8 +30,8 @@ old_units = 16383
 
 -- ---- the tests at a limit
 unfoldable pub blue_holds_at : ℕ → Blue → Bool
-blue_holds_at m Blues.None = true
-blue_holds_at m (Blues.Fitted z) = within m z
+blue_holds_at m None = true
+blue_holds_at m (Some z) = within m z
 
 abbrev pub edge_numbers_at : ℕ → Edge → Bool
 edge_numbers_at m e = within m e.opos && (within most_pos e.pos && blue_holds_at m e.blue)
@@ -59,8 +59,8 @@ is_old e = within old_units e.opos && blue_holds_at old_units e.blue
 
 blue-same : (b : Blue) → blue_holds_at old_units b ≡ true → blue_holds b ≡ blue_holds_at old_units b
 unfolding blue_holds blue_holds_at
-blue-same Blues.None e = refl
-blue-same (Blues.Fitted z) e = within_more z e ∙ sym e
+blue-same None e = refl
+blue-same (Some z) e = within_more z e ∙ sym e
 
 edge_same : (e : Edge) → is_old e ≡ true → edge_numbers e ≡ edge_numbers_at old_units e
 unfolding edge_numbers

@@ -4,7 +4,7 @@ use Rattle.fixed.specs.declared.width.WidthRule.{WidthRule}
 use Rattle.fixed.specs.Width.{rule_holds}
 use Rattle.axis.specs.declared.edge.Axis.{Axis}
 use Rattle.axis.specs.declared.kinds.Group.{Group}
-use Rattle.axis.specs.declared.kinds.Link.{Link}
+use Rattle.axis.specs.Link.{Link}
 use Rattle.axis.specs.Accepted.{Below}
 use Rattle.axis.specs.Limits.{most_units, most_passed}
 use Rattle.axis.specs.Refusals.{inside, within}

@@ -24,7 +24,7 @@ use Rattle.axis.specs.Segment.{segment_at}
 use Rattle.axis.proofs.Acceptance.{below_none, nexts-below}
 use Rattle.axis.proofs.Accepting.{edges-within, segments-are-within}
 use Rattle.link.specs.Rounds.{linked}
-use Rattle.link.specs.declared.linked.Linked.{Linked}
+use Rattle.link.specs.Answer.{Linked}
 use Rattle.link.specs.Linking.{thresholds_of, linking_tests, beside, link_segments_cjk}
 use Rattle.link.proofs.Calls.{accepted}
 use Rattle.link.proofs.Handed as LinkingHanded
@@ -35,7 +35,7 @@ use Rattle.build_join.proofs.Good.{Good, members-below}
 use Rattle.build_join.proofs.Members.{times-head, last-in}
 use Rattle.build_join.proofs.Steps.{of-len, of-edge}
 use Rattle.build_properties.proofs.Kept.{properties-kept}
-use Rattle.build.specs.declared.built.Built.{Built}
+use Rattle.build.specs.Answer.{Built}
 use Rattle.build.specs.declared.numbers.Thresholds.{Thresholds}
 use Rattle.build.specs.Building.{is_cjk, rules_of, last_state, built_segments, built_edges}
 use Rattle.build.proofs.Handed as BuildingHanded

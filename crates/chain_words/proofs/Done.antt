@@ -12,7 +12,7 @@ use Rattle.axis.specs.declared.edge.Axis.{Axis}
 use Rattle.axis.specs.Edge.{edge_at}
 use Rattle.zones.specs.Call.{align_edges_to_blues}
 use Rattle.zones.proofs.Changed as Blues
-use Rattle.stems.specs.declared.outcome.Stems.{Stems}
+use Rattle.stems.specs.Answer.{Stems}
 use Rattle.stems.proofs.Changed as Stems
 use Rattle.stems.proofs.Done.{none-passed-over}
 use Rattle.zones_stems.proofs.Changed as Joined

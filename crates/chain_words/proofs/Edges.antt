@@ -1,4 +1,5 @@
 -- Lent edges over which a call has written its axis are words of whole edges, every one within its field's values, and are read as that axis.
+use Rattle.std.specs.Prelude.{None, Some}
 use mathlib.Core.Path.{◌≡◌, refl, sym, ap, subst, ◌∙◌}
 use mathlib.Core.Bool.{Bool, true, ◌&&◌}
 use mathlib.Core.List.{List}
@@ -12,11 +13,10 @@ use Rattle.signed.proofs.Signed.{signed}
 use Rattle.signed.proofs.Choices.{cond_cases}
 use Rattle.refusals.specs.Refusal.{refusal}
 use Rattle.refusals.proofs.Tests.{and_first, and_second, all_hold, no-refusal}
-use Rattle.axis.specs.declared.kinds.Blue.{Blue}
-use Rattle.axis.specs.declared.kinds.Blue.TheVariants as Blues
+use Rattle.axis.specs.Link.{Blue}
 use Rattle.axis.specs.declared.kinds.Dimension.{Dimension}
 use Rattle.axis.specs.declared.kinds.Direction.{Direction}
-use Rattle.axis.specs.declared.kinds.Link.{Link}
+use Rattle.axis.specs.Link.{Link}
 use Rattle.axis.specs.declared.edge.Edge.{Edge}
 use Rattle.axis.specs.declared.edge.Axis.{Axis}
 use Rattle.axis.specs.Accepted.{Below, InZone, AxisWithin}
@@ -143,8 +143,8 @@ only-typed (zone ms) a b p t = subst TypedEdge (sym p.rest) (record { fpos = t.f
 
 -- what is within limits is of 32 bits
 pub fitted-word : (b : Blue) → InZone b → Word (fitted_word b)
-fitted-word Blues.None h = omega arith
-fitted-word (Blues.Fitted z) h = let k = h.at z refl in omega (arith, k)
+fitted-word None h = omega arith
+fitted-word (Some z) h = let k = h.at z refl in omega (arith, k)
 
 -- an index of few is of 16 bits
 pub few-below : (n : ℕ) (l : Link) → n ≤ 65536 → Below n l → Below 65536 l

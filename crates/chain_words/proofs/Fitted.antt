@@ -1,4 +1,5 @@
 -- What every call over lent edges leaves of them, with answer 0: words of whole edges, each within its field's values, that are read as the axis handed back.
+use Rattle.std.specs.Prelude.{None, Some}
 use mathlib.Core.Path.{◌≡◌, refl, ap, subst, ◌∙◌}
 use mathlib.Core.Bool.{Bool, true, false, cond, ◌&&◌, ◌||◌}
 use mathlib.Core.List.{List, [], ◌∷◌}
@@ -14,8 +15,7 @@ use Rattle.refusals.proofs.Tests.{all_hold}
 use Rattle.axis.specs.declared.kinds.Dimension.TheVariants as Dimensions
 use Rattle.axis.specs.declared.kinds.Direction.TheVariants as Directions
 use Rattle.axis.specs.declared.kinds.Group.{Group}
-use Rattle.axis.specs.declared.kinds.Link.{Link}
-use Rattle.axis.specs.declared.kinds.Link.TheVariants as Links
+use Rattle.axis.specs.Link.{Link}
 use Rattle.axis.specs.declared.kinds.Mark.TheVariants.{Linked, Serif, Bound}
 use Rattle.axis.specs.declared.edge.Edge.{Edge}
 use Rattle.axis.specs.declared.edge.Axis.{Axis}
@@ -28,7 +28,7 @@ use Rattle.axis.proofs.Acceptance.{axis-within}
 use Rattle.axis.proofs.Accepting.{edges-within}
 use Rattle.place.specs.Steps.{most_reach}
 use Rattle.place.proofs.ChangedCalls as Fitting
-use Rattle.lowercase_m.specs.declared.hint.Hinted.{Hinted}
+use Rattle.lowercase_m.specs.Answer.{Hinted}
 use Rattle.lowercase_m.specs.M.{stems_of, aligned, count_holds, mTests, hinted, hint_lowercase_m, mExtent}
 use Rattle.lowercase_m.specs.Steps.{twice_moved}
 use Rattle.lowercase_m.proofs.Changed as M
@@ -87,8 +87,8 @@ all-only n i x l = ap (λ (b : Bool). cond b x nothing) (le-ltb i n l)
 -- of the m rule, whose third stem and its link are edges
 not-linked : (n i : ℕ) (l : Link) → Below n l → n ≤ i → links_to l i ≡ false
 unfolding links_to
-not-linked n i Links.None b h = refl
-not-linked n i (Links.To k) b h = let q = b.at k refl in ne_eqb k i (λ e. omega arith)
+not-linked n i None b h = refl
+not-linked n i (Some k) b h = let q = b.at k refl in ne_eqb k i (λ e. omega arith)
 
 m-only : (edges : List Edge) (n i : ℕ) → count_holds n ≡ true → Below n (get_or edges (stems_of n).third empty_edge).link → n ≤ i → mExtent edges n i ≡ nothing
 m-only edges n i c b h = by (eqb n 6) refl c

@@ -1,5 +1,6 @@
 -- Where the calls that place one edge or a CJK stem can bring a position, with answer 0: within the reach that every sum fits 32 bits in. And which edges they
 -- name.
+use Rattle.std.specs.Prelude.{None, Some}
 use mathlib.Core.Path.{◌≡◌, refl, sym, subst}
 use mathlib.Core.Bool.{Bool}
 use mathlib.Core.List.{List}
@@ -16,8 +17,7 @@ use Rattle.refusals.proofs.Answers.{none-refused, worked}
 use Rattle.refusals.proofs.Tests.{AllHold, all_hold}
 use Rattle.fixed.specs.declared.width.WidthRule.{WidthRule}
 use Rattle.fixed.specs.Width.{fitted_width}
-use Rattle.axis.specs.declared.kinds.Link.{Link}
-use Rattle.axis.specs.declared.kinds.Link.TheVariants as Links
+use Rattle.axis.specs.Link.{Link}
 use Rattle.axis.specs.declared.edge.Axis.{Axis}
 use Rattle.axis.specs.Accepted.{Below, AxisWithin}
 use Rattle.axis.specs.Edge.{edge_at, put_edge}
@@ -32,9 +32,9 @@ use Rattle.zones.proofs.Kept.{within_more, put-within}
 use Rattle.stems_cjk.specs.declared.stem.Stem.{Stem}
 use Rattle.stems_cjk.specs.Cjk.{stem_of, placed_stem, hinted_stem}
 use Rattle.stems_cjk.proofs.Moves.{stem-pos-range, stem-width-range}
-use Rattle.place.specs.declared.place.Fitted.{Fitted}
+use Rattle.place.specs.Answer.{Fitted}
 use Rattle.place.specs.Fitting.{linked_tests, serif_tests, adjust_tests, fitted, align_linked_edge, align_serif_edge, adjust_link}
-use Rattle.stems_cjk.specs.declared.outcome.StemCjk.{StemCjk}
+use Rattle.stems_cjk.specs.Answer.{StemCjk}
 use Rattle.stems_cjk.specs.Hint.{hinted, stem_tests, hint_normal_stem_cjk}
 
 -- ---- the linked edge
@@ -109,16 +109,16 @@ module _ (axis : Axis) (base serif : ℕ) (e : (align_serif_edge axis base serif
 module _ (axis : Axis) (w : AxisWithin most_pos axis) where
   held-within : (h i k : ℕ) (l : Link) → i < axis.len → k < axis.len → AxisWithin most_pos (held_to axis h i k l)
   unfolding held_to
-  held-within h i k Links.None a b = w
-  held-within h i k (Links.To l) a b =
+  held-within h i k None a b = w
+  held-within h i k (Some l) a b =
       let e = w.edge i a in
       either_way (AxisWithin most_pos) (is_far (edge_at axis l).pos (edge_at axis h).pos) _ axis
       (put-within most_pos i axis _ w (record { opos = e.opos; pos = (w.edge k b).pos; blue = e.blue; link = e.link; serif = e.serif })) w
 
   bound-within : (h i : ℕ) (dir : LinkDir) (l : Link) → i < axis.len → Below axis.len l → AxisWithin most_pos (bound_by axis h i dir l)
   unfolding bound_by
-  bound-within h i dir Links.None a b = w
-  bound-within h i dir (Links.To k) a b =
+  bound-within h i dir None a b = w
+  bound-within h i dir (Some k) a b =
       either_way (AxisWithin most_pos) (has_passed dir (edge_at axis i).pos (edge_at axis k).pos) _ axis
       (held-within h i k (edge_at axis i).link a (b.at k refl)) w
 

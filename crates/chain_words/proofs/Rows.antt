@@ -1,6 +1,7 @@
 -- Request #108 of words: what `khs_align_blues_and_stems` leaves and hands back is what `khs_align_edges_to_blues`, and behind it `khs_align_stem_edges` with
 -- the anchor handed back, do;
 -- and what the two accept it accepts, but for a zone on an axis that the group has none on.
+use Rattle.std.specs.Prelude.{None, Some}
 use mathlib.Core.Path.{◌≡◌, refl, sym, ap, subst, ◌∙◌}
 use mathlib.Core.Bool.{Bool, true, false, not, ◌&&◌}
 use mathlib.Core.List.{List}
@@ -11,18 +12,17 @@ use Rattle.refusals.specs.Refusal.{bad_parameter, refusal, answered}
 use Rattle.refusals.proofs.Answers.{none-refused}
 use Rattle.refusals.proofs.Tests.{AllHold, and_first, and_second, all_hold}
 use Rattle.axis.specs.declared.kinds.Direction.TheVariants as Directions
-use Rattle.axis.specs.declared.kinds.Link.{Link}
-use Rattle.axis.specs.declared.kinds.Link.TheVariants as Links
+use Rattle.axis.specs.Link.{Link}
 use Rattle.axis.specs.declared.edge.Axis.{Axis}
 use Rattle.axis.specs.Accepted.{Below}
 use Rattle.axis.specs.Handed.{EdgesAccepted}
 use Rattle.axis.specs.Limits.{most_edges}
-use Rattle.zones.specs.declared.anchored.Anchored.{Anchored}
+use Rattle.zones.specs.Answer.{Anchored}
 use Rattle.zones.specs.Pass.{anchored}
 use Rattle.zones.specs.Call.{blues_where, blues_tests, align_edges_to_blues}
 use Rattle.zones.proofs.Changed as Blues
 use Rattle.zones.proofs.Handed as BluesHanded
-use Rattle.stems.specs.declared.outcome.Stems.{Stems}
+use Rattle.stems.specs.Answer.{Stems}
 use Rattle.stems.specs.Stems.{stems, stems_of, mode_of, stems_tests, align_stem_edges}
 use Rattle.zones_stems.specs.Joined.{zones_hold, joined_tests, then_stems, align_blues_and_stems}
 use Rattle.zones_stems.proofs.Handed as JoinedHanded
@@ -45,9 +45,9 @@ use Rattle.chain_words.proofs.Fitted.{zones-left}
 
 -- an anchor among the edges is named by its own word
 named_back : (l : Link) → Below most_edges l → named_anchor (link_word l) ≡ l
-named_back Links.None b = sym (anchor-none (negsuc 0) refl)
-named_back (Links.To k) b =
-    sym (anchor-named (pos k) (λ e. absurd (let z : ◌≡◌ {A = ℕ} 0 1 = cc in omega arith))) ∙ ap Links.To (index-names k most_edges (omega arith) (b.at k refl))
+named_back None b = sym (anchor-none (negsuc 0) refl)
+named_back (Some k) b =
+    sym (anchor-named (pos k) (λ e. absurd (let z : ◌≡◌ {A = ℕ} 0 1 = cc in omega arith))) ∙ ap Some (index-names k most_edges (omega arith) (b.at k refl))
 
 -- an axis written over lists of as many edges
 over-same : (ws mid : List ℤ) (axis : Axis) → Whole ws → Whole mid → edges_in mid ≡ edges_in ws → edges_over mid axis ≡ edges_over ws axis
@@ -165,7 +165,7 @@ module _ (ws : List ℤ) (dim group adjust ttb rule : ℤ) (standards : List ℤ
   unfolding align_edges_to_blues
   zones-hold =
       all_hold (blues_tests axis (rule_of rule) standards) refl
-      (none-refused (anchored axis Links.None) (blues_where axis (group_of group) (rule_of rule) standards) (λ (r : Anchored). r.answer) (λ j. refl) _
+      (none-refused (anchored axis None) (blues_where axis (group_of group) (rule_of rule) standards) (λ (r : Anchored). r.answer) (λ j. refl) _
       zones-done.answered)
 
   upward : not (choice_of ttb) ≡ true
@@ -173,7 +173,7 @@ module _ (ws : List ℤ) (dim group adjust ttb rule : ℤ) (standards : List ℤ
   upward =
       let given = flat_axis mid (dimension_of dim) Directions.None in
       (all_hold (stems_tests given (choice_of ttb) (named_anchor b) (rule_of rule) standards) refl
-      (none-refused (stems 0 Links.None given) (stems_of (mode_of given (group_of group) (choice_of adjust) (rule_of rule)) standards (named_anchor b) given)
+      (none-refused (stems 0 None given) (stems_of (mode_of given (group_of group) (choice_of adjust) (rule_of rule)) standards (named_anchor b) given)
       (λ (s : Stems). s.answer) (λ j. refl) _
       stems-done.answered)).1.0
 
@@ -200,4 +200,4 @@ module _ (ws : List ℤ) (dim group adjust ttb rule : ℤ) (standards : List ℤ
       let row = then_stems (group_of group) (choice_of adjust) (choice_of ttb) (rule_of rule) standards
       (align_edges_to_blues axis (group_of group) (rule_of rule) standards) in
       l.number ∙ ap (λ (k : ℕ). answered k (λ (i : ℕ). i) (joined_aligned ws dim group adjust ttb rule standards).answer) in_front
-      ∙ ap (λ (k : ℕ). (answered k (stems 0 Links.None axis) row).answer) two
+      ∙ ap (λ (k : ℕ). (answered k (stems 0 None axis) row).answer) two

@@ -1,4 +1,5 @@
 -- The words of records whose fields are of their types are within their fields' values, and a list of them is records and no more.
+use Rattle.std.specs.Prelude.{None, Some}
 use mathlib.Core.Path.{◌≡◌, refl, ap, ◌∙◌}
 use mathlib.Core.Bool.{Bool, true, false, ◌||◌}
 use mathlib.Core.List.{List, [], ◌∷◌}
@@ -10,12 +11,10 @@ use lib.IntN.{ℤ, pos}
 use Rattle.signed.specs.Equality.{eq_z}
 use Rattle.signed.specs.Range.{Between}
 use Rattle.axis.specs.declared.flags.Flags.{Flags}
-use Rattle.axis.specs.declared.kinds.Blue.{Blue}
-use Rattle.axis.specs.declared.kinds.Blue.TheVariants as Blues
+use Rattle.axis.specs.Link.{Blue}
 use Rattle.axis.specs.declared.kinds.Direction.{Direction}
 use Rattle.axis.specs.declared.kinds.Direction.TheVariants as Directions
-use Rattle.axis.specs.declared.kinds.Link.{Link}
-use Rattle.axis.specs.declared.kinds.Link.TheVariants as Links
+use Rattle.axis.specs.Link.{Link}
 use Rattle.axis.specs.declared.kinds.Mark.{Mark}
 use Rattle.axis.specs.declared.kinds.Mark.TheVariants as Marks
 use Rattle.axis.specs.declared.edge.Edge.{Edge}
@@ -26,7 +25,6 @@ use Rattle.words.specs.Field.{link_word, direction_word, present_word, fitted_wo
 use Rattle.words.specs.Word.{word_at}
 use Rattle.words.specs.Edge.{edge_size, edges_in, edge_words}
 use Rattle.words.specs.Segment.{segment_size, segments_in, segment_words}
-use Rattle.words_shape.specs.declared.field.Place.TheVariants.{At}
 use Rattle.words_shape.specs.declared.field.Range.{Range}
 use Rattle.words_shape.specs.declared.element.Record.TheVariants as Records
 use Rattle.words_shape.specs.declared.element.Element.{Element}
@@ -70,8 +68,8 @@ index_in : (k : ℕ) → k < 65536 → is_in index (pos k) ≡ true
 index_in k h = in_range index (pos k) (omega arith) (omega arith)
 
 link-in : (l : Link) → Below 65536 l → is_in link (link_word l) ≡ true
-link-in Links.None h = refl
-link-in (Links.To k) h = in_range link (pos k) (omega arith) (omega (arith, h.at k refl))
+link-in None h = refl
+link-in (Some k) h = in_range link (pos k) (omega arith) (omega (arith, h.at k refl))
 
 direction-in : (d : Direction) → is_in direction (direction_word d) ≡ true
 direction-in Directions.None = refl
@@ -96,8 +94,8 @@ mark-in Marks.Spaced = refl
 mark-in Marks.RemainingAnchor = refl
 
 present-in : (b : Blue) → is_in choice (present_word b) ≡ true
-present-in Blues.None = refl
-present-in (Blues.Fitted z) = refl
+present-in None = refl
+present-in (Some z) = refl
 
 weight-most : (b : Bool) (n : ℕ) → weight_of b n ≤ n
 weight-most true n = omega arith
@@ -158,8 +156,8 @@ unfolding blue_shown edge_words
 blue-in e = by e.blue
   where
     by : (b : Blue) → (eq_z (present_word b) (pos 1) || eq_z (fitted_word b) (pos 0)) ≡ true
-    by Blues.None = refl
-    by (Blues.Fitted z) = refl
+    by None = refl
+    by (Some z) = refl
 
 segment-in : (s : Segment) → SegmentFits s → AllIn (ranges_of Records.Segment) (segment_words s)
 unfolding segment_words
@@ -183,9 +181,9 @@ segment-in s h (suc (suc (suc (suc (suc (suc (suc (suc (suc (suc (suc (suc (suc 
 -- ---- places
 -- fields that stand in their places are there
 fields-there : (rs : List Range) (ws : List ℤ) (at : ℕ) → at + length rs ≤ length ws
-    → ((k : ℕ) → k < length rs → is_in (get_or rs k no_range) (word_at ws (at + k)) ≡ true) → fields rs ws at ≡ At (at + length rs)
+    → ((k : ℕ) → k < length rs → is_in (get_or rs k no_range) (word_at ws (at + k)) ≡ true) → fields rs ws at ≡ Some (at + length rs)
 unfolding fields and_then
-fields-there [] ws at l h = let q : at ≡ at + 0 = omega arith in ap At q
+fields-there [] ws at l h = let q : at ≡ at + 0 = omega arith in ap Some q
 fields-there (r ∷ rs) ws at l h =
     let z : at + 0 ≡ at = omega arith in
     let e : at + 1 + length rs ≡ at + suc (length rs) = omega arith in
@@ -193,22 +191,22 @@ fields-there (r ∷ rs) ws at l h =
     ap (λ p. and_then p (fields rs ws)) one
     ∙ fields-there rs ws (at + 1) (omega arith)
     (λ (k : ℕ) (b : k < length rs). let q : at + suc k ≡ at + 1 + k = omega arith in rw q at (h (suc k) (omega arith)))
-    ∙ ap At e
+    ∙ ap Some e
 
 -- elements of k words each, one behind the other, are a run
 module _ (e : Element) (k : ℕ) (ws : List ℤ) where
-  elements-there : (n at : ℕ) → ((i : ℕ) → i < n → element e ws (at + k * i) ≡ At (at + k * i + k)) → elements n e ws at ≡ At (at + k * n)
+  elements-there : (n at : ℕ) → ((i : ℕ) → i < n → element e ws (at + k * i) ≡ Some (at + k * i + k)) → elements n e ws at ≡ Some (at + k * n)
   unfolding elements and_then
-  elements-there zero at h = let q : at ≡ at + k * 0 = omega arith in ap At q
+  elements-there zero at h = let q : at ≡ at + k * 0 = omega arith in ap Some q
   elements-there (suc n) at h =
       let z : at + k * 0 ≡ at = omega arith in
-      let one : element e ws at ≡ At (at + k) = rw z at (h 0 (omega arith)) in
+      let one : element e ws at ≡ Some (at + k) = rw z at (h 0 (omega arith)) in
       let q : at + k + k * n ≡ at + k * suc n = omega arith in
       ap (λ p. and_then p (elements n e ws)) one
       ∙ elements-there n (at + k) (λ (i : ℕ) (l : i < n). let p : at + k * suc i ≡ at + k + k * i = omega arith in rw p at (h (suc i) (omega arith)))
-      ∙ ap At q
+      ∙ ap Some q
 
-  run-there : (n : ℕ) → length ws ≡ k * n → ((i : ℕ) → i < n → element e ws (k * i) ≡ At (k * i + k)) → is_run n e ws ≡ true
+  run-there : (n : ℕ) → length ws ≡ k * n → ((i : ℕ) → i < n → element e ws (k * i) ≡ Some (k * i + k)) → is_run n e ws ≡ true
   unfolding is_run
   run-there n l h =
       let all = elements-there n 0 (λ (i : ℕ) (b : i < n). let z : k * i ≡ 0 + k * i = omega arith in rw z at (h i b)) in
@@ -223,11 +221,11 @@ edges-are-shown ws n e l fit at =
     let c : edges_in ws ≡ n = omega (arith, l) in
     rw c (run-there Elements.Edge edge_size ws n l one)
   where
-    fields_at : (i : ℕ) → i < n → fields (ranges_of Records.Edge) ws (edge_size * i) ≡ At (edge_size * i + edge_size)
+    fields_at : (i : ℕ) → i < n → fields (ranges_of Records.Edge) ws (edge_size * i) ≡ Some (edge_size * i + edge_size)
     fields_at i h =
         fields-there (ranges_of Records.Edge) ws (edge_size * i) (omega (arith, l)) (λ (k : ℕ) (b : k < edge_size). rw (at i k h b) (edge_in (e i) (fit i h) k b))
 
-    one : (i : ℕ) → i < n → element Elements.Edge ws (edge_size * i) ≡ At (edge_size * i + edge_size)
+    one : (i : ℕ) → i < n → element Elements.Edge ws (edge_size * i) ≡ Some (edge_size * i + edge_size)
     one i h = rw (fields_at i h, at i 5 h (omega arith), at i 6 h (omega arith), blue-in (e i))
 
 -- words that are those of segments

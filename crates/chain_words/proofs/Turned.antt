@@ -15,7 +15,7 @@ use Rattle.axis.specs.Handed.{TypedEdge, TypedAxis, Typed}
 use Rattle.axis.specs.Limits.{most_edges, most_segments}
 use Rattle.axis.specs.Segment.{segment_at}
 use Rattle.axis.proofs.Accepting.{edges-within, segments-are-within}
-use Rattle.turn.specs.declared.turn.Turned.{Turned}
+use Rattle.turn.specs.Answer.{Turned}
 use Rattle.turn.specs.Turning.{turned_index, turned_axis, turned_segments, beside, turn_over}
 use Rattle.turn.proofs.Calls.{Taken, taken}
 use Rattle.turn.proofs.Determined.{accepted, when-accepted, twice}

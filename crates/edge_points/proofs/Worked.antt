@@ -1,4 +1,5 @@
 -- Points moved by hand.
+use Rattle.std.specs.Prelude.{None, Some}
 use mathlib.Core.Path.{◌≡◌, refl}
 use mathlib.Core.Bool.{Bool, true, false}
 use mathlib.Core.List.{List, [], ◌∷◌}
@@ -10,8 +11,7 @@ use Rattle.axis.specs.declared.edge.Edge.{Edge}
 use Rattle.axis.specs.declared.edge.Axis.{Axis}
 use Rattle.axis.specs.declared.kinds.Dimension.TheVariants as Dimensions
 use Rattle.axis.specs.declared.kinds.Direction.TheVariants as Directions
-use Rattle.axis.specs.declared.kinds.Link.{Link}
-use Rattle.axis.specs.declared.kinds.Link.TheVariants.{None, To}
+use Rattle.axis.specs.Link.{Link}
 use Rattle.axis.specs.declared.kinds.Mark.TheVariants.{Stem}
 use Rattle.axis.specs.declared.segment.Segment.{Segment}
 use Rattle.axis.specs.declared.segment.Segments.{Segments}
@@ -79,7 +79,7 @@ points c t = record { currents = c; touched = t }
 
 -- ---- what is moved
 -- two stems of one contour: the point between them stays, and keeps its mark
-a : move_all true true (axis (done 0 (pos 0) ∷ done 61 (pos 64) ∷ [])) (table (from 0 1 (To 1) ∷ from 3 4 (To 0) ∷ [])) (4 ∷ [])
+a : move_all true true (axis (done 0 (pos 0) ∷ done 61 (pos 64) ∷ [])) (table (from 0 1 (Some 1) ∷ from 3 4 (Some 0) ∷ [])) (4 ∷ [])
     (points (pos 61 ∷ pos 61 ∷ pos 31 ∷ pos 0 ∷ pos 0 ∷ []) (0 ∷ 0 ∷ 0 ∷ 0 ∷ 0 ∷ []))
     ≡ points (pos 64 ∷ pos 64 ∷ pos 31 ∷ pos 0 ∷ pos 0 ∷ []) (1 ∷ 1 ∷ 0 ∷ 1 ∷ 1 ∷ [])
 unfolding visits visit_segment along_edge move_segment move_points moved_by walk behind contour_of
@@ -88,7 +88,7 @@ a = refl
 -- a segment that goes across the start of its contour, with snap and without
 abbrev seam : Bool → Points
 seam snap =
-    move_all snap true (axis (done 10 (pos 64) ∷ [])) (table (from 3 0 (To 0) ∷ [])) (3 ∷ [])
+    move_all snap true (axis (done 10 (pos 64) ∷ [])) (table (from 3 0 (Some 0) ∷ [])) (3 ∷ [])
     (points (pos 10 ∷ pos 5 ∷ pos 5 ∷ pos 12 ∷ []) (0 ∷ 9 ∷ 0 ∷ 7 ∷ []))
 
 b : seam true ≡ points (pos 64 ∷ pos 5 ∷ pos 5 ∷ pos 64 ∷ []) (1 ∷ 9 ∷ 0 ∷ 1 ∷ [])
@@ -100,7 +100,7 @@ unfolding visits visit_segment along_edge move_segment move_points moved_by walk
 c = refl
 
 -- the whole contour
-d : move_all false true (axis (done 10 (pos 64) ∷ [])) (table (from 2 1 (To 0) ∷ [])) (3 ∷ []) (points (pos 1 ∷ pos 2 ∷ pos 3 ∷ pos 4 ∷ []) (0 ∷ 0 ∷ 0 ∷ 0 ∷ []))
+d : move_all false true (axis (done 10 (pos 64) ∷ [])) (table (from 2 1 (Some 0) ∷ [])) (3 ∷ []) (points (pos 1 ∷ pos 2 ∷ pos 3 ∷ pos 4 ∷ []) (0 ∷ 0 ∷ 0 ∷ 0 ∷ []))
     ≡ points (pos 55 ∷ pos 56 ∷ pos 57 ∷ pos 58 ∷ []) (1 ∷ 1 ∷ 1 ∷ 1 ∷ [])
 unfolding visits visit_segment along_edge move_segment move_points moved_by walk behind contour_of
 d = refl
@@ -109,22 +109,22 @@ d = refl
 abbrev shared : Bool → List Segment → Points
 shared snap ss = move_all snap true (axis (done 0 (pos 5) ∷ done 0 (pos 9) ∷ [])) (table ss) (2 ∷ []) (points (pos 0 ∷ pos 0 ∷ pos 0 ∷ []) (0 ∷ 0 ∷ 0 ∷ []))
 
-e-snap : shared true (from 0 1 (To 0) ∷ from 1 2 (To 1) ∷ []) ≡ points (pos 5 ∷ pos 9 ∷ pos 9 ∷ []) (1 ∷ 1 ∷ 1 ∷ [])
+e-snap : shared true (from 0 1 (Some 0) ∷ from 1 2 (Some 1) ∷ []) ≡ points (pos 5 ∷ pos 9 ∷ pos 9 ∷ []) (1 ∷ 1 ∷ 1 ∷ [])
 unfolding visits visit_segment along_edge move_segment move_points moved_by walk behind contour_of
 e-snap = refl
 
-e-exchanged : shared true (from 1 2 (To 1) ∷ from 0 1 (To 0) ∷ []) ≡ points (pos 5 ∷ pos 5 ∷ pos 9 ∷ []) (1 ∷ 1 ∷ 1 ∷ [])
+e-exchanged : shared true (from 1 2 (Some 1) ∷ from 0 1 (Some 0) ∷ []) ≡ points (pos 5 ∷ pos 5 ∷ pos 9 ∷ []) (1 ∷ 1 ∷ 1 ∷ [])
 unfolding visits visit_segment along_edge move_segment move_points moved_by walk behind contour_of
 e-exchanged = refl
 
-e-moved : shared false (from 0 1 (To 0) ∷ from 1 2 (To 1) ∷ []) ≡ points (pos 5 ∷ pos 14 ∷ pos 9 ∷ []) (1 ∷ 1 ∷ 1 ∷ [])
+e-moved : shared false (from 0 1 (Some 0) ∷ from 1 2 (Some 1) ∷ []) ≡ points (pos 5 ∷ pos 14 ∷ pos 9 ∷ []) (1 ∷ 1 ∷ 1 ∷ [])
 unfolding visits visit_segment along_edge move_segment move_points moved_by walk behind contour_of
 e-moved = refl
 
 -- an edge that is not done moves points where any does
 abbrev one-done : Bool → Points
 one-done alone =
-    move_all true alone (axis (done 0 (pos 5) ∷ left 0 (pos 9) ∷ [])) (table (from 0 1 (To 0) ∷ from 1 2 (To 1) ∷ [])) (2 ∷ [])
+    move_all true alone (axis (done 0 (pos 5) ∷ left 0 (pos 9) ∷ [])) (table (from 0 1 (Some 0) ∷ from 1 2 (Some 1) ∷ [])) (2 ∷ [])
     (points (pos 0 ∷ pos 0 ∷ pos 0 ∷ []) (0 ∷ 0 ∷ 0 ∷ []))
 
 f-alone : one-done true ≡ points (pos 5 ∷ pos 5 ∷ pos 0 ∷ []) (1 ∷ 1 ∷ 0 ∷ [])
@@ -143,7 +143,7 @@ abbrev two : List ℤ
 two = pos 0 ∷ pos 0 ∷ []
 
 -- first and last on two contours; the same without an edge
-g : answer true (done 0 (pos 0) ∷ []) (from 0 1 (To 0) ∷ []) two (0 ∷ 1 ∷ []) ≡ 3
+g : answer true (done 0 (pos 0) ∷ []) (from 0 1 (Some 0) ∷ []) two (0 ∷ 1 ∷ []) ≡ 3
 unfolding refusal link_holds every edge_indices edges_indices segment_indices segment_next segments_indices segments_nexts segment_edge edge_segments segments_edges
     edges_segments ends_hold contour_of is_on on_one segment_points segments_points
 g = refl
@@ -155,25 +155,25 @@ unfolding refusal link_holds blue_holds every edge_indices edge_numbers edges_in
 g-edgeless = refl
 
 -- a point behind the last contour is on none, with the segment's edge not done too
-g-none : answer true (left 0 (pos 0) ∷ []) (from 1 1 (To 0) ∷ []) two (0 ∷ []) ≡ 3
+g-none : answer true (left 0 (pos 0) ∷ []) (from 1 1 (Some 0) ∷ []) two (0 ∷ []) ≡ 3
 unfolding refusal link_holds every edge_indices edges_indices segment_indices segment_next segments_indices segments_nexts segment_edge edge_segments segments_edges
     edges_segments ends_hold contour_of is_on on_one segment_points segments_points
 g-none = refl
 
 -- a position that is no coordinate, of an edge that moves points and of one that does not
-h : answer true (done 0 (pos 65536) ∷ []) (from 0 1 (To 0) ∷ []) two (1 ∷ []) ≡ 4
+h : answer true (done 0 (pos 65536) ∷ []) (from 0 1 (Some 0) ∷ []) two (1 ∷ []) ≡ 4
 unfolding refusal link_holds blue_holds every edge_indices edge_numbers edges_indices edges_numbers segment_indices segment_next segment_numbers segments_indices
     segments_nexts segments_numbers segment_edge edge_segments segments_edges edges_segments ends_hold contour_of is_on on_one segment_points segments_points
     coordinate_holds coordinates_hold mover_holds movers_hold
 h = refl
 
-h-left : answer true (left 0 (pos 65536) ∷ []) (from 0 1 (To 0) ∷ []) two (1 ∷ []) ≡ 0
+h-left : answer true (left 0 (pos 65536) ∷ []) (from 0 1 (Some 0) ∷ []) two (1 ∷ []) ≡ 0
 unfolding refusal link_holds blue_holds every edge_indices edge_numbers edges_indices edges_numbers segment_indices segment_next segment_numbers segments_indices
     segments_nexts segments_numbers segment_edge edge_segments segments_edges edges_segments ends_hold contour_of is_on on_one segment_points segments_points
     coordinate_holds coordinates_hold mover_holds movers_hold
 h-left = refl
 
-h-all : answer false (left 0 (pos 65536) ∷ []) (from 0 1 (To 0) ∷ []) two (1 ∷ []) ≡ 4
+h-all : answer false (left 0 (pos 65536) ∷ []) (from 0 1 (Some 0) ∷ []) two (1 ∷ []) ≡ 4
 unfolding refusal link_holds blue_holds every edge_indices edge_numbers edges_indices edges_numbers segment_indices segment_next segment_numbers segments_indices
     segments_nexts segments_numbers segment_edge edge_segments segments_edges edges_segments ends_hold contour_of is_on on_one segment_points segments_points
     coordinate_holds coordinates_hold mover_holds movers_hold

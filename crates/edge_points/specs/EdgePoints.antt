@@ -1,12 +1,12 @@
 -- Edge points (beyond document 01; the Rust's `align_edge_points`): the points of a segment go where its edge went, and are touched. An outline is its points' currents c,
 -- touch marks t and the ends es of its contours.
+use Rattle.std.specs.Prelude.{None, Some}
 use Rattle.std.specs.Prelude.{◌≡◌, Bool, true, false, not, cond, ◌&&◌, ◌||◌, List, [], ◌∷◌, ◌++◌, ℕ, zero, suc, leb, ltb, eqb, length, set, ℤ, ◌+ℤ◌, ◌-ℤ◌}
 use Rattle.std.proofs.Math.Option.{Option, some, none}
 use Rattle.refusals.specs.Refusal.{Test, ◌unless◌, refusal, answered, too_long, bad_index, out_of_range}
 use Rattle.axis.specs.declared.edge.Edge.{Edge}
 use Rattle.axis.specs.declared.edge.Axis.{Axis}
-use Rattle.axis.specs.declared.kinds.Link.{Link}
-use Rattle.axis.specs.declared.kinds.Link.TheVariants as Links
+use Rattle.axis.specs.Link.{Link}
 use Rattle.axis.specs.declared.segment.Segment.{Segment}
 use Rattle.axis.specs.declared.segment.Segments.{Segments}
 use Rattle.axis.specs.Edge.{edge_at}
@@ -59,8 +59,8 @@ move_segment snap alone g e (some k) s = cond (moves alone e) (move_points snap 
 
 -- a segment by its edge in the axis, where it has one
 unfoldable pub along_edge : Bool → Bool → Axis → List ℕ → Segment → Link → Points → Points
-along_edge snap alone axis es g Links.None s = s
-along_edge snap alone axis es g (Links.To k) s = move_segment snap alone g (edge_at axis k) (contour_of 0 es g.first) s
+along_edge snap alone axis es g None s = s
+along_edge snap alone axis es g (Some k) s = move_segment snap alone g (edge_at axis k) (contour_of 0 es g.first) s
 
 -- segment i of the table
 unfoldable pub visit_segment : Bool → Bool → Axis → Segments → List ℕ → Points → ℕ → Points
@@ -82,8 +82,8 @@ on_one es g = is_on (contour_of 0 es g.first) g.last
 
 -- so it is of a segment with an edge; where there is none, there is nothing to test
 unfoldable pub segment_points : List ℕ → Segment → Link → Bool
-segment_points es g Links.None = true
-segment_points es g (Links.To k) = on_one es g
+segment_points es g None = true
+segment_points es g (Some k) = on_one es g
 
 -- so it is of every segment
 unfoldable pub segments_points : List ℕ → Segments → Bool
@@ -91,8 +91,8 @@ segments_points es t = every_segment (λ (g : Segment). segment_points es g g.ed
 
 -- the position of the edge that a link names, where there is one and it moves points, is a coordinate
 unfoldable pub mover_holds : Bool → Axis → Link → Bool
-mover_holds alone axis Links.None = true
-mover_holds alone axis (Links.To k) = not (moves alone (edge_at axis k)) || within most_coordinate (edge_at axis k).pos
+mover_holds alone axis None = true
+mover_holds alone axis (Some k) = not (moves alone (edge_at axis k)) || within most_coordinate (edge_at axis k).pos
 
 -- so it is of the edge of every segment
 unfoldable pub movers_hold : Bool → Axis → Segments → Bool

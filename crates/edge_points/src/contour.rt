@@ -17,9 +17,8 @@ pub fn contour_of(ends: &[u16], p: usize) -> Stretch
     ensures { result ≡ stretch_of (contour_of 0 ends.now p) }
 {
     let mut start: usize = 0;
-    let mut k: usize = 0;
-    while k < ends.len() {
-        let last = wide(ends[k]);
+    for end in ends {
+        let last = wide(*end);
         if p <= last {
             return Stretch {
                 start,
@@ -27,7 +26,6 @@ pub fn contour_of(ends: &[u16], p: usize) -> Stretch
             };
         }
         start = last + 1;
-        k += 1;
     }
     Stretch { start: 0, end: 0 }
 }

@@ -32,12 +32,10 @@ fn move_run(
     requires mover { Mover edge × Room currents.old from to }
     ensures { points currents.new touched.new ≡ move_points snap edge (run from (to - from)) (points currents.old touched.old) }
 {
-    let mut p = from;
-    while p < to {
+    for p in from..to {
         let u = moved_by(currents[p], snap, edge);
         currents[p] = u;
         touched[p] = 1;
-        p += 1;
     }
 }
 

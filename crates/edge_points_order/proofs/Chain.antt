@@ -1,4 +1,5 @@
 -- The chain's theorem: edge points on edges in order, and weak points behind it, leave points in order.
+use Rattle.std.specs.Prelude.{None, Some}
 use mathlib.Core.Path.{◌≡◌, refl, sym, ap, subst, ◌∙◌}
 use mathlib.Core.Bool.{Bool, true, false, not, cond, ◌||◌}
 use mathlib.Core.List.{List, [], ◌∷◌}
@@ -15,8 +16,7 @@ use Rattle.signed.proofs.Choices.{clash}
 use Rattle.signed.proofs.Signed.{signed, same, abs-of, lt-or-le}
 use Rattle.axis.specs.declared.edge.Edge.{Edge}
 use Rattle.axis.specs.declared.edge.Axis.{Axis}
-use Rattle.axis.specs.declared.kinds.Link.{Link}
-use Rattle.axis.specs.declared.kinds.Link.TheVariants as Links
+use Rattle.axis.specs.Link.{Link}
 use Rattle.axis.specs.declared.segment.Segments.{Segments}
 use Rattle.axis.specs.Edge.{edge_at}
 use Rattle.axis.specs.Limits.{most_segments}
@@ -76,10 +76,10 @@ pub record Taken (alone : Bool) (axis : Axis) (t : Segments) (s : Points) (es : 
   pub few : length s.currents ≤ most_points
   pub marks : length s.touched ≡ length s.currents
   pub ends : ends_hold 0 (length s.currents) es ≡ true
-  pub edges : (i k : ℕ) → i < t.len → (segment_at t i).edge ≡ Links.To k → k < axis.len
+  pub edges : (i k : ℕ) → i < t.len → (segment_at t i).edge ≡ Some k → k < axis.len
   pub walks : (i : ℕ) → i < t.len → segment_points es (segment_at t i) (segment_at t i).edge ≡ true
   pub currents : coordinates_hold most_coordinate s.currents ≡ true
-  pub positions : (i k : ℕ) → i < t.len → (segment_at t i).edge ≡ Links.To k → moves alone (edge_at axis k) ≡ true → nat_abs (edge_at axis k).pos ≤ most_coordinate
+  pub positions : (i k : ℕ) → i < t.len → (segment_at t i).edge ≡ Some k → moves alone (edge_at axis k) ≡ true → nat_abs (edge_at axis k).pos ≤ most_coordinate
 
 pub taken : (alone : Bool) (axis : Axis) (t : Segments) (s : Points) (es : List ℕ) → edge_answer alone axis t s es ≡ 0 → Taken alone axis t s es
 unfolding edge_answer segments_edges segment_edge segments_points movers_hold mover_holds
@@ -105,7 +105,7 @@ taken alone axis t s es e =
     below-min : (i n most : ℕ) → n ≤ most → i < n → i < min n most
     below-min i n most h g = let m : min n most ≡ n = omega arith in rw m g
 
-    held : (k : ℕ) → mover_holds alone axis (Links.To k) ≡ true → moves alone (edge_at axis k) ≡ true → nat_abs (edge_at axis k).pos ≤ most_coordinate
+    held : (k : ℕ) → mover_holds alone axis (Some k) ≡ true → moves alone (edge_at axis k) ≡ true → nat_abs (edge_at axis k).pos ≤ most_coordinate
     held k h m = let b = within-between most_coordinate (edge_at axis k).pos (or-second (moves alone (edge_at axis k)) _ m h) in omega (arith, abs-of b)
 
 -- ---- the edge of a moved point
@@ -146,7 +146,7 @@ module _ (snap alone : Bool) (axis : Axis) (t : Segments) (o : List ℤ) (s : Po
   came p h = moved snap alone axis t es s tests.few tests.marks tests.ends tests.walks ready.once p h
 
   -- a moved point was where its edge was, and comes to where that is
-  module _ (p k : ℕ) (h : p < length s.currents) (q : last_mover alone axis t es p t.len ≡ Links.To k) (r : Came snap axis s after p (Links.To k)) where
+  module _ (p k : ℕ) (h : p < length s.currents) (q : last_mover alone axis t es p t.len ≡ Some k) (r : Came snap axis s after p (Some k)) where
     was : at o p ≡ (edge_at axis k).opos
     was = ready.on_edge p k (omega (arith, ap (λ (l : List ℤ). length l) ready.still)) q
 
@@ -165,9 +165,9 @@ module _ (snap alone : Bool) (axis : Axis) (t : Segments) (o : List ℤ) (s : Po
     where
       by : p < length s.currents → (l : Link) → last_mover alone axis t es p t.len ≡ l → Came snap axis s after p l
           → PlacedBy axis o after.currents p
-      by h Links.None q r =
+      by h None q r =
           absurd (clash (is_touched after.touched p) (not-touched after.touched p (r.mark ∙ unmarked s.touched p (ready.untouched p))) m)
-      by h (Links.To k) q r =
+      by h (Some k) q r =
           let f = last-mover alone axis t es p k q in
           let g = mover-at alone axis t es p f.segment k f.by in
           let there = tests.edges f.segment k f.below g.edge in
@@ -187,8 +187,8 @@ module _ (snap alone : Bool) (axis : Axis) (t : Segments) (o : List ℤ) (s : Po
       ∙ sym (get_or-eq_default o (pos 0) {n = p} (omega (arith, ap (λ (l : List ℤ). length l) ready.still)))) (lt-or-le p (length s.currents))
     where
       by : (l : Link) → Came snap axis s after p l → at after.currents p ≡ at o p
-      by Links.None r = r.current ∙ ap (λ (l : List ℤ). at l p) ready.still
-      by (Links.To k) r = absurd (clash (is_touched after.touched p) m (is-touched after.touched p (omega (arith, r.mark))))
+      by None r = r.current ∙ ap (λ (l : List ℤ). at l p) ready.still
+      by (Some k) r = absurd (clash (is_touched after.touched p) m (is-touched after.touched p (omega (arith, r.mark))))
 
   -- edge points leaves points that edges have placed
   pub placed : PlacedByEdges axis o left.currents left.touched
@@ -204,8 +204,8 @@ module _ (snap alone : Bool) (axis : Axis) (t : Segments) (o : List ℤ) (s : Po
     where
       by : p < length s.currents → (l : Link) → last_mover alone axis t es p t.len ≡ l → Came snap axis s after p l
           → nat_abs (at after.currents p) ≤ most_coordinate
-      by h Links.None q r = rw r.current (coordinates-of most_coordinate s.currents tests.currents p)
-      by h (Links.To k) q r =
+      by h None q r = rw r.current (coordinates-of most_coordinate s.currents tests.currents p)
+      by h (Some k) q r =
           let f = last-mover alone axis t es p k q in
           let g = mover-at alone axis t es p f.segment k f.by in
           rw (is p k h q r) (tests.positions f.segment k f.below g.edge g.moving)

@@ -1,4 +1,5 @@
 -- Edges in order: by their neighbours, and by what the guard answers.
+use Rattle.std.specs.Prelude.{None, Some}
 use mathlib.Core.Path.{◌≡◌, refl, sym, subst}
 use mathlib.Core.Bool.{true, false}
 use mathlib.Core.Logic.{⊎_elim}
@@ -10,8 +11,7 @@ use lib.Signed.{◌≤ℤ◌, ◌<ℤ◌}
 use Rattle.signed.proofs.Choices.{clash}
 use Rattle.signed.proofs.Signed.{signed, lt-or-le}
 use Rattle.axis.specs.declared.edge.Axis.{Axis}
-use Rattle.axis.specs.declared.kinds.Link.{Link}
-use Rattle.axis.specs.declared.kinds.Link.TheVariants as Links
+use Rattle.axis.specs.Link.{Link}
 use Rattle.axis.specs.Edge.{edge_at}
 use Rattle.gaps.specs.Gaps.{is_done, counts, before, lost_gaps, DoneRise}
 use Rattle.gaps.proofs.Ends.{starts-pair}
@@ -28,8 +28,8 @@ module _ (axis : Axis) (n : NoneTurned axis) where
     where
       by : ((k : ℕ) → k ≤ m → i < k → k < axis.len → is_done axis i ≡ true → is_done axis k ≡ true → (edge_at axis i).pos ≤ℤ (edge_at axis k).pos)
           → (x : Link) → before false axis j ≡ x → Last (counts false axis) j x → (edge_at axis i).pos ≤ℤ (edge_at axis j).pos
-      by rest Links.None q x = absurd (clash _ (x.none refl i o) d)
-      by rest (Links.To k) q x =
+      by rest None q x = absurd (clash _ (x.none refl i o) d)
+      by rest (Some k) q x =
           let last = x.some k refl in
           let step = n.at k j (starts-pair false axis k j b f q) in
           let under = last.order in

@@ -1,4 +1,5 @@
 -- Points moved one after the other, and by one segment after the other: what a point comes to, by the edge that moves it last.
+use Rattle.std.specs.Prelude.{None, Some}
 use mathlib.Core.Path.{◌≡◌, refl, sym, ap, subst, ◌∙◌}
 use mathlib.Core.Bool.{Bool, true, false, cond, ◌&&◌}
 use mathlib.Core.List.{List, [], ◌∷◌}
@@ -15,8 +16,7 @@ use Rattle.refusals.proofs.Tests.{and_first, and_second}
 use Rattle.signed.proofs.Choices.{clash}
 use Rattle.axis.specs.declared.edge.Edge.{Edge}
 use Rattle.axis.specs.declared.edge.Axis.{Axis}
-use Rattle.axis.specs.declared.kinds.Link.{Link}
-use Rattle.axis.specs.declared.kinds.Link.TheVariants as Links
+use Rattle.axis.specs.Link.{Link}
 use Rattle.axis.specs.declared.segment.Segment.{Segment}
 use Rattle.axis.specs.declared.segment.Segments.{Segments}
 use Rattle.axis.specs.Edge.{edge_at}
@@ -61,8 +61,8 @@ pub record Goes (snap : Bool) (e : Edge) (s s' : Points) (p : ℕ) : Type 0 wher
 
 -- it is moved by the edge of a link, or stays where there is none
 abbrev pub Came : Bool → Axis → Points → Points → ℕ → Link → Type 0
-Came snap axis s s' p Links.None = Stays s s' p
-Came snap axis s s' p (Links.To k) = Goes snap (edge_at axis k) s s' p
+Came snap axis s s' p None = Stays s s' p
+Came snap axis s s' p (Some k) = Goes snap (edge_at axis k) s s' p
 
 -- there are as many points
 pub record SameSize (s s' : Points) : Type 0 where
@@ -117,8 +117,8 @@ module _ (snap : Bool) (e : Edge) where
 module _ (snap alone : Bool) (axis : Axis) (es : List ℕ) where
   along-size : (g : Segment) (l : Link) (s : Points) → SameSize s (along_edge snap alone axis es g l s)
   unfolding along_edge move_segment
-  along-size g Links.None s = record { currents = refl; marks = refl }
-  along-size g (Links.To k) s = by (contour_of 0 es g.first)
+  along-size g None s = record { currents = refl; marks = refl }
+  along-size g (Some k) s = by (contour_of 0 es g.first)
     where
       by : (x : Option Contour) → SameSize s (move_segment snap alone g (edge_at axis k) x s)
       by none = record { currents = refl; marks = refl }
@@ -132,7 +132,7 @@ module _ (snap alone : Bool) (axis : Axis) (es : List ℕ) where
       (marked : p < length s.touched) where
     -- on a contour that has its first point and its last
     on-contour : (g : Segment) (k : ℕ) (x : Option Contour) → contour_of 0 es g.first ≡ x → is_on x g.last ≡ true
-        → Came snap axis s (move_segment snap alone g (edge_at axis k) x s) p (cond (moves alone (edge_at axis k) && meets x g p) (Links.To k) Links.None)
+        → Came snap axis s (move_segment snap alone g (edge_at axis k) x s) p (cond (moves alone (edge_at axis k) && meets x g p) (Some k) None)
     unfolding move_segment meets is_on
     on-contour g k none e h = absurd (clash false refl h)
     on-contour g k (some c) e h = by (moves alone (edge_at axis k)) (ltb 0 (times p (walked c g.first g.last))) refl
@@ -145,29 +145,29 @@ module _ (snap alone : Bool) (axis : Axis) (es : List ℕ) where
             (omega (arith, f.points))
 
         by : (m b : Bool) → ltb 0 (times p (walked c g.first g.last)) ≡ b
-            → Came snap axis s (cond m (move_points snap (edge_at axis k) (walked c g.first g.last) s) s) p (cond (m && b) (Links.To k) Links.None)
+            → Came snap axis s (cond m (move_points snap (edge_at axis k) (walked c g.first g.last) s) s) p (cond (m && b) (Some k) None)
         by false b q = record { current = refl; mark = refl }
         by true false q = list-out snap (edge_at axis k) (walked c g.first g.last) s p (ltb-false 0 _ q)
         by true true q = list-in snap (edge_at axis k) (walked c g.first g.last) s p (ltb-true 0 _ q) once inside marked
 
     along : (g : Segment) (l : Link) → segment_points es g l ≡ true → Came snap axis s (along_edge snap alone axis es g l s) p (mover_of alone axis es g l p)
     unfolding along_edge mover_of segment_points on_one
-    along g Links.None h = record { current = refl; mark = refl }
-    along g (Links.To k) h = on-contour g k (contour_of 0 es g.first) refl h
+    along g None h = record { current = refl; mark = refl }
+    along g (Some k) h = on-contour g k (contour_of 0 es g.first) refl h
 
 -- ---- which edge it was
 -- a segment moves a point by its own edge, which moves points
 pub record Mover (alone : Bool) (axis : Axis) (g : Segment) (k : ℕ) : Type 0 where
-  pub edge : g.edge ≡ Links.To k
+  pub edge : g.edge ≡ Some k
   pub moving : moves alone (edge_at axis k) ≡ true
 
 module _ (alone : Bool) (axis : Axis) (es : List ℕ) where
-  mover-is : (g : Segment) (l : Link) (p k : ℕ) → g.edge ≡ l → mover_of alone axis es g l p ≡ Links.To k → Mover alone axis g k
+  mover-is : (g : Segment) (l : Link) (p k : ℕ) → g.edge ≡ l → mover_of alone axis es g l p ≡ Some k → Mover alone axis g k
   unfolding mover_of
-  mover-is g Links.None p k q e = let z : ◌≡◌ {A = ℕ} 0 1 = cc in absurd (omega arith)
-  mover-is g (Links.To j) p k q e = by (moves alone (edge_at axis j)) (meets (contour_of 0 es g.first) g p) refl e
+  mover-is g None p k q e = let z : ◌≡◌ {A = ℕ} 0 1 = cc in absurd (omega arith)
+  mover-is g (Some j) p k q e = by (moves alone (edge_at axis j)) (meets (contour_of 0 es g.first) g p) refl e
     where
-      by : (m b : Bool) → moves alone (edge_at axis j) ≡ m → cond (m && b) (Links.To j) Links.None ≡ Links.To k → Mover alone axis g k
+      by : (m b : Bool) → moves alone (edge_at axis j) ≡ m → cond (m && b) (Some j) None ≡ Some k → Mover alone axis g k
       by true true w f = let h : j ≡ k = cc in subst (Mover alone axis g) h (record { edge = q; moving = w })
       by true false w f = let z : ◌≡◌ {A = ℕ} 0 1 = cc in absurd (omega arith)
       by false b w f = let z : ◌≡◌ {A = ℕ} 0 1 = cc in absurd (omega arith)
@@ -177,22 +177,22 @@ module _ (alone : Bool) (axis : Axis) (t : Segments) (es : List ℕ) (p : ℕ) w
   pub record MovedBy (n k : ℕ) : Type 0 where
     pub segment : ℕ
     pub below : segment < n
-    pub by : mover_at alone axis t es p segment ≡ Links.To k
+    pub by : mover_at alone axis t es p segment ≡ Some k
 
-  last_is : (n k : ℕ) → last_mover alone axis t es p n ≡ Links.To k → MovedBy n k
+  last_is : (n k : ℕ) → last_mover alone axis t es p n ≡ Some k → MovedBy n k
   unfolding last_mover
   last_is zero k e = let z : ◌≡◌ {A = ℕ} 0 1 = cc in absurd (omega arith)
   last_is (suc n) k e = go (mover_at alone axis t es p n) refl e (last_is n k)
     where
-      go : (l : Link) → mover_at alone axis t es p n ≡ l → or_else l (last_mover alone axis t es p n) ≡ Links.To k
-          → (last_mover alone axis t es p n ≡ Links.To k → MovedBy n k) → MovedBy (suc n) k
-      go Links.None q f rest = let r = rest f in record { segment = r.segment; below = omega (arith, r.below); by = r.by }
-      go (Links.To j) q f rest = record { segment = n; below = omega arith; by = q ∙ f }
+      go : (l : Link) → mover_at alone axis t es p n ≡ l → or_else l (last_mover alone axis t es p n) ≡ Some k
+          → (last_mover alone axis t es p n ≡ Some k → MovedBy n k) → MovedBy (suc n) k
+      go None q f rest = let r = rest f in record { segment = r.segment; below = omega (arith, r.below); by = r.by }
+      go (Some j) q f rest = record { segment = n; below = omega arith; by = q ∙ f }
 
-  pub last-mover : (k : ℕ) → last_mover alone axis t es p t.len ≡ Links.To k → MovedBy t.len k
+  pub last-mover : (k : ℕ) → last_mover alone axis t es p t.len ≡ Some k → MovedBy t.len k
   last-mover k e = last_is t.len k e
 
-  pub mover-at : (i k : ℕ) → mover_at alone axis t es p i ≡ Links.To k → Mover alone axis (segment_at t i) k
+  pub mover-at : (i k : ℕ) → mover_at alone axis t es p i ≡ Some k → Mover alone axis (segment_at t i) k
   unfolding mover_at
   mover-at i k e = mover-is alone axis es (segment_at t i) (segment_at t i).edge p k refl e
 
@@ -225,24 +225,24 @@ module _ (snap alone : Bool) (axis : Axis) (t : Segments) (es : List ℕ) (s₀ 
 
   -- one segment more: it leaves the point, or moves it, and then it snaps or is the first to move it
   reached-more : (s s' : Points) (p : ℕ) (m l : Link) → Came snap axis s₀ s p m → Came snap axis s s' p l
-      → (snap ≡ false → is_linked l ≡ true → m ≡ Links.None) → Came snap axis s₀ s' p (or_else l m)
+      → (snap ≡ false → is_linked l ≡ true → m ≡ None) → Came snap axis s₀ s' p (or_else l m)
   unfolding moved_by
-  reached-more s s' p Links.None Links.None r v h = record { current = v.current ∙ r.current; mark = v.mark ∙ r.mark }
-  reached-more s s' p (Links.To k) Links.None r v h = record { current = v.current ∙ r.current; mark = v.mark ∙ r.mark }
-  reached-more s s' p Links.None (Links.To j) r v h = record { current = v.current ∙ ap (moved_by snap (edge_at axis j)) r.current; mark = v.mark }
-  reached-more s s' p (Links.To k) (Links.To j) r v h = record { current = v.current ∙ by snap refl; mark = v.mark }
+  reached-more s s' p None None r v h = record { current = v.current ∙ r.current; mark = v.mark ∙ r.mark }
+  reached-more s s' p (Some k) None r v h = record { current = v.current ∙ r.current; mark = v.mark ∙ r.mark }
+  reached-more s s' p None (Some j) r v h = record { current = v.current ∙ ap (moved_by snap (edge_at axis j)) r.current; mark = v.mark }
+  reached-more s s' p (Some k) (Some j) r v h = record { current = v.current ∙ by snap refl; mark = v.mark }
     where
       by : (b : Bool) → snap ≡ b → moved_by snap (edge_at axis j) (at s.currents p) ≡ moved_by snap (edge_at axis j) (at s₀.currents p)
       by true e = rw e
       by false e = let z = h e refl in let w : ◌≡◌ {A = ℕ} 0 1 = cc in absurd (omega arith)
 
   -- where a segment moves a point without snap, none in front of it has
-  first_to : (p n : ℕ) → n < t.len → snap ≡ false → is_linked (mover_at alone axis t es p n) ≡ true → last_mover alone axis t es p n ≡ Links.None
+  first_to : (p n : ℕ) → n < t.len → snap ≡ false → is_linked (mover_at alone axis t es p n) ≡ true → last_mover alone axis t es p n ≡ None
   first_to p n h e l = by (last_mover alone axis t es p n) refl
     where
-      by : (m : Link) → last_mover alone axis t es p n ≡ m → m ≡ Links.None
-      by Links.None q = refl
-      by (Links.To k) q = let r = last_is alone axis t es p n k q in absurd (once e p r.segment n r.below h (ap is_linked r.by) l)
+      by : (m : Link) → last_mover alone axis t es p n ≡ m → m ≡ None
+      by None q = refl
+      by (Some k) q = let r = last_is alone axis t es p n k q in absurd (once e p r.segment n r.below h (ap is_linked r.by) l)
 
   reached : (p n : ℕ) → p < length s₀.currents → n ≤ t.len → Came snap axis s₀ (after n) p (last_mover alone axis t es p n)
   unfolding visits visit_segment last_mover mover_at

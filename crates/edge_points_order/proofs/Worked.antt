@@ -1,4 +1,5 @@
 -- What each hypothesis and each exception is there for, by hand: the smallest outlines that end out of order without it.
+use Rattle.std.specs.Prelude.{None, Some}
 use mathlib.Core.Path.{◌≡◌, refl, subst}
 use mathlib.Core.Bool.{Bool, true, false}
 use mathlib.Core.List.{List, [], ◌∷◌}
@@ -13,7 +14,6 @@ use Rattle.axis.specs.declared.edge.Edge.{Edge}
 use Rattle.axis.specs.declared.edge.Axis.{Axis}
 use Rattle.axis.specs.declared.kinds.Dimension.TheVariants as Dimensions
 use Rattle.axis.specs.declared.kinds.Direction.TheVariants as Directions
-use Rattle.axis.specs.declared.kinds.Link.TheVariants.{None, To}
 use Rattle.axis.specs.declared.kinds.Mark.TheVariants.{Stem}
 use Rattle.axis.specs.declared.segment.Segment.{Segment}
 use Rattle.axis.specs.declared.segment.Segments.{Segments}
@@ -65,7 +65,7 @@ single i k = record {
   serif = None;
   first = i;
   last = i;
-  edge = To k;
+  edge = Some k;
   next = None;
 }
 
@@ -125,7 +125,7 @@ last-of-two : last_mover true (record {
       ∷ [];
   len = 2;
 }) (record { segments = single 1 1 ∷ single 1 0 ∷ []; len = 2 }) (2 ∷ []) 1 2
-    ≡ To 0
+    ≡ Some 0
 unfolding last_mover mover_at mover_of meets times walk behind contour_of
 last-of-two = refl
 
@@ -156,7 +156,7 @@ apart = record { at = two }
     two (suc zero) (suc (suc j)) a b d e l = absurd (omega arith)
     two (suc (suc i)) j a b d e l = absurd (omega arith)
 
-on_edge : (p k : ℕ) → p < 3 → last_mover true axis table (2 ∷ []) p 2 ≡ To k → at originals p ≡ (edge_at axis k).opos
+on_edge : (p k : ℕ) → p < 3 → last_mover true axis table (2 ∷ []) p 2 ≡ Some k → at originals p ≡ (edge_at axis k).opos
 unfolding last_mover mover_at mover_of meets times walk behind contour_of
 on_edge zero k h e = let z : ◌≡◌ {A = ℕ} 0 1 = cc in absurd (omega arith)
 on_edge (suc zero) k h e = let q : 0 ≡ k = cc in subst (λ (x : ℕ). pos 0 ≡ (edge_at axis x).opos) q refl

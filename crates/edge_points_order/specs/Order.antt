@@ -1,10 +1,10 @@
 -- The order of points behind edge points and weak points: what is needed of edges and points before, and what is gained at the end. An outline is its points' originals o,
 -- currents c and touch marks t, and the ends es of its contours.
+use Rattle.std.specs.Prelude.{None, Some}
 use Rattle.std.specs.Prelude.{◌≡◌, Bool, true, false, cond, ◌&&◌, List, ◌⊎◌, ℕ, zero, suc, ◌<◌, ltb, length, ℤ, ◌≤ℤ◌, ◌<ℤ◌}
 use Rattle.std.proofs.Math.Option.{Option, some, none}
 use Rattle.axis.specs.declared.edge.Axis.{Axis}
-use Rattle.axis.specs.declared.kinds.Link.{Link}
-use Rattle.axis.specs.declared.kinds.Link.TheVariants as Links
+use Rattle.axis.specs.Link.{Link}
 use Rattle.axis.specs.declared.segment.Segment.{Segment}
 use Rattle.axis.specs.declared.segment.Segments.{Segments}
 use Rattle.axis.specs.Edge.{edge_at}
@@ -45,8 +45,8 @@ meets (some k) g p = ltb 0 (times p (walked k g.first g.last))
 
 -- the edge by which a segment moves the point p: its own, where that moves points and the walk meets p
 unfoldable pub mover_of : Bool → Axis → List ℕ → Segment → Link → ℕ → Link
-mover_of alone axis es g Links.None p = Links.None
-mover_of alone axis es g (Links.To k) p = cond (moves alone (edge_at axis k) && meets (contour_of 0 es g.first) g p) (Links.To k) Links.None
+mover_of alone axis es g None p = None
+mover_of alone axis es g (Some k) p = cond (moves alone (edge_at axis k) && meets (contour_of 0 es g.first) g p) (Some k) None
 
 -- the edge by which segment i of the table moves it
 unfoldable pub mover_at : Bool → Axis → Segments → List ℕ → ℕ → ℕ → Link
@@ -54,7 +54,7 @@ mover_at alone axis t es p i = mover_of alone axis es (segment_at t i) (segment_
 
 -- the edge by which the first n segments move it last
 unfoldable pub last_mover : Bool → Axis → Segments → List ℕ → ℕ → ℕ → Link
-last_mover alone axis t es p zero = Links.None
+last_mover alone axis t es p zero = None
 last_mover alone axis t es p (suc n) = or_else (mover_at alone axis t es p n) (last_mover alone axis t es p n)
 
 -- ---- before edge points
@@ -67,7 +67,7 @@ pub record Ready (snap alone : Bool) (axis : Axis) (t : Segments) (o : List ℤ)
   -- no point is touched
   pub untouched : (p : ℕ) → is_touched s.touched p ≡ false
   -- a moved point's original is the original position of the edge that moves it last
-  pub on_edge : (p k : ℕ) → p < length o → last_mover alone axis t es p t.len ≡ Links.To k → at o p ≡ (edge_at axis k).opos
+  pub on_edge : (p k : ℕ) → p < length o → last_mover alone axis t es p t.len ≡ Some k → at o p ≡ (edge_at axis k).opos
   -- without snap no point is moved by two segments
   pub once : snap ≡ false → (p i j : ℕ) → i < j → j < t.len → is_linked (mover_at alone axis t es p i) ≡ true → is_linked (mover_at alone axis t es p j) ≡ true → ⊥
 

@@ -1,4 +1,5 @@
 -- What the call leaves: it is determined; with a refusal everything is as it was; and a point that no walk leads over keeps its current and its mark.
+use Rattle.std.specs.Prelude.{None, Some}
 use mathlib.Core.Path.{◌≡◌, refl, sym, subst, ◌∙◌}
 use mathlib.Core.Bool.{Bool, true, false, cond}
 use mathlib.Core.List.{List, []}
@@ -10,8 +11,7 @@ use lib.IntN.{ℤ}
 use Rattle.refusals.specs.Refusal.{answered}
 use Rattle.axis.specs.declared.edge.Edge.{Edge}
 use Rattle.axis.specs.declared.edge.Axis.{Axis}
-use Rattle.axis.specs.declared.kinds.Link.{Link}
-use Rattle.axis.specs.declared.kinds.Link.TheVariants as Links
+use Rattle.axis.specs.Link.{Link}
 use Rattle.axis.specs.declared.segment.Segments.{Segments}
 use Rattle.axis.specs.Edge.{edge_at}
 use Rattle.axis.specs.Ring.{times}
@@ -59,8 +59,8 @@ visit-kept snap alone axis t es s i = by (segment_at t i).edge
     on e (some k) = moved e (walked k (segment_at t i).first (segment_at t i).last) (moves alone e)
 
     by : (l : Link) → PointsKept (λ (p : ℕ). times p (walk_along alone axis es (segment_at t i) l) ≡ 0) s (along_edge snap alone axis es (segment_at t i) l s)
-    by Links.None = kept-all _ s
-    by (Links.To k) = on (edge_at axis k) (contour_of 0 es (segment_at t i).first)
+    by None = kept-all _ s
+    by (Some k) = on (edge_at axis k) (contour_of 0 es (segment_at t i).first)
 
 -- by all
 all-kept : (snap alone : Bool) (axis : Axis) (t : Segments) (es : List ℕ) (s : Points) → PointsKept (Unmet alone axis t es) s (move_all snap alone axis t es s)

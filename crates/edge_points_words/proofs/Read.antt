@@ -1,4 +1,5 @@
 -- What is read of a segment where its words stand, and what the tests say of it.
+use Rattle.std.specs.Prelude.{Some}
 use mathlib.Core.Path.{◌≡◌, refl, sym, ap, ◌∙◌}
 use mathlib.Core.Bool.{Bool, true, false, not, ◌||◌}
 use mathlib.Core.List.{List}
@@ -10,7 +11,6 @@ use lib.Dec.{leb}
 use lib.IntN.{ℤ}
 use Rattle.signed.proofs.Choices.{clash}
 use Rattle.refusals.proofs.Tests.{and_first, and_second}
-use Rattle.axis.specs.declared.kinds.Link.TheVariants as Links
 use Rattle.axis.specs.declared.segment.Segment.{Segment}
 use Rattle.axis.specs.Edge.{edge_at}
 use Rattle.axis.specs.Refusals.{segment_edge}
@@ -46,7 +46,7 @@ module _ (ws : List ℤ) (i : ℕ) (w : Whole ws) (h : i < segments_in ws) where
   last_is = sym (ap (λ (s : Segment). s.last) (segment-in ws i w h))
 
   -- its edge is an edge
-  pub edge-below : (m k : ℕ) → segments_edges m (flat_segments ws) ≡ true → (segment_at (flat_segments ws) i).edge ≡ Links.To k → k < m
+  pub edge-below : (m k : ℕ) → segments_edges m (flat_segments ws) ≡ true → (segment_at (flat_segments ws) i).edge ≡ Some k → k < m
   unfolding segments_edges segment_edge
   edge-below m k t e = (link-below m (segment_at (flat_segments ws) i).edge (every-at _ i _ t (tested-segment ws i w h))).at k e
 
@@ -85,7 +85,7 @@ or-second true b e h = h
 or-second false b e h = absurd (clash false refl e)
 
 module _ (ws es : List ℤ) (alone : Bool) (n : ℕ) (ends : List ℕ) (a : Accepted ws es alone n ends) (i : ℕ) (h : i < segments_in ws) (k : ℕ)
-    (e : (segment_at (flat_segments ws) i).edge ≡ Links.To k) where
+    (e : (segment_at (flat_segments ws) i).edge ≡ Some k) where
   -- its edge is one of the list
   pub named : k < edges_in es
   named = edge-below ws i a.segments h (edges_in es) k a.to_edges e

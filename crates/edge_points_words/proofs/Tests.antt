@@ -1,4 +1,5 @@
 -- The tests of the call, as the code comes to them.
+use Rattle.std.specs.Prelude.{None, Some}
 use mathlib.Core.Path.{◌≡◌, refl, sym, ap, ◌∙◌}
 use mathlib.Core.Bool.{Bool, true, false, not, ◌&&◌, ◌||◌}
 use mathlib.Core.List.{List, [], ◌∷◌}
@@ -12,8 +13,7 @@ use Rattle.refusals.specs.Refusal.{Test, ◌unless◌, refusal, answered, bad_in
 use Rattle.refusals.proofs.Tests.{own_first, all_hold, answered-no, answered-yes}
 use Rattle.axis.specs.declared.edge.Axis.{Axis}
 use Rattle.axis.specs.declared.edge.Edge.{Edge}
-use Rattle.axis.specs.declared.kinds.Link.{Link}
-use Rattle.axis.specs.declared.kinds.Link.TheVariants as Links
+use Rattle.axis.specs.Link.{Link}
 use Rattle.axis.specs.declared.segment.Segment.{Segment}
 use Rattle.axis.specs.declared.segment.Segments.{Segments}
 use Rattle.axis.specs.Edge.{edge_at}
@@ -29,11 +29,11 @@ use Rattle.edge_points.proofs.Walks.{on-stretch}
 
 -- ---- first and last of a segment
 module _ (es : List ℕ) (g : Segment) where
-  pub points-free : g.edge ≡ Links.None → true ≡ segment_points es g g.edge
+  pub points-free : g.edge ≡ None → true ≡ segment_points es g g.edge
   unfolding segment_points
   points-free e = sym (ap (segment_points es g) e)
 
-  pub points_on : (k first last : ℕ) (c : Stretch) (r : Bool) → g.edge ≡ Links.To k → first ≡ g.first → last ≡ g.last → c ≡ stretch_of (contour_of 0 es first)
+  pub points_on : (k first last : ℕ) (c : Stretch) (r : Bool) → g.edge ≡ Some k → first ≡ g.first → last ≡ g.last → c ≡ stretch_of (contour_of 0 es first)
       → r ≡ (leb c.start last && ltb last c.end) → r ≡ segment_points es g g.edge
   unfolding segment_points on_one
   points_on k first last c r e p q f o =
@@ -49,15 +49,15 @@ or-asked : (m b : Bool) → m ≡ true → b ≡ (not m || b)
 or-asked m b e = rw e
 
 module _ (alone : Bool) (axis : Axis) (l : Link) where
-  pub mover-free : l ≡ Links.None → true ≡ mover_holds alone axis l
+  pub mover-free : l ≡ None → true ≡ mover_holds alone axis l
   unfolding mover_holds
   mover-free e = sym (ap (mover_holds alone axis) e)
 
-  pub mover-still : (k : ℕ) → l ≡ Links.To k → moves alone (edge_at axis k) ≡ false → true ≡ mover_holds alone axis l
+  pub mover-still : (k : ℕ) → l ≡ Some k → moves alone (edge_at axis k) ≡ false → true ≡ mover_holds alone axis l
   unfolding mover_holds
   mover-still k e m = or-free _ _ m ∙ sym (ap (mover_holds alone axis) e)
 
-  pub mover-asked : (k : ℕ) (d : Edge) (r : Bool) → l ≡ Links.To k → d ≡ reduced (edge_at axis k) → moves alone (edge_at axis k) ≡ true
+  pub mover-asked : (k : ℕ) (d : Edge) (r : Bool) → l ≡ Some k → d ≡ reduced (edge_at axis k) → moves alone (edge_at axis k) ≡ true
       → r ≡ within most_coordinate d.pos → r ≡ mover_holds alone axis l
   unfolding mover_holds
   mover-asked k d r e q m t = t ∙ ap (λ (x : Edge). within most_coordinate x.pos) q ∙ or-asked _ _ m ∙ sym (ap (mover_holds alone axis) e)

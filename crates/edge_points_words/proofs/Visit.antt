@@ -1,4 +1,5 @@
 -- One segment's visit: as the code comes to it, and how far it moves a point.
+use Rattle.std.specs.Prelude.{None, Some}
 use mathlib.Core.Path.{◌≡◌, refl, sym, ap, subst, ◌∙◌}
 use mathlib.Core.Bool.{Bool, true, false}
 use mathlib.Core.List.{List}
@@ -11,8 +12,7 @@ use Rattle.signed.specs.Range.{Between}
 use Rattle.signed.proofs.Choices.{cond-true, cond-false}
 use Rattle.axis.specs.declared.edge.Edge.{Edge}
 use Rattle.axis.specs.declared.edge.Axis.{Axis}
-use Rattle.axis.specs.declared.kinds.Link.{Link}
-use Rattle.axis.specs.declared.kinds.Link.TheVariants as Links
+use Rattle.axis.specs.Link.{Link}
 use Rattle.axis.specs.declared.segment.Segment.{Segment}
 use Rattle.axis.specs.declared.segment.Segments.{Segments}
 use Rattle.axis.specs.Edge.{edge_at}
@@ -36,11 +36,11 @@ use Rattle.edge_points_words.proofs.Read.{OnContour, ends_on, is-mover}
 -- ---- the ways through a visit
 module _ (snap alone : Bool) (axis : Axis) (t : Segments) (es : List ℕ) (s : Points) (i : ℕ) where
   -- without an edge
-  pub visit-none : (segment_at t i).edge ≡ Links.None → s ≡ visit_segment snap alone axis t es s i
+  pub visit-none : (segment_at t i).edge ≡ None → s ≡ visit_segment snap alone axis t es s i
   unfolding visit_segment along_edge
   visit-none e = sym (ap (λ (l : Link). along_edge snap alone axis es (segment_at t i) l s) e)
 
-  module _ (k : ℕ) (e : (segment_at t i).edge ≡ Links.To k) where
+  module _ (k : ℕ) (e : (segment_at t i).edge ≡ Some k) where
     along : visit_segment snap alone axis t es s i ≡ move_segment snap alone (segment_at t i) (edge_at axis k) (contour_of 0 es (segment_at t i).first) s
     unfolding visit_segment along_edge
     along = ap (λ (l : Link). along_edge snap alone axis es (segment_at t i) l s) e
@@ -63,7 +63,7 @@ module _ (snap alone : Bool) (axis : Axis) (t : Segments) (es : List ℕ) (s : P
 
 -- ---- as the code comes to it
 -- what is read of an edge is enough to tell whether it moves points, and to move them
-pub read-moves : (alone : Bool) (ws es : List ℤ) (i : ℕ) {k : ℕ} (d : Edge) (r : Bool) {v : Bool} → (segment_at (flat_segments ws) i).edge ≡ Links.To k
+pub read-moves : (alone : Bool) (ws es : List ℤ) (i : ℕ) {k : ℕ} (d : Edge) (r : Bool) {v : Bool} → (segment_at (flat_segments ws) i).edge ≡ Some k
     → d ≡ reduced (edge_at (edges_of es) k)
     → r ≡ moves alone d → r ≡ v → moves alone (edge_at (edges_of es) k) ≡ v
 read-moves alone ws es i d r e q p g = ap (moves alone) (sym q) ∙ sym p ∙ g
@@ -85,7 +85,7 @@ module _ (es : List ℕ) (n first last : ℕ) (o : OnContour es n first last) (f
   same-contour = ap contour_in found
 
 module _ (ws es : List ℤ) (alone : Bool) (n : ℕ) (ends : List ℕ) (a : Accepted ws es alone n ends) (i : ℕ) (h : i < segments_in ws) (k : ℕ)
-    (e : (segment_at (flat_segments ws) i).edge ≡ Links.To k) where
+    (e : (segment_at (flat_segments ws) i).edge ≡ Some k) where
   abbrev g : Segment
   g = segment_at (flat_segments ws) i
 
@@ -142,7 +142,7 @@ pub visit-grew : (ws es : List ℤ) (alone : Bool) (n : ℕ) (ends : List ℕ) �
     → Grew s (visit_segment snap alone (edges_of es) (flat_segments ws) ends s i)
 visit-grew ws es alone n ends a i h snap s = by (segment_at (flat_segments ws) i).edge refl
   where
-    to : (k : ℕ) → (segment_at (flat_segments ws) i).edge ≡ Links.To k → (b : Bool) → moves alone (edge_at (edges_of es) k) ≡ b
+    to : (k : ℕ) → (segment_at (flat_segments ws) i).edge ≡ Some k → (b : Bool) → moves alone (edge_at (edges_of es) k) ≡ b
         → Grew s (visit_segment snap alone (edges_of es) (flat_segments ws) ends s i)
     to k e false m = subst (Grew s) (visit-still snap alone (edges_of es) (flat_segments ws) ends s i k e m) (grew_none s)
     to k e true m =
@@ -152,5 +152,5 @@ visit-grew ws es alone n ends a i h snap s = by (segment_at (flat_segments ws) i
         o.to_high (omega (arith, o.inside, a.few)))
 
     by : (l : Link) → (segment_at (flat_segments ws) i).edge ≡ l → Grew s (visit_segment snap alone (edges_of es) (flat_segments ws) ends s i)
-    by Links.None e = subst (Grew s) (visit-none snap alone (edges_of es) (flat_segments ws) ends s i e) (grew_none s)
-    by (Links.To k) e = to k e (moves alone (edge_at (edges_of es) k)) refl
+    by None e = subst (Grew s) (visit-none snap alone (edges_of es) (flat_segments ws) ends s i e) (grew_none s)
+    by (Some k) e = to k e (moves alone (edge_at (edges_of es) k)) refl

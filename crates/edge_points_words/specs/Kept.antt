@@ -1,10 +1,10 @@
 -- Which points the call can change: those that a walk leads over.
+use Rattle.std.specs.Prelude.{None, Some}
 use Rattle.std.specs.Prelude.{◌≡◌, Bool, cond, List, [], ℕ, ◌<◌, length, get_or}
 use Rattle.std.proofs.Math.Option.{Option, some, none}
 use Rattle.axis.specs.declared.edge.Edge.{Edge}
 use Rattle.axis.specs.declared.edge.Axis.{Axis}
-use Rattle.axis.specs.declared.kinds.Link.{Link}
-use Rattle.axis.specs.declared.kinds.Link.TheVariants as Links
+use Rattle.axis.specs.Link.{Link}
 use Rattle.axis.specs.declared.segment.Segment.{Segment}
 use Rattle.axis.specs.declared.segment.Segments.{Segments}
 use Rattle.axis.specs.Edge.{edge_at}
@@ -21,8 +21,8 @@ walk_on alone g e (some k) = cond (moves alone e) (walked k g.first g.last) []
 
 -- by its edge in the axis, where it has one
 unfoldable pub walk_along : Bool → Axis → List ℕ → Segment → Link → List ℕ
-walk_along alone axis es g Links.None = []
-walk_along alone axis es g (Links.To k) = walk_on alone g (edge_at axis k) (contour_of 0 es g.first)
+walk_along alone axis es g None = []
+walk_along alone axis es g (Some k) = walk_on alone g (edge_at axis k) (contour_of 0 es g.first)
 
 -- the walk of segment i of the table
 abbrev pub walk_of : Bool → Axis → Segments → List ℕ → ℕ → List ℕ

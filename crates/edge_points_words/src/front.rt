@@ -1,16 +1,17 @@
 // The tests of what is lent: lengths, counts, words and choices.
 ghost use Rattle.std.specs.Prelude.{◌≡◌, true, ◌&&◌, leb, eqb};
+ghost use Rattle.refusals.specs.Outcome.{answer_of};
 ghost use Rattle.refusals.specs.Refusal.{refusal};
 ghost use Rattle.weak_contour.specs.Limits.{most_points};
 ghost use Rattle.words_tables_test.specs.Held.{Held};
 ghost use Rattle.edge_points_words.specs.Align.{points_front};
 
 use axis::accept::{few_edges, few_segments};
-use refusals::order::TOO_LONG;
+use refusals::order::Refusal;
 use weak::limits::MOST_POINTS;
 use words::edge::EDGE_WORDS;
 use words::segment::SEGMENT_WORDS;
-use words_call::shown::{NOT_WORDS, both, both_in};
+use words_call::shown::{both, both_in};
 use words_shape::field::CHOICE;
 use words_tables_test::test::tables_shown;
 
@@ -33,24 +34,24 @@ pub fn points_front(
     alone: i32,
     currents: &[i32],
     touched: &[u8],
-) -> u8
+) -> Result<(), Refusal>
     requires { held ≡ true → Held segments.now edges.now }
-    ensures { result ≡ refusal (points_front segments.now edges.now snap alone currents.now touched.now) }
+    ensures { answer_of result ≡ refusal (points_front segments.now edges.now snap alone currents.now touched.now) }
 {
     if !both(
         segments.len() % SEGMENT_WORDS == 0,
         edges.len() % EDGE_WORDS == 0,
     ) {
-        return NOT_WORDS;
+        return Err(Refusal::NotWords);
     }
     let few = few_segments(segments.len() / SEGMENT_WORDS);
     let few = both(few, few_edges(edges.len() / EDGE_WORDS));
     if !both(few, few_points(currents.len(), touched.len())) {
-        return TOO_LONG;
+        return Err(Refusal::TooLong);
     }
     let shown = tables_shown(segments, edges, held);
     if both(shown, both_in(snap, alone, CHOICE)) {
-        return 0;
+        return Ok(());
     }
-    NOT_WORDS
+    Err(Refusal::NotWords)
 }

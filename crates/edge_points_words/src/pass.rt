@@ -7,7 +7,6 @@ ghost use Rattle.edge_points.specs.Steps.{reached, Reach, points};
 ghost use Rattle.edge_points_words.specs.Steps.{Accepted};
 
 use super::segment::{edge_of, first_of, last_of};
-use axis::kinds::Link;
 use edge_points::walk::move_walk;
 use words::segment::SEGMENT_WORDS;
 use words_edge::edge::read_edge;
@@ -39,7 +38,7 @@ fn move_segment(
         ≡ visit_segment snap alone (edges_of edges.now) (flat_segments segments.now) ends.now (points currents.old touched.old) i }
 {
     let link = edge_of(segments, i);
-    let Link::To(k) = link else {
+    let Some(k) = link else {
         return;
     };
     let edge = read_edge(edges, k as usize);

@@ -4,14 +4,13 @@ ghost use Rattle.axis.specs.Segment.{segment_at};
 ghost use Rattle.words.specs.Segment.{segments_in, flat_segments};
 ghost use Rattle.words_segment.specs.Whole.{Whole};
 
-use axis::kinds::Link;
 use weak::accept::wide;
 use words::field::{index_of, link_of};
 use words::segment::{EDGE_PLACE, FIRST_PLACE, LAST_PLACE, SEGMENT_WORDS};
 use words::word::read_word;
 
 // Its edge, or none.
-pub fn edge_of(segments: &[i32], i: usize) -> Link
+pub fn edge_of(segments: &[i32], i: usize) -> Option<u16>
     requires { Whole segments.now × (i < segments_in segments.now) }
     ensures { result ≡ (segment_at (flat_segments segments.now) i).edge }
 {

@@ -1,5 +1,6 @@
 // The tests of the call behind those of its words.
 ghost use Rattle.std.specs.Prelude.{◌≡◌, true, ◌≤◌, ◌<◌, length};
+ghost use Rattle.refusals.specs.Outcome.{answer_of};
 ghost use Rattle.refusals.specs.Refusal.{refusal};
 ghost use Rattle.axis.specs.Segment.{segment_at};
 ghost use Rattle.weak_contour.specs.Limits.{most_points};
@@ -16,9 +17,8 @@ ghost use Rattle.edge_points.specs.Steps.{points};
 use super::pass::moves;
 use super::segment::{edge_of, first_of, last_of};
 use axis::accept::is_inside;
-use axis::kinds::Link;
 use edge_points::contour::{contour_of, is_on};
-use refusals::order::{BAD_INDEX, OUT_OF_RANGE, or_refused};
+use refusals::order::{Refusal, require};
 use weak::accept::ends_hold;
 use weak::limits::MOST_COORDINATE;
 use weak::reach::coordinates_hold;
@@ -32,7 +32,7 @@ fn segment_points(segments: &[i32], i: usize, ends: &[u16]) -> bool
     ensures { result ≡ segment_points ends.now (segment_at (flat_segments segments.now) i) (segment_at (flat_segments segments.now) i).edge }
 {
     let link = edge_of(segments, i);
-    let Link::To(_) = link else {
+    let Some(_) = link else {
         return true;
     };
     let first = first_of(segments, i);
@@ -61,7 +61,7 @@ fn mover_holds(segments: &[i32], i: usize, edges: &[i32], alone: bool) -> bool
     ensures { result ≡ mover_holds alone (edges_of edges.now) (segment_at (flat_segments segments.now) i).edge }
 {
     let link = edge_of(segments, i);
-    let Link::To(k) = link else {
+    let Some(k) = link else {
         return true;
     };
     let edge = read_edge(edges, k as usize);
@@ -86,7 +86,7 @@ pub fn movers_hold(segments: &[i32], edges: &[i32], alone: bool) -> bool
     true
 }
 
-// The refusal of both tables, which need no test where they hold, and of an outline, or 0.
+// The refusal of both tables, which need no test where they hold, and of an outline, if there is one.
 pub fn points_refusal(
     segments: &[i32],
     edges: &[i32],
@@ -95,24 +95,20 @@ pub fn points_refusal(
     currents: &[i32],
     touched: &[u8],
     ends: &[u16],
-) -> u8
+) -> Result<(), Refusal>
     requires held { held ≡ true → Held segments.now edges.now }
     requires whole { Segments.Whole segments.now × Edges.Whole edges.now }
     requires currents_len_bound { (length currents.now ≤ most_points) × (length touched.now ≡ length currents.now) }
-    ensures { result ≡ refusal (points_tests alone (edges_of edges.now) (flat_segments segments.now) (points currents.now touched.now) ends.now) }
+    ensures { answer_of result ≡ refusal (points_tests alone (edges_of edges.now) (flat_segments segments.now) (points currents.now touched.now) ends.now) }
 {
-    let answer = tables_indexed(segments, edges, held);
-    if 0 < answer {
-        return answer;
-    }
-    let answer = or_refused(0, ends_hold(ends, currents.len()), BAD_INDEX);
-    let answer = or_refused(answer, segments_points(segments, ends), BAD_INDEX);
-    let answer = or_refused(answer, segments_ranged(segments, edges, held), OUT_OF_RANGE);
-    let answer = or_refused(answer, edges_ranged(segments, edges, held), OUT_OF_RANGE);
-    let answer = or_refused(
-        answer,
+    tables_indexed(segments, edges, held)?;
+    require(ends_hold(ends, currents.len()), Refusal::BadIndex)?;
+    require(segments_points(segments, ends), Refusal::BadIndex)?;
+    require(segments_ranged(segments, edges, held), Refusal::OutOfRange)?;
+    require(edges_ranged(segments, edges, held), Refusal::OutOfRange)?;
+    require(
         coordinates_hold(currents, MOST_COORDINATE),
-        OUT_OF_RANGE,
-    );
-    or_refused(answer, movers_hold(segments, edges, alone), OUT_OF_RANGE)
+        Refusal::OutOfRange,
+    )?;
+    require(movers_hold(segments, edges, alone), Refusal::OutOfRange)
 }

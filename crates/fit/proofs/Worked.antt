@@ -1,4 +1,5 @@
 -- Rows by hand, small ones that tell the order of their steps: remaining edges before the guard, and weak points of every contour.
+use Rattle.std.specs.Prelude.{None}
 use mathlib.Core.Path.{◌≡◌, refl}
 use mathlib.Core.List.{List, [], ◌∷◌, ◌++◌}
 use lib.IntN.{ℤ, pos, neg_ℤ}
@@ -7,7 +8,6 @@ use Rattle.fixed.specs.Point.{rounded, rounded_z}
 use Rattle.fixed.specs.Divide.{too_steep}
 use Rattle.fixed.specs.Pixel.{pix_floor, pix_round}
 use Rattle.fixed_ratio.specs.Ratio.{mul_div}
-use Rattle.axis.specs.declared.kinds.Link.TheVariants as Links
 use Rattle.axis.specs.Link.{links_to}
 use Rattle.axis.specs.Refusals.{link_holds, blue_holds, every, edge_indices, edge_numbers, edges_indices, edges_numbers}
 use Rattle.axis.specs.Visits.{visits}
@@ -51,7 +51,7 @@ abbrev heights : Numbers
 heights = numbers_of (pos 1 ∷ pos 0 ∷ pos 0 ∷ pos 1 ∷ pos 0 ∷ pos 0 ∷ pos 0 ∷ pos 0 ∷ pos 0 ∷ [])
 
 -- two edges that stems passed over, below one that is done: they come above it, and the guard, asked behind them, tells two gaps lost and none not done
-guarded : told_words (then_remaining heights 2 Links.None (edge (pos 40) (pos 40) (pos 0) ++ (edge (pos 50) (pos 50) (pos 0) ++ edge (pos 60) (pos 60) (pos 4)))
+guarded : told_words (then_remaining heights 2 None (edge (pos 40) (pos 40) (pos 0) ++ (edge (pos 50) (pos 50) (pos 0) ++ edge (pos 60) (pos 60) (pos 4)))
     ).told
     ≡ pos 2 ∷ pos 0 ∷ pos 0 ∷ pos 0 ∷ pos 1 ∷ pos 10 ∷ neg_ℤ (pos 2) ∷ pos 2 ∷ pos 0 ∷ []
 unfolding written firsts joined table short_of choice_of link_of direction_of mark_of flags_of blue_of dimension_of group_of rule_of flags_word edge_from axis_run flat_axis

@@ -1,29 +1,29 @@
 -- The calls on the edges of an axis in a row (the Rust's `hint_edges`, and the guard behind it): blue zones and stems, the m rule, remaining edges, the guard, each as its own call is
 -- defined on the words that the one before left. The first that refuses ends the row.
+use Rattle.std.specs.Prelude.{None}
 use Rattle.std.specs.Prelude.{Bool, false, not, cond, ◌||◌, List, ℕ, ltb, ℤ}
 use Rattle.refusals.specs.Refusal.{answered}
 use Rattle.axis.specs.declared.kinds.Group.{Group}
-use Rattle.axis.specs.declared.kinds.Link.{Link}
-use Rattle.axis.specs.declared.kinds.Link.TheVariants as Links
+use Rattle.axis.specs.Link.{Link}
 use Rattle.axis.specs.Link.{is_linked}
-use Rattle.lowercase_m.specs.declared.hint.Hinted.{Hinted}
+use Rattle.lowercase_m.specs.Answer.{Hinted}
 use Rattle.lowercase_m.specs.M.{hinted, hint_lowercase_m}
-use Rattle.stems.specs.declared.outcome.Stems.{Stems}
+use Rattle.stems.specs.Answer.{Stems}
 use Rattle.zones_stems.specs.Joined.{align_blues_and_stems}
 use Rattle.remaining.specs.Remaining.{Remaining, remaining, align_remaining_edges}
-use Rattle.gaps.specs.declared.find.Gaps.{Gaps}
+use Rattle.gaps.specs.Answer.{Gaps}
 use Rattle.gaps.specs.Gaps.{refused_by, lost_gaps}
 use Rattle.words.specs.Edge.{edges_in, edges_over}
 use Rattle.words_call.specs.Lent.{edges_of}
 use Rattle.words_edge.specs.Whole.{axis_in}
 use Rattle.fit.specs.declared.numbers.Numbers.{Numbers}
-use Rattle.fit.specs.declared.outcome.FittedEdges.{FittedEdges}
+use Rattle.fit.specs.Answer.{FittedEdges}
 use Rattle.fit.specs.Numbers.{is_asked}
 
 -- ---- what the row comes to
 -- a refusal, beside nothing
 abbrev pub refused_edges : ℕ → FittedEdges
-refused_edges k = record { answer = k; count = 0; anchor = Links.None; gaps = refused_by 0 }
+refused_edges k = record { answer = k; count = 0; anchor = None; gaps = refused_by 0 }
 
 -- what is told, and the words that are left
 pub record Left : Type 0 where

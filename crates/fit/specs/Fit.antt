@@ -20,7 +20,7 @@ use Rattle.words_shape.specs.Shape.{edges_shown, segments_shown}
 use Rattle.words_call.specs.Lent.{Lent, front, edges_of}
 use Rattle.words_edge.specs.Whole.{axis_in}
 use Rattle.fit.specs.declared.numbers.Numbers.{Numbers}
-use Rattle.fit.specs.declared.outcome.FittedEdges.{FittedEdges}
+use Rattle.fit.specs.Answer.{FittedEdges}
 use Rattle.fit.specs.Numbers.{number_size, numbers_of, numbers_shown}
 use Rattle.fit.specs.Edges.{Left, fit_edges}
 use Rattle.fit.specs.Points.{LeftPoints, fit_points}

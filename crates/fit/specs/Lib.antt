@@ -3,3 +3,5 @@ pub mod Numbers
 pub mod Edges
 pub mod Points
 pub mod Fit
+-- what a call hands back, with its answer
+pub mod Answer

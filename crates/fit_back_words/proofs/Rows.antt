@@ -8,7 +8,7 @@ use Rattle.refusals.specs.Refusal.{answered}
 use Rattle.refusals.proofs.Tests.{answered-no}
 use Rattle.edge_points.specs.EdgePoints.{Points}
 use Rattle.fit.specs.declared.numbers.Numbers.{Numbers}
-use Rattle.fit.specs.declared.outcome.FittedEdges.{FittedEdges}
+use Rattle.fit.specs.Answer.{FittedEdges}
 use Rattle.fit.specs.Edges.{Left, fit_edges}
 use Rattle.fit.specs.Points.{LeftPoints, fit_points}
 use Rattle.fit.specs.Fit.{Given, Fitted, fitted, told_words, Outcome, refused_fit, behind_points, behind_edges, fit_in_row}

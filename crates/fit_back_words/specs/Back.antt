@@ -6,7 +6,7 @@ use Rattle.strong.specs.Strong.{list_tests}
 use Rattle.words_edge.specs.Whole as Edges
 use Rattle.words_segment.specs.Whole as Segments
 use Rattle.fit.specs.declared.numbers.Numbers.{Numbers}
-use Rattle.fit.specs.declared.outcome.FittedEdges.{FittedEdges}
+use Rattle.fit.specs.Answer.{FittedEdges}
 use Rattle.fit.specs.Edges.{Left}
 use Rattle.fit.specs.Points.{LeftPoints}
 use Rattle.fit.specs.Fit.{Given, Fitted, told_size, fit_tests, fit_in_row}

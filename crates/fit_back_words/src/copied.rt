@@ -6,8 +6,5 @@ pub fn copy_marks(from: &[u8], to: &mut [u8])
     requires { length to.old ≡ length from.now }
     ensures { to.new ≡ from.now }
 {
-    let n = from.len();
-    for i in 0..n {
-        to[i] = from[i];
-    }
+    to.copy_from_slice(from);
 }

@@ -2,6 +2,7 @@
 ghost use Rattle.std.specs.Prelude.{◌≡◌, length};
 ghost use Rattle.fit.specs.Fit.{told_size, told_words};
 ghost use Rattle.fit_edges_words.specs.Row.{FewTold};
+ghost use Rattle.fit.specs.Answer.{told_of};
 
 use fit::outcome::{FittedEdges, TOLD_WORDS};
 use words::field::link_word;
@@ -9,8 +10,8 @@ use words::word::{count_word, write_words};
 
 // The words of it.
 fn told_words(fitted: FittedEdges) -> [i32; TOLD_WORDS]
-    requires { FewTold fitted }
-    ensures { result ≡ told_words fitted }
+    requires { FewTold (told_of fitted) }
+    ensures { result ≡ told_words (told_of fitted) }
 {
     let gaps = fitted.gaps;
     let pair = gaps.pair;
@@ -32,8 +33,8 @@ fn told_words(fitted: FittedEdges) -> [i32; TOLD_WORDS]
 
 // Writes them.
 pub fn tell(told: &mut [i32], fitted: FittedEdges)
-    requires { (length told.old ≡ told_size) × FewTold fitted }
-    ensures { told.new ≡ told_words fitted }
+    requires { (length told.old ≡ told_size) × FewTold (told_of fitted) }
+    ensures { told.new ≡ told_words (told_of fitted) }
 {
     let words = told_words(fitted);
     write_words(told, 0, &words);

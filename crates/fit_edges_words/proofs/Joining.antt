@@ -1,4 +1,5 @@
 -- Blue zones and stems, the row's first step: what its passes may use, what they come to, and the row behind them.
+use Rattle.std.specs.Prelude.{None}
 use mathlib.Core.Path.{◌≡◌, refl, sym, ap, subst, ◌∙◌}
 use mathlib.Core.Bool.{true, false}
 use mathlib.Core.List.{List}
@@ -10,8 +11,7 @@ use Rattle.refusals.specs.Refusal.{refusal, answered}
 use Rattle.refusals.proofs.Tests.{AllHold, all_hold}
 use Rattle.fixed.specs.Width.{rule_holds}
 use Rattle.axis.specs.declared.kinds.Dimension.TheVariants.{Horizontal}
-use Rattle.axis.specs.declared.kinds.Link.{Link}
-use Rattle.axis.specs.declared.kinds.Link.TheVariants as Links
+use Rattle.axis.specs.Link.{Link}
 use Rattle.axis.specs.declared.edge.Axis.{Axis}
 use Rattle.axis.specs.Accepted.{Below, AxisWithin}
 use Rattle.axis.specs.Handed.{EdgesAccepted}
@@ -19,7 +19,7 @@ use Rattle.axis.specs.Limits.{most_edges, most_pos}
 use Rattle.axis.specs.Refusals.{edges_indices, edges_numbers}
 use Rattle.zones.specs.Call.{blues_where}
 use Rattle.stems.specs.declared.kinds.Mode.{Mode}
-use Rattle.stems.specs.declared.outcome.Stems.{Stems}
+use Rattle.stems.specs.Answer.{Stems}
 use Rattle.stems.specs.Stems.{stems, stems_of, mode_of}
 use Rattle.stems.specs.StepsPass.{SettledWithout}
 use Rattle.stems.proofs.Kept.{pass-keeps}
@@ -36,7 +36,7 @@ use Rattle.stems_words.specs.Stems.{StemsPassed}
 use Rattle.stems_words.proofs.Passes.{passed-few}
 use Rattle.zones_stems_words.proofs.Passing as Passing
 use Rattle.fit.specs.declared.numbers.Numbers.{Numbers}
-use Rattle.fit.specs.declared.outcome.FittedEdges.{FittedEdges}
+use Rattle.fit.specs.Answer.{FittedEdges}
 use Rattle.fit.specs.Edges.{stopped, stems_on, then_m, fit_edges}
 use Rattle.fit_edges_words.specs.Row.{Kin, Begun, Ready, Joined, Went}
 use Rattle.fit_edges_words.proofs.Kin.{kin-only, accepted-loose, loose-kin}
@@ -60,7 +60,7 @@ module _ (n : Numbers) (xs : List ℤ) {ws : List ℤ} (g : Begun n xs ws) where
   unfolding flat_axis axis_run
   call-is =
       passes A n.group n.stem_adjust false n.rule xs
-      ∙ ap (λ (k : ℕ). answered k (stems 0 Links.None A)
+      ∙ ap (λ (k : ℕ). answered k (stems 0 None A)
       (stems_of mode xs (blues_where A n.group n.rule xs).anchor (blues_where A n.group n.rule xs).axis)) g.tests
 
   module _ {start : Link} {w1 : List ℤ} (z : ZonedWhere n.dim n.group n.rule xs start ws w1) where

@@ -1,4 +1,5 @@
 -- Edges of which a step has changed positions, flags, marks and zones alone: what is still known of them.
+use Rattle.std.specs.Prelude.{None, Some}
 use mathlib.Core.Path.{◌≡◌, refl, sym, ap, ◌∙◌}
 use mathlib.Core.Bool.{Bool, true, false, ◌&&◌}
 use mathlib.Core.Logic.{◌⊎◌, inl, inr, ⊎_elim}
@@ -6,8 +7,7 @@ use Prim.Native.Nat.{ℕ, zero, suc, ◌<◌, min}
 use native.Mathlib.Omega.{arith}
 use lib.Dec.{leb, ltb}
 use Rattle.refusals.proofs.Tests.{and_first, and_second}
-use Rattle.axis.specs.declared.kinds.Blue.{Blue}
-use Rattle.axis.specs.declared.kinds.Blue.TheVariants as Blues
+use Rattle.axis.specs.Link.{Blue}
 use Rattle.axis.specs.declared.edge.Edge.{Edge}
 use Rattle.axis.specs.declared.edge.Axis.{Axis}
 use Rattle.axis.specs.Changes.{Extent, nothing, position, place, zone, zone_left, Only, OnlyAxis}
@@ -32,9 +32,9 @@ kin-self : (e : Edge) → KinEdge e e
 kin-self e = record { opos = refl; link = refl; serif = refl; first = refl; last = refl; blue = inl refl }
 
 -- a zone that is not gone is the old one
-zone-kin : (old new : Blue) → new ≡ zone_left old new → (new ≡ old) ⊎ (new ≡ Blues.None)
-zone-kin old Blues.None e = inr refl
-zone-kin old (Blues.Fitted z) e = inl e
+zone-kin : (old new : Blue) → new ≡ zone_left old new → (new ≡ old) ⊎ (new ≡ None)
+zone-kin old None e = inr refl
+zone-kin old (Some z) e = inl e
 
 -- by how much of it may be changed
 only-kin : (x : Extent) (a b : Edge) → Only x a b → KinEdge a b

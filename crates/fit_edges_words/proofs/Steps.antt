@@ -1,4 +1,5 @@
 -- Each step of the row: where it refuses, where it is passed by, and what the row is behind it.
+use Rattle.std.specs.Prelude.{None}
 use mathlib.Core.Path.{◌≡◌, refl, sym, ap, subst, ◌∙◌}
 use mathlib.Core.Bool.{Bool, true, false, not, cond, ◌&&◌}
 use mathlib.Core.List.{List}
@@ -10,21 +11,20 @@ use Rattle.refusals.specs.Refusal.{too_long, bad_parameter, bad_index, out_of_ra
 use Rattle.refusals.proofs.Tests.{and_second}
 use Rattle.axis.specs.declared.kinds.Dimension.TheVariants.{Horizontal}
 use Rattle.axis.specs.declared.kinds.Group.{Group}
-use Rattle.axis.specs.declared.kinds.Link.{Link}
-use Rattle.axis.specs.declared.kinds.Link.TheVariants as Links
+use Rattle.axis.specs.Link.{Link}
 use Rattle.axis.specs.declared.edge.Axis.{Axis}
 use Rattle.axis.specs.Accepted.{Below, AxisWithin}
 use Rattle.axis.specs.Handed.{EdgesAccepted}
 use Rattle.axis.specs.Limits.{most_pos}
 use Rattle.axis.specs.Refusals.{link_holds}
 use Rattle.axis.proofs.Accepting.{link-holds, edges-accepted, edges-within}
-use Rattle.lowercase_m.specs.declared.hint.Hinted.{Hinted}
+use Rattle.lowercase_m.specs.Answer.{Hinted}
 use Rattle.lowercase_m.specs.M.{count_holds, mTests, hinted, hint_lowercase_m}
 use Rattle.lowercase_m.proofs.Changed as MChanged
 use Rattle.remaining.specs.declared.kinds.Progress.{Progress}
 use Rattle.remaining.specs.Remaining.{State, begun, remaining_of, Remaining, remaining, outcome, remaining_tests, align_remaining_edges}
 use Rattle.remaining.proofs.Changed as RemainingChanged
-use Rattle.gaps.specs.declared.find.Gaps.{Gaps}
+use Rattle.gaps.specs.Answer.{Gaps}
 use Rattle.gaps.specs.Gaps.{gaps_tests, refused_by, found_to, found_in, lost_gaps}
 use Rattle.words.specs.Edge.{edges_in, edges_over}
 use Rattle.words_call.specs.Lent.{edges_of}
@@ -34,7 +34,7 @@ use Rattle.words_edge.proofs.Became.{as_many, axis-over, became-over}
 use Rattle.lowercase_m_words.specs.M.{aligning}
 use Rattle.remaining_pass_words.specs.Words.{ReadyPass, Passed, passing}
 use Rattle.fit.specs.declared.numbers.Numbers.{Numbers}
-use Rattle.fit.specs.declared.outcome.FittedEdges.{FittedEdges}
+use Rattle.fit.specs.Answer.{FittedEdges}
 use Rattle.fit.specs.Numbers.{is_horizontal, is_asked}
 use Rattle.fit.specs.Edges.{
   Left,
@@ -148,11 +148,11 @@ module _ (n : Numbers) (count : ℕ) (anchor : Link) {ws : List ℤ} (g : Ready 
     S = remaining_of A n.group count anchor
 
     remaining-as : {k : ℕ} → refusal (remaining_tests A n.group count anchor) ≡ k
-        → then_remaining n count anchor ws ≡ behind_remaining n count ws (answered k (remaining Links.None A) (outcome S))
+        → then_remaining n count anchor ws ≡ behind_remaining n count ws (answered k (remaining None A) (outcome S))
     unfolding then_remaining remaining_where align_remaining_edges
     remaining-as q =
         (λ j. behind_remaining n count ws (cond (left j) (align_remaining_edges A n.group count anchor) (remaining anchor A 0)))
-        ∙ ap (λ (k : ℕ). behind_remaining n count ws (answered k (remaining Links.None A) (outcome S))) q
+        ∙ ap (λ (k : ℕ). behind_remaining n count ws (answered k (remaining None A) (outcome S))) q
 
     named : link_holds A.len anchor ≡ true
     named = ap (λ (m : ℕ). link_holds m anchor) (edges-len ws) ∙ link-holds (edges_in ws) anchor g.anchored
@@ -196,7 +196,7 @@ module _ (n : Numbers) (count : ℕ) (anchor : Link) {ws : List ℤ} (g : Ready 
         kin : Kin A (edges_of w1)
         unfolding align_remaining_edges
         kin =
-            subst (Kin A) (ap (λ (k : ℕ). (answered k (remaining Links.None A) (outcome S)).axis) none ∙ sym axis-is)
+            subst (Kin A) (ap (λ (k : ℕ). (answered k (remaining None A) (outcome S)).axis) none ∙ sym axis-is)
             (kin-only (RemainingChanged.changed A n.group count anchor refl).only)
 
         pub remaining-goes : {r : FittedEdges} {w2 : List ℤ} → Went (then_guard n count past.anchor w1) r w1 w2

@@ -1,8 +1,8 @@
 -- What the steps of the row need and leave.
+use Rattle.std.specs.Prelude.{None}
 use Rattle.std.specs.Prelude.{◌≡◌, Bool, true, false, ◌&&◌, List, ◌⊎◌, ℕ, ◌≤◌, ◌<◌, length, ℤ, pos}
 use Rattle.refusals.specs.Refusal.{refusal}
-use Rattle.axis.specs.declared.kinds.Blue.TheVariants as Blues
-use Rattle.axis.specs.declared.kinds.Link.{Link}
+use Rattle.axis.specs.Link.{Link}
 use Rattle.axis.specs.declared.edge.Edge.{Edge}
 use Rattle.axis.specs.declared.edge.Axis.{Axis}
 use Rattle.axis.specs.Accepted.{Below}
@@ -16,7 +16,7 @@ use Rattle.words_call.specs.Lent.{edges_of}
 use Rattle.words_edge.specs.Whole.{Whole, axis_in}
 use Rattle.stems_words.specs.declared.pass.Passed.{Passed}
 use Rattle.fit.specs.declared.numbers.Numbers.{Numbers}
-use Rattle.fit.specs.declared.outcome.FittedEdges.{FittedEdges}
+use Rattle.fit.specs.Answer.{FittedEdges}
 use Rattle.fit.specs.Edges.{Left, stems_on}
 
 -- ---- positions
@@ -45,7 +45,7 @@ pub record KinEdge (old new : Edge) : Type 0 where
   pub serif : new.serif ≡ old.serif
   pub first : new.first ≡ old.first
   pub last : new.last ≡ old.last
-  pub blue : (new.blue ≡ old.blue) ⊎ (new.blue ≡ Blues.None)
+  pub blue : (new.blue ≡ old.blue) ⊎ (new.blue ≡ None)
 
 pub record Kin (old new : Axis) : Type 0 where
   pub len : new.len ≡ old.len

@@ -1,27 +1,26 @@
 // The steps of the row, each with all that comes behind it.
 ghost use Rattle.fit.specs.Edges.{then_guard, then_remaining, then_m, fit_edges};
 ghost use Rattle.fit_edges_words.specs.Row.{Begun, Ready, Accepted, Went};
+ghost use Rattle.fit.specs.Answer.{told_of, edges_of};
 
 use super::begin::joined_in;
 use super::hold::positions_hold;
-use axis::kinds::Link;
 use fit::numbers::{Numbers, is_asked};
-use fit::outcome::{FittedEdges, is_left, refused_edges};
+use fit::outcome::{FittedEdges, is_left};
 use gaps_words::find::find_in;
 use lowercase_m_words::hint::m_in;
-use refusals::order::{OUT_OF_RANGE, TOO_STEEP};
+use refusals::order::Refusal;
 use remaining::kinds::Progress;
 use remaining_pass_words::pass::pass_in;
 use words::edge::EDGE_WORDS;
 
 // The guard on edges that are accepted.
-fn guarded(words: &[i32], by: Numbers, count: usize, anchor: Link) -> FittedEdges
+fn guarded(words: &[i32], by: Numbers, count: usize, anchor: Option<u16>) -> FittedEdges
     requires { Accepted by count words.now }
-    ensures { Went (then_guard by count anchor words.now) result words.now words.now }
+    ensures { Went (then_guard by count anchor words.now) (told_of result) words.now words.now }
 {
     let gaps = find_in(words, by.least, by.linked);
     FittedEdges {
-        answer: 0,
         count,
         anchor,
         gaps,
@@ -29,26 +28,36 @@ fn guarded(words: &[i32], by: Numbers, count: usize, anchor: Link) -> FittedEdge
 }
 
 // The guard on edges whose positions are to be tested.
-fn then_guard(words: &[i32], by: Numbers, count: usize, anchor: Link) -> FittedEdges
+fn then_guard(
+    words: &[i32],
+    by: Numbers,
+    count: usize,
+    anchor: Option<u16>,
+) -> Result<FittedEdges, Refusal>
     requires { Ready by count anchor words.now }
-    ensures { Went (then_guard by count anchor words.now) result words.now words.now }
+    ensures { Went (then_guard by count anchor words.now) (edges_of result) words.now words.now }
 {
     if !positions_hold(words) {
-        return refused_edges(OUT_OF_RANGE);
+        return Err(Refusal::OutOfRange);
     }
-    guarded(words, by, count, anchor)
+    Ok(guarded(words, by, count, anchor))
 }
 
 // Remaining edges, where some are left, and then the guard.
-fn then_remaining(words: &mut [i32], by: Numbers, count: usize, anchor: Link) -> FittedEdges
+fn then_remaining(
+    words: &mut [i32],
+    by: Numbers,
+    count: usize,
+    anchor: Option<u16>,
+) -> Result<FittedEdges, Refusal>
     requires { Ready by count anchor words.old }
-    ensures { Went (then_remaining by count anchor words.old) result words.old words.new }
+    ensures { Went (then_remaining by count anchor words.old) (edges_of result) words.old words.new }
 {
     if !is_left(count, anchor) {
         return then_guard(words, by, count, anchor);
     }
     if !positions_hold(words) {
-        return refused_edges(OUT_OF_RANGE);
+        return Err(Refusal::OutOfRange);
     }
     let start = Progress {
         anchor,
@@ -58,22 +67,27 @@ fn then_remaining(words: &mut [i32], by: Numbers, count: usize, anchor: Link) ->
     let group = by.group;
     let past = pass_in(words, group, start);
     if past.beyond {
-        return refused_edges(TOO_STEEP);
+        return Err(Refusal::TooSteep);
     }
     let last = past.anchor;
-    guarded(words, by, count, last)
+    Ok(guarded(words, by, count, last))
 }
 
 // The m rule, where it is asked for, and then remaining edges.
-fn then_m(words: &mut [i32], by: Numbers, count: usize, anchor: Link) -> FittedEdges
+fn then_m(
+    words: &mut [i32],
+    by: Numbers,
+    count: usize,
+    anchor: Option<u16>,
+) -> Result<FittedEdges, Refusal>
     requires { Ready by count anchor words.old }
-    ensures { Went (then_m by count anchor words.old) result words.old words.new }
+    ensures { Went (then_m by count anchor words.old) (edges_of result) words.old words.new }
 {
     if !is_asked(by, words.len() / EDGE_WORDS) {
         return then_remaining(words, by, count, anchor);
     }
     if !positions_hold(words) {
-        return refused_edges(OUT_OF_RANGE);
+        return Err(Refusal::OutOfRange);
     }
     let group = by.group;
     m_in(words, group);
@@ -81,9 +95,9 @@ fn then_m(words: &mut [i32], by: Numbers, count: usize, anchor: Link) -> FittedE
 }
 
 // Fits edges that are not refused.
-pub fn fit_edges(words: &mut [i32], by: Numbers, standards: &[i32]) -> FittedEdges
+pub fn fit_edges(words: &mut [i32], by: Numbers, standards: &[i32]) -> Result<FittedEdges, Refusal>
     requires { Begun by standards.now words.old }
-    ensures { Went (fit_edges by standards.now words.old) result words.old words.new }
+    ensures { Went (fit_edges by standards.now words.old) (edges_of result) words.old words.new }
 {
     let passed = joined_in(words, by, standards);
     let anchor = passed.anchor;

@@ -1,5 +1,6 @@
 -- The touched points behind edge points and strong points: one was where an edge was and is where that is, or is where strong points puts it; and any two of
 -- them are in order.
+use Rattle.std.specs.Prelude.{None, Some}
 use mathlib.Core.Path.{◌≡◌, refl, sym, ap, ◌∙◌}
 use mathlib.Core.Bool.{Bool, true, false, ◌||◌}
 use mathlib.Core.List.{List, append-nil}
@@ -13,8 +14,7 @@ use Rattle.signed.proofs.Choices.{clash}
 use Rattle.signed.proofs.Signed.{to-≤ℤ, lt-or-le}
 use Rattle.signed.proofs.Order.{of-≤ℤ, of-<ℤ, of-≡}
 use Rattle.axis.specs.declared.edge.Axis.{Axis}
-use Rattle.axis.specs.declared.kinds.Link.{Link}
-use Rattle.axis.specs.declared.kinds.Link.TheVariants as Links
+use Rattle.axis.specs.Link.{Link}
 use Rattle.axis.specs.declared.segment.Segments.{Segments}
 use Rattle.axis.specs.Edge.{edge_at}
 use Rattle.fixed.specs.Point.{mul_fix}
@@ -147,9 +147,9 @@ module _ (snap alone : Bool) (axis : Axis) (t : Segments) (o : List ℤ) (s : Po
           not-touched after.touched p (get_or-eq_default after.touched 0 {n = p} (omega (arith, size.marks, tests.marks)))
 
       by : p < length s.currents → (l : Link) → last_mover alone axis t es p t.len ≡ l → Came snap axis s after p l → OnEdge axis o after.currents p
-      by h Links.None q r =
+      by h None q r =
           absurd (clash (is_touched after.touched p) (not-touched after.touched p (r.mark ∙ unmarked s.touched p (before.untouched p))) m)
-      by h (Links.To k) q r =
+      by h (Some k) q r =
           let f = last-mover alone axis t es p k q in
           let g = mover-at alone axis t es p f.segment k f.by in
           let was = before.on_edge p k h q in

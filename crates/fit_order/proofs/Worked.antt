@@ -1,4 +1,5 @@
 -- By hand: an outline that ends in order, what equal originals may end as, and what two of the hypotheses are there for.
+use Rattle.std.specs.Prelude.{None, Some}
 use mathlib.Core.Path.{◌≡◌, refl, subst}
 use mathlib.Core.Bool.{Bool, true, false}
 use mathlib.Core.List.{List, [], ◌∷◌}
@@ -15,7 +16,6 @@ use Rattle.axis.specs.declared.edge.Edge.{Edge}
 use Rattle.axis.specs.declared.edge.Axis.{Axis}
 use Rattle.axis.specs.declared.kinds.Dimension.TheVariants as Dimensions
 use Rattle.axis.specs.declared.kinds.Direction.TheVariants as Directions
-use Rattle.axis.specs.declared.kinds.Link.TheVariants.{None, To}
 use Rattle.axis.specs.declared.kinds.Mark.TheVariants.{Stem}
 use Rattle.axis.specs.declared.segment.Segment.{Segment}
 use Rattle.axis.specs.declared.segment.Segments.{Segments}
@@ -95,7 +95,7 @@ single i k = record {
   serif = None;
   first = i;
   last = i;
-  edge = To k;
+  edge = Some k;
   next = None;
 }
 
@@ -217,7 +217,7 @@ before snap = record { untouched = untouched; on_edge = on_edge; still = λ _. r
     untouched (suc (suc zero)) = refl
     untouched (suc (suc (suc p))) = refl
 
-    on_edge : (p k : ℕ) → p < 3 → last_mover false (axis_of pair) (table_of both) (2 ∷ []) p 2 ≡ To k → at originals p ≡ (edge_at (axis_of pair) k).opos
+    on_edge : (p k : ℕ) → p < 3 → last_mover false (axis_of pair) (table_of both) (2 ∷ []) p 2 ≡ Some k → at originals p ≡ (edge_at (axis_of pair) k).opos
     on_edge zero k h e = let q : 0 ≡ k = cc in subst (λ (x : ℕ). pos 0 ≡ (edge_at (axis_of pair) x).opos) q refl
     on_edge (suc zero) k h e = let z : ◌≡◌ {A = ℕ} 0 1 = cc in absurd (omega arith)
     on_edge (suc (suc zero)) k h e = let q : 1 ≡ k = cc in subst (λ (x : ℕ). pos 50 ≡ (edge_at (axis_of pair) x).opos) q refl

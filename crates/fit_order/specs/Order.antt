@@ -1,8 +1,8 @@
 -- The order of touched points behind edge points and strong points: what is needed of edges and points before, and what is gained. Every edge counts, done or not, since strong points lean on
 -- all of them. An outline is its points' font positions f, originals o, currents and touch marks, and the ends es of its contours.
+use Rattle.std.specs.Prelude.{Some}
 use Rattle.std.specs.Prelude.{◌≡◌, Bool, true, false, List, ℕ, ◌≤◌, ◌<◌, length, ℤ, pos, ◌≤ℤ◌, ◌<ℤ◌}
 use Rattle.axis.specs.declared.edge.Axis.{Axis}
-use Rattle.axis.specs.declared.kinds.Link.TheVariants as Links
 use Rattle.axis.specs.declared.segment.Segments.{Segments}
 use Rattle.axis.specs.Edge.{edge_at}
 use Rattle.axis.specs.Link.{is_linked}
@@ -33,7 +33,7 @@ pub record Before (snap alone : Bool) (axis : Axis) (t : Segments) (o : List ℤ
   -- no point is touched
   pub untouched : (p : ℕ) → is_touched s.touched p ≡ false
   -- a moved point's original is the original position of the edge that moves it last
-  pub on_edge : (p k : ℕ) → p < length s.currents → last_mover alone axis t es p t.len ≡ Links.To k → at o p ≡ (edge_at axis k).opos
+  pub on_edge : (p k : ℕ) → p < length s.currents → last_mover alone axis t es p t.len ≡ Some k → at o p ≡ (edge_at axis k).opos
   -- without snap every point's current is its original
   pub still : snap ≡ false → s.currents ≡ o
   -- and no point is moved by two segments

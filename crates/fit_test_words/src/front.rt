@@ -1,5 +1,6 @@
 // The tests in front: lengths, counts and words.
 ghost use Rattle.std.specs.Prelude.{◌≡◌, true, ◌&&◌, ◌%◌, eqb, length};
+ghost use Rattle.refusals.specs.Outcome.{answer_of};
 ghost use Rattle.refusals.specs.Refusal.{refusal};
 ghost use Rattle.edge_points.specs.Steps.{points};
 ghost use Rattle.words_tables_test.specs.Held.{Held};
@@ -11,11 +12,11 @@ ghost use Rattle.fit.specs.Fit.{told_size, fitted, fit_front};
 use axis::accept::{few_edges, few_segments};
 use fit::numbers::{NUMBER_WORDS, numbers_shown};
 use fit::outcome::TOLD_WORDS;
-use refusals::order::TOO_LONG;
+use refusals::order::Refusal;
 use strong_words::refuse::list_refusal;
 use words::edge::EDGE_WORDS;
 use words::segment::SEGMENT_WORDS;
-use words_call::shown::{NOT_WORDS, both};
+use words_call::shown::both;
 use words_tables_test::test::tables_shown;
 
 // Whether lengths are those of whole records, of the numbers, and of what is told.
@@ -38,23 +39,23 @@ pub fn fit_front(
     touched: &[u8],
     weak: &[u8],
     told: &[i32],
-) -> u8
+) -> Result<(), Refusal>
     requires { held ≡ true → Held segments.now edges.now }
-    ensures { result ≡ refusal (fit_front segments.now numbers.now fonts.now originals.now weak.now
+    ensures { answer_of result ≡ refusal (fit_front segments.now numbers.now fonts.now originals.now weak.now
         (fitted edges.now (points currents.now touched.now) told.now)) }
 {
     if !lengths_hold(segments.len(), edges.len(), numbers.len(), told.len()) {
-        return NOT_WORDS;
+        return Err(Refusal::NotWords);
     }
     let few = few_segments(segments.len() / SEGMENT_WORDS);
     let few = both(few, few_edges(edges.len() / EDGE_WORDS));
     let lists = list_refusal(fonts, originals, currents, touched, weak);
-    if !both(few, lists == 0) {
-        return TOO_LONG;
+    if !both(few, lists.is_ok()) {
+        return Err(Refusal::TooLong);
     }
     let shown = tables_shown(segments, edges, held);
     if both(shown, numbers_shown(numbers)) {
-        return 0;
+        return Ok(());
     }
-    NOT_WORDS
+    Err(Refusal::NotWords)
 }

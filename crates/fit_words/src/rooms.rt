@@ -1,5 +1,8 @@
 // The rooms for copies of what is changed: small ones where a glyph is small, since every place is cleared first.
 ghost use Rattle.std.specs.Prelude.{◌≡◌, true, ◌&&◌, ◌≤◌, length};
+ghost use Rattle.refusals.specs.Outcome.{answer_of};
+ghost use Rattle.weak_contour.specs.Limits.{most_points};
+ghost use Rattle.words.specs.Edge.{table_size};
 ghost use Rattle.edge_points.specs.Steps.{points};
 ghost use Rattle.fit.specs.Fit.{given, fitted};
 ghost use Rattle.fit_back_words.specs.Back.{Accepted, FitsIn};
@@ -7,6 +10,7 @@ ghost use Rattle.fit_words.specs.Rooms.{Small};
 
 use fit::numbers::Numbers;
 use fit_back_words::rooms::fit_in_rooms;
+use refusals::order::Refusal;
 use weak::limits::MOST_POINTS;
 use words::edge::TABLE_WORDS;
 
@@ -25,8 +29,8 @@ fn is_small(words: usize, count: usize) -> bool
     count <= FEW_POINTS
 }
 
-// Fits a small glyph.
-fn fit_small(
+// Fits an axis with rooms for so many words of edges and so many points.
+fn fit_in<const WORDS: usize, const POINTS: usize>(
     segments: &[i32],
     edges: &mut [i32],
     by: Numbers,
@@ -38,58 +42,20 @@ fn fit_small(
     weak: &[u8],
     ends: &[u16],
     told: &mut [i32],
-) -> u8
+) -> Result<(), Refusal>
     requires accepted { Accepted by (given segments.now standards.now fonts.now originals.now weak.now ends.now) (fitted edges.old (points currents.old touched.old) told.old) }
-    requires small { Small (length edges.old) (length currents.old) }
+    requires small { (length edges.old ≤ WORDS) × (length currents.old ≤ POINTS) }
+    requires sizes { (WORDS ≤ table_size) × (POINTS ≤ most_points) }
     ensures { FitsIn by (given segments.now standards.now fonts.now originals.now weak.now ends.now)
         (fitted edges.old (points currents.old touched.old) told.old)
-        result (fitted edges.new (points currents.new touched.new) told.new) }
+        (answer_of result) (fitted edges.new (points currents.new touched.new) told.new) }
 {
-    let mut room = [0i32; FEW_WORDS];
-    let mut spare = [0i32; FEW_POINTS];
-    let mut marks = [0u8; FEW_POINTS];
-    let n = edges.len();
-    let m = currents.len();
-    fit_in_rooms(
-        segments,
-        edges,
-        by,
-        standards,
-        fonts,
-        originals,
-        currents,
-        touched,
-        weak,
-        ends,
-        told,
-        &mut room[0..n],
-        &mut spare[0..m],
-        &mut marks[0..m],
-    )
-}
-
-// Fits any other.
-fn fit_large(
-    segments: &[i32],
-    edges: &mut [i32],
-    by: Numbers,
-    standards: &[i32],
-    fonts: &[i16],
-    originals: &[i32],
-    currents: &mut [i32],
-    touched: &mut [u8],
-    weak: &[u8],
-    ends: &[u16],
-    told: &mut [i32],
-) -> u8
-    requires { Accepted by (given segments.now standards.now fonts.now originals.now weak.now ends.now) (fitted edges.old (points currents.old touched.old) told.old) }
-    ensures { FitsIn by (given segments.now standards.now fonts.now originals.now weak.now ends.now)
-        (fitted edges.old (points currents.old touched.old) told.old)
-        result (fitted edges.new (points currents.new touched.new) told.new) }
-{
-    let mut room = [0i32; TABLE_WORDS];
-    let mut spare = [0i32; MOST_POINTS];
-    let mut marks = [0u8; MOST_POINTS];
+    let mut room = [0i32; WORDS];
+    let mut spare = [0i32; POINTS];
+    let mut marks = [0u8; POINTS];
+    let room = &mut room[..];
+    let spare = &mut spare[..];
+    let marks = &mut marks[..];
     let n = edges.len();
     let m = currents.len();
     fit_in_rooms(
@@ -123,18 +89,18 @@ pub fn fit_accepted(
     weak: &[u8],
     ends: &[u16],
     told: &mut [i32],
-) -> u8
+) -> Result<(), Refusal>
     requires { Accepted by (given segments.now standards.now fonts.now originals.now weak.now ends.now) (fitted edges.old (points currents.old touched.old) told.old) }
     ensures { FitsIn by (given segments.now standards.now fonts.now originals.now weak.now ends.now)
         (fitted edges.old (points currents.old touched.old) told.old)
-        result (fitted edges.new (points currents.new touched.new) told.new) }
+        (answer_of result) (fitted edges.new (points currents.new touched.new) told.new) }
 {
     if is_small(edges.len(), currents.len()) {
-        return fit_small(
+        return fit_in::<FEW_WORDS, FEW_POINTS>(
             segments, edges, by, standards, fonts, originals, currents, touched, weak, ends, told,
         );
     }
-    fit_large(
+    fit_in::<TABLE_WORDS, MOST_POINTS>(
         segments, edges, by, standards, fonts, originals, currents, touched, weak, ends, told,
     )
 }

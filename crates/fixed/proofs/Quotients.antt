@@ -1,4 +1,5 @@
 -- Fixed divide's two answers.
+use Rattle.std.specs.Prelude.{None, Some}
 use mathlib.Core.Path.{◌≡◌, refl, sym, ap, ◌∙◌}
 use mathlib.Core.Bool.{Bool, true, false, cond}
 use Prim.Native.Nat.{ℕ, zero, suc, ◌*◌, ◌≤◌, ◌<◌}
@@ -10,8 +11,7 @@ use Rattle.signed.specs.Range.{Between}
 use Rattle.signed.proofs.Signed.{nat_abs-is, one-zero}
 use Rattle.fixed.specs.Point.{rounded, div_fix}
 use Rattle.fixed.specs.Steps.{signed_like}
-use Rattle.fixed.specs.declared.point.Quotient.{Quotient}
-use Rattle.fixed.specs.declared.point.Quotient.TheVariants.{Of, TooSteep}
+use Rattle.fixed.specs.Quotient.{Quotient}
 use Rattle.fixed.specs.Divide.{steepest, too_steep, quotient_of}
 use Rattle.fixed.proofs.Rounding.{div-sign}
 
@@ -36,12 +36,12 @@ module _ (a b : ℤ) (q : ℕ) (h : 0 < nat_abs b) (e : q ≡ rounded (nat_abs a
   size_is = ap nat_abs (div-sign a b h) ∙ signed-size (rounded (nat_abs a * 65536) (nat_abs b)) a b ∙ sym e
 
   -- beyond the range
-  pub steep-of : steepest < q → TooSteep ≡ quotient_of a b
+  pub steep-of : steepest < q → None ≡ quotient_of a b
   unfolding quotient_of too_steep
   steep-of g = rw (lt-ltb steepest (nat_abs (div_fix a b)) (omega (arith, size_is)))
 
   -- and within it
-  pub not-steep-of : q ≤ steepest → Of (div_fix a b) ≡ quotient_of a b
+  pub not-steep-of : q ≤ steepest → Some (div_fix a b) ≡ quotient_of a b
   unfolding quotient_of too_steep
   not-steep-of g = rw (le-ltb steepest (nat_abs (div_fix a b)) (omega (arith, size_is)))
 
@@ -49,18 +49,18 @@ module _ (a b : ℤ) (q : ℕ) (h : 0 < nat_abs b) (e : q ≡ rounded (nat_abs a
   quotient_fits g = omega (arith, size_is, nat_abs-is (div_fix a b), one-zero (div_fix a b))
 
 -- ---- what an answer tells
-pub told-steep : (a b : ℤ) → quotient_of a b ≡ TooSteep → too_steep a b ≡ true
+pub told-steep : (a b : ℤ) → quotient_of a b ≡ None → too_steep a b ≡ true
 unfolding quotient_of
 told-steep a b e = by (too_steep a b) refl e
   where
-    by : (t : Bool) → too_steep a b ≡ t → cond t TooSteep (Of (div_fix a b)) ≡ TooSteep → too_steep a b ≡ true
+    by : (t : Bool) → too_steep a b ≡ t → cond t None (Some (div_fix a b)) ≡ None → too_steep a b ≡ true
     by true q h = q
     by false q h = absurd (let n : ◌≡◌ {A = ℕ} 0 1 = cc in omega arith)
 
-pub told_of : (a b z : ℤ) → quotient_of a b ≡ Of z → (too_steep a b ≡ false) × (z ≡ div_fix a b)
+pub told_of : (a b z : ℤ) → quotient_of a b ≡ Some z → (too_steep a b ≡ false) × (z ≡ div_fix a b)
 unfolding quotient_of
 told_of a b z e = by (too_steep a b) refl e
   where
-    by : (t : Bool) → too_steep a b ≡ t → cond t TooSteep (Of (div_fix a b)) ≡ Of z → (too_steep a b ≡ false) × (z ≡ div_fix a b)
+    by : (t : Bool) → too_steep a b ≡ t → cond t None (Some (div_fix a b)) ≡ Some z → (too_steep a b ≡ false) × (z ≡ div_fix a b)
     by true q h = absurd (let n : ◌≡◌ {A = ℕ} 0 1 = cc in omega arith)
     by false q h = (q, let w : z ≡ div_fix a b = cc in w)

@@ -4,3 +4,5 @@ pub mod Divide
 pub mod Pixel
 pub mod Width
 pub mod Steps
+-- what fixed divide answers: the quotient, or none where its magnitude is beyond 2,147,483,647
+pub mod Quotient

@@ -19,7 +19,7 @@ pub fn magnitude(x: i64) -> u64
 }
 
 // n / d rounded to nearest, a half upward.
-fn rounded_quotient(n: u64, d: u64) -> u64
+pub fn rounded_quotient(n: u64, d: u64) -> u64
     requires { (0 < d) × (n ≤ 4611686018427387904) × (d ≤ 4611686018427387904) }
     ensures { result ≡ rounded n d }
 {
@@ -27,7 +27,7 @@ fn rounded_quotient(n: u64, d: u64) -> u64
 }
 
 // The magnitude of x in 32 bits, the lowest number's too.
-fn size(x: i32) -> u32
+pub fn size(x: i32) -> u32
     ensures { result ≡ nat_abs x }
 {
     magnitude(x as i64) as u32
@@ -49,7 +49,7 @@ fn rounded_product(x: u32, y: u32) -> u64
 }
 
 // A magnitude with the sign of a product or a quotient of a and b: below zero where exactly one of them is.
-fn with_sign(size: u64, a: i32, b: i32) -> i64
+pub fn with_sign(size: u64, a: i64, b: i64) -> i64
     requires { size ≤ 4611686018427387904 }
     ensures { result ≡ signed_like size a b }
 {
@@ -70,7 +70,7 @@ fn with_sign(size: u64, a: i32, b: i32) -> i64
 pub fn wide_mul(a: i32, b: i32) -> i64
     ensures { result ≡ mul_fix a b }
 {
-    with_sign(rounded_product(size(a), size(b)), a, b)
+    with_sign(rounded_product(size(a), size(b)), a as i64, b as i64)
 }
 
 // The magnitude of the fixed quotient of every pair with a divisor.
@@ -87,7 +87,7 @@ pub fn wide_div(a: i32, b: i32) -> i64
     requires { 0 < nat_abs b }
     ensures { result ≡ div_fix a b }
 {
-    with_sign(quotient_size(a, b), a, b)
+    with_sign(quotient_size(a, b), a as i64, b as i64)
 }
 
 // FreeType's FT_MulFix, where the answer fits: a·b / 65,536 rounded to nearest, halves away from zero.
@@ -101,24 +101,17 @@ pub fn fixed_mul(a: i32, b: i32) -> i32
 // The largest magnitude of a quotient that is an answer.
 const MOST_QUOTIENT: u64 = 2147483647;
 
-// What fixed divide answers: the quotient, or that its magnitude is beyond 2,147,483,647.
-#[derive(Clone, Copy)]
-pub enum Quotient {
-    Of(i32),
-    TooSteep,
-}
-
 // FreeType's FT_DivFix, an answer or too steep: a·65,536 / b rounded to nearest, halves away from zero.
-pub fn fixed_div(a: i32, b: i32) -> Quotient
+pub fn fixed_div(a: i32, b: i32) -> Option<i32>
     requires { 0 < nat_abs b }
     ensures { result ≡ quotient_of a b }
 {
     let size = quotient_size(a, b);
     if MOST_QUOTIENT < size {
-        return Quotient::TooSteep;
+        return None;
     }
-    let answer = with_sign(size, a, b) as i32;
-    Quotient::Of(answer)
+    let answer = with_sign(size, a as i64, b as i64) as i32;
+    Some(answer)
 }
 
 // c · units per em / 2048, fraction dropped.

@@ -29,9 +29,7 @@ fn standards_hold(standards: &[i32]) -> bool
         return false;
     }
     let mut last: i32 = 0;
-    let mut i = 0;
-    while i < standards.len() {
-        let standard = standards[i];
+    for &standard in standards {
         if standard <= last {
             return false;
         }
@@ -39,7 +37,6 @@ fn standards_hold(standards: &[i32]) -> bool
             return false;
         }
         last = standard;
-        i += 1;
     }
     true
 }
@@ -69,14 +66,12 @@ fn nearest_place(standards: &[i32], width: u64) -> usize
     ensures { (result < length standards.now) × Nearest standards.now width (get_or standards.now result (pos 0)) }
 {
     let mut best = 0;
-    let mut i = 1;
-    while i < standards.len() {
+    for i in 1..standards.len() {
         let new = distance(width, standards[i]);
         let old = distance(width, standards[best]);
         if new < old {
             best = i;
         }
-        i += 1;
     }
     best
 }

@@ -1,18 +1,10 @@
 // Multiply-divide (the Rust's `fixed_mul_div`), in 64 bits for every triple with a divisor.
 ghost use Rattle.std.specs.Prelude.{◌≡◌, ◌*◌, ◌≤◌, ◌<◌, nat_abs, ◌*ℤ◌};
 ghost use Rattle.signed.specs.Range.{Between};
-ghost use Rattle.fixed.specs.Point.{rounded, rounded_z};
-ghost use Rattle.fixed.specs.Steps.{signed_like};
+ghost use Rattle.fixed.specs.Point.{rounded_z};
 ghost use Rattle.fixed_ratio.specs.Ratio.{mul_div, most_product};
 
-use fixed::point::magnitude;
-
-// The magnitude of x in 32 bits, the lowest number's too.
-fn size(x: i32) -> u32
-    ensures { result ≡ nat_abs x }
-{
-    magnitude(x as i64) as u32
-}
+use fixed::point::{magnitude, rounded_quotient, size, with_sign};
 
 // x·y from 16-bit halves: four products in 32 bits, and the only 64-bit ones are by powers of two, shifts.
 fn wide_product(x: u32, y: u32) -> u64
@@ -29,37 +21,11 @@ fn wide_product(x: u32, y: u32) -> u64
     (high as u64) * 4294967296 + (middle as u64) * 65536 + (low as u64)
 }
 
-// A magnitude with the sign of a product or a quotient of a and b: below zero where exactly one of them is.
-fn with_sign(size: u64, a: i64, b: i64) -> i64
-    requires { size ≤ most_product }
-    ensures { result ≡ signed_like size a b }
-{
-    let plain = size as i64;
-    if a < 0 {
-        if b < 0 {
-            return plain;
-        }
-        return 0 - plain;
-    }
-    if b < 0 {
-        return 0 - plain;
-    }
-    plain
-}
-
 // a·b.
 fn product(a: i32, b: i32) -> i64
     ensures { result ≡ (a *ℤ b) }
 {
     with_sign(wide_product(size(a), size(b)), a as i64, b as i64)
-}
-
-// n / d rounded to nearest, a half upward.
-fn rounded_quotient(n: u64, d: u64) -> u64
-    requires { (0 < d) × (n ≤ most_product) × (d ≤ most_product) }
-    ensures { result ≡ rounded n d }
-{
-    (2 * n + d) / (2 * d)
 }
 
 // n / d rounded to nearest, halves away from zero.

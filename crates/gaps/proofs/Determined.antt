@@ -1,4 +1,5 @@
 -- The outcome of the call: that the promise determines it, for what is refused, how few pairs are counted, and what an accepted axis is told of its pairs.
+use Rattle.std.specs.Prelude.{None, Some}
 use mathlib.Core.Path.{◌≡◌, refl, sym, ap, subst, ◌∙◌}
 use mathlib.Core.Bool.{Bool, true, false, not}
 use mathlib.Core.Logic.{⊎_elim}
@@ -12,14 +13,13 @@ use Rattle.refusals.proofs.Answers.{none-refused, worked}
 use Rattle.refusals.proofs.Tests.{no-refusal}
 use Rattle.signed.proofs.Choices.{clash}
 use Rattle.signed.proofs.Signed.{lt-or-le}
-use Rattle.axis.specs.declared.kinds.Link.{Link}
-use Rattle.axis.specs.declared.kinds.Link.TheVariants as Links
+use Rattle.axis.specs.Link.{Link}
 use Rattle.axis.specs.declared.edge.Axis.{Axis}
 use Rattle.axis.specs.Handed.{EdgesAccepted}
 use Rattle.axis.specs.Limits.{most_units}
 use Rattle.axis.specs.Link.{is_linked}
 use Rattle.axis.specs.Refusals.{inside}
-use Rattle.gaps.specs.declared.find.Gaps.{Gaps}
+use Rattle.gaps.specs.Answer.{Gaps}
 use Rattle.gaps.specs.Gaps.{is_done, not_done, IsPair, lost_gap, lost_stem, lost, no_pair, pair_to, ends, counted, first_of, pair_at, found_to, found_in}
 use Rattle.gaps.specs.Gaps.{gaps_tests, refused_by, lost_gaps, FindsLostGaps, LostPair, FirstLost}
 use Rattle.gaps.proofs.Ends.{starts_first, ends-pair, pair_ends, first_ends, gap-or-stem, lost-is, is_lost}
@@ -96,9 +96,9 @@ module _ (axis : Axis) (least : ℤ) (linked : Bool) where
     lost-counted i j l = ltb-true 0 _ (some_first ∙ by (first_of either axis.len) (first_is either axis.len))
       where
         by : (f : Link) → First either axis.len f → is_linked f ≡ true
-        by Links.None f =
+        by None f =
             absurd (clash _ ((f.none refl).fails j l.pair.below) (pair_ends linked axis (lost least axis) i j l.pair (is_lost least linked axis i j l)))
-        by (Links.To k) f = refl
+        by (Some k) f = refl
 
     -- counts of 0: no pair of the kind is lost, none is named, every edge is done
     none_of : (kind : ℕ → ℕ → Bool) → counted (ends linked axis kind) axis.len ≡ 0 → (i j : ℕ) → IsPair linked axis i j → kind i j ≡ false
@@ -125,8 +125,8 @@ module _ (axis : Axis) (least : ℤ) (linked : Bool) where
     nothing-named z s = names ∙ by (first_of either axis.len) (sym some_first ∙ (λ x. ltb 0 (z x + s x)))
       where
         by : (f : Link) → is_linked f ≡ ltb 0 0 → pair_at linked axis f ≡ no_pair
-        by Links.None h = refl
-        by (Links.To k) h = absurd (clash (is_linked (Links.To k)) h refl)
+        by None h = refl
+        by (Some k) h = absurd (clash (is_linked (Some k)) h refl)
 
     -- a count above 0: the named pair is lost, and it is the first
     pub first-named : 0 < (lost_gaps axis least linked).count + (lost_gaps axis least linked).stems → FirstLost least linked axis (lost_gaps axis least linked).pair
@@ -150,5 +150,5 @@ module _ (axis : Axis) (least : ℤ) (linked : Bool) where
             }
 
         by : (f : Link) → First either axis.len f → is_linked f ≡ true → FirstLost least linked axis (pair_at linked axis f)
-        by Links.None f q = absurd (clash (is_linked Links.None) refl q)
-        by (Links.To j) f q = at j (f.some j refl)
+        by None f q = absurd (clash (is_linked None) refl q)
+        by (Some j) f q = at j (f.some j refl)

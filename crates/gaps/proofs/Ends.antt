@@ -1,4 +1,5 @@
 -- Which edges end lost pairs: each pair has one edge that ends it, so that as many are lost as edges end one.
+use Rattle.std.specs.Prelude.{None, Some}
 use mathlib.Core.Path.{◌≡◌, refl, sym, ap, subst, ◌∙◌}
 use mathlib.Core.Bool.{Bool, true, false, cond, not, ◌&&◌, ◌||◌}
 use mathlib.Core.Logic.{⊎_elim}
@@ -10,8 +11,7 @@ use lib.Signed.{le_z}
 use Rattle.refusals.proofs.Tests.{and_first, and_second}
 use Rattle.signed.proofs.Choices.{clash}
 use Rattle.signed.proofs.Signed.{signed, lt-or-le, is-≤ℤ, to-le-true}
-use Rattle.axis.specs.declared.kinds.Link.{Link}
-use Rattle.axis.specs.declared.kinds.Link.TheVariants as Links
+use Rattle.axis.specs.Link.{Link}
 use Rattle.axis.specs.declared.edge.Axis.{Axis}
 use Rattle.axis.proofs.Tests.{and-false}
 use Rattle.gaps.specs.Gaps.{
@@ -36,10 +36,10 @@ use Rattle.gaps.proofs.Losing.{gone-is, is-gone}
 
 -- ---- pairs, by the edge that ends them
 module _ (linked : Bool) (axis : Axis) where
-  pub pair-starts : (i j : ℕ) → IsPair linked axis i j → before linked axis j ≡ Links.To i
+  pub pair-starts : (i j : ℕ) → IsPair linked axis i j → before linked axis j ≡ Some i
   pair-starts i j g = is_last (counts linked axis) j i (record { order = g.order; passes = g.first; between = g.between })
 
-  pub starts-pair : (i j : ℕ) → j < axis.len → counts linked axis j ≡ true → before linked axis j ≡ Links.To i → IsPair linked axis i j
+  pub starts-pair : (i j : ℕ) → j < axis.len → counts linked axis j ≡ true → before linked axis j ≡ Some i → IsPair linked axis i j
   starts-pair i j h d e =
       let s = (last_is (counts linked axis) j).some i e in record { order = s.order; below = h; first = s.passes; second = d; between = s.between }
 
@@ -47,7 +47,7 @@ module _ (linked : Bool) (axis : Axis) where
   pub one-pair : (i k j : ℕ) → IsPair linked axis i j → IsPair linked axis k j → i ≡ k
   one-pair i k j g h = same_index (sym (pair-starts i j g) ∙ pair-starts k j h)
     where
-      same_index : Links.To i ≡ Links.To k → i ≡ k
+      same_index : Some i ≡ Some k → i ≡ k
       same_index e = cc
 
   -- of two pairs the one that ends first starts first
@@ -63,7 +63,7 @@ module _ (linked : Bool) (axis : Axis) where
   -- the one that edge j ends
   pub record Ended (kind : ℕ → ℕ → Bool) (j : ℕ) : Type 0 where
     pub i : ℕ
-    pub named : pair_to linked axis j ≡ pair_from axis j (Links.To i)
+    pub named : pair_to linked axis j ≡ pair_from axis j (Some i)
     pub pair : IsPair linked axis i j
     pub is : kind i j ≡ true
 
@@ -74,8 +74,8 @@ module _ (linked : Bool) (axis : Axis) where
     ends-pair j h e = by (before linked axis j) refl (and_second (counts linked axis j) _ e)
       where
         by : (l : Link) → before linked axis j ≡ l → kind_from kind j (before linked axis j) ≡ true → Ended kind j
-        by Links.None q w = absurd (clash false refl (subst (λ (x : Link). kind_from kind j x ≡ true) q w))
-        by (Links.To i) q w = record {
+        by None q w = absurd (clash false refl (subst (λ (x : Link). kind_from kind j x ≡ true) q w))
+        by (Some i) q w = record {
           i = i;
           named = ap (pair_from axis j) q;
           pair = starts-pair i j h (and_first (counts linked axis j) _ e) q;
@@ -109,8 +109,8 @@ gap-or-stem least linked axis j = by (counts linked axis j) (before linked axis 
     by : (c : Bool) (l : Link)
         → cond (c && kind_from (lost_gap least axis) j l) 1 0 + cond (c && kind_from (lost_stem axis) j l) 1 0 ≡ cond (c && kind_from (lost least axis) j l) 1 0
     by false l = refl
-    by true Links.None = refl
-    by true (Links.To i) = kinds (is_stem axis i j) (le_z least (width_before axis i j)) (is_gone axis i j)
+    by true None = refl
+    by true (Some i) = kinds (is_stem axis i j) (le_z least (width_before axis i j)) (is_gone axis i j)
 
 -- ---- lost pairs, as facts
 -- by whether a pair is a stem, was wide enough, and is gone

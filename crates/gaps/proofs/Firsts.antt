@@ -1,4 +1,5 @@
 -- How many numbers pass a test, and the first of them.
+use Rattle.std.specs.Prelude.{None, Some}
 use mathlib.Core.Path.{◌≡◌, refl, sym}
 use mathlib.Core.Bool.{Bool, true, false, cond}
 use mathlib.Core.Logic.{⊎_elim}
@@ -8,8 +9,7 @@ use native.Mathlib.Numerals.{add-one}
 use native.Mathlib.Omega.{arith}
 use borrow.Author.Tests.{lt-ltb}
 use lib.Dec.{ltb}
-use Rattle.axis.specs.declared.kinds.Link.{Link}
-use Rattle.axis.specs.declared.kinds.Link.TheVariants as Links
+use Rattle.axis.specs.Link.{Link}
 use Rattle.axis.specs.Link.{is_linked}
 use Rattle.gaps.specs.Gaps.{counted, or_else, first_of}
 
@@ -18,7 +18,7 @@ pub counted-more : (p : ℕ → Bool) (n : ℕ) → counted p (n + 1) ≡ cond (
 unfolding counted
 counted-more p n = rw add-one
 
-pub first_more : (p : ℕ → Bool) (n : ℕ) → first_of p (n + 1) ≡ or_else (first_of p n) (cond (p n) (Links.To n) Links.None)
+pub first_more : (p : ℕ → Bool) (n : ℕ) → first_of p (n + 1) ≡ or_else (first_of p n) (cond (p n) (Some n) None)
 unfolding first_of
 first_more p n = rw add-one
 
@@ -77,11 +77,11 @@ counted-first p zero = refl
 counted-first p (suc n) = by (p n) (first_of p n) (counted-first p n)
   where
     by : (t : Bool) (l : Link) → ltb 0 (counted p n) ≡ is_linked l
-        → ltb 0 (cond t (counted p n + 1) (counted p n)) ≡ is_linked (or_else l (cond t (Links.To n) Links.None))
-    by true Links.None h = lt-ltb 0 (counted p n + 1) (omega arith)
-    by true (Links.To k) h = lt-ltb 0 (counted p n + 1) (omega arith)
-    by false Links.None h = h
-    by false (Links.To k) h = h
+        → ltb 0 (cond t (counted p n + 1) (counted p n)) ≡ is_linked (or_else l (cond t (Some n) None))
+    by true None h = lt-ltb 0 (counted p n + 1) (omega arith)
+    by true (Some k) h = lt-ltb 0 (counted p n + 1) (omega arith)
+    by false None h = h
+    by false (Some k) h = h
 
 -- ---- what the first is
 -- k passes, and no number in front of it does
@@ -96,10 +96,10 @@ pub record NonePasses (p : ℕ → Bool) (n : ℕ) : Type 0 where
 
 -- what l is: the first of n numbers
 pub record First (p : ℕ → Bool) (n : ℕ) (l : Link) : Type 0 where
-  pub none : l ≡ Links.None → NonePasses p n
-  pub some : (k : ℕ) → l ≡ Links.To k → IsFirst p n k
+  pub none : l ≡ None → NonePasses p n
+  pub some : (k : ℕ) → l ≡ Some k → IsFirst p n k
 
-no-link : {k : ℕ} → Links.To k ≡ Links.None → ⊥
+no-link : {k : ℕ} → Some k ≡ None → ⊥
 no-link e = let z : ◌≡◌ {A = ℕ} 0 1 = cc in omega arith
 
 pub first_is : (p : ℕ → Bool) (n : ℕ) → First p n (first_of p n)
@@ -110,18 +110,18 @@ first_is p (suc n) = by (p n) refl (first_of p n) (first_is p n)
     one_more : NonePasses p n → p n ≡ false → (i : ℕ) → i < suc n → p i ≡ false
     one_more f q i h = ⊎_elim (λ (e : i ≡ n). rw e q) (λ (g : i < n). f.fails i g) (eq-or-lt_of_le (omega arith))
 
-    by : (t : Bool) → p n ≡ t → (l : Link) → First p n l → First p (suc n) (or_else l (cond t (Links.To n) Links.None))
-    by t q (Links.To j) f = record {
+    by : (t : Bool) → p n ≡ t → (l : Link) → First p n l → First p (suc n) (or_else l (cond t (Some n) None))
+    by t q (Some j) f = record {
       none = λ e. absurd (no-link e);
       some =
-          λ (k : ℕ) (e : Links.To j ≡ Links.To k). let g = f.some k e in record { below = omega (arith, g.below); passes = g.passes; earlier = g.earlier };
+          λ (k : ℕ) (e : Some j ≡ Some k). let g = f.some k e in record { below = omega (arith, g.below); passes = g.passes; earlier = g.earlier };
     }
-    by true q Links.None f = record {
+    by true q None f = record {
       none = λ e. absurd (no-link e);
       some =
-          λ (k : ℕ) (e : Links.To n ≡ Links.To k). let w : n ≡ k = cc in rw (sym w) (record { below = omega arith; passes = q; earlier = (f.none refl).fails });
+          λ (k : ℕ) (e : Some n ≡ Some k). let w : n ≡ k = cc in rw (sym w) (record { below = omega arith; passes = q; earlier = (f.none refl).fails });
     }
-    by false q Links.None f = record {
+    by false q None f = record {
       none = λ e. record { fails = one_more (f.none refl) q };
       some = λ k e. absurd (no-link (sym e));
     }

@@ -1,4 +1,5 @@
 -- The last number below another that passes a test: where the pair that an edge ends starts.
+use Rattle.std.specs.Prelude.{None, Some}
 use mathlib.Core.Path.{◌≡◌, refl, sym}
 use mathlib.Core.Bool.{Bool, true, false, cond}
 use mathlib.Core.Logic.{⊎_elim}
@@ -8,8 +9,7 @@ use native.Mathlib.Numerals.{add-one}
 use native.Mathlib.Omega.{arith}
 use Rattle.signed.proofs.Choices.{clash}
 use Rattle.signed.proofs.Signed.{lt-or-le}
-use Rattle.axis.specs.declared.kinds.Link.{Link}
-use Rattle.axis.specs.declared.kinds.Link.TheVariants as Links
+use Rattle.axis.specs.Link.{Link}
 use Rattle.gaps.specs.Gaps.{last_of}
 
 module _ (p : ℕ → Bool) where
@@ -18,7 +18,7 @@ module _ (p : ℕ → Bool) where
   unfolding last_of
   last-skip n h = rw (add-one, h)
 
-  pub last_step : (n : ℕ) → p n ≡ true → last_of p (n + 1) ≡ Links.To n
+  pub last_step : (n : ℕ) → p n ≡ true → last_of p (n + 1) ≡ Some n
   unfolding last_of
   last_step n h = rw (add-one, h)
 
@@ -31,10 +31,10 @@ module _ (p : ℕ → Bool) where
 
   -- what l is: the last of n numbers
   pub record Last (n : ℕ) (l : Link) : Type 0 where
-    pub none : l ≡ Links.None → (k : ℕ) → k < n → p k ≡ false
-    pub some : (i : ℕ) → l ≡ Links.To i → IsLast n i
+    pub none : l ≡ None → (k : ℕ) → k < n → p k ≡ false
+    pub some : (i : ℕ) → l ≡ Some i → IsLast n i
 
-  no-link : {k : ℕ} → Links.To k ≡ Links.None → ⊥
+  no-link : {k : ℕ} → Some k ≡ None → ⊥
   no-link e = let z : ◌≡◌ {A = ℕ} 0 1 = cc in omega arith
 
   pub last_is : (n : ℕ) → Last n (last_of p n)
@@ -42,11 +42,11 @@ module _ (p : ℕ → Bool) where
   last_is zero = record { none = λ e k h. absurd (omega arith); some = λ i e. absurd (no-link (sym e)) }
   last_is (suc n) = by (p n) refl (last_is n)
     where
-      by : (t : Bool) → p n ≡ t → Last n (last_of p n) → Last (suc n) (cond t (Links.To n) (last_of p n))
+      by : (t : Bool) → p n ≡ t → Last n (last_of p n) → Last (suc n) (cond t (Some n) (last_of p n))
       by true q b = record {
         none = λ e. absurd (no-link e);
         some =
-            λ (i : ℕ) (e : Links.To n ≡ Links.To i). let w : n ≡ i = cc in rw (sym w)
+            λ (i : ℕ) (e : Some n ≡ Some i). let w : n ≡ i = cc in rw (sym w)
             (record { order = omega arith; passes = q; between = λ k g h. absurd (omega arith) });
       }
       by false q b = record {
@@ -61,18 +61,18 @@ module _ (p : ℕ → Bool) where
       }
 
   -- it is no other
-  pub is_last : (n i : ℕ) → IsLast n i → last_of p n ≡ Links.To i
+  pub is_last : (n i : ℕ) → IsLast n i → last_of p n ≡ Some i
   is_last n i d = by (last_of p n) (last_is n)
     where
-      by : (l : Link) → Last n l → l ≡ Links.To i
-      by Links.None b = absurd (clash _ (b.none refl i d.order) d.passes)
-      by (Links.To k) b =
+      by : (l : Link) → Last n l → l ≡ Some i
+      by None b = absurd (clash _ (b.none refl i d.order) d.passes)
+      by (Some k) b =
           let s = b.some k refl in
           ⊎_elim
           (λ (h : k < i). absurd (clash _ (s.between i h d.order) d.passes))
           (λ (h : i ≤ k).
           ⊎_elim
-          (λ (e : i ≡ k). λ x. Links.To (sym e x))
+          (λ (e : i ≡ k). λ x. Some (sym e x))
           (λ (g : i < k). absurd (clash _ (d.between k g s.order) s.passes))
           (eq-or-lt_of_le h))
           (lt-or-le k i)

@@ -1,4 +1,5 @@
 -- What a user relies on: where nothing is lost, wide gaps and all stems have a pixel row, and at width 0 edges keep their order.
+use Rattle.std.specs.Prelude.{None, Some}
 use mathlib.Core.Path.{◌≡◌, refl, sym, ap, subst, ◌∙◌}
 use mathlib.Core.Bool.{Bool, true, false, not, ◌&&◌}
 use mathlib.Core.Logic.{⊎_elim}
@@ -10,8 +11,7 @@ use lib.Signed.{lt_z, le_z, ◌≤ℤ◌, ◌<ℤ◌}
 use Rattle.refusals.proofs.Tests.{and_second}
 use Rattle.signed.proofs.Choices.{clash}
 use Rattle.signed.proofs.Signed.{signed, is-<ℤ, to-le-true, below, atmost, lt-or-le}
-use Rattle.axis.specs.declared.kinds.Link.{Link}
-use Rattle.axis.specs.declared.kinds.Link.TheVariants as Links
+use Rattle.axis.specs.Link.{Link}
 use Rattle.axis.specs.declared.edge.Axis.{Axis}
 use Rattle.axis.specs.declared.edge.Edge.{Edge}
 use Rattle.axis.specs.Changes.{Extent, nothing, position, place, zone, taking, OnlyAxis}
@@ -140,8 +140,8 @@ module _ (axis : Axis) (linked : Bool) (r : DoneRise axis) (e : (lost_gaps axis 
     where
       by : ((k : ℕ) → k ≤ n → i < k → k < axis.len → counts linked axis i ≡ true → counts linked axis k ≡ true → KeepsOrder axis i k)
           → (l : Link) → before linked axis j ≡ l → Last (counts linked axis) j l → KeepsOrder axis i j
-      by rest Links.None q l = absurd (clash _ (l.none refl i o) d)
-      by rest (Links.To k) q l =
+      by rest None q l = absurd (clash _ (l.none refl i o) d)
+      by rest (Some k) q l =
           let last = l.some k refl in
           let pair = starts-pair linked axis k j b f q in
           let under = last.order in

@@ -1,4 +1,5 @@
 -- The search edge by edge: what is found with one edge more, and each way round the loop.
+use Rattle.std.specs.Prelude.{None, Some, MatchOption}
 use mathlib.Core.Path.{◌≡◌, refl, sym, ap, subst, ◌∙◌}
 use mathlib.Core.Bool.{Bool, true, false, cond, not, ◌&&◌, ◌||◌}
 use Prim.Native.Nat.{ℕ, ◌+◌, ◌≤◌, ◌<◌}
@@ -9,8 +10,7 @@ use Rattle.refusals.proofs.Tests.{and_second}
 use Rattle.signed.proofs.Choices.{cond-true, cond-false}
 use Rattle.signed.proofs.Reading.{turned_lt}
 use Rattle.signed.proofs.Signed.{same, signed}
-use Rattle.axis.specs.declared.kinds.Link.{Link}
-use Rattle.axis.specs.declared.kinds.Link.TheVariants as Links
+use Rattle.axis.specs.Link.{Link}
 use Rattle.axis.specs.declared.edge.Edge.{Edge}
 use Rattle.axis.specs.declared.edge.Axis.{Axis}
 use Rattle.axis.specs.Accepted.{AxisWithin}
@@ -19,7 +19,7 @@ use Rattle.axis.specs.Limits.{most_edges, most_pos}
 use Rattle.axis.specs.Link.{is_linked, index_or}
 use Rattle.axis.proofs.Tests.{and-false}
 use Rattle.gaps.specs.declared.pair.Pair.{Pair}
-use Rattle.gaps.specs.declared.find.Gaps.{Gaps}
+use Rattle.gaps.specs.Answer.{Gaps}
 use Rattle.gaps.specs.Gaps.{
   is_done,
   not_done,
@@ -107,9 +107,9 @@ undone : (linked : Bool) (axis : Axis) (i : ℕ) → is_done axis i ≡ false �
 undone linked axis i h = let a = asked_for linked (edge_at axis i).link in ap (λ (t : Bool). a && t) h ∙ and-false a
 
 -- one index, or none
-or-none : (l : Link) → or_else l Links.None ≡ l
-or-none Links.None = refl
-or-none (Links.To k) = refl
+or-none : (l : Link) → or_else l None ≡ l
+or-none None = refl
+or-none (Some k) = refl
 
 module _ (least : ℤ) (linked : Bool) (axis : Axis) (i : ℕ) where
   -- what edge i ends, by the kinds of its pair
@@ -127,7 +127,7 @@ module _ (least : ℤ) (linked : Bool) (axis : Axis) (i : ℕ) where
   more_by g s l d = record {
     answer = 0;
     count = cond g (counted gaps i + 1) (counted gaps i);
-    pair = pair_at linked axis (or_else (first_of either i) (cond l (Links.To i) Links.None));
+    pair = pair_at linked axis (or_else (first_of either i) (cond l (Some i) None));
     stems = cond s (counted stems i + 1) (counted stems i);
     not_done = cond d (counted (not_done axis) i + 1) (counted (not_done axis) i);
   }
@@ -184,12 +184,12 @@ module _ (least : ℤ) (linked : Bool) (axis : Axis) (i : ℕ) where
   -- ---- one that counts adds the pair that it ends
   -- the pair that is named with it
   named_more : i < axis.len → (p : Pair) → pair_to linked axis i ≡ p
-      → pair_at linked axis (or_else (first_of either i) (Links.To i)) ≡ named_of (pair_at linked axis (first_of either i)) p
+      → pair_at linked axis (or_else (first_of either i) (Some i)) ≡ named_of (pair_at linked axis (first_of either i)) p
   named_more h p e = by (first_of either i) (first_is either i)
     where
-      by : (l : Link) → First either i l → pair_at linked axis (or_else l (Links.To i)) ≡ named_of (pair_at linked axis l) p
-      by Links.None f = e
-      by (Links.To k) f =
+      by : (l : Link) → First either i l → pair_at linked axis (or_else l (Some i)) ≡ named_of (pair_at linked axis l) p
+      by None f = e
+      by (Some k) f =
           let one = f.some k refl in
           let z = (ends-pair linked axis (lost least axis) k (omega (arith, h, one.below)) one.passes).named in
           sym (cond-true (is_linked (pair_to linked axis k).first) _ _ (ap (λ (x : Pair). is_linked x.first) z))
@@ -224,11 +224,11 @@ module _ (least : ℤ) (linked : Bool) (axis : Axis) (i : ℕ) where
     step-at : (l : Link) → before linked axis i ≡ l
         → found_to least linked axis (i + 1) ≡ with_pair least (found_to least linked axis i) (index_or i l) (edge_at axis (index_or i l)) i (edge_at axis i)
     unfolding found_to pair_to lost lost_gap lost_stem
-    step-at Links.None q =
-        ends-kinds Links.None q ∙ none-lost false ∙ sym (cond-false (gone_of (edge_at axis i) (edge_at axis i)) _ _ (self-stays (edge_at axis i)))
-    step-at (Links.To k) q =
-        ends-kinds (Links.To k) q
-        ∙ more-is h (pair_from axis i (Links.To k)) (ap (pair_from axis i) q) (is_gone axis k i) (is_stem axis k i) (le_z least (width_before axis k i))
+    step-at None q =
+        ends-kinds None q ∙ none-lost false ∙ sym (cond-false (gone_of (edge_at axis i) (edge_at axis i)) _ _ (self-stays (edge_at axis i)))
+    step-at (Some k) q =
+        ends-kinds (Some k) q
+        ∙ more-is h (pair_from axis i (Some k)) (ap (pair_from axis i) q) (is_gone axis k i) (is_stem axis k i) (le_z least (width_before axis k i))
 
     pub found-step : (k : ℕ) → k ≡ index_or i (before linked axis i)
         → found_to least linked axis (i + 1) ≡ with_pair least (found_to least linked axis i) k (edge_at axis k) i (edge_at axis i)
@@ -254,7 +254,7 @@ found-few least linked axis i h = record {
 
 module _ (least : ℤ) (linked : Bool) (axis : Axis) where
   -- before the first
-  pub search-starts : Searched least linked axis 0 Links.None (refused_by 0)
+  pub search-starts : Searched least linked axis 0 None (refused_by 0)
   unfolding last_of found_to counted first_of
   search-starts = record { reached = omega arith; last_is = refl; found_is = refl }
 
@@ -297,7 +297,7 @@ module _ (least : ℤ) (linked : Bool) (axis : Axis) where
 
         -- and one that counts adds its pair
         pub search-steps : t ≡ true → (k : ℕ) (new : Gaps) → k ≡ index_or i last → new ≡ with_pair least found k (edge_at axis k) i (edge_at axis i)
-            → Searched least linked axis (i + 1) (Links.To i) new
+            → Searched least linked axis (i + 1) (Some i) new
         search-steps q k new ke ne =
             let c = counts-is ∙ q in
             record {
@@ -313,8 +313,13 @@ module _ (least : ℤ) (linked : Bool) (axis : Axis) where
       starts-inside k e = let q = by last s.last_is in omega arith
         where
           by : (l : Link) → l ≡ before linked axis i → index_or i l ≤ i
-          by Links.None e = omega arith
-          by (Links.To k) e = let o = ((last_is (counts linked axis) i).some k (sym e)).order in omega arith
+          by None e = omega arith
+          by (Some k) e = let o = ((last_is (counts linked axis) i).some k (sym e)).order in omega arith
+
+-- what the library's `map_or` reads of a link, or i where there is none
+pub read-or : (l : Link) (i r : ℕ) → MatchOption l (r ≡ i) (λ (k : ℕ). r ≡ k) → r ≡ index_or i l
+read-or None i r h = h
+read-or (Some k) i r h = h
 
 -- an edge of an axis that is accepted
 pub placed_at : (axis : Axis) (i : ℕ) → AxisWithin most_pos axis → i < axis.len → Placed i (edge_at axis i)

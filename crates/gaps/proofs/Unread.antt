@@ -1,4 +1,5 @@
 -- What the call does not read: of edges that are accepted it reads which are done, their links and where they are, so that marks and zones make no difference.
+use Rattle.std.specs.Prelude.{None, Some}
 use mathlib.Core.Path.{◌≡◌, refl, ap, ◌∙◌}
 use mathlib.Core.Bool.{Bool, cond, not, ◌&&◌, ◌||◌}
 use mathlib.Core.List.{[], ◌∷◌}
@@ -8,8 +9,7 @@ use lib.Dec.{leb}
 use lib.IntN.{ℤ, pos, ◌-ℤ◌}
 use lib.Signed.{le_z}
 use Rattle.refusals.specs.Refusal.{◌unless◌, too_long, bad_parameter, bad_index, out_of_range, refusal}
-use Rattle.axis.specs.declared.kinds.Link.{Link}
-use Rattle.axis.specs.declared.kinds.Link.TheVariants as Links
+use Rattle.axis.specs.Link.{Link}
 use Rattle.axis.specs.declared.edge.Edge.{Edge}
 use Rattle.axis.specs.declared.edge.Axis.{Axis}
 use Rattle.axis.specs.Edge.{edge_at}
@@ -18,7 +18,7 @@ use Rattle.axis.specs.Link.{links_to}
 use Rattle.axis.specs.Mark.{Blind}
 use Rattle.axis.specs.Refusals.{inside}
 use Rattle.axis.proofs.Alike.{AlikeAxis, at-alike, alike_len, indices-alike, numbers-alike, answered-alike, blind}
-use Rattle.gaps.specs.declared.find.Gaps.{Gaps}
+use Rattle.gaps.specs.Answer.{Gaps}
 use Rattle.gaps.specs.Gaps.{
   is_done,
   not_done,
@@ -64,12 +64,12 @@ module _ (p q : ℕ → Bool) where
   first-same : (n : ℕ) → ((i : ℕ) → i < n → p i ≡ q i) → first_of p n ≡ first_of q n
   unfolding first_of
   first-same zero h = refl
-  first-same (suc n) h = let f = first-same n (λ i l. h i (omega arith)) in λ k. or_else (f k) (cond (h n (omega arith) k) (Links.To n) Links.None)
+  first-same (suc n) h = let f = first-same n (λ i l. h i (omega arith)) in λ k. or_else (f k) (cond (h n (omega arith) k) (Some n) None)
 
   last-same : (n : ℕ) → ((i : ℕ) → i < n → p i ≡ q i) → last_of p n ≡ last_of q n
   unfolding last_of
   last-same zero h = refl
-  last-same (suc n) h = let r = last-same n (λ i l. h i (omega arith)) in λ k. cond (h n (omega arith) k) (Links.To n) (r k)
+  last-same (suc n) h = let r = last-same n (λ i l. h i (omega arith)) in λ k. cond (h n (omega arith) k) (Some n) (r k)
 
 -- ---- what is found
 module _ (least : ℤ) (linked : Bool) (a b : Axis) (s : SameRead a b) where
@@ -96,12 +96,12 @@ module _ (least : ℤ) (linked : Bool) (a b : Axis) (s : SameRead a b) where
     lost-same = λ k. gap_same k || stem-same k
 
   from-same : (j : ℕ) (l : Link) → j < a.len → Last (counts linked a) j l → pair_from a j l ≡ pair_from b j l
-  from-same j Links.None h f = refl
-  from-same j (Links.To i) h f =
+  from-same j None h f = refl
+  from-same j (Some i) h f =
       let o = (f.some i refl).order in
       λ k. record {
-        first = Links.To i;
-        second = Links.To j;
+        first = Some i;
+        second = Some j;
         before = s.opos j h k -ℤ s.opos i (omega arith) k;
         after = s.pos j h k -ℤ s.pos i (omega arith) k;
       }
@@ -115,12 +115,12 @@ module _ (least : ℤ) (linked : Bool) (a b : Axis) (s : SameRead a b) where
   ends_same x y e j h = λ k. counts_same j h k && (by (before linked a j) (last_is (counts linked a) j) ∙ ap (kind_from y j) (before_same j (omega arith))) k
     where
       by : (l : Link) → Last (counts linked a) j l → kind_from x j l ≡ kind_from y j l
-      by Links.None f = refl
-      by (Links.To i) f = let o = (f.some i refl).order in e i j (omega arith) h
+      by None f = refl
+      by (Some i) f = let o = (f.some i refl).order in e i j (omega arith) h
 
   at_same : (l : Link) → First (ends linked a (lost least a)) a.len l → pair_at linked a l ≡ pair_at linked b l
-  at_same Links.None f = refl
-  at_same (Links.To j) f = to_same j (f.some j refl).below
+  at_same None f = refl
+  at_same (Some j) f = to_same j (f.some j refl).below
 
   -- the same is found
   pub found-same : found_in least linked a ≡ found_in least linked b

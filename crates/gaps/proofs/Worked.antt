@@ -1,4 +1,5 @@
 -- Pixel rows and lost pairs worked out by hand.
+use Rattle.std.specs.Prelude.{None, Some}
 use mathlib.Core.Path.{◌≡◌, refl}
 use mathlib.Core.Bool.{Bool, true, false}
 use mathlib.Core.List.{List, [], ◌∷◌}
@@ -9,13 +10,12 @@ use Rattle.axis.specs.declared.edge.Axis.{Axis}
 use Rattle.axis.specs.declared.edge.Edge.{Edge}
 use Rattle.axis.specs.declared.kinds.Dimension.TheVariants as Dimensions
 use Rattle.axis.specs.declared.kinds.Direction.TheVariants as Directions
-use Rattle.axis.specs.declared.kinds.Link.TheVariants.{None, To}
 use Rattle.axis.specs.declared.kinds.Mark.TheVariants as Marks
 use Rattle.axis.specs.Edge.{fresh_edge, joined_to, placed, finished}
 use Rattle.axis.specs.Link.{links_to}
 use Rattle.axis.specs.Refusals.{link_holds, blue_holds, every, edge_indices, edge_numbers, edges_indices, edges_numbers}
 use Rattle.refusals.specs.Refusal.{refusal}
-use Rattle.gaps.specs.declared.find.Gaps.{Gaps}
+use Rattle.gaps.specs.Answer.{Gaps}
 use Rattle.gaps.specs.Gaps.{row_from, rows, gone, lost_gap, lost_stem, lost, last_of, no_pair, pair_to, ends, counted, first_of, found_to, found_in, gaps_tests}
 
 -- ---- pixel rows: their centres are .. -96, -32, 32, 96 ..
@@ -59,7 +59,7 @@ abbrev set : ℕ → ℕ → Edge
 set o p = finished (over o (pos p))
 
 abbrev linked_to : ℕ → Edge → Edge
-linked_to k e = joined_to e (To k) None
+linked_to k e = joined_to e (Some k) None
 
 -- an axis of some edges
 abbrev axis_of : List Edge → Axis
@@ -80,7 +80,7 @@ abbrev losing : ℕ → ℕ → ℕ → ℕ → ℕ → ℤ → ℤ → Gaps
 losing gaps stems undone i j before after = record {
   answer = 0;
   count = gaps;
-  pair = record { first = To i; second = To j; before = before; after = after };
+  pair = record { first = Some i; second = Some j; before = before; after = after };
   stems = stems;
   not_done = undone;
 }

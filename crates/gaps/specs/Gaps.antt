@@ -1,18 +1,18 @@
 -- The guard: a pair is two edges that count with no edge that counts between them in the table, a stem where one names the other by its link, and else a gap; it is lost where it
 -- is turned, or has no pixel row though it was open, a gap only if it was wide enough.
+use Rattle.std.specs.Prelude.{None, Some}
 use Rattle.std.specs.Prelude.{◌≡◌, Bool, true, false, cond, not, ◌&&◌, ◌||◌, List, [], ◌∷◌, ◌⊎◌, ℕ, zero, suc, ◌+◌, ◌≤◌, ◌<◌, ℤ, pos, ◌+ℤ◌, ◌-ℤ◌, ◌*ℤ◌, ◌≤ℤ◌, ◌<ℤ◌}
 use Rattle.std.specs.Int.Signed.{lt_z, le_z, shr_z}
 use Rattle.signed.specs.Equality.{eq_z}
 use Rattle.refusals.specs.Refusal.{Test, ◌unless◌, bad_parameter, refusal, answered}
-use Rattle.axis.specs.declared.kinds.Link.{Link}
-use Rattle.axis.specs.declared.kinds.Link.TheVariants as Links
+use Rattle.axis.specs.Link.{Link}
 use Rattle.axis.specs.declared.edge.Axis.{Axis}
 use Rattle.axis.specs.Edge.{edge_at}
 use Rattle.axis.specs.Limits.{most_units}
 use Rattle.axis.specs.Link.{is_linked, links_to}
 use Rattle.axis.specs.Refusals.{inside, edges_short, edges_indexed, edges_in_range}
 use Rattle.gaps.specs.declared.pair.Pair.{Pair}
-use Rattle.gaps.specs.declared.find.Gaps.{Gaps}
+use Rattle.gaps.specs.Answer.{Gaps}
 
 -- ---- pixel rows
 -- the centre of pixel row k
@@ -90,8 +90,8 @@ lost least axis i j = lost_gap least axis i j || lost_stem axis i j
 -- ---- the pair that an edge ends
 -- the last number below n that passes a test, or none
 unfoldable pub last_of : (ℕ → Bool) → ℕ → Link
-last_of p zero = Links.None
-last_of p (suc n) = cond (p n) (Links.To n) (last_of p n)
+last_of p zero = None
+last_of p (suc n) = cond (p n) (Some n) (last_of p n)
 
 -- the last edge that counts in front of edge j, or none
 abbrev pub before : Bool → Axis → ℕ → Link
@@ -99,17 +99,17 @@ before linked axis j = last_of (counts linked axis) j
 
 -- no pair
 abbrev pub no_pair : Pair
-no_pair = record { first = Links.None; second = Links.None; before = pos 0; after = pos 0 }
+no_pair = record { first = None; second = None; before = pos 0; after = pos 0 }
 
 -- the pair from edge i, where there is one, to edge j
 abbrev pub pair_from : Axis → ℕ → Link → Pair
-pair_from axis j Links.None = no_pair
-pair_from axis j (Links.To i) = record { first = Links.To i; second = Links.To j; before = width_before axis i j; after = width_after axis i j }
+pair_from axis j None = no_pair
+pair_from axis j (Some i) = record { first = Some i; second = Some j; before = width_before axis i j; after = width_after axis i j }
 
 -- whether it is of some kind
 abbrev pub kind_from : (ℕ → ℕ → Bool) → ℕ → Link → Bool
-kind_from kind j Links.None = false
-kind_from kind j (Links.To i) = kind i j
+kind_from kind j None = false
+kind_from kind j (Some i) = kind i j
 
 -- the pair that edge j ends, counting as it does: from the last edge in front of it that counts
 unfoldable pub pair_to : Bool → Axis → ℕ → Pair
@@ -127,18 +127,18 @@ counted p (suc n) = cond (p n) (counted p n + 1) (counted p n)
 
 -- one index, or another where there is none
 abbrev pub or_else : Link → Link → Link
-or_else Links.None other = other
-or_else (Links.To k) other = Links.To k
+or_else None other = other
+or_else (Some k) other = Some k
 
 -- the first number below n that passes a test, or none
 unfoldable pub first_of : (ℕ → Bool) → ℕ → Link
-first_of p zero = Links.None
-first_of p (suc n) = or_else (first_of p n) (cond (p n) (Links.To n) Links.None)
+first_of p zero = None
+first_of p (suc n) = or_else (first_of p n) (cond (p n) (Some n) None)
 
 -- the pair that an edge ends, where there is one
 abbrev pub pair_at : Bool → Axis → Link → Pair
-pair_at linked axis Links.None = no_pair
-pair_at linked axis (Links.To j) = pair_to linked axis j
+pair_at linked axis None = no_pair
+pair_at linked axis (Some j) = pair_to linked axis j
 
 -- what is found among the first n edges: how many of them end a lost gap, the lost pair of either kind that ends first, how many end a lost stem, and how many are not done
 unfoldable pub found_to : ℤ → Bool → Axis → ℕ → Gaps
@@ -209,6 +209,6 @@ pub record KeepsOrder (axis : Axis) (i j : ℕ) : Type 0 where
 pub record FirstLost (least : ℤ) (linked : Bool) (axis : Axis) (p : Pair) : Type 0 where
   pub i : ℕ
   pub j : ℕ
-  pub named : p ≡ pair_from axis j (Links.To i)
+  pub named : p ≡ pair_from axis j (Some i)
   pub lost : LostPair least linked axis i j
   pub first : (k l : ℕ) → LostPair least linked axis k l → i ≤ k

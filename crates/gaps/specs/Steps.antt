@@ -1,13 +1,13 @@
 -- What the steps of the search promise each other.
+use Rattle.std.specs.Prelude.{Some}
 use Rattle.std.specs.Prelude.{Bool, cond, ◌||◌, ℕ, ◌+◌, ◌≤◌, ◌<◌, ℤ, ◌-ℤ◌}
 use Rattle.std.specs.Int.Signed.{le_z}
 use Rattle.signed.specs.Range.{Between}
-use Rattle.axis.specs.declared.kinds.Link.TheVariants as Links
 use Rattle.axis.specs.declared.edge.Edge.{Edge}
 use Rattle.axis.specs.Limits.{most_edges, most_units, most_pos}
 use Rattle.axis.specs.Link.{is_linked, links_to}
 use Rattle.gaps.specs.declared.pair.Pair.{Pair}
-use Rattle.gaps.specs.declared.find.Gaps.{Gaps}
+use Rattle.gaps.specs.Answer.{Gaps}
 use Rattle.gaps.specs.Gaps.{gone}
 
 -- an edge in a place of the table, its positions within document 01's limits
@@ -24,7 +24,7 @@ pub record Few (found : Gaps) : Type 0 where
 
 -- the pair from an edge in place i to one in place j, whether it is a stem, and whether it is gone
 abbrev pub pair_of : ℕ → Edge → ℕ → Edge → Pair
-pair_of i e j f = record { first = Links.To i; second = Links.To j; before = f.opos -ℤ e.opos; after = f.pos -ℤ e.pos }
+pair_of i e j f = record { first = Some i; second = Some j; before = f.opos -ℤ e.opos; after = f.pos -ℤ e.pos }
 
 abbrev pub stem_of : ℕ → Edge → ℕ → Edge → Bool
 stem_of i e j f = links_to e.link j || links_to f.link i

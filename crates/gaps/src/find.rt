@@ -1,23 +1,22 @@
 // The call: every pair of an axis in the order of the table.
 ghost use Rattle.std.specs.Prelude.{◌≡◌};
+ghost use Rattle.refusals.specs.Outcome.{answer_of};
 ghost use Rattle.refusals.specs.Refusal.{refusal};
 ghost use Rattle.axis.specs.Accepted.{AxisWithin};
 ghost use Rattle.axis.specs.Limits.{most_pos};
 ghost use Rattle.gaps.specs.Gaps.{asked_for, gaps_tests, found_in, FindsLostGaps};
 ghost use Rattle.gaps.specs.Steps.{Placed, Few, with_pair};
+ghost use Rattle.gaps.specs.Answer.{found_of, gaps_of};
 
 use super::pair::{NO_PAIR, Pair, is_gone, is_stem, named, pair_of};
 use axis::accept::{edges_indices, edges_numbers, few_edges, is_inside};
 use axis::edge::{Axis, Edge};
-use axis::kinds::Link;
 use axis::limits::MOST_UNITS;
-use axis::link::{index_or, is_linked};
-use refusals::order::{BAD_INDEX, BAD_PARAMETER, OUT_OF_RANGE, TOO_LONG, or_refused};
+use refusals::order::{Refusal, require};
 
-// An answer, 0 or the refusal, the count of lost gaps, the first lost pair or none, the count of lost stems, and that of edges that are not done.
+// The count of lost gaps, the first lost pair or none, the count of lost stems, and that of edges that are not done.
 #[derive(Clone, Copy)]
 pub struct Gaps {
-    pub answer: u8,
     pub count: usize,
     pub pair: Pair,
     pub stems: usize,
@@ -26,7 +25,6 @@ pub struct Gaps {
 
 // Nothing found.
 pub const NOTHING: Gaps = Gaps {
-    answer: 0,
     count: 0,
     pair: NO_PAIR,
     stems: 0,
@@ -34,19 +32,19 @@ pub const NOTHING: Gaps = Gaps {
 };
 
 // Whether a link is asked for: with `linked` there must be one.
-pub fn asked_for(link: Link, linked: bool) -> bool
+pub fn asked_for(link: Option<u16>, linked: bool) -> bool
     ensures { result ≡ asked_for linked link }
 {
     if linked {
-        return is_linked(link);
+        return link.is_some();
     }
     true
 }
 
 // What is found with the pair from edge i to edge j.
 pub fn with_pair(found: Gaps, i: usize, first: Edge, j: usize, second: Edge, least: i32) -> Gaps
-    requires { Few found × Placed i first × Placed j second }
-    ensures { result ≡ with_pair least found i first j second }
+    requires { Few (found_of found) × Placed i first × Placed j second }
+    ensures { found_of result ≡ with_pair least (found_of found) i first j second }
 {
     let new = pair_of(i, first, j, second);
     if !is_gone(new.before, first.pos, second.pos) {
@@ -77,10 +75,10 @@ pub fn with_pair(found: Gaps, i: usize, first: Edge, j: usize, second: Edge, lea
 // The lost pairs of the axis: each edge that counts ends one that starts at the last edge in front of it that counts.
 fn find_lost(axis: Axis, least: i32, linked: bool) -> Gaps
     requires { AxisWithin most_pos axis }
-    ensures { result ≡ found_in least linked axis }
+    ensures { found_of result ≡ found_in least linked axis }
 {
     let n = axis.len;
-    let mut last = Link::None;
+    let mut last = None;
     let mut found = NOTHING;
     for i in 0..n {
         let edge = axis.edges[i];
@@ -92,31 +90,28 @@ fn find_lost(axis: Axis, least: i32, linked: bool) -> Gaps
         if !asked_for(link, linked) {
             continue;
         }
-        let k = index_or(last, i); // the first edge that counts is no width behind itself, which loses nothing
+        let k = last.map_or(i, usize::from); // the first edge that counts is no width behind itself, which loses nothing
         found = with_pair(found, k, axis.edges[k], i, edge, least);
-        last = Link::To(i as u16);
+        last = Some(i as u16);
     }
     found
 }
 
-// The refusal of the call, or 0.
-fn gaps_refusal(axis: Axis, least: i32) -> u8
-    ensures { result ≡ refusal (gaps_tests axis least) }
+// The refusal of the call, if there is one.
+fn gaps_refusal(axis: Axis, least: i32) -> Result<(), Refusal>
+    ensures { answer_of result ≡ refusal (gaps_tests axis least) }
 {
-    let answer = or_refused(0, few_edges(axis.len), TOO_LONG);
-    let answer = or_refused(answer, is_inside(least, 0, MOST_UNITS), BAD_PARAMETER);
-    let answer = or_refused(answer, edges_indices(axis), BAD_INDEX);
-    or_refused(answer, edges_numbers(axis), OUT_OF_RANGE)
+    require(few_edges(axis.len), Refusal::TooLong)?;
+    require(is_inside(least, 0, MOST_UNITS), Refusal::BadParameter)?;
+    require(edges_indices(axis), Refusal::BadIndex)?;
+    require(edges_numbers(axis), Refusal::OutOfRange)
 }
 
 // Finds the gaps between placed edges, of those that were at least so wide, and the stems, that fitting has turned or left without a pixel row, and counts the edges that are
 // not done, which it does not guard. A refusal, 1 to 4, finds nothing.
-pub fn lost_gaps(axis: Axis, least: i32, linked: bool) -> Gaps
-    ensures { FindsLostGaps axis least linked result }
+pub fn lost_gaps(axis: Axis, least: i32, linked: bool) -> Result<Gaps, Refusal>
+    ensures { FindsLostGaps axis least linked (gaps_of result) }
 {
-    let answer = gaps_refusal(axis, least);
-    if 0 < answer {
-        return Gaps { answer, ..NOTHING };
-    }
-    find_lost(axis, least, linked)
+    gaps_refusal(axis, least)?;
+    Ok(find_lost(axis, least, linked))
 }

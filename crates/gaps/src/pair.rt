@@ -7,22 +7,20 @@ ghost use Rattle.gaps.specs.Gaps.{row_from, gone};
 ghost use Rattle.gaps.specs.Steps.{Placed, pair_of, named_of};
 
 use axis::edge::Edge;
-use axis::kinds::Link;
-use axis::link::{is_linked, links_to};
 
 // The two edges, or none, and how far the second is behind the first, before fitting and after it.
 #[derive(Clone, Copy)]
 pub struct Pair {
-    pub first: Link,
-    pub second: Link,
+    pub first: Option<u16>,
+    pub second: Option<u16>,
     pub before: i32,
     pub after: i32,
 }
 
 // No pair.
 pub const NO_PAIR: Pair = Pair {
-    first: Link::None,
-    second: Link::None,
+    first: None,
+    second: None,
     before: 0,
     after: 0,
 };
@@ -33,22 +31,22 @@ pub fn pair_of(i: usize, first: Edge, j: usize, second: Edge) -> Pair
     ensures { result ≡ pair_of i first j second }
 {
     Pair {
-        first: Link::To(i as u16),
-        second: Link::To(j as u16),
+        first: Some(i as u16),
+        second: Some(j as u16),
         before: second.opos - first.opos,
         after: second.pos - first.pos,
     }
 }
 
 // Whether the pair from edge i to edge j is a stem, by their links.
-pub fn is_stem(i: usize, first: Link, j: usize, second: Link) -> bool
+pub fn is_stem(i: usize, first: Option<u16>, j: usize, second: Option<u16>) -> bool
     requires { (i < most_edges) × (j < most_edges) }
     ensures { result ≡ (links_to first j || links_to second i) }
 {
-    if links_to(first, j as u16) {
+    if first == Some(j as u16) {
         return true;
     }
-    links_to(second, i as u16)
+    second == Some(i as u16)
 }
 
 // The first pixel row whose centre is not below p.
@@ -78,7 +76,7 @@ pub fn named(old: Pair, new: Pair) -> Pair
     ensures { result ≡ named_of old new }
 {
     let from = old.first;
-    if is_linked(from) {
+    if from.is_some() {
         return old;
     }
     new

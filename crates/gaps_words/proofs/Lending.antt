@@ -9,7 +9,7 @@ use lib.IntN.{ℤ, pos}
 use Rattle.refusals.specs.Refusal.{bad_parameter, refusal, or_refused}
 use Rattle.axis.specs.Limits.{most_edges, most_units}
 use Rattle.axis.specs.Refusals.{inside}
-use Rattle.gaps.specs.declared.find.Gaps.{Gaps}
+use Rattle.gaps.specs.Answer.{Gaps}
 use Rattle.gaps.specs.Gaps.{found_to, found_in, gaps_tests, refused_by, lost_gaps}
 use Rattle.words.specs.Field.{choice_of}
 use Rattle.words_shape.specs.Shape.{is_in, choice}

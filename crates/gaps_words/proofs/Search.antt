@@ -9,7 +9,7 @@ use Rattle.axis.specs.declared.edge.Axis.{Axis}
 use Rattle.axis.specs.Edge.{edge_at}
 use Rattle.axis.specs.Accepted.{AxisWithin}
 use Rattle.axis.specs.Limits.{most_pos}
-use Rattle.gaps.specs.declared.find.Gaps.{Gaps}
+use Rattle.gaps.specs.Answer.{Gaps}
 use Rattle.gaps.specs.Gaps.{is_done, asked_for, found_in}
 use Rattle.gaps.specs.Steps.{Placed, Few, with_pair}
 use Rattle.gaps.proofs.Turns.{found-few, placed_at}

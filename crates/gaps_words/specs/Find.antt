@@ -1,7 +1,7 @@
 -- The guard over lent edges, which are not written, the least width, and whether links are asked for; seven places are lent, for the count of lost gaps, the two edges of the first lost
 -- pair and its widths, the count of lost stems, and that of edges that are not done.
 use Rattle.std.specs.Prelude.{List, ℕ, ℤ, pos}
-use Rattle.gaps.specs.declared.find.Gaps.{Gaps}
+use Rattle.gaps.specs.Answer.{Gaps}
 use Rattle.gaps.specs.Gaps.{lost_gaps}
 use Rattle.words.specs.Field.{choice_of, link_word}
 use Rattle.words_shape.specs.Shape.{is_in, choice}

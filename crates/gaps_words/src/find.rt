@@ -1,5 +1,6 @@
 // The guard over lent edges: the edges are tested and searched where their words stand.
 ghost use Rattle.std.specs.Prelude.{◌≡◌};
+ghost use Rattle.refusals.specs.Outcome.{answer_of};
 ghost use Rattle.signed.specs.Range.{Between};
 ghost use Rattle.axis.specs.Accepted.{AxisWithin};
 ghost use Rattle.axis.specs.Limits.{most_units, most_pos};
@@ -8,15 +9,14 @@ ghost use Rattle.gaps.specs.Steps.{gone_of};
 ghost use Rattle.words_call.specs.Lent.{edges_of};
 ghost use Rattle.words_edge.specs.Whole.{Whole};
 ghost use Rattle.gaps_words.specs.Find.{GapsLent};
+ghost use Rattle.gaps.specs.Answer.{found_of};
 
 use axis::accept::is_inside;
 use axis::edge::Edge;
-use axis::kinds::Link;
 use axis::limits::MOST_UNITS;
-use axis::link::index_or;
 use gaps::find::{Gaps, NOTHING, asked_for, with_pair};
 use gaps::pair::is_gone;
-use refusals::order::{BAD_PARAMETER, or_refused};
+use refusals::order::{Refusal, require};
 use words::edge::EDGE_WORDS;
 use words::field::{choice_of, link_word};
 use words::word::count_word;
@@ -36,10 +36,10 @@ fn is_lost(first: Edge, second: Edge) -> bool
 // The lost pairs of lent edges: each edge that counts ends one that starts at the last edge in front of it that counts.
 pub fn find_in(words: &[i32], least: i32, linked: bool) -> Gaps
     requires { Whole words.now × AxisWithin most_pos (edges_of words.now) }
-    ensures { result ≡ found_in least linked (edges_of words.now) }
+    ensures { found_of result ≡ found_in least linked (edges_of words.now) }
 {
     let n = words.len() / EDGE_WORDS;
-    let mut last = Link::None;
+    let mut last = None;
     let mut found = NOTHING;
     for i in 0..n {
         let edge = read_edge(words, i);
@@ -51,8 +51,8 @@ pub fn find_in(words: &[i32], least: i32, linked: bool) -> Gaps
         if !asked_for(link, linked) {
             continue;
         }
-        let k = index_or(last, i); // the first edge that counts is no width behind itself, which loses nothing
-        last = Link::To(i as u16);
+        let k = last.map_or(i, usize::from); // the first edge that counts is no width behind itself, which loses nothing
+        last = Some(i as u16);
         let front = read_edge(words, k);
         if !is_lost(front, edge) {
             continue;
@@ -75,16 +75,13 @@ pub fn lend_gaps(
     after: &mut i32,
     stems: &mut i32,
     not_done: &mut i32,
-) -> u8
+) -> Result<(), Refusal>
     ensures { GapsLent edges.now least linked
         (count.old, (first.old, (second.old, (before.old, (after.old, (stems.old, not_done.old))))))
-        result (count.new, (first.new, (second.new, (before.new, (after.new, (stems.new, not_done.new)))))) }
+        (answer_of result) (count.new, (first.new, (second.new, (before.new, (after.new, (stems.new, not_done.new)))))) }
 {
-    let own = or_refused(0, is_inside(least, 0, MOST_UNITS), BAD_PARAMETER);
-    let answer = edges_test(edges, is_in(linked, CHOICE), own, true, true);
-    if 0 < answer {
-        return answer;
-    }
+    let own = require(is_inside(least, 0, MOST_UNITS), Refusal::BadParameter);
+    edges_test(edges, is_in(linked, CHOICE), own, true, true)?;
     let found = find_in(edges, least, choice_of(linked));
     let pair = found.pair;
     let from = pair.first;
@@ -98,5 +95,5 @@ pub fn lend_gaps(
     *second = link_word(to);
     *first = link_word(from);
     *count = count_word(found.count);
-    0
+    Ok(())
 }

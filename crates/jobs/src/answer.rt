@@ -95,17 +95,7 @@ const DIFFERS: i32 = -2;
 
 // Whether the first n words of a list are the first m of another.
 fn same_words(one: &[i32], n: usize, two: &[i32], m: usize) -> bool {
-    if n != m {
-        return false;
-    }
-    let mut i = 0;
-    while i < n {
-        if word_at(one, i) != word_at(two, i) {
-            return false;
-        }
-        i += 1;
-    }
-    true
+    n == m && (0..n).all(|i| word_at(one, i) == word_at(two, i))
 }
 
 // Writes the library's answer to a word list where the calls by value give the same, and else the word that begins no answer.

@@ -5,9 +5,7 @@ use axis::limits::{MOST_EDGES, MOST_SEGMENTS};
 use tool_lines::limits::MOST_NUMBERS;
 use words::word::{count_at, count_word};
 use words_shape::element::{Element, skip_elements};
-use words_shape::field::{
-    BYTE, CHOICE, DIRECTION, INDEX, LINK, Place, Range, SHORT, WORD, skip_field,
-};
+use words_shape::field::{BYTE, CHOICE, DIRECTION, INDEX, LINK, Range, SHORT, WORD, skip_field};
 
 // Segments or edges that a job can count, more than a call accepts.
 const MOST_COUNTED: usize = 65535;
@@ -95,17 +93,23 @@ fn format_of(call: usize) -> u64 {
 }
 
 // The place behind a list: its count, at most so much, and its elements, of which a job carries at most so many.
-fn skip_list(words: &[i32], at: usize, kind: Element, most: usize, carried: usize) -> Place {
+fn skip_list(
+    words: &[i32],
+    at: usize,
+    kind: Element,
+    most: usize,
+    carried: usize,
+) -> Option<usize> {
     let high = count_word(most);
     let counts = Range { low: 0, high };
-    let Place::At(next) = skip_field(words, at, counts) else {
-        return Place::Nowhere;
+    let Some(next) = skip_field(words, at, counts) else {
+        return None;
     };
     skip_elements(words, next, kind, least(count_at(words, at), carried))
 }
 
 // The place behind an item.
-fn skip_item(words: &[i32], at: usize, item: u64) -> Place {
+fn skip_item(words: &[i32], at: usize, item: u64) -> Option<usize> {
     match item {
         1 => skip_field(words, at, WORD),
         2 => skip_field(words, at, INDEX),
@@ -132,7 +136,7 @@ fn skip_item(words: &[i32], at: usize, item: u64) -> Place {
             MOST_NUMBERS,
             MOST_NUMBERS,
         ),
-        _ => Place::Nowhere,
+        _ => None,
     }
 }
 
@@ -141,8 +145,9 @@ pub fn job_of(words: &[i32]) -> usize {
     let call = count_at(words, 0);
     let mut items = format_of(call);
     let mut here = 1;
+    // a while: each turn takes a digit off the number
     while 0 < items {
-        let Place::At(next) = skip_item(words, here, items % 16) else {
+        let Some(next) = skip_item(words, here, items % 16) else {
             return 0;
         };
         here = next;

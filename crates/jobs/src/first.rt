@@ -6,6 +6,7 @@ ghost use Rattle.jobs.specs.Limits.{most_lent};
 use axis::edge::Edge;
 use axis::kinds::Group;
 use lowercase_m_list::hint::hint_lowercase_m;
+use refusals::order::answer_of;
 
 // Edges of a list that a job lends: more than the 128 that the call accepts.
 pub const MOST_LENT: usize = 160;
@@ -23,7 +24,7 @@ pub fn hint_first(edges: [Edge; MOST_LENT], n: usize, group: Group) -> First
     ensures { result ≡ hint_first edges n group }
 {
     let mut table = edges;
-    let answer = hint_lowercase_m(&mut table[..n], group);
+    let answer = answer_of(hint_lowercase_m(&mut table[..n], group));
     First {
         answer,
         edges: table,

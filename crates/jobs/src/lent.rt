@@ -15,11 +15,8 @@ fn edges_from(words: &[i32], n: usize) -> [Edge; MOST_LENT]
     requires { n ≤ most_lent }
 {
     let mut edges = [EMPTY_EDGE; MOST_LENT];
-    let mut i = 0;
-    while i < n {
-        let edge = edge_from(words, 2 + EDGE_WORDS * i);
-        edges[i] = edge;
-        i += 1;
+    for i in 0..n {
+        edges[i] = edge_from(words, 2 + EDGE_WORDS * i);
     }
     edges
 }
@@ -30,12 +27,9 @@ fn put_edges(out: &mut [i32], at: usize, edges: [Edge; MOST_LENT], n: usize) -> 
     ensures { result ≤ length out.old }
 {
     let mut here = at;
-    let mut i = 0;
-    while i < n {
-        let edge = edges[i];
-        let words = edge_words(edge);
+    for i in 0..n {
+        let words = edge_words(edges[i]);
         here = put(out, here, &words);
-        i += 1;
     }
     here
 }

@@ -8,30 +8,8 @@ use khsaemudol::{khs_read_frame, khs_write_frame};
 use log_frame::limits::MOST_COUNTED;
 use tool_lines::limits::MOST_NUMBERS;
 use tool_lists::list::{nth_list, put, put_list};
-use tool_lists::number::{byte_word, put_bytes, read_bytes, read_indices};
+use tool_lists::number::{byte_word, put_bytes, put_indices, read_bytes, read_indices};
 use words::word::count_word;
-
-// An index as a word.
-fn index_word(index: u16) -> i32 {
-    index as i32
-}
-
-// Writes a count and as many indices, a word each, from a place on, and tells the place behind them; where there is no room it tells 0.
-fn put_indices(out: &mut [i32], at: usize, indices: &[u16]) -> usize
-    ensures { result ≤ length out.old }
-{
-    let counted = [count_word(indices.len())];
-    let next = put(out, at, &counted);
-    if out.len() - next < indices.len() {
-        return 0;
-    }
-    let mut i = 0;
-    while i < indices.len() {
-        out[next + i] = index_word(indices[i]);
-        i += 1;
-    }
-    next + indices.len()
-}
 
 // Writes the frame of a job's outline into a line.
 fn ask_write(words: &[i32], line: &mut [u8], digits: &mut u32) -> u8 {

@@ -75,10 +75,8 @@ fn put_steps(out: &mut [i32], kinds: &[u8], places: &[f32], count: u32) -> usize
     ensures { result ≤ length out.old }
 {
     let mut at = put(out, 1, &[signed_of(count)]);
-    let mut step: u32 = 0;
-    while step < count {
+    for step in 0..count {
         at = put_step(out, at, kinds, places, step);
-        step += 1;
     }
     at
 }

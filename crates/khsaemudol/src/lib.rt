@@ -46,6 +46,7 @@ use pack_words::lend::lend_packing;
 use path::lend::lend_step;
 use path_whole::whole::path;
 use place_words::lend::{lend_adjust, lend_bounds, lend_linked_edge, lend_serif_edge};
+use refusals::order::answer_of;
 use remaining_words::lend::lend_remaining;
 use shown_count::lend::lend_shown;
 use stem_cjk_words::lend::lend_stem;
@@ -94,7 +95,7 @@ pub extern "C" fn khs_align_weak_points(
 ) -> u8
     ensures { Outcome originals.now currents.old touched.now ends.now result currents.new }
 {
-    align_weak_points(originals, currents, touched, ends)
+    answer_of(align_weak_points(originals, currents, touched, ends))
 }
 
 // Writes who refers to whom into two lists. The answer is 0, or the number of the refusal, 1 or 3, which writes nothing.
@@ -107,7 +108,7 @@ pub extern "C" fn khs_remember_references(
 ) -> u8
     ensures { Remembered touched.now ends.now before.old behind.old result before.new behind.new }
 {
-    remember_references(touched, ends, before, behind)
+    answer_of(remember_references(touched, ends, before, behind))
 }
 
 // Aligns the weak points of one axis by these lists. The answer is 0, or the number of the refusal, 1, 3, 9, 4 or 8, which writes nothing.
@@ -122,7 +123,7 @@ pub extern "C" fn khs_align_with_references(
 ) -> u8
     ensures { AlignedWith originals.now currents.old touched.now ends.now before.now behind.now result currents.new }
 {
-    align_with_references(originals, currents, touched, ends, before, behind)
+    answer_of(align_with_references(originals, currents, touched, ends, before, behind))
 }
 
 // Fits again what depends on one touched point, whose current is set. The answer is 0, or the number of the refusal, 1, 3, 4 or 8, which writes nothing.
@@ -136,7 +137,7 @@ pub extern "C" fn khs_drag_point(
 ) -> u8
     ensures { Dragged originals.now currents.old touched.now ends.now point result currents.new }
 {
-    lend_drag(originals, currents, touched, ends, point)
+    answer_of(lend_drag(originals, currents, touched, ends, point))
 }
 
 // Moves the points of every segment that has an edge to the edge's position, or by as much as the edge was moved, and touches them.
@@ -153,7 +154,7 @@ pub extern "C" fn khs_align_edge_points(
     ensures { EdgePointsLent segments.now edges.now snap done_alone ends.now (points currents.old touched.old)
         result (points currents.new touched.new) }
 {
-    lend_edge_points(segments, edges, snap, done_alone, currents, touched, ends)
+    answer_of(lend_edge_points(segments, edges, snap, done_alone, currents, touched, ends))
 }
 
 // Aligns the weak points of every outline of a catalogue. The answer is 1, and nothing is written, where the counts do not add up; else 0, and each outline has its own.
@@ -170,7 +171,7 @@ pub extern "C" fn khs_align_catalogue(
     ensures { Catalogued originals.now currents.old touched.now ends.now point_counts.now contour_counts.now
         answers.old result currents.new answers.new }
 {
-    align_catalogue(
+    answer_of(align_catalogue(
         originals,
         currents,
         touched,
@@ -178,7 +179,7 @@ pub extern "C" fn khs_align_catalogue(
         point_counts,
         contour_counts,
         answers,
-    )
+    ))
 }
 
 // Links CJK segments into stems and serifs.
@@ -191,7 +192,7 @@ pub extern "C" fn khs_link_segments_cjk(
 ) -> u8
     ensures { LinkingLent segments.old major_dir units_per_em scale result segments.new }
 {
-    lend_linking(segments, major_dir, units_per_em, scale)
+    answer_of(lend_linking(segments, major_dir, units_per_em, scale))
 }
 
 // Builds the edges of segments.
@@ -217,7 +218,7 @@ pub extern "C" fn khs_compute_edges(
         length,
         width,
     };
-    lend_building(
+    answer_of(lend_building(
         segments,
         edges,
         dim,
@@ -227,7 +228,7 @@ pub extern "C" fn khs_compute_edges(
         scale,
         thresholds,
         count,
-    )
+    ))
 }
 
 // Puts edges on their blue zones.
@@ -242,7 +243,7 @@ pub extern "C" fn khs_align_edges_to_blues(
 ) -> u8
     ensures { ZonesLent edges.old dim group rule standards.now anchor.old result (edges.new, anchor.new) }
 {
-    lend_zones(edges, dim, group, rule, standards, anchor)
+    answer_of(lend_zones(edges, dim, group, rule, standards, anchor))
 }
 
 // Places a stem edge by its base edge.
@@ -256,7 +257,7 @@ pub extern "C" fn khs_align_linked_edge(
 ) -> u8
     ensures { LinkedLent edges.old rule standards.now base stem result edges.new }
 {
-    lend_linked_edge(edges, rule, standards, base, stem)
+    answer_of(lend_linked_edge(edges, rule, standards, base, stem))
 }
 
 // Places a serif edge by its base edge.
@@ -264,7 +265,7 @@ pub extern "C" fn khs_align_linked_edge(
 pub extern "C" fn khs_align_serif_edge(edges: &mut [i32], base: i32, serif: i32) -> u8
     ensures { SerifLent edges.old base serif result edges.new }
 {
-    lend_serif_edge(edges, base, serif)
+    answer_of(lend_serif_edge(edges, base, serif))
 }
 
 // Holds an edge to its neighbour where it has passed it.
@@ -272,7 +273,7 @@ pub extern "C" fn khs_align_serif_edge(edges: &mut [i32], base: i32, serif: i32)
 pub extern "C" fn khs_adjust_link(edges: &mut [i32], edge: i32, dir: i32, top_to_bottom: i32) -> u8
     ensures { AdjustLent edges.old edge dir top_to_bottom result edges.new }
 {
-    lend_adjust(edges, edge, dir, top_to_bottom)
+    answer_of(lend_adjust(edges, edge, dir, top_to_bottom))
 }
 
 // Finds the two edges that a remaining edge stands between.
@@ -285,7 +286,7 @@ pub extern "C" fn khs_latin_remaining_bounds(
 ) -> u8
     ensures { BoundsLent edges.now edge (lower.old, upper.old) result (lower.new, upper.new) }
 {
-    lend_bounds(edges, edge, lower, upper)
+    answer_of(lend_bounds(edges, edge, lower, upper))
 }
 
 // Places both edges of a CJK stem.
@@ -303,7 +304,7 @@ pub extern "C" fn khs_hint_normal_stem_cjk(
 ) -> u8
     ensures { StemLent edges.old dim stem_adjust rule standards.now edge edge2 delta own_delta.old result (edges.new, own_delta.new) }
 {
-    lend_stem(
+    answer_of(lend_stem(
         edges,
         dim,
         stem_adjust,
@@ -313,7 +314,7 @@ pub extern "C" fn khs_hint_normal_stem_cjk(
         edge2,
         delta,
         own_delta,
-    )
+    ))
 }
 
 // Aligns all stems.
@@ -333,7 +334,7 @@ pub extern "C" fn khs_align_stem_edges(
     ensures { StemsLent edges.old dim group stem_adjust top_to_bottom anchor rule standards.now count.old found.old
         result (edges.new, (count.new, found.new)) }
 {
-    lend_stems(
+    answer_of(lend_stems(
         edges,
         dim,
         group,
@@ -344,7 +345,7 @@ pub extern "C" fn khs_align_stem_edges(
         standards,
         count,
         found,
-    )
+    ))
 }
 
 // Puts edges on their blue zones, then aligns all stems.
@@ -363,7 +364,7 @@ pub extern "C" fn khs_align_blues_and_stems(
     ensures { JoinedLent edges.old dim group stem_adjust top_to_bottom rule standards.now count.old found.old
         result (edges.new, (count.new, found.new)) }
 {
-    lend_joined(
+    answer_of(lend_joined(
         edges,
         dim,
         group,
@@ -373,7 +374,7 @@ pub extern "C" fn khs_align_blues_and_stems(
         standards,
         count,
         found,
-    )
+    ))
 }
 
 // Aligns the edges that blue zones and stems have left, and tells the anchor.
@@ -388,7 +389,7 @@ pub extern "C" fn khs_align_remaining_edges(
 ) -> u8
     ensures { RemainingLent edges.old dim group count anchor found.old result (edges.new, found.new) }
 {
-    lend_remaining(edges, dim, group, count, anchor, found)
+    answer_of(lend_remaining(edges, dim, group, count, anchor, found))
 }
 
 // Moves the third stem of a lowercase m.
@@ -396,7 +397,7 @@ pub extern "C" fn khs_align_remaining_edges(
 pub extern "C" fn khs_hint_lowercase_m(edges: &mut [i32], group: i32) -> u8
     ensures { MLent edges.old group result edges.new }
 {
-    lend_m(edges, group)
+    answer_of(lend_m(edges, group))
 }
 
 // Hands out one step of an outline's path.
@@ -414,7 +415,7 @@ pub extern "C" fn khs_path_step(
     ensures { StepLent xs.now ys.now marks.now ends.now cursor kind.old places.old next.old
         result kind.new places.new next.new }
 {
-    lend_step(xs, ys, marks, ends, cursor, kind, places, next)
+    answer_of(lend_step(xs, ys, marks, ends, cursor, kind, places, next))
 }
 
 // Writes all steps of an outline's path.
@@ -431,7 +432,7 @@ pub extern "C" fn khs_path(
     ensures { WritesPath xs.now ys.now marks.now ends.now (lent kinds.old places.old count.old)
         result (lent kinds.new places.new count.new) }
 {
-    path(xs, ys, marks, ends, kinds, places, count)
+    answer_of(path(xs, ys, marks, ends, kinds, places, count))
 }
 
 // Counts the pixels that a display shows black of an outline, magnified, and tells their Euler number.
@@ -448,7 +449,7 @@ pub extern "C" fn khs_count_shown(
     ensures { ShownLent xs.now ys.now marks.now ends.now magnify black.old euler.old
         result black.new euler.new }
 {
-    lend_shown(xs, ys, marks, ends, magnify, black, euler)
+    answer_of(lend_shown(xs, ys, marks, ends, magnify, black, euler))
 }
 
 // Writes a weak-point job as one line of a log.
@@ -464,7 +465,7 @@ pub extern "C" fn khs_write_frame(
     ensures { WritesLent (frame_of originals.now currents.now touched.now ends.now) line.old digits.old
         result (line.new, digits.new) }
 {
-    lend_write(originals, currents, touched, ends, line, digits)
+    answer_of(lend_write(originals, currents, touched, ends, line, digits))
 }
 
 // Reads a line of a log as a weak-point job.
@@ -481,7 +482,7 @@ pub extern "C" fn khs_read_frame(
     ensures { ReadsLent line.now (frame_of originals.old currents.old touched.old ends.old) points.old contours.old
         result (frame_of originals.new currents.new touched.new ends.new, (points.new, contours.new)) }
 {
-    lend_read(line, originals, currents, touched, ends, points, contours)
+    answer_of(lend_read(line, originals, currents, touched, ends, points, contours))
 }
 
 // Turns the edges of an axis over, with the indices that lead to them.
@@ -489,7 +490,7 @@ pub extern "C" fn khs_read_frame(
 pub extern "C" fn khs_turn_over(segments: &mut [i32], edges: &mut [i32]) -> u8
     ensures { TurnedLent segments.old edges.old result (segments.new, edges.new) }
 {
-    lend_turning(segments, edges)
+    answer_of(lend_turning(segments, edges))
 }
 
 // Mends an axis whose indices name records that are gone, or whose rings do not close, and lists what was altered.
@@ -503,7 +504,7 @@ pub extern "C" fn khs_mend(
     ensures { MendedLent segments.old edges.old altered.old count.old
         result (segments.new, (edges.new, (altered.new, count.new))) }
 {
-    lend_mending(segments, edges, altered, count)
+    answer_of(lend_mending(segments, edges, altered, count))
 }
 
 // Keeps of an axis the segments that serve its edges, and counts them.
@@ -511,7 +512,7 @@ pub extern "C" fn khs_mend(
 pub extern "C" fn khs_pack_axis(segments: &mut [i32], edges: &mut [i32], count: &mut i32) -> u8
     ensures { PackedLent segments.old edges.old count.old result (segments.new, (edges.new, count.new)) }
 {
-    lend_packing(segments, edges, count)
+    answer_of(lend_packing(segments, edges, count))
 }
 
 // Finds the gaps and the stems between placed edges that fitting has lost, and counts the edges that are not done.
@@ -532,9 +533,9 @@ pub extern "C" fn khs_lost_gaps(
         (count.old, (first.old, (second.old, (before.old, (after.old, (stems.old, not_done.old))))))
         result (count.new, (first.new, (second.new, (before.new, (after.new, (stems.new, not_done.new)))))) }
 {
-    lend_gaps(
+    answer_of(lend_gaps(
         edges, least, linked, count, first, second, before, after, stems, not_done,
-    )
+    ))
 }
 
 // Aligns the points of one axis that are neither touched nor weak by the edges around them, and touches them. The answer is 0, or the number of the refusal, which writes nothing: 255 for
@@ -551,7 +552,7 @@ pub extern "C" fn khs_align_strong_points(
     ensures { StrongLent edges.now fonts.now originals.now currents.old touched.old weak.now
         result (currents.new, touched.new) }
 {
-    align_strong_points(edges, fonts, originals, currents, touched, weak)
+    answer_of(align_strong_points(edges, fonts, originals, currents, touched, weak))
 }
 
 // Fits the edges of one axis and moves its points by them, and tells what became of the edges: blue zones and stems, the rule of the m, remaining edges, the guard, edge points, strong points
@@ -574,7 +575,7 @@ pub extern "C" fn khs_fit_axis(
         (fitted edges.old (points currents.old touched.old) told.old)
         result (fitted edges.new (points currents.new touched.new) told.new) }
 {
-    lend_fit(
+    answer_of(lend_fit(
         segments, edges, numbers, standards, fonts, originals, currents, touched, weak, ends, told,
-    )
+    ))
 }

@@ -35,12 +35,9 @@ fn main() {
     let mut words = [0i32; MOST_WORDS];
     let mut line = Line::new();
     let mut glyph = Glyph::new();
-    let mut turns: u64 = 18446744073709551615;
-    while 0 < turns {
-        turns -= 1;
+    for _ in 0..u64::MAX {
         if io::read_full(STDIN_FILENO, &mut byte) == 0 {
-            turns = 0;
-            continue;
+            break;
         }
         let b = byte[0];
         if b != 10 {

@@ -18,12 +18,9 @@ use words::word::{size_of, word_at};
 fn with_zones(words: &[i32], glyph: Glyph) -> [i32; TABLE_WORDS] {
     let zones = tail(words, 2);
     let mut edges = glyph.edges;
-    let n = least(glyph.count, MOST_EDGES);
-    let mut i = 0;
-    while i < n {
+    for i in 0..least(glyph.count, MOST_EDGES) {
         edges[EDGE_WORDS * i + BLUE] = field(zones, i, BLUE);
         edges[EDGE_WORDS * i + FITTED] = field(zones, i, FITTED);
-        i += 1;
     }
     edges
 }

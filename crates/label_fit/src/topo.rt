@@ -44,11 +44,8 @@ fn pair(words: &[i32], i: usize)
 
 // Writes all stems.
 fn pairs(words: &[i32]) {
-    let n = segments(words);
-    let mut i = 0;
-    while i < n {
+    for i in 0..segments(words) {
         pair(words, i);
-        i += 1;
     }
 }
 

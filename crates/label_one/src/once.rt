@@ -2,7 +2,6 @@
 ghost use Rattle.std.specs.Prelude.{◌≤◌, length};
 ghost use Rattle.tool_lines.specs.Limits.{most_numbers};
 
-use super::same::{same_marks, same_words};
 use axis::accept::least;
 use fit::numbers::NUMBER_WORDS;
 use fit::outcome::TOLD_WORDS;
@@ -53,10 +52,7 @@ fn ask(
 fn same_edges(glyph: Glyph, edges: &[i32], told: &[i32]) -> bool {
     let left = edges_of(glyph);
     let n = edge_words(glyph);
-    if same_words(edges, &left[0..n]) {
-        return same_words(told, &told_of(glyph));
-    }
-    false
+    edges == &left[0..n] && told == told_of(glyph).as_slice()
 }
 
 // Fits what is lent of an axis of a glyph, and tells whether it comes to what its steps left: its edges, what is told of them, and these currents and touch marks.
@@ -75,13 +71,7 @@ fn comes_to(
     if 0 < answer {
         return false;
     }
-    if !same_edges(glyph, edges, &told) {
-        return false;
-    }
-    if !same_words(places, currents) {
-        return false;
-    }
-    same_marks(marks, touched)
+    same_edges(glyph, edges, &told) && &*places == currents && &*marks == touched
 }
 
 // Writes whether one call leaves an axis of a glyph as its steps did, which have left these currents and touch marks.

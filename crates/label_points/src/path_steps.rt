@@ -93,10 +93,8 @@ fn steps(kinds: &[u8], places: &[f32], count: usize)
 {
     let n = least(count, kinds.len());
     let mut column = 0;
-    let mut i = 0;
-    while i < n {
+    for i in 0..n {
         column = step(kinds[i], places, STEP_PLACES * i, column);
-        i += 1;
     }
 }
 

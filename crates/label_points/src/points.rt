@@ -17,25 +17,9 @@ use tool_lists::number::{read_bytes, read_indices, read_shorts};
 use words::segment::SEGMENT_WORDS;
 use words::word::count_word;
 
-// 1 where a mark says that a point is touched.
-fn one_of(mark: u8) -> usize
-    ensures { result ≤ 1 }
-{
-    if mark == 0 {
-        return 0;
-    }
-    1
-}
-
 // How many points are touched.
 fn touched_of(touched: &[u8]) -> usize {
-    let mut count = 0;
-    let mut i = 0;
-    while i < touched.len() {
-        count += one_of(touched[i]);
-        i += 1;
-    }
-    count
+    touched.iter().filter(|mark| **mark != 0).count()
 }
 
 // How many more there are than before.

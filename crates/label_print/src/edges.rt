@@ -143,10 +143,7 @@ fn row(before: &[i32], edges: &[i32], i: usize)
 
 // Writes the edges that a step changed.
 pub fn changes(before: &[i32], edges: &[i32], count: usize) {
-    let n = least(count, MOST_EDGES);
-    let mut i = 0;
-    while i < n {
+    for i in 0..least(count, MOST_EDGES) {
         row(before, edges, i);
-        i += 1;
     }
 }

@@ -93,14 +93,12 @@ fn extent(x: i32) {
 // Writes up to seven digits behind a point, of ten-millionths, and no zeros at the end.
 fn fraction(ten_millionths: usize) {
     let mut rest = ten_millionths;
-    let mut i: usize = 0;
-    while i < 7 {
+    for _ in 0..7 {
         if rest == 0 {
             return;
         }
         count(rest / 1000000);
         rest = rest % 1000000 * 10;
-        i += 1;
     }
 }
 
@@ -156,10 +154,8 @@ fn mark(byte: u8, x: i32) -> usize
 // Writes a text with numbers in the places of its marks.
 pub fn show(template: &[u8], numbers: &[i32]) {
     let mut k = 0;
-    let mut i = 0;
-    while i < template.len() {
-        k += mark(template[i], word_at(numbers, k));
-        i += 1;
+    for byte in template {
+        k += mark(*byte, word_at(numbers, k));
     }
 }
 

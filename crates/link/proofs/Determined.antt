@@ -8,7 +8,7 @@ use Rattle.axis.specs.declared.kinds.Direction.{Direction}
 use Rattle.axis.specs.declared.segment.Segments.{Segments}
 use Rattle.link.specs.Rounds.{linked}
 use Rattle.link.proofs.Unchanged.{OnlyLinked, linked-only}
-use Rattle.link.specs.declared.linked.Linked.{Linked}
+use Rattle.link.specs.Answer.{Linked}
 use Rattle.link.specs.Linking.{thresholds_of, linking_tests, beside, link_segments_cjk, LinksSegmentsCjk}
 use Rattle.link.proofs.Calls.{accepted}
 

@@ -1,9 +1,9 @@
 -- The inner loop of the serif round: what is left of it gives the whole, until the break.
+use Rattle.std.specs.Prelude.{None, Some}
 use mathlib.Core.Path.{◌≡◌}
 use mathlib.Core.Bool.{Bool, true, false}
 use Prim.Native.Nat.{ℕ, ◌+◌, ◌-◌, ◌<◌, ◌≤◌}
-use Rattle.axis.specs.declared.kinds.Link.{Link}
-use Rattle.axis.specs.declared.kinds.Link.TheVariants as Links
+use Rattle.axis.specs.Link.{Link}
 use Rattle.axis.specs.declared.segment.Segment.{Segment}
 use Rattle.axis.specs.declared.segment.Segments.{Segments}
 use Rattle.axis.specs.Segment.{segment_at, put_segment}
@@ -21,21 +21,21 @@ module _ (a b : Segment) (i k : ℕ) where
     pub table : v ≡ held_to a b i k j l t
     pub ends : given_up_to a b i k j l t ≡ last
 
-  pub made_none : (j : ℕ) (l : Link) (t : Segments) → l ≡ Links.None → Made j l t t false
+  pub made_none : (j : ℕ) (l : Link) (t : Segments) → l ≡ None → Made j l t t false
   unfolding held_to given_up_to
   made_none j l t e = record { table = rw e; ends = rw e }
 
-  pub made-skip : (j m : ℕ) (l : Link) (t : Segments) → l ≡ Links.To m → encloses a b (segment_at t j) (segment_at t m) i j ≡ false → Made j l t t false
+  pub made-skip : (j m : ℕ) (l : Link) (t : Segments) → l ≡ Some m → encloses a b (segment_at t j) (segment_at t m) i j ≡ false → Made j l t t false
   unfolding held_to given_up_to
   made-skip j m l t e h = record { table = rw (e, h); ends = rw (e, h) }
 
-  pub made-serifs : (j m : ℕ) (l : Link) (t v : Segments) → l ≡ Links.To m → encloses a b (segment_at t j) (segment_at t m) i j ≡ true
+  pub made-serifs : (j m : ℕ) (l : Link) (t v : Segments) → l ≡ Some m → encloses a b (segment_at t j) (segment_at t m) i j ≡ true
       → much_longer a (segment_at t j) ≡ true
       → v ≡ rewrite_all j k m i t → Made j l t v false
   unfolding held_to given_up_to
   made-serifs j m l t v e h g p = record { table = rw (e, h, g) p; ends = rw (e, h, g) }
 
-  pub made-last : (j m : ℕ) (l : Link) (t v : Segments) → l ≡ Links.To m → encloses a b (segment_at t j) (segment_at t m) i j ≡ true
+  pub made-last : (j m : ℕ) (l : Link) (t v : Segments) → l ≡ Some m → encloses a b (segment_at t j) (segment_at t m) i j ≡ true
       → much_longer a (segment_at t j) ≡ false
       → v ≡ unlink k (unlink i t) → Made j l t v true
   unfolding held_to given_up_to
@@ -59,10 +59,10 @@ module _ (n : ℕ) (a b : Segment) (i k : ℕ) (x : i < n) (y : k < n) (t : Segm
         rest = till-on (given_up a b i k) (hold_turn a b i k) n j u v (hold a b i k n t) p q.ends q.table h.rest;
       }
 
-  pub step-none : (j : ℕ) (u : Segments) → Held n a b i k t j u → j < n → (segment_at u j).link ≡ Links.None → Held n a b i k t (j + 1) u
+  pub step-none : (j : ℕ) (u : Segments) → Held n a b i k t j u → j < n → (segment_at u j).link ≡ None → Held n a b i k t (j + 1) u
   step-none j u h p e = step j u u h p (made_none a b i k j (segment_at u j).link u e)
 
-  module _ (j m : ℕ) (u : Segments) (h : Held n a b i k t j u) (p : j < n) (e : (segment_at u j).link ≡ Links.To m) where
+  module _ (j m : ℕ) (u : Segments) (h : Held n a b i k t j u) (p : j < n) (e : (segment_at u j).link ≡ Some m) where
     pub step_skip : encloses a b (segment_at u j) (segment_at u m) i j ≡ false → Held n a b i k t (j + 1) u
     step_skip c = step j u u h p (made-skip a b i k j m (segment_at u j).link u e c)
 

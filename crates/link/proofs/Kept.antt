@@ -1,4 +1,5 @@
 -- What every segment keeps through the rounds: one law, for any property of a segment and its place that losing the link and a better stem keep.
+use Rattle.std.specs.Prelude.{None, Some}
 use mathlib.Core.Path.{◌≡◌, refl, sym, subst}
 use mathlib.Core.Bool.{Bool, true, false, cond}
 use mathlib.Core.Logic.{◌⊎◌, inl, inr, ⊎_elim}
@@ -11,8 +12,7 @@ use lib.Seq.{get_or-set_same, get_or-set_other, set_out}
 use Rattle.signed.proofs.Signed.{lt-or-le}
 use Rattle.signed.proofs.Choices.{cond_cases, either_way}
 use Rattle.axis.specs.declared.kinds.Direction.{Direction}
-use Rattle.axis.specs.declared.kinds.Link.{Link}
-use Rattle.axis.specs.declared.kinds.Link.TheVariants as Links
+use Rattle.axis.specs.Link.{Link}
 use Rattle.axis.specs.declared.segment.Segment.{Segment}
 use Rattle.axis.specs.declared.segment.Segments.{Segments}
 use Rattle.axis.specs.Accepted.{Below}
@@ -82,10 +82,10 @@ module _ (n : ℕ) (P : ℕ → Segment → Type 0)
   rewrite j l m i x t q r p h =
       let s = segment_at t x in
       let k = h.each x p in
-      put x t (cond (links_to s.link j) (serif_of s (Links.To l)) (cond (links_to s.link m) (serif_of s (Links.To i)) s)) h
-      (either_way (P x) (links_to s.link j) (serif_of s (Links.To l)) (cond (links_to s.link m) (serif_of s (Links.To i)) s)
-      (loosed x s (Links.To l) p (below-to n l q) k)
-      (either_way (P x) (links_to s.link m) (serif_of s (Links.To i)) s (loosed x s (Links.To i) p (below-to n i r) k) k))
+      put x t (cond (links_to s.link j) (serif_of s (Some l)) (cond (links_to s.link m) (serif_of s (Some i)) s)) h
+      (either_way (P x) (links_to s.link j) (serif_of s (Some l)) (cond (links_to s.link m) (serif_of s (Some i)) s)
+      (loosed x s (Some l) p (below-to n l q) k)
+      (either_way (P x) (links_to s.link m) (serif_of s (Some i)) s (loosed x s (Some i) p (below-to n i r) k) k))
 
   rewrites : (j l m i : ℕ) (t : Segments) → l < n → i < n → Every n P t → Every n P (rewrite_all j l m i t)
   unfolding rewrite_all
@@ -102,8 +102,8 @@ module _ (n : ℕ) (P : ℕ → Segment → Type 0)
 
   held : (seg1 link1 : Segment) (i l j : ℕ) (to : Link) (t : Segments) → i < n → l < n → Every n P t → Every n P (held_to seg1 link1 i l j to t)
   unfolding held_to
-  held seg1 link1 i l j Links.None t p q h = h
-  held seg1 link1 i l j (Links.To m) t p q h =
+  held seg1 link1 i l j None t p q h = h
+  held seg1 link1 i l j (Some m) t p q h =
       either_way (Every n P) (encloses seg1 link1 (segment_at t j) (segment_at t m) i j)
       (cond (much_longer seg1 (segment_at t j)) (rewrite_all j l m i t) (unlink l (unlink i t))) t
       (either_way (Every n P) (much_longer seg1 (segment_at t j)) (rewrite_all j l m i t) (unlink l (unlink i t)) (rewrites j l m i t q p h)
@@ -122,8 +122,8 @@ module _ (n : ℕ) (P : ℕ → Segment → Type 0)
   module _ (by : Thresholds) where
     serif-to : (i : ℕ) (to : Link) (t : Segments) → Below n to → i < n → Every n P t → Every n P (serif_to by n i to t)
     unfolding serif_to
-    serif-to i Links.None t b p h = h
-    serif-to i (Links.To l) t b p h =
+    serif-to i None t b p h = h
+    serif-to i (Some l) t b p h =
         either_way (Every n P) (near_stem by (segment_at t i) (segment_at t l) i) (hold (segment_at t i) (segment_at t l) i l n t) t
         (holds (segment_at t i) (segment_at t l) i l t p (b.at l refl) h) h
 
@@ -139,8 +139,8 @@ module _ (n : ℕ) (P : ℕ → Segment → Type 0)
     -- ---- the last round
     last-to : (i : ℕ) (to : Link) (t : Segments) → Below n to → i < n → Every n P t → Every n P (last_to by i to t)
     unfolding last_to settled
-    last-to i Links.None t b p h = h
-    last-to i (Links.To m) t b p h =
+    last-to i None t b p h = h
+    last-to i (Some m) t b p h =
         let seg1 = segment_at t i in
         let seg2 = segment_at t m in
         let x = b.at m refl in

@@ -11,7 +11,7 @@ use Rattle.signed.specs.Range.{Between}
 use Rattle.signed.proofs.Signed.{signed, sub-law, fits-prod}
 use Rattle.signed.proofs.Choices.{either_way}
 use Rattle.axis.specs.declared.kinds.Direction.{Direction}
-use Rattle.axis.specs.declared.kinds.Link.{Link}
+use Rattle.axis.specs.Link.{Link}
 use Rattle.axis.specs.declared.segment.Segment.{Segment}
 use Rattle.axis.specs.declared.segment.Segments.{Segments}
 use Rattle.axis.specs.Accepted.{Below, SegmentsWithin}

@@ -1,10 +1,10 @@
 -- One turn of each loop, as the code takes it.
+use Rattle.std.specs.Prelude.{None, Some}
 use mathlib.Core.Path.{◌≡◌}
 use mathlib.Core.Bool.{true, false}
 use Prim.Native.Nat.{ℕ}
 use Rattle.axis.specs.declared.kinds.Direction.{Direction}
-use Rattle.axis.specs.declared.kinds.Link.{Link}
-use Rattle.axis.specs.declared.kinds.Link.TheVariants as Links
+use Rattle.axis.specs.Link.{Link}
 use Rattle.axis.specs.declared.segment.Segment.{Segment}
 use Rattle.axis.specs.declared.segment.Segments.{Segments}
 use Rattle.axis.specs.Direction.{same}
@@ -42,28 +42,28 @@ unfolding rewrite_turn
 rewrite-go j l m i x t s e = rw e
 
 module _ (by : Thresholds) (n i : ℕ) where
-  to_none : (l : Link) (t : Segments) → l ≡ Links.None → t ≡ serif_to by n i l t
+  to_none : (l : Link) (t : Segments) → l ≡ None → t ≡ serif_to by n i l t
   unfolding serif_to
   to_none l t e = rw e
 
-  to-skip : (k : ℕ) (l : Link) (t : Segments) → l ≡ Links.To k → near_stem by (segment_at t i) (segment_at t k) i ≡ false → t ≡ serif_to by n i l t
+  to-skip : (k : ℕ) (l : Link) (t : Segments) → l ≡ Some k → near_stem by (segment_at t i) (segment_at t k) i ≡ false → t ≡ serif_to by n i l t
   unfolding serif_to
   to-skip k l t e h = rw (e, h)
 
-  to-go : (k : ℕ) (l : Link) (t u : Segments) → l ≡ Links.To k → near_stem by (segment_at t i) (segment_at t k) i ≡ true
+  to-go : (k : ℕ) (l : Link) (t u : Segments) → l ≡ Some k → near_stem by (segment_at t i) (segment_at t k) i ≡ true
       → u ≡ hold (segment_at t i) (segment_at t k) i k n t → u ≡ serif_to by n i l t
   unfolding serif_to
   to-go k l t u e h p = rw (e, h) p
 
-  pub serif-none : (t : Segments) → (segment_at t i).link ≡ Links.None → t ≡ serif_turn by n i t
+  pub serif-none : (t : Segments) → (segment_at t i).link ≡ None → t ≡ serif_turn by n i t
   unfolding serif_turn
   serif-none t e = to_none (segment_at t i).link t e
 
-  pub serif-skip : (k : ℕ) (t : Segments) → (segment_at t i).link ≡ Links.To k → near_stem by (segment_at t i) (segment_at t k) i ≡ false → t ≡ serif_turn by n i t
+  pub serif-skip : (k : ℕ) (t : Segments) → (segment_at t i).link ≡ Some k → near_stem by (segment_at t i) (segment_at t k) i ≡ false → t ≡ serif_turn by n i t
   unfolding serif_turn
   serif-skip k t e h = to-skip k (segment_at t i).link t e h
 
-  pub serif-go : (k : ℕ) (t u : Segments) → (segment_at t i).link ≡ Links.To k → near_stem by (segment_at t i) (segment_at t k) i ≡ true
+  pub serif-go : (k : ℕ) (t u : Segments) → (segment_at t i).link ≡ Some k → near_stem by (segment_at t i) (segment_at t k) i ≡ true
       → u ≡ hold (segment_at t i) (segment_at t k) i k n t
       → u ≡ serif_turn by n i t
   unfolding serif_turn
@@ -71,20 +71,20 @@ module _ (by : Thresholds) (n i : ℕ) where
 
 -- ---- the last round
 module _ (by : Thresholds) (i : ℕ) where
-  last-of-none : (l : Link) (t : Segments) → l ≡ Links.None → t ≡ last_to by i l t
+  last-of-none : (l : Link) (t : Segments) → l ≡ None → t ≡ last_to by i l t
   unfolding last_to
   last-of-none l t e = rw e
 
-  last-of-to : (k : ℕ) (l : Link) (t : Segments) (s : Segment) → l ≡ Links.To k → s ≡ settled by (segment_at t i) (segment_at t k) i
+  last-of-to : (k : ℕ) (l : Link) (t : Segments) (s : Segment) → l ≡ Some k → s ≡ settled by (segment_at t i) (segment_at t k) i
       → put_segment t i s ≡ last_to by i l t
   unfolding last_to
   last-of-to k l t s e p = rw (e, p)
 
-  pub last_none : (t : Segments) → (segment_at t i).link ≡ Links.None → t ≡ last_turn by i t
+  pub last_none : (t : Segments) → (segment_at t i).link ≡ None → t ≡ last_turn by i t
   unfolding last_turn
   last_none t e = last-of-none (segment_at t i).link t e
 
-  pub last-go : (k : ℕ) (t : Segments) (s : Segment) → (segment_at t i).link ≡ Links.To k → s ≡ settled by (segment_at t i) (segment_at t k) i
+  pub last-go : (k : ℕ) (t : Segments) (s : Segment) → (segment_at t i).link ≡ Some k → s ≡ settled by (segment_at t i) (segment_at t k) i
       → put_segment t i s ≡ last_turn by i t
   unfolding last_turn
   last-go k t s e p = last-of-to k (segment_at t i).link t s e p

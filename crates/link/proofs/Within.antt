@@ -1,4 +1,5 @@
 -- Each link and serif stays below the count, and each score and len within document 01's table, through every turn of the rounds.
+use Rattle.std.specs.Prelude.{Some}
 use mathlib.Core.Path.{◌≡◌, refl, sym, subst}
 use mathlib.Core.Bool.{true, not}
 use Prim.Native.Nat.{ℕ, ◌<◌, ◌≤◌}
@@ -9,8 +10,7 @@ use lib.Signed.{le_z, ◌≤ℤ◌}
 use Rattle.signed.specs.Range.{Between}
 use Rattle.signed.proofs.Signed.{signed}
 use Rattle.signed.proofs.Choices.{either_way}
-use Rattle.axis.specs.declared.kinds.Link.{Link}
-use Rattle.axis.specs.declared.kinds.Link.TheVariants as Links
+use Rattle.axis.specs.Link.{Link}
 use Rattle.axis.specs.declared.segment.Segment.{Segment}
 use Rattle.axis.specs.declared.segment.Segments.{Segments}
 use Rattle.axis.specs.Accepted.{Below, SegmentWithin, SegmentsWithin}
@@ -97,7 +97,7 @@ module _ (n : ℕ) where
     last_within i t u h e p = rw e (keeps (Every n (Within n)) (last_turn by) n i t (Kept.last-kept n (Within n) inside loosed by) p h)
 
   -- where a link leads
-  pub to_below : (i k : ℕ) (t : Segments) → Every n (Within n) t → i < n → (segment_at t i).link ≡ Links.To k → k < n
+  pub to_below : (i k : ℕ) (t : Segments) → Every n (Within n) t → i < n → (segment_at t i).link ≡ Some k → k < n
   to_below i k t h x e = (h.each i x).link.at k e
 
 -- ---- a whole table, as a call accepts it, and as the loops have it

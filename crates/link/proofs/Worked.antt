@@ -1,4 +1,5 @@
 -- Document 01's row for linking, and cases of each round worked out by hand: one table, one statement.
+use Rattle.std.specs.Prelude.{None, Some}
 use mathlib.Core.Path.{◌≡◌, refl}
 use mathlib.Core.List.{List, [], ◌∷◌, ◌++◌, map}
 use Prim.Native.Nat.{ℕ, ◌-◌}
@@ -8,8 +9,7 @@ use Rattle.refusals.specs.Refusal.{refusal}
 use Rattle.fixed.specs.Point.{rounded, rounded_z, div_fix, derived}
 use Rattle.axis.specs.declared.kinds.Direction.{Direction}
 use Rattle.axis.specs.declared.kinds.Direction.TheVariants.{Right, Up, Down}
-use Rattle.axis.specs.declared.kinds.Link.{Link}
-use Rattle.axis.specs.declared.kinds.Link.TheVariants.{None, To}
+use Rattle.axis.specs.Link.{Link}
 use Rattle.axis.specs.declared.segment.Segment.{Segment}
 use Rattle.axis.specs.declared.segment.Segments.{Segments}
 use Rattle.axis.specs.Direction as D
@@ -21,7 +21,7 @@ use Rattle.axis.specs.Segment.{empty_segment}
 use Rattle.link.specs.Loops.{turns, till}
 use Rattle.link.specs.Pairs as P
 use Rattle.link.specs.Rounds as Q
-use Rattle.link.specs.declared.linked.Linked.{Linked}
+use Rattle.link.specs.Answer.{Linked}
 use Rattle.link.specs.Linking as L
 
 -- what the definition gives, and what it should
@@ -75,57 +75,57 @@ rows =
     -- 100,
     -- len 200
     (call Up (at Up 0 200 32000 0 None None ∷ at Down 100 200 32000 0 None None ∷ [])
-    is giving (at Up 0 200 100 200 (To 1) None ∷ at Down 100 200 100 200 (To 0) None ∷ [])) ∷
+    is giving (at Up 0 200 100 200 (Some 1) None ∷ at Down 100 200 100 200 (Some 0) None ∷ [])) ∷
     -- the pair round: 9 * 8 is not below 8 * 9
     (call Up (at Up 0 200 8 0 None None ∷ at Down 9 200 8 0 None None ∷ [])
     is giving (at Up 0 200 8 0 None None ∷ at Down 9 200 8 0 None None ∷ [])) ∷
     -- 9 * 8 is below 9 * 9 but not below 9 * 7, and the overlap is longer than the len
     (call Up (at Up 0 200 9 199 None None ∷ at Down 9 200 9 199 None None ∷ [])
-    is giving (at Up 0 200 9 200 (To 1) None ∷ at Down 9 200 9 200 (To 0) None ∷ [])) ∷
+    is giving (at Up 0 200 9 200 (Some 1) None ∷ at Down 9 200 9 200 (Some 0) None ∷ [])) ∷
     -- it is no longer than the len
     (call Up (at Up 0 200 9 200 None None ∷ at Down 9 200 9 200 None None ∷ [])
     is giving (at Up 0 200 9 200 None None ∷ at Down 9 200 9 200 None None ∷ [])) ∷
     -- 7 * 8 is below 9 * 7, whatever the len
     (call Up (at Up 0 200 9 200 None None ∷ at Down 7 200 9 300 None None ∷ [])
-    is giving (at Up 0 200 7 200 (To 1) None ∷ at Down 7 200 7 200 (To 0) None ∷ [])) ∷
+    is giving (at Up 0 200 7 200 (Some 1) None ∷ at Down 7 200 7 200 (Some 0) None ∷ [])) ∷
     -- an overlap of 2 is too little
     (call Up (at Up 0 2 32000 0 None None ∷ at Down 100 200 32000 0 None None ∷ [])
     is giving (at Up 0 2 32000 0 None None ∷ at Down 100 200 32000 0 None None ∷ [])) ∷
     -- one of 3 is enough
     (call Up (at Up 0 3 32000 0 None None ∷ at Down 100 200 32000 0 None None ∷ [])
-    is giving (at Up 0 3 100 3 (To 1) None ∷ at Down 100 200 100 3 (To 0) None ∷ [])) ∷
+    is giving (at Up 0 3 100 3 (Some 1) None ∷ at Down 100 200 100 3 (Some 0) None ∷ [])) ∷
     -- the second is before the first
     (call Up (at Up 100 200 32000 0 None None ∷ at Down 0 200 32000 0 None None ∷ [])
     is giving (at Up 100 200 32000 0 None None ∷ at Down 0 200 32000 0 None None ∷ [])) ∷
     -- a better stem takes the first segment from the one before, whose other segment becomes a serif in the last round
     (call Up (at Up 0 200 32000 0 None None ∷ at Down 100 200 32000 0 None None ∷ at Down 50 200 32000 0 None None ∷ [])
-    is giving (at Up 0 200 50 200 (To 2) None ∷ at Down 100 200 100 200 None (To 2) ∷ at Down 50 200 50 200 (To 0) None ∷ [])) ∷
+    is giving (at Up 0 200 50 200 (Some 2) None ∷ at Down 100 200 100 200 None (Some 2) ∷ at Down 50 200 50 200 (Some 0) None ∷ [])) ∷
     -- the serif round, where no segment has the major direction: the stem of 0 and 1 is enclosed by that of 2 and 3, and not three times as long
-    (call Right (at Up 10 200 20 29 (To 1) None ∷ at Up 30 200 20 10 (To 0) None ∷ at Up 5 200 30 10 (To 3) None ∷ at Up 40 200 30 10 (To 2) None ∷ [])
-    is giving (at Up 10 200 20 29 None None ∷ at Up 30 200 20 10 None None ∷ at Up 5 200 30 10 (To 3) None ∷ at Up 40 200 30 10 (To 2) None ∷ [])) ∷
+    (call Right (at Up 10 200 20 29 (Some 1) None ∷ at Up 30 200 20 10 (Some 0) None ∷ at Up 5 200 30 10 (Some 3) None ∷ at Up 40 200 30 10 (Some 2) None ∷ [])
+    is giving (at Up 10 200 20 29 None None ∷ at Up 30 200 20 10 None None ∷ at Up 5 200 30 10 (Some 3) None ∷ at Up 40 200 30 10 (Some 2) None ∷ [])) ∷
     -- it is three times as long: every link to 2 or to 3 is rewritten
-    (call Right (at Up 10 200 20 30 (To 1) None ∷ at Up 30 200 20 10 (To 0) None ∷ at Up 5 200 30 10 (To 3) None ∷ at Up 40 200 30 10 (To 2) None
-    ∷ at Up 100 200 500 10 (To 2) None ∷ [])
-    is giving (at Up 10 200 20 30 (To 1) None ∷ at Up 30 200 20 10 (To 0) None ∷ at Up 5 200 30 10 None (To 0) ∷ at Up 40 200 30 10 None (To 1)
-    ∷ at Up 100 200 500 10 None (To 1) ∷ [])) ∷
+    (call Right (at Up 10 200 20 30 (Some 1) None ∷ at Up 30 200 20 10 (Some 0) None ∷ at Up 5 200 30 10 (Some 3) None ∷ at Up 40 200 30 10 (Some 2) None
+    ∷ at Up 100 200 500 10 (Some 2) None ∷ [])
+    is giving (at Up 10 200 20 30 (Some 1) None ∷ at Up 30 200 20 10 (Some 0) None ∷ at Up 5 200 30 10 None (Some 0) ∷ at Up 40 200 30 10 None (Some 1)
+    ∷ at Up 100 200 500 10 None (Some 1) ∷ [])) ∷
     -- a score of four times as much encloses nothing
-    (call Right (at Up 10 200 20 30 (To 1) None ∷ at Up 30 200 20 10 (To 0) None ∷ at Up 5 200 80 10 (To 3) None ∷ at Up 40 200 80 10 (To 2) None ∷ [])
-    is giving (at Up 10 200 20 30 (To 1) None ∷ at Up 30 200 20 10 (To 0) None ∷ at Up 5 200 80 10 (To 3) None ∷ at Up 40 200 80 10 (To 2) None ∷ [])) ∷
+    (call Right (at Up 10 200 20 30 (Some 1) None ∷ at Up 30 200 20 10 (Some 0) None ∷ at Up 5 200 80 10 (Some 3) None ∷ at Up 40 200 80 10 (Some 2) None ∷ [])
+    is giving (at Up 10 200 20 30 (Some 1) None ∷ at Up 30 200 20 10 (Some 0) None ∷ at Up 5 200 80 10 (Some 3) None ∷ at Up 40 200 80 10 (Some 2) None ∷ [])) ∷
     -- nor does a stem that coincides
-    (call Right (at Up 10 200 20 30 (To 1) None ∷ at Up 30 200 20 10 (To 0) None ∷ at Up 10 200 30 10 (To 3) None ∷ at Up 30 200 30 10 (To 2) None ∷ [])
-    is giving (at Up 10 200 20 30 (To 1) None ∷ at Up 30 200 20 10 (To 0) None ∷ at Up 10 200 30 10 (To 3) None ∷ at Up 30 200 30 10 (To 2) None ∷ [])) ∷
+    (call Right (at Up 10 200 20 30 (Some 1) None ∷ at Up 30 200 20 10 (Some 0) None ∷ at Up 10 200 30 10 (Some 3) None ∷ at Up 30 200 30 10 (Some 2) None ∷ [])
+    is giving (at Up 10 200 20 30 (Some 1) None ∷ at Up 30 200 20 10 (Some 0) None ∷ at Up 10 200 30 10 (Some 3) None ∷ at Up 30 200 30 10 (Some 2) None ∷ [])) ∷
     -- the last round: a link that is not returned leaves a serif where the other segment is near
-    (call Right (at Up 50 200 4000 10 (To 1) None ∷ at Up 0 200 191 10 (To 2) None ∷ at Up 10 200 191 10 (To 1) None ∷ [])
-    is giving (at Up 50 200 4000 10 None (To 2) ∷ at Up 0 200 191 10 (To 2) None ∷ at Up 10 200 191 10 (To 1) None ∷ [])) ∷
+    (call Right (at Up 50 200 4000 10 (Some 1) None ∷ at Up 0 200 191 10 (Some 2) None ∷ at Up 10 200 191 10 (Some 1) None ∷ [])
+    is giving (at Up 50 200 4000 10 None (Some 2) ∷ at Up 0 200 191 10 (Some 2) None ∷ at Up 10 200 191 10 (Some 1) None ∷ [])) ∷
     -- or where the score is below four times its score
-    (call Right (at Up 50 200 3999 10 (To 1) (To 1) ∷ at Up 0 200 1000 10 (To 2) None ∷ at Up 10 200 1000 10 (To 1) None ∷ [])
-    is giving (at Up 50 200 3999 10 None (To 2) ∷ at Up 0 200 1000 10 (To 2) None ∷ at Up 10 200 1000 10 (To 1) None ∷ [])) ∷
+    (call Right (at Up 50 200 3999 10 (Some 1) (Some 1) ∷ at Up 0 200 1000 10 (Some 2) None ∷ at Up 10 200 1000 10 (Some 1) None ∷ [])
+    is giving (at Up 50 200 3999 10 None (Some 2) ∷ at Up 0 200 1000 10 (Some 2) None ∷ at Up 10 200 1000 10 (Some 1) None ∷ [])) ∷
     -- and else the serif that there was
-    (call Right (at Up 50 200 4000 10 (To 1) (To 1) ∷ at Up 0 200 1000 10 (To 2) None ∷ at Up 10 200 1000 10 (To 1) None ∷ [])
-    is giving (at Up 50 200 4000 10 None (To 1) ∷ at Up 0 200 1000 10 (To 2) None ∷ at Up 10 200 1000 10 (To 1) None ∷ [])) ∷
+    (call Right (at Up 50 200 4000 10 (Some 1) (Some 1) ∷ at Up 0 200 1000 10 (Some 2) None ∷ at Up 10 200 1000 10 (Some 1) None ∷ [])
+    is giving (at Up 50 200 4000 10 None (Some 1) ∷ at Up 0 200 1000 10 (Some 2) None ∷ at Up 10 200 1000 10 (Some 1) None ∷ [])) ∷
     -- refused: a link to a third segment of two
-    (call Up (at Up 0 200 0 0 (To 2) None ∷ at Down 9 200 0 0 None None ∷ []) is L.beside
-    (table (at Up 0 200 0 0 (To 2) None ∷ at Down 9 200 0 0 None None ∷ [])) 3) ∷
+    (call Up (at Up 0 200 0 0 (Some 2) None ∷ at Down 9 200 0 0 None None ∷ []) is L.beside
+    (table (at Up 0 200 0 0 (Some 2) None ∷ at Down 9 200 0 0 None None ∷ [])) 3) ∷
     -- refused: a score above the table
     (call Up (at Up 0 200 65536 0 None None ∷ []) is L.beside (table (at Up 0 200 65536 0 None None ∷ [])) 4) ∷
     -- refused: 15 units per em, though the score is above the table too

@@ -4,3 +4,5 @@ pub mod Pairs
 pub mod Rounds
 pub mod Steps
 pub mod Linking
+-- what a call hands back, with its answer
+pub mod Answer

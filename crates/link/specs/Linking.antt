@@ -8,7 +8,7 @@ use Rattle.axis.specs.Limits.{least_units_per_em, most_units_per_em, least_scale
 use Rattle.axis.specs.Refusals.{inside, segments_nexts, segments_short, segments_indexed, segments_in_range}
 use Rattle.link.specs.declared.thresholds.Thresholds.{Thresholds}
 use Rattle.link.specs.Rounds.{linked}
-use Rattle.link.specs.declared.linked.Linked.{Linked}
+use Rattle.link.specs.Answer.{Linked}
 
 -- the thresholds in font units: the derived constant of 8 for the overlap, three pixels at the scale for the distance
 unfoldable pub thresholds_of : ℤ → ℤ → Thresholds

@@ -1,9 +1,9 @@
 -- What the rounds ask of one segment or of two, and what becomes of a segment, as the Rust's `link_segments_cjk` has it.
+use Rattle.std.specs.Prelude.{None, Some}
 use Rattle.std.specs.Prelude.{Bool, cond, not, ◌&&◌, ◌||◌, ℕ, eqb, ℤ, pos, ◌-ℤ◌, ◌*ℤ◌}
 use Rattle.std.specs.Int.Signed.{lt_z, le_z}
 use Rattle.signed.specs.Equality.{eq_z}
-use Rattle.axis.specs.declared.kinds.Link.{Link}
-use Rattle.axis.specs.declared.kinds.Link.TheVariants as Links
+use Rattle.axis.specs.Link.{Link}
 use Rattle.axis.specs.declared.segment.Segment.{Segment}
 use Rattle.axis.specs.Direction.{opposite}
 use Rattle.axis.specs.Link.{links_to}
@@ -57,7 +57,7 @@ check_seg seg gap = lt_z (gap.dist *ℤ pos 8) (seg.score *ℤ pos 9) && (lt_z (
 
 -- the segment linked to ix by a stem of this gap
 abbrev pub linked_by : Segment → Gap → ℕ → Segment
-linked_by seg gap ix = relinked seg gap.dist gap.len (Links.To ix) seg.serif
+linked_by seg gap ix = relinked seg gap.dist gap.len (Some ix) seg.serif
 
 -- the same where that is better
 unfoldable pub improved_by : Segment → Gap → ℕ → Segment
@@ -66,7 +66,7 @@ improved_by seg gap ix = cond (check_seg seg gap) (linked_by seg gap ix) seg
 -- ---- the serif round
 -- the segment without a link, a serif of what `serif` names
 abbrev pub serif_of : Segment → Link → Segment
-serif_of seg serif = relinked seg seg.score seg.len Links.None serif
+serif_of seg serif = relinked seg seg.score seg.len None serif
 
 -- the segment without a link
 abbrev pub unlinked : Segment → Segment
@@ -91,7 +91,7 @@ much_longer seg1 seg2 = le_z (seg2.len *ℤ pos 3) seg1.len
 
 -- what was linked to ix2 becomes a serif of link1-ix; what was linked to link2-ix, a serif of ix1
 unfoldable pub rewritten : Segment → ℕ → ℕ → ℕ → ℕ → Segment
-rewritten seg ix2 link1-ix link2-ix ix1 = cond (links_to seg.link ix2) (serif_of seg (Links.To link1-ix)) (cond (links_to seg.link link2-ix) (serif_of seg (Links.To ix1)) seg)
+rewritten seg ix2 link1-ix link2-ix ix1 = cond (links_to seg.link ix2) (serif_of seg (Some link1-ix)) (cond (links_to seg.link link2-ix) (serif_of seg (Some ix1)) seg)
 
 -- ---- the last round
 -- seg1, whose link to seg2 is lost, is a serif of what seg2 is linked to: seg2 is near, or seg1's score is below four times that of seg2

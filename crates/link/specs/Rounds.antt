@@ -1,9 +1,9 @@
 -- CJK linking (document 01, module 3): the three rounds of the Rust's `link_segments_cjk`, in the order of its reads and writes. What a turn takes from before
 -- its loop is a parameter of the turn; all else it reads from the table that the turn before left.
+use Rattle.std.specs.Prelude.{None, Some}
 use Rattle.std.specs.Prelude.{Bool, false, cond, not, ◌&&◌, ℕ}
 use Rattle.axis.specs.declared.kinds.Direction.{Direction}
-use Rattle.axis.specs.declared.kinds.Link.{Link}
-use Rattle.axis.specs.declared.kinds.Link.TheVariants as Links
+use Rattle.axis.specs.Link.{Link}
 use Rattle.axis.specs.declared.segment.Segment.{Segment}
 use Rattle.axis.specs.declared.segment.Segments.{Segments}
 use Rattle.axis.specs.Direction.{same}
@@ -51,16 +51,16 @@ module _ (seg1 link1 : Segment) (ix1 link1-ix : ℕ) where
   -- the turn ix2, where the segment ix2 has this link: a stem that encloses the first is rewritten into serifs where seg1 is much longer than it; else the
   -- first one is given up
   unfoldable pub held_to : ℕ → Link → Segments → Segments
-  held_to ix2 Links.None t = t
-  held_to ix2 (Links.To link2-ix) t =
+  held_to ix2 None t = t
+  held_to ix2 (Some link2-ix) t =
       cond (encloses seg1 link1 (segment_at t ix2) (segment_at t link2-ix) ix1 ix2)
       (cond (much_longer seg1 (segment_at t ix2)) (rewrite_all ix2 link1-ix link2-ix ix1 t) (unlink link1-ix (unlink ix1 t)))
       t
 
   -- that turn is the last: the first stem is given up
   unfoldable pub given_up_to : ℕ → Link → Segments → Bool
-  given_up_to ix2 Links.None t = false
-  given_up_to ix2 (Links.To link2-ix) t = encloses seg1 link1 (segment_at t ix2) (segment_at t link2-ix) ix1 ix2 && not (much_longer seg1 (segment_at t ix2))
+  given_up_to ix2 None t = false
+  given_up_to ix2 (Some link2-ix) t = encloses seg1 link1 (segment_at t ix2) (segment_at t link2-ix) ix1 ix2 && not (much_longer seg1 (segment_at t ix2))
 
   -- the turn ix2 of the inner loop, by the link in the table
   unfoldable pub hold_turn : ℕ → Segments → Segments
@@ -76,8 +76,8 @@ module _ (seg1 link1 : Segment) (ix1 link1-ix : ℕ) where
 
 -- the turn ix1 over n segments, where the segment ix1 has this link: a near stem is held against them all
 unfoldable pub serif_to : Thresholds → ℕ → ℕ → Link → Segments → Segments
-serif_to by n ix1 Links.None t = t
-serif_to by n ix1 (Links.To link1-ix) t =
+serif_to by n ix1 None t = t
+serif_to by n ix1 (Some link1-ix) t =
     cond (near_stem by (segment_at t ix1) (segment_at t link1-ix) ix1)
     (hold (segment_at t ix1) (segment_at t link1-ix) ix1 link1-ix n t)
     t
@@ -93,8 +93,8 @@ serif_round by t = turns (serif_turn by t.len) t.len t
 -- ---- the last round
 -- the turn ix1, where the segment ix1 has this link
 unfoldable pub last_to : Thresholds → ℕ → Link → Segments → Segments
-last_to by ix1 Links.None t = t
-last_to by ix1 (Links.To ix2) t = put_segment t ix1 (settled by (segment_at t ix1) (segment_at t ix2) ix1)
+last_to by ix1 None t = t
+last_to by ix1 (Some ix2) t = put_segment t ix1 (settled by (segment_at t ix1) (segment_at t ix2) ix1)
 
 -- that turn, by the link in the table
 unfoldable pub last_turn : Thresholds → ℕ → Segments → Segments

@@ -2,7 +2,6 @@
 #![tactic(auto)]
 
 pub mod gap;
-pub mod linked;
 pub mod rounds;
 pub mod serif;
 pub mod stem;

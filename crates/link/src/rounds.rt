@@ -8,8 +8,7 @@ use super::gap::gap_between;
 use super::serif::{encloses, is_much_longer, is_near_stem, rewritten, settled, unlinked};
 use super::stem::{can_be_stem, improved};
 use super::thresholds::Thresholds;
-use axis::direction::same;
-use axis::kinds::{Direction, Link};
+use axis::kinds::Direction;
 use axis::segment::Segments;
 
 // The pair round: each segment in the major direction against each other one. Both are read anew at each turn.
@@ -24,7 +23,7 @@ pub fn pair_round(segments: Segments, major_dir: Direction, thresholds: Threshol
     for ix1 in 0..count {
         let before = table.segments[ix1];
         let dir = before.dir;
-        if !same(dir, major_dir) {
+        if dir != major_dir {
             continue;
         }
         for ix2 in 0..count {
@@ -65,7 +64,7 @@ pub fn serif_round(segments: Segments, thresholds: Thresholds) -> Segments
     for ix1 in 0..count {
         let seg1 = table.segments[ix1];
         let first = seg1.link;
-        let Link::To(link1_ix) = first else {
+        let Some(link1_ix) = first else {
             continue;
         };
         let at1 = link1_ix as usize;
@@ -76,7 +75,7 @@ pub fn serif_round(segments: Segments, thresholds: Thresholds) -> Segments
         for ix2 in 0..count {
             let seg2 = table.segments[ix2];
             let second = seg2.link;
-            let Link::To(link2_ix) = second else {
+            let Some(link2_ix) = second else {
                 continue;
             };
             let at2 = link2_ix as usize;
@@ -108,7 +107,7 @@ pub fn last_round(segments: Segments, thresholds: Thresholds) -> Segments
     for ix1 in 0..count {
         let seg1 = table.segments[ix1];
         let link = seg1.link;
-        let Link::To(ix2) = link else {
+        let Some(ix2) = link else {
             continue;
         };
         let at2 = ix2 as usize;

@@ -9,16 +9,14 @@ ghost use Rattle.link.specs.Pairs.{serif_of, unlinked as unlinked_as, near_stem,
 
 use super::gap::times;
 use super::thresholds::Thresholds;
-use axis::kinds::Link;
-use axis::link::links_to;
 use axis::segment::Segment;
 
 // The segment without a link, a serif of what `serif` names.
-fn as_serif(seg: Segment, serif: Link) -> Segment
+fn as_serif(seg: Segment, serif: Option<u16>) -> Segment
     ensures { result ≡ serif_of seg serif }
 {
     Segment {
-        link: Link::None,
+        link: None,
         serif,
         ..seg
     }
@@ -40,7 +38,7 @@ pub fn is_near_stem(thresholds: Thresholds, seg1: Segment, link1: Segment, ix1: 
         return false;
     }
     let back = link1.link;
-    if !links_to(back, ix1) {
+    if back != Some(ix1) {
         return false;
     }
     seg1.pos < link1.pos
@@ -61,7 +59,7 @@ fn ends_outside(link1: Segment, link2: Segment, ix2: u16) -> bool
     ensures { result ≡ links_to link2.link ix2 && le_z link1.pos link2.pos }
 {
     let back = link2.link;
-    if !links_to(back, ix2) {
+    if back != Some(ix2) {
         return false;
     }
     link1.pos <= link2.pos
@@ -125,11 +123,11 @@ pub fn rewritten(seg: Segment, ix2: u16, link1_ix: u16, link2_ix: u16, ix1: u16)
     ensures { result ≡ rewritten_as seg ix2 link1_ix link2_ix ix1 }
 {
     let link = seg.link;
-    if links_to(link, ix2) {
-        return as_serif(seg, Link::To(link1_ix));
+    if link == Some(ix2) {
+        return as_serif(seg, Some(link1_ix));
     }
-    if links_to(link, link2_ix) {
-        return as_serif(seg, Link::To(ix1));
+    if link == Some(link2_ix) {
+        return as_serif(seg, Some(ix1));
     }
     seg
 }
@@ -151,7 +149,7 @@ pub fn settled(thresholds: Thresholds, seg1: Segment, seg2: Segment, ix1: u16) -
     ensures { result ≡ settled_as thresholds seg1 seg2 ix1 }
 {
     let back = seg2.link;
-    if links_to(back, ix1) {
+    if back == Some(ix1) {
         return seg1;
     }
     if stays_serif(thresholds, seg1, seg2) {

@@ -8,7 +8,6 @@ ghost use Rattle.link.specs.Pairs.{stem_gap, facing, check_seg, linked_by, impro
 use super::gap::{Gap, times};
 use super::thresholds::Thresholds;
 use axis::direction::opposite;
-use axis::kinds::Link;
 use axis::segment::Segment;
 
 // Whether a gap can be that of a stem: the second segment not before the first, with enough overlap.
@@ -75,7 +74,7 @@ fn joined(seg: Segment, gap: Gap, ix: u16) -> Segment
     Segment {
         score: gap.dist,
         len: gap.len,
-        link: Link::To(ix),
+        link: Some(ix),
         ..seg
     }
 }

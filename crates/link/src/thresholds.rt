@@ -4,7 +4,7 @@ ghost use Rattle.link.specs.Linking.{numbers_hold, thresholds_of};
 
 use axis::accept::is_inside;
 use axis::limits::{LEAST_SCALE, LEAST_UNITS_PER_EM, MOST_SCALE, MOST_UNITS_PER_EM};
-use fixed::point::{Quotient, derived_constant, fixed_div};
+use fixed::point::{derived_constant, fixed_div};
 
 // The least overlap of the two segments of a stem, and the distance below which a stem is near.
 #[derive(Clone, Copy)]
@@ -30,7 +30,7 @@ pub fn thresholds_of(units_per_em: i32, scale: i32) -> Thresholds
 {
     let len = derived_constant(units_per_em, 8);
     let quotient = fixed_div(64 * 3, scale);
-    let Quotient::Of(dist) = quotient else {
+    let Some(dist) = quotient else {
         return Thresholds { len, dist: 0 };
     };
     Thresholds { len, dist }

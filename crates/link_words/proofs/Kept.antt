@@ -7,12 +7,12 @@ use lib.ListN.{set}
 use lib.IntN.{ℤ}
 use Rattle.refusals.specs.Refusal.{refusal}
 use Rattle.axis.specs.declared.kinds.Direction.{Direction}
-use Rattle.axis.specs.declared.kinds.Link.{Link}
+use Rattle.axis.specs.Link.{Link}
 use Rattle.axis.specs.declared.segment.Segment.{Segment}
 use Rattle.axis.specs.declared.segment.Segments.{Segments}
 use Rattle.axis.specs.Segment.{segment_at}
 use Rattle.link.specs.Pairs.{relinked}
-use Rattle.link.specs.declared.linked.Linked.{Linked}
+use Rattle.link.specs.Answer.{Linked}
 use Rattle.link.specs.Linking.{linking_tests, link_segments_cjk}
 use Rattle.link.proofs.Determined as Linking
 use Rattle.words.specs.Word.{word_at}

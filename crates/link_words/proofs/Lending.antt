@@ -1,18 +1,22 @@
 -- The linking call, by what the test of its segments tells.
+use Rattle.std.specs.Prelude.{Result}
 use mathlib.Core.Path.{◌≡◌, refl, sym, ap, ◌∙◌}
-use mathlib.Core.Bool.{Bool, true}
+use mathlib.Core.Bool.{Bool, true, false}
 use mathlib.Core.List.{List}
 use Prim.Native.Nat.{ℕ, ◌<◌, ◌≤◌}
 use native.Mathlib.Omega.{arith}
 use lib.IntN.{ℤ, pos}
 use lib.Signed.{◌≤ℤ◌}
 use Rattle.refusals.proofs.Tests.{or-held}
+use Rattle.refusals.specs.declared.order.Refusal.{Refusal}
+use Rattle.refusals.specs.declared.order.Refusal.TheVariants as Refusals
+use Rattle.refusals.specs.Outcome.{answer_of, Required}
 use Rattle.refusals.specs.Refusal.{bad_parameter, refusal, or_refused}
 use Rattle.axis.specs.declared.kinds.Direction.{Direction}
 use Rattle.axis.specs.declared.segment.Segments.{Segments}
 use Rattle.link.specs.declared.thresholds.Thresholds.{Thresholds}
 use Rattle.link.specs.Rounds as Rounds
-use Rattle.link.specs.declared.linked.Linked.{Linked}
+use Rattle.link.specs.Answer.{Linked}
 use Rattle.link.specs.Linking.{thresholds_of, numbers_hold, linking_tests, beside, link_segments_cjk}
 use Rattle.link.proofs.Numbers.{len-not-below-0}
 use Rattle.words.specs.Field.{direction_of}
@@ -26,6 +30,12 @@ use Rattle.words_segment_test.specs.Held.{tested}
 use Rattle.words_segment_test.proofs.Calls.{short, ready, next-tests}
 use Rattle.link_words.specs.Linking.{Linkable}
 use Rattle.link_words.specs.Lent.{LinkingLent}
+
+-- the outcome of the test of the numbers, as an answer
+pub own-is : (right : Bool) (own : Result (Unit {0}) Refusal) → Required right Refusals.BadParameter own → answer_of own ≡ or_refused 0 right bad_parameter
+unfolding or_refused
+own-is true own q = ap answer_of q.outcome
+own-is false own q = ap answer_of q.outcome
 
 -- what the rounds may use
 pub record ReadyLinking (ws : List ℤ) (upem scale : ℤ) : Type 0 where

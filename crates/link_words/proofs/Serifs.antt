@@ -1,4 +1,5 @@
 -- The turns of the serif round, in place.
+use Rattle.std.specs.Prelude.{None, Some}
 use mathlib.Core.Path.{◌≡◌, refl, sym, ap, subst, ◌∙◌}
 use mathlib.Core.Bool.{Bool, true, false, not, cond, ◌&&◌}
 use mathlib.Core.List.{List}
@@ -8,8 +9,7 @@ use lib.Dec.{eqb}
 use lib.ListN.{length}
 use lib.IntN.{ℤ}
 use lib.Signed.{le_z}
-use Rattle.axis.specs.declared.kinds.Link.{Link}
-use Rattle.axis.specs.declared.kinds.Link.TheVariants as Links
+use Rattle.axis.specs.Link.{Link}
 use Rattle.axis.specs.declared.segment.Segment.{Segment}
 use Rattle.axis.specs.declared.segment.Segments.{Segments}
 use Rattle.axis.specs.Limits.{most_segments}
@@ -39,7 +39,7 @@ pub link-read : (ws : List ℤ) (i : ℕ) {seg : Segment} {l : Link} → seg ≡
 link-read ws i q e = sym (ap (λ (x : Segment). x.link) q) ∙ e
 
 -- it leads to a segment
-pub link-leads : {ws : List ℤ} {i k : ℕ} → Linkable ws → i < segments_in ws → (segment_at (flat_segments ws) i).link ≡ Links.To k → k < segments_in ws
+pub link-leads : {ws : List ℤ} {i k : ℕ} → Linkable ws → i < segments_in ws → (segment_at (flat_segments ws) i).link ≡ Some k → k < segments_in ws
 link-leads {ws} {i} {k} s h e = to_below (segments_in ws) i k (flat_segments ws) (each_within ws s.within) h e
 
 -- ---- rewriting
@@ -55,20 +55,20 @@ module _ (ws : List ℤ) (j l m i x : ℕ) (w : Whole ws) (seg : Segment) (q : s
   links-is k u v a b = sym (ap (λ (y : Segment). links_to y.link k) q) ∙ sym a ∙ b
 
   -- of a link to the one
-  pub rewrite-first : {ws' : List ℤ} → t ≡ true → Became (loosing x (Links.To l)) ws ws' → Became (rewrite_turn j l m i x) ws ws'
+  pub rewrite-first : {ws' : List ℤ} → t ≡ true → Became (loosing x (Some l)) ws ws' → Became (rewrite_turn j l m i x) ws ws'
   unfolding rewrite_turn rewritten
   rewrite-first h a =
-      became-as (ap (λ (b : Bool). put_segment T x (cond b (serif_of S (Links.To l)) (cond (links_to S.link m) (serif_of S (Links.To i)) S)))
+      became-as (ap (λ (b : Bool). put_segment T x (cond b (serif_of S (Some l)) (cond (links_to S.link m) (serif_of S (Some i)) S)))
       (sym (links-is j t true e h))) a
 
   module _ (h : t ≡ false) (u : Bool) (f : u ≡ links_to seg.link m) where
     -- of a link to the other one
-    pub rewrite-second : {ws' : List ℤ} → u ≡ true → Became (loosing x (Links.To i)) ws ws' → Became (rewrite_turn j l m i x) ws ws'
+    pub rewrite-second : {ws' : List ℤ} → u ≡ true → Became (loosing x (Some i)) ws ws' → Became (rewrite_turn j l m i x) ws ws'
     unfolding rewrite_turn rewritten
     rewrite-second g a =
         became-as
-        (λ n. put_segment T x (cond (sym (links-is j t false e h) n) (serif_of S (Links.To l))
-        (cond (sym (links-is m u true f g) n) (serif_of S (Links.To i)) S))) a
+        (λ n. put_segment T x (cond (sym (links-is j t false e h) n) (serif_of S (Some l))
+        (cond (sym (links-is m u true f g) n) (serif_of S (Some i)) S))) a
 
     -- of another one
     pub rewrite-none : u ≡ false → Became (rewrite_turn j l m i x) ws ws
@@ -76,8 +76,8 @@ module _ (ws : List ℤ) (j l m i x : ℕ) (w : Whole ws) (seg : Segment) (q : s
     rewrite-none g =
         stays (rewrite_turn j l m i x) w
         (sym (put_same T x)
-        ∙ (λ n. put_segment T x (cond (sym (links-is j t false e h) n) (serif_of S (Links.To l))
-        (cond (sym (links-is m u false f g) n) (serif_of S (Links.To i)) S))))
+        ∙ (λ n. put_segment T x (cond (sym (links-is j t false e h) n) (serif_of S (Some l))
+        (cond (sym (links-is m u false f g) n) (serif_of S (Some i)) S))))
 
 -- all of them
 pub rewrites-law : (j l m i : ℕ) {ws ws' : List ℤ} {n : ℕ} → n ≡ segments_in ws → Became (turns (rewrite_turn j l m i) n) ws ws'
@@ -108,13 +108,13 @@ module _ (a b : Segment) (i k j : ℕ) (ws : List ℤ) (s : Linkable ws) (x : i 
         inside = sym (ap (λ (x : Segment). le_z x.pos a.pos && not (eqb i j)) q) ∙ sym c ∙ h
 
         by : (l : Link) → (segment_at U j).link ≡ l → Held a b i k j false ws ws
-        by Links.None e = held_by s.whole refl (H.made_none a b i k j (segment_at U j).link U e)
-        by (Links.To m) e = held_by s.whole refl (H.made-skip a b i k j m (segment_at U j).link U e (rw inside))
+        by None e = held_by s.whole refl (H.made_none a b i k j (segment_at U j).link U e)
+        by (Some m) e = held_by s.whole refl (H.made-skip a b i k j m (segment_at U j).link U e (rw inside))
 
-    pub hold-none : seg2.link ≡ Links.None → Held a b i k j false ws ws
+    pub hold-none : seg2.link ≡ None → Held a b i k j false ws ws
     hold-none e = held_by s.whole refl (H.made_none a b i k j (segment_at U j).link U (link-read ws j q e))
 
-    module _ (m : ℕ) (e : seg2.link ≡ Links.To m) (link2 : Segment) (p : link2 ≡ reduced (segment_at U m)) (t : Bool)
+    module _ (m : ℕ) (e : seg2.link ≡ Some m) (link2 : Segment) (p : link2 ≡ reduced (segment_at U m)) (t : Bool)
         (c : t ≡ encloses a b seg2 link2 i j) where
       encloses-is : (v : Bool) → t ≡ v → encloses a b (segment_at U j) (segment_at U m) i j ≡ v
       unfolding encloses
@@ -198,13 +198,13 @@ module _ (a b : Segment) (i k n : ℕ) (ws₀ : List ℤ) where
 -- what is read of the first segment and of its link is all that the inner loop reads of them
 held-reduced : (a b : Segment) (i k j : ℕ) (l : Link) (t : Segments) → held_to (reduced a) (reduced b) i k j l t ≡ held_to a b i k j l t
 unfolding held_to encloses much_longer
-held-reduced a b i k j Links.None t = refl
-held-reduced a b i k j (Links.To m) t = refl
+held-reduced a b i k j None t = refl
+held-reduced a b i k j (Some m) t = refl
 
 given-reduced : (a b : Segment) (i k j : ℕ) (l : Link) (t : Segments) → given_up_to (reduced a) (reduced b) i k j l t ≡ given_up_to a b i k j l t
 unfolding given_up_to encloses much_longer
-given-reduced a b i k j Links.None t = refl
-given-reduced a b i k j (Links.To m) t = refl
+given-reduced a b i k j None t = refl
+given-reduced a b i k j (Some m) t = refl
 
 hold-reduced : (a b : Segment) (i k n : ℕ) (t : Segments) → hold (reduced a) (reduced b) i k n t ≡ hold a b i k n t
 unfolding hold hold_turn given_up
@@ -216,10 +216,10 @@ module _ (by : Thresholds) (ws : List ℤ) (i : ℕ) (w : Whole ws) (seg1 : Segm
   abbrev Old : Segments
   Old = flat_segments ws
 
-  pub near_none : seg1.link ≡ Links.None → Became (serif_turn by (segments_in ws) i) ws ws
+  pub near_none : seg1.link ≡ None → Became (serif_turn by (segments_in ws) i) ws ws
   near_none e = stays (serif_turn by (segments_in ws) i) w (serif-none by (segments_in ws) i Old (link-read ws i q e))
 
-  module _ (k : ℕ) (e : seg1.link ≡ Links.To k) (link1 : Segment) (p : link1 ≡ reduced (segment_at Old k)) (t : Bool) (c : t ≡ near_stem by seg1 link1 i) where
+  module _ (k : ℕ) (e : seg1.link ≡ Some k) (link1 : Segment) (p : link1 ≡ reduced (segment_at Old k)) (t : Bool) (c : t ≡ near_stem by seg1 link1 i) where
     near-is : (v : Bool) → t ≡ v → near_stem by (segment_at Old i) (segment_at Old k) i ≡ v
     unfolding near_stem
     near-is v h = (λ n. near_stem by (sym q n) (sym p n) i) ∙ sym c ∙ h

@@ -1,4 +1,5 @@
 -- The turns of the last round, in place, and the three rounds in a row.
+use Rattle.std.specs.Prelude.{None, Some}
 use mathlib.Core.Path.{◌≡◌, refl, sym, ap, subst, ◌∙◌}
 use mathlib.Core.Bool.{Bool, true, false, cond}
 use mathlib.Core.List.{List}
@@ -6,7 +7,6 @@ use Prim.Native.Nat.{ℕ, ◌<◌}
 use native.Mathlib.Omega.{arith}
 use lib.IntN.{ℤ}
 use Rattle.axis.specs.declared.kinds.Direction.{Direction}
-use Rattle.axis.specs.declared.kinds.Link.TheVariants as Links
 use Rattle.axis.specs.declared.segment.Segment.{Segment}
 use Rattle.axis.specs.declared.segment.Segments.{Segments}
 use Rattle.axis.specs.Accepted.{Below}
@@ -34,10 +34,10 @@ module _ (by : Thresholds) (ws : List ℤ) (i : ℕ) (w : Whole ws) (seg1 : Segm
   T = flat_segments ws
 
   -- without a link
-  pub settle-none : seg1.link ≡ Links.None → Became (last_turn by i) ws ws
+  pub settle-none : seg1.link ≡ None → Became (last_turn by i) ws ws
   settle-none e = stays (last_turn by i) w (last_none by i T (link-read ws i q e))
 
-  module _ (k : ℕ) (e : seg1.link ≡ Links.To k) (seg2 : Segment) (p : seg2 ≡ reduced (segment_at T k)) (t : Bool) (c : t ≡ links_to seg2.link i) where
+  module _ (k : ℕ) (e : seg1.link ≡ Some k) (seg2 : Segment) (p : seg2 ≡ reduced (segment_at T k)) (t : Bool) (c : t ≡ links_to seg2.link i) where
     abbrev A : Segment
     A = segment_at T i
 
@@ -78,7 +78,7 @@ module _ (by : Thresholds) (ws : List ℤ) (i : ℕ) (w : Whole ws) (seg1 : Segm
 pub back_below : {ws : List ℤ} {k : ℕ} {seg2 : Segment} → Linkable ws → k < segments_in ws → seg2 ≡ reduced (segment_at (flat_segments ws) k)
     → Below most_segments seg2.link
 back_below {ws} {k} {seg2} s h p =
-    record { at = λ (m : ℕ) (e : seg2.link ≡ Links.To m). omega (arith, ((each_within ws s.within).each k h).link.at m (link-read ws k p e), s.whole.few) }
+    record { at = λ (m : ℕ) (e : seg2.link ≡ Some m). omega (arith, ((each_within ws s.within).each k h).link.at m (link-read ws k p e), s.whole.few) }
 
 -- ---- the round
 -- in the middle of it the words are sound

@@ -1,6 +1,6 @@
 -- CJK linking over lent segments, the major direction, units per em and the scale.
 use Rattle.std.specs.Prelude.{true, List, ℕ, ℤ}
-use Rattle.link.specs.declared.linked.Linked.{Linked}
+use Rattle.link.specs.Answer.{Linked}
 use Rattle.link.specs.Linking.{link_segments_cjk}
 use Rattle.words.specs.Field.{direction_of}
 use Rattle.words.specs.Segment.{flat_segments, segments_over}

@@ -7,8 +7,6 @@ ghost use Rattle.words.specs.Segment.{segments_in};
 ghost use Rattle.words_segment.specs.Whole.{Whole, Became};
 ghost use Rattle.link_words.specs.Linking.{Linkable, Made, Held};
 
-use axis::kinds::Link;
-use axis::link::links_to;
 use axis::segment::Segment;
 use link::serif::{encloses, is_much_longer, is_near_stem, starts_outside};
 use link::thresholds::Thresholds;
@@ -22,12 +20,12 @@ fn rewrite_in(words: &mut [i32], ix2: u16, link1_ix: u16, link2_ix: u16, ix1: u1
 {
     let seg = read_segment(words, i);
     let link = seg.link;
-    if links_to(link, ix2) {
-        put_serif(words, i, Link::To(link1_ix));
+    if link == Some(ix2) {
+        put_serif(words, i, Some(link1_ix));
         return;
     }
-    if links_to(link, link2_ix) {
-        put_serif(words, i, Link::To(ix1));
+    if link == Some(link2_ix) {
+        put_serif(words, i, Some(ix1));
     }
 }
 
@@ -60,7 +58,7 @@ fn hold_in(
         return false;
     }
     let second = seg2.link;
-    let Link::To(link2_ix) = second else {
+    let Some(link2_ix) = second else {
         return false;
     };
     let link2 = read_segment(words, link2_ix as usize);
@@ -96,7 +94,7 @@ fn near_in(words: &mut [i32], thresholds: Thresholds, ix1: usize)
 {
     let seg1 = read_segment(words, ix1);
     let first = seg1.link;
-    let Link::To(link1_ix) = first else {
+    let Some(link1_ix) = first else {
         return;
     };
     let link1 = read_segment(words, link1_ix as usize);

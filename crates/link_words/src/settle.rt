@@ -5,8 +5,6 @@ ghost use Rattle.words.specs.Segment.{segments_in};
 ghost use Rattle.words_segment.specs.Whole.{Became};
 ghost use Rattle.link_words.specs.Linking.{Linkable};
 
-use axis::kinds::Link;
-use axis::link::links_to;
 use link::serif::stays_serif;
 use link::thresholds::Thresholds;
 use words::segment::SEGMENT_WORDS;
@@ -19,12 +17,12 @@ fn settle_in(words: &mut [i32], thresholds: Thresholds, ix1: usize)
 {
     let seg1 = read_segment(words, ix1);
     let link = seg1.link;
-    let Link::To(ix2) = link else {
+    let Some(ix2) = link else {
         return;
     };
     let seg2 = read_segment(words, ix2 as usize);
     let back = seg2.link;
-    if links_to(back, ix1 as u16) {
+    if back == Some(ix1 as u16) {
         return;
     }
     if stays_serif(thresholds, seg1, seg2) {

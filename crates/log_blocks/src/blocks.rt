@@ -43,6 +43,7 @@ pub fn refit_block(
     let mut at = from;
     let mut held = count;
     let mut size: usize = 0;
+    // a while: the step depends on where the line ends
     while at < block.len() {
         if out.len() - size < MOST_REPLY {
             return Refitted {

@@ -28,12 +28,10 @@ fn is_digit(char: u8) -> bool
 pub fn all_digits(line: &[u8]) -> bool
     ensures { result ≡ all_digits line.now }
 {
-    let mut i: usize = 0;
-    while i < line.len() {
-        if !is_digit(line[i]) {
+    for char in line {
+        if !is_digit(*char) {
             return false;
         }
-        i += 1;
     }
     true
 }

@@ -14,8 +14,8 @@ use Rattle.log_frame.specs.Frame.{Frame, frame_of, frame_digits, frame_in, point
 use Rattle.log_frame.specs.Write.{WritesFrame, write_tests, written_by, frame_written, line_written}
 use Rattle.log_frame.specs.Read.{ReadsFrame, read_tests, read_by, over, over_rooms, frame_read, rooms_read}
 use Rattle.log_frame.specs.Steps.{PointsRead}
-use Rattle.log_frame.specs.declared.write.Written.{Written}
-use Rattle.log_frame.specs.declared.read.ReadFrame.{ReadFrame}
+use Rattle.log_frame.specs.Answer.{Written}
+use Rattle.log_frame.specs.Answer.{ReadFrame}
 
 -- ---- writing
 module _ (f : Frame) (line : List ℕ) where

@@ -4,3 +4,5 @@ pub mod Frame
 pub mod Write
 pub mod Read
 pub mod Steps
+-- what a call hands back, with its answer
+pub mod Answer

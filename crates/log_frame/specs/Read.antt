@@ -4,7 +4,7 @@ use Rattle.refusals.specs.Refusal.{Test, ◌unless◌, refusal, answered}
 use Rattle.words_call.specs.Lent.{not_words}
 use Rattle.log_frame.specs.Limits.{most_counted}
 use Rattle.log_frame.specs.Frame.{Frame, good_line, frame_in, points_in, contours_in}
-use Rattle.log_frame.specs.declared.read.ReadFrame.{ReadFrame}
+use Rattle.log_frame.specs.Answer.{ReadFrame}
 
 -- ---- the refusals
 -- the line is not a whole frame

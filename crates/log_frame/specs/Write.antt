@@ -5,7 +5,7 @@ use Rattle.words_shape.specs.Shape.{is_in, short}
 use Rattle.log_digits.specs.Digits.{Bytes, digits_for}
 use Rattle.log_frame.specs.Limits.{most_counted, frame_size}
 use Rattle.log_frame.specs.Frame.{Frame, frame_digits}
-use Rattle.log_frame.specs.declared.write.Written.{Written}
+use Rattle.log_frame.specs.Answer.{Written}
 
 -- ---- the refusals
 -- one byte counts the points and the contours, and the line has a place for each digit

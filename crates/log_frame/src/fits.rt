@@ -1,11 +1,12 @@
 // Which jobs writing refuses.
 ghost use Rattle.std.specs.Prelude.{◌≡◌};
+ghost use Rattle.refusals.specs.Outcome.{answer_of};
 ghost use Rattle.refusals.specs.Refusal.{refusal};
 ghost use Rattle.log_frame.specs.Frame.{frame_of};
 ghost use Rattle.log_frame.specs.Write.{room_for, ends_fit, numbers_fit, write_tests};
 
 use super::limits::{MOST_COUNTED, frame_size};
-use refusals::order::{BAD_INDEX, OUT_OF_RANGE, TOO_LONG, or_refused};
+use refusals::order::{Refusal, require};
 use words_shape::field::{SHORT, is_in};
 
 // Whether one byte counts the points and the contours, and a line of so many places has one for each digit.
@@ -25,13 +26,10 @@ fn room_for(points: usize, contours: usize, places: usize) -> bool
 fn ends_fit(ends: &[u16]) -> bool
     ensures { result ≡ ends_fit ends.now }
 {
-    let mut i: usize = 0;
-    while i < ends.len() {
-        let end = ends[i] as usize;
-        if MOST_COUNTED < end {
+    for end in ends {
+        if MOST_COUNTED < usize::from(*end) {
             return false;
         }
-        i += 1;
     }
     true
 }
@@ -40,34 +38,31 @@ fn ends_fit(ends: &[u16]) -> bool
 fn numbers_fit(list: &[i32]) -> bool
     ensures { result ≡ numbers_fit list.now }
 {
-    let mut i: usize = 0;
-    while i < list.len() {
-        if !is_in(list[i], SHORT) {
+    for number in list {
+        if !is_in(*number, SHORT) {
             return false;
         }
-        i += 1;
     }
     true
 }
 
-// The refusal of writing, or 0.
+// The refusal of writing, if there is one.
 pub fn write_refusal(
     originals: &[i32],
     currents: &[i32],
     marks: &[u8],
     ends: &[u16],
     line: &[u8],
-) -> u8
-    ensures { result ≡ refusal (write_tests (frame_of originals.now currents.now marks.now ends.now) line.now) }
+) -> Result<(), Refusal>
+    ensures { answer_of result ≡ refusal (write_tests (frame_of originals.now currents.now marks.now ends.now) line.now) }
 {
-    let answer = or_refused(0, currents.len() == originals.len(), TOO_LONG);
-    let answer = or_refused(answer, marks.len() == originals.len(), TOO_LONG);
-    let answer = or_refused(
-        answer,
+    require(currents.len() == originals.len(), Refusal::TooLong)?;
+    require(marks.len() == originals.len(), Refusal::TooLong)?;
+    require(
         room_for(originals.len(), ends.len(), line.len()),
-        TOO_LONG,
-    );
-    let answer = or_refused(answer, ends_fit(ends), BAD_INDEX);
-    let answer = or_refused(answer, numbers_fit(originals), OUT_OF_RANGE);
-    or_refused(answer, numbers_fit(currents), OUT_OF_RANGE)
+        Refusal::TooLong,
+    )?;
+    require(ends_fit(ends), Refusal::BadIndex)?;
+    require(numbers_fit(originals), Refusal::OutOfRange)?;
+    require(numbers_fit(currents), Refusal::OutOfRange)
 }

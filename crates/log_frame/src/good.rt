@@ -1,16 +1,17 @@
 // Which lines and rooms reading refuses.
 ghost use Rattle.std.specs.Prelude.{◌≡◌, ◌≤◌, length};
+ghost use Rattle.refusals.specs.Outcome.{answer_of};
 ghost use Rattle.refusals.specs.Refusal.{refusal};
 ghost use Rattle.log_digits.specs.Digits.{digits_for};
 ghost use Rattle.log_frame.specs.Limits.{head_size};
 ghost use Rattle.log_frame.specs.Frame.{frame_of, good_line, points_in, contours_in};
 ghost use Rattle.log_frame.specs.Read.{are_rooms, read_tests};
 
-use super::limits::{HEAD_SIZE, KIND_BYTE, MOST_COUNTED, NOT_FRAME, frame_size};
+use super::limits::{HEAD_SIZE, KIND_BYTE, MOST_COUNTED, frame_size};
 use log_digits::bytes::byte_at;
 use log_digits::digit::all_digits;
-use refusals::order::or_refused;
-use words_call::shown::{NOT_WORDS, both};
+use refusals::order::{Refusal, require};
+use words_call::shown::both;
 
 // How many points a line says that it has.
 pub fn points_in(line: &[u8]) -> usize
@@ -57,17 +58,17 @@ fn are_rooms(originals: usize, currents: usize, marks: usize, ends: usize) -> bo
     )
 }
 
-// The refusal of reading, or 0.
+// The refusal of reading, if there is one.
 pub fn read_refusal(
     line: &[u8],
     originals: &[i32],
     currents: &[i32],
     marks: &[u8],
     ends: &[u16],
-) -> u8
-    ensures { result ≡ refusal (read_tests line.now (frame_of originals.now currents.now marks.now ends.now)) }
+) -> Result<(), Refusal>
+    ensures { answer_of result ≡ refusal (read_tests line.now (frame_of originals.now currents.now marks.now ends.now)) }
 {
     let rooms = are_rooms(originals.len(), currents.len(), marks.len(), ends.len());
-    let answer = or_refused(0, rooms, NOT_WORDS);
-    or_refused(answer, good_line(line), NOT_FRAME)
+    require(rooms, Refusal::NotWords)?;
+    require(good_line(line), Refusal::NotFrame)
 }

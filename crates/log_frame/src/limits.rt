@@ -16,9 +16,6 @@ pub const MOST_DIGITS: usize = 2 * (HEAD_SIZE + POINT_SIZE * MOST_COUNTED + MOST
 // The first byte of every frame.
 pub const KIND_BYTE: u8 = 1;
 
-// The answer to a line that is not a whole frame.
-pub const NOT_FRAME: u8 = 6;
-
 // Bytes of a frame of so many points and contours.
 pub fn frame_size(points: usize, contours: usize) -> usize
     requires { (points ≤ most_counted) × (contours ≤ most_counted) }

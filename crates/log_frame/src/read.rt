@@ -6,15 +6,16 @@ ghost use Rattle.log_frame.specs.Limits.{head_size, point_size};
 ghost use Rattle.log_frame.specs.Frame.{frame_of};
 ghost use Rattle.log_frame.specs.Read.{over, ReadsFrame};
 ghost use Rattle.log_frame.specs.Steps.{PointsRead};
+ghost use Rattle.log_frame.specs.Answer.{read_of};
 
 use super::good::{contours_in, points_in, read_refusal};
 use super::limits::{HEAD_SIZE, POINT_SIZE};
 use log_digits::bytes::{byte_at, number_at};
+use refusals::order::Refusal;
 
-// What reading hands back: 0 or the refusal, and the counts of points and contours, 0 beside a refusal.
+// The counts of points and contours of a frame.
 #[derive(Clone, Copy)]
-pub struct ReadFrame {
-    pub answer: u8,
+pub struct Counts {
     pub points: usize,
     pub contours: usize,
 }
@@ -24,13 +25,11 @@ fn read_points(line: &[u8], n: usize, originals: &mut [i32], currents: &mut [i32
     requires { (digits_for (head_size + point_size * n) ≤ length line.now) × ((n ≤ length originals.old) × ((n ≤ length currents.old) × (n ≤ length marks.old))) }
     ensures { PointsRead line.now n originals.old currents.old marks.old originals.new currents.new marks.new }
 {
-    let mut i: usize = 0;
-    while i < n {
+    for i in 0..n {
         let at = HEAD_SIZE + POINT_SIZE * i;
         marks[i] = byte_at(line, at);
         originals[i] = number_at(line, at + 1);
         currents[i] = number_at(line, at + 3);
-        i += 1; // the next point
     }
 }
 
@@ -39,40 +38,26 @@ fn read_ends(line: &[u8], at: usize, k: usize, ends: &mut [u16])
     requires { (digits_for (at + k) ≤ length line.now) × (k ≤ length ends.old) }
     ensures { ends.new ≡ over (firsts (λ (i : ℕ). byte_at line.now (at + i)) k) ends.old }
 {
-    let mut i: usize = 0;
-    while i < k {
-        let end = byte_at(line, at + i) as u16;
-        ends[i] = end;
-        i += 1;
+    for i in 0..k {
+        ends[i] = u16::from(byte_at(line, at + i));
     }
 }
 
-// Reads the frame of a line, which is given without its line feed, into rooms of 255 places each. The answer is 0, 6, or 255 for a room of another length; but 0 writes nothing.
+// Reads the frame of a line, which is given without its line feed, into rooms of 255 places each. The refusals are 6, and 255 for a room of another length, which write nothing.
 pub fn read_frame(
     line: &[u8],
     originals: &mut [i32],
     currents: &mut [i32],
     marks: &mut [u8],
     ends: &mut [u16],
-) -> ReadFrame
+) -> Result<Counts, Refusal>
     ensures { ReadsFrame line.now (frame_of originals.old currents.old marks.old ends.old)
-        result (frame_of originals.new currents.new marks.new ends.new) }
+        (read_of result) (frame_of originals.new currents.new marks.new ends.new) }
 {
-    let answer = read_refusal(line, originals, currents, marks, ends);
-    if 0 < answer {
-        return ReadFrame {
-            answer,
-            points: 0,
-            contours: 0,
-        };
-    }
+    read_refusal(line, originals, currents, marks, ends)?;
     let points = points_in(line);
     let contours = contours_in(line);
     read_points(line, points, originals, currents, marks);
     read_ends(line, HEAD_SIZE + POINT_SIZE * points, contours, ends);
-    ReadFrame {
-        answer: 0,
-        points,
-        contours,
-    }
+    Ok(Counts { points, contours })
 }

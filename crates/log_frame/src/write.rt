@@ -7,17 +7,12 @@ ghost use Rattle.log_frame.specs.Limits.{most_counted, head_size, point_size};
 ghost use Rattle.log_frame.specs.Frame.{frame_of, kind_byte, points_bytes};
 ghost use Rattle.log_frame.specs.Write.{WritesFrame};
 ghost use Rattle.log_frame.specs.Steps.{PointsFit, EndsFit};
+ghost use Rattle.log_frame.specs.Answer.{written_of};
 
 use super::fits::write_refusal;
 use super::limits::{HEAD_SIZE, KIND_BYTE, POINT_SIZE};
 use log_digits::bytes::{put_byte, put_number};
-
-// What writing hands back: 0 or the refusal, and the count of digits, 0 beside a refusal.
-#[derive(Clone, Copy)]
-pub struct Written {
-    pub answer: u8,
-    pub digits: usize,
-}
+use refusals::order::Refusal;
 
 // Writes what stands in front of the points.
 fn put_head(line: &mut [u8], points: usize, contours: usize)
@@ -44,8 +39,7 @@ fn put_points(line: &mut [u8], originals: &[i32], currents: &[i32], marks: &[u8]
     requires { PointsFit originals.now currents.now marks.now (length line.old) }
     ensures { line.new ≡ written line.old head_size (points_bytes originals.now currents.now marks.now (length originals.now)) }
 {
-    let mut i: usize = 0;
-    while i < originals.len() {
+    for i in 0..originals.len() {
         put_point(
             line,
             HEAD_SIZE + POINT_SIZE * i,
@@ -53,7 +47,6 @@ fn put_points(line: &mut [u8], originals: &[i32], currents: &[i32], marks: &[u8]
             originals[i],
             currents[i],
         );
-        i += 1; // the next point
     }
 }
 
@@ -62,34 +55,25 @@ fn put_ends(line: &mut [u8], at: usize, ends: &[u16])
     requires { (digits_for (at + length ends.now) ≤ length line.old) × EndsFit ends.now }
     ensures { line.new ≡ written line.old at ends.now }
 {
-    let mut i: usize = 0;
-    while i < ends.len() {
-        let end = ends[i] as u8;
-        put_byte(line, at + i, end);
-        i += 1;
+    for (i, end) in ends.iter().enumerate() {
+        put_byte(line, at + i, *end as u8);
     }
 }
 
-// Writes the frame of a job at the beginning of a line. The answer is 0, or 1, 3 or 4, which writes nothing.
+// Writes the frame of a job at the beginning of a line, and hands back the count of its digits. The refusals are 1, 3 and 4, which write nothing.
 pub fn write_frame(
     originals: &[i32],
     currents: &[i32],
     marks: &[u8],
     ends: &[u16],
     line: &mut [u8],
-) -> Written
-    ensures { WritesFrame (frame_of originals.now currents.now marks.now ends.now) line.old result line.new }
+) -> Result<usize, Refusal>
+    ensures { WritesFrame (frame_of originals.now currents.now marks.now ends.now) line.old (written_of result) line.new }
 {
-    let answer = write_refusal(originals, currents, marks, ends, line);
-    if 0 < answer {
-        return Written { answer, digits: 0 };
-    }
+    write_refusal(originals, currents, marks, ends, line)?;
     put_head(line, originals.len(), ends.len());
     put_points(line, originals, currents, marks);
     let at = HEAD_SIZE + POINT_SIZE * originals.len();
     put_ends(line, at, ends);
-    Written {
-        answer: 0,
-        digits: 2 * (at + ends.len()),
-    }
+    Ok(2 * (at + ends.len()))
 }

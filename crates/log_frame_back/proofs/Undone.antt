@@ -25,8 +25,8 @@ use Rattle.log_frame.specs.Limits.{frame_size}
 use Rattle.log_frame.specs.Frame.{Frame, frame_of, frame_digits, good_line, frame_in, points_in, contours_in, end_place, original_in, current_in, mark_in, end_in}
 use Rattle.log_frame.specs.Write.{WritesFrame, write_tests, written_by, frame_written, line_written, room_for}
 use Rattle.log_frame.specs.Read.{ReadsFrame, read_tests, read_by, are_rooms, over, over_rooms, frame_read, rooms_read}
-use Rattle.log_frame.specs.declared.write.Written.{Written}
-use Rattle.log_frame.specs.declared.read.ReadFrame.{ReadFrame}
+use Rattle.log_frame.specs.Answer.{Written}
+use Rattle.log_frame.specs.Answer.{ReadFrame}
 use Rattle.log_frame.proofs.Tested.{writable, readable, good_length, few-points-in, few-contours-in, room-digits, ends-pass, numbers-pass}
 use Rattle.log_frame_back.specs.Back.{read_lists}
 use Rattle.log_frame_back.proofs.RoundTrip.{

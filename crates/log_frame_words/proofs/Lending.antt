@@ -13,8 +13,7 @@ use Rattle.log_frame.specs.Frame.{Frame, frame_digits, points_in, contours_in}
 use Rattle.log_frame.specs.Write.{WritesFrame, write_tests, written_by, frame_written, line_written}
 use Rattle.log_frame.specs.Read.{ReadsFrame, read_tests, read_by, frame_read, rooms_read}
 use Rattle.log_frame_words.specs.Lent.{WritesLent, ReadsLent}
-use Rattle.log_frame.specs.declared.write.Written.{Written}
-use Rattle.log_frame.specs.declared.read.ReadFrame.{ReadFrame}
+use Rattle.log_frame.specs.Answer.{Written, ReadFrame}
 use Rattle.log_frame.proofs.Tested.{writable, few-points-in, few-contours-in}
 use Rattle.log_frame.proofs.Composed.{frame-length}
 
@@ -38,6 +37,11 @@ module _ {A C : Type 0} (tests : List Test) {old new : A} {before counted : C} (
           let f : eqb a 0 ≡ false = ne_eqb a 0 (λ e. omega arith) in
           let e = h ∙ ap (λ (t : Bool). cond t count before) f in
           (z, (λ i. (s i, e i)) ∙ sym (ap (λ (t : Bool). cond {A = A × C} t (new, counted) (old, before)) f))
+
+-- a call that does not refuse leaves the new
+pub granted : {A : Type 0} {new old now : A} → now ≡ new → Lent [] 0 new old 0 now
+unfolding refused_or refusal
+granted e = record { number = refl; held = e }
 
 -- a part of what a call hands back
 part : {A B : Type 0} (g : A → B) (k : ℕ) (refused : ℕ → A) (done : A) → g (answered k refused done) ≡ answered k (λ (j : ℕ). g (refused j)) (g done)

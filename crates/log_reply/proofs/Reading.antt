@@ -13,7 +13,7 @@ use Rattle.log_digits.proofs.Lines.{byte_small}
 use Rattle.log_frame.specs.Limits.{most_counted}
 use Rattle.log_frame.specs.Frame.{Frame, good_line, frame_in, points_in, contours_in, original_in, current_in, mark_in, end_in}
 use Rattle.log_frame.specs.Read.{not_frame, are_rooms, read_tests, read_by, frame_read, over, over_rooms, rooms_read, ReadsFrame}
-use Rattle.log_frame.specs.declared.read.ReadFrame.{ReadFrame}
+use Rattle.log_frame.specs.Answer.{ReadFrame}
 use Rattle.log_text.specs.Answer.{refused_bytes, job_bytes}
 use Rattle.log_reply.specs.Reply.{frame_answer, line_bytes}
 

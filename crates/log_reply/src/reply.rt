@@ -4,11 +4,12 @@ ghost use Rattle.log_digits.specs.Digits.{digits_for};
 ghost use Rattle.log_text.specs.Answer.{done_size, most_results, Puts};
 ghost use Rattle.log_reply.specs.Reply.{line_bytes, Replies};
 
-use log_frame::limits::{MOST_COUNTED, NOT_FRAME};
+use log_frame::limits::MOST_COUNTED;
 use log_frame::read::read_frame;
 use log_lines::cutter::LINE_FEED;
 use log_text::answer::answer_job;
 use log_text::text::put_refusal;
+use refusals::order::Refusal;
 
 // Bytes of the longest reply, 1,535: the digits of 81, the count and 255 results, and a line feed.
 pub const MOST_REPLY: usize = 2 * (2 + 3 * MOST_COUNTED) + 1;
@@ -23,12 +24,12 @@ fn answer_line(line: &[u8], out: &mut [u8]) -> usize
     let mut marks = [0u8; MOST_COUNTED];
     let mut ends = [0u16; MOST_COUNTED];
     let read = read_frame(line, &mut originals, &mut currents, &mut marks, &mut ends);
-    let refused = read.answer;
-    if 0 < refused {
-        return put_refusal(out, refused);
-    }
-    let n = read.points;
-    let k = read.contours;
+    let counts = match read {
+        Ok(counts) => counts,
+        Err(refusal) => return put_refusal(out, u8::from(refusal)),
+    };
+    let n = counts.points;
+    let k = counts.contours;
     answer_job(
         &originals[..n],
         &mut currents[..n],
@@ -46,7 +47,7 @@ fn answer_any(line: &[u8], ended: bool, out: &mut [u8]) -> usize
     if ended {
         return answer_line(line, out);
     }
-    put_refusal(out, NOT_FRAME)
+    put_refusal(out, u8::from(Refusal::NotFrame))
 }
 
 // Writes the reply to a line, which is given without its line feed and with whether it had one, and hands back how many bytes that is. Where there is no room for the

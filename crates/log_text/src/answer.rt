@@ -17,9 +17,8 @@ pub fn answer_job(
     requires { (length currents.old ≤ most_results) × (digits_for (done_size most_results) ≤ length out.old) }
     ensures { Puts (job_bytes originals.now currents.old marks.now ends.now) out.old result out.new }
 {
-    let answer = align_weak_points(originals, currents, marks, ends);
-    if 0 < answer {
-        return put_refusal(out, answer);
+    match align_weak_points(originals, currents, marks, ends) {
+        Ok(()) => put_results(out, currents),
+        Err(refusal) => put_refusal(out, u8::from(refusal)),
     }
-    put_results(out, currents)
 }

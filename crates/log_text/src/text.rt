@@ -40,10 +40,8 @@ pub fn put_results(out: &mut [u8], results: &[i32]) -> usize
     let count = results.len() as u8;
     put_byte(out, 0, DONE);
     put_byte(out, 1, count);
-    let mut i: usize = 0;
-    while i < results.len() {
-        put_result(out, 2 + 3 * i, results[i]);
-        i += 1;
+    for (i, res) in results.iter().enumerate() {
+        put_result(out, 2 + 3 * i, *res);
     }
-    2 + 3 * i
+    2 + 3 * results.len()
 }

@@ -1,4 +1,5 @@
 -- Positions are as without marks: the rule reads no mark (request #105).
+use Rattle.std.specs.Prelude.{None, Some}
 use mathlib.Core.Path.{◌≡◌, ap, subst}
 use mathlib.Core.List.{[], ◌∷◌}
 use Prim.Native.Nat.{ℕ}
@@ -6,8 +7,7 @@ use lib.Dec.{leb, eqb}
 use lib.IntN.{ℤ, ◌-ℤ◌}
 use Rattle.refusals.specs.Refusal.{◌unless◌, refusal, too_long, bad_parameter, bad_index, out_of_range}
 use Rattle.axis.specs.declared.kinds.Group.{Group}
-use Rattle.axis.specs.declared.kinds.Link.{Link}
-use Rattle.axis.specs.declared.kinds.Link.TheVariants as Links
+use Rattle.axis.specs.Link.{Link}
 use Rattle.axis.specs.declared.edge.Edge.{Edge}
 use Rattle.axis.specs.declared.edge.Axis.{Axis}
 use Rattle.axis.specs.Edge.{edge_at}
@@ -43,8 +43,8 @@ only-alike a b i d h = put-alike a b i _ _ h (placed_alike _ _ _ _ _ _ (at-alike
 
 link-alike : (a b : Axis) (l : Link) (d : ℤ) → AlikeAxis a b → AlikeAxis (move_link a l d) (move_link b l d)
 unfolding move_link
-link-alike a b Links.None d h = h
-link-alike a b (Links.To k) d h = done-alike a b k d h
+link-alike a b None d h = h
+link-alike a b (Some k) d h = done-alike a b k d h
 
 serifs-alike : (a b : Axis) (d : ℤ) → AlikeAxis a b → AlikeAxis (move_serifs a d) (move_serifs b d)
 unfolding move_serifs

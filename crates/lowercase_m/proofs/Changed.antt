@@ -1,6 +1,7 @@
 -- What the call changes: position and done of the third stem and of the edge that it is linked to, the positions of the serifs of twelve edges, each then
 -- marked as moved by the
 -- rule, and nothing else; a refusal nothing.
+use Rattle.std.specs.Prelude.{None, Some}
 use mathlib.Core.Path.{◌≡◌, refl, sym, ap, subst, ◌∙◌}
 use mathlib.Core.Bool.{Bool, true, cond, ◌&&◌, ◌||◌}
 use mathlib.Core.List.{List, [], ◌∷◌}
@@ -10,8 +11,7 @@ use lib.Dec.{eqb}
 use lib.IntN.{ℤ, ◌-ℤ◌}
 use Rattle.signed.proofs.Choices.{cond_cases, either_way}
 use Rattle.refusals.specs.Refusal.{refusal}
-use Rattle.axis.specs.declared.kinds.Link.{Link}
-use Rattle.axis.specs.declared.kinds.Link.TheVariants as Links
+use Rattle.axis.specs.Link.{Link}
 use Rattle.axis.specs.declared.kinds.Group.{Group}
 use Rattle.axis.specs.declared.kinds.Mark.{Mark}
 use Rattle.axis.specs.declared.kinds.Mark.TheVariants.{LowercaseM}
@@ -22,7 +22,7 @@ use Rattle.axis.specs.Link.{links_to}
 use Rattle.axis.specs.Mark.{among}
 use Rattle.axis.specs.Changes.{Extent, nothing, position, place, Only, OnlyAxis, Changes}
 use Rattle.axis.proofs.Only.{or-true, position-place, placed-only, fixed-only, same-axis, also-put, call-changes}
-use Rattle.lowercase_m.specs.declared.hint.Hinted.{Hinted}
+use Rattle.lowercase_m.specs.Answer.{Hinted}
 use Rattle.lowercase_m.specs.M.{
   stems_of,
   applies_to,
@@ -54,7 +54,7 @@ serif-extent es n i a b e h =
     (λ _. subst (λ (t : Bool). Only (cond t (position marks) nothing) a b) (sym e) h)
 
 -- an edge that a link leads to
-leads : (l : Link) (k : ℕ) → l ≡ Links.To k → links_to l k ≡ true
+leads : (l : Link) (k : ℕ) → l ≡ Some k → links_to l k ≡ true
 unfolding links_to
 leads l k e = ap (λ (x : Link). links_to x k) e ∙ eq-eqb k k refl
 
@@ -78,8 +78,8 @@ module _ (axis : Axis) where
 
   link : (now : Axis) (l : Link) (d : ℤ) → (edge_at axis third).link ≡ l → Kept now → Kept (move_link now l d)
   unfolding move_link
-  link now Links.None d e h = h
-  link now (Links.To k) d e h = done now k d (ap (λ (t : Bool). eqb k third || t) (leads _ k e) ∙ sym (or-true (eqb k third))) h
+  link now None d e h = h
+  link now (Some k) d e h = done now k d (ap (λ (t : Bool). eqb k third || t) (leads _ k e) ∙ sym (or-true (eqb k third))) h
 
   serifs : (now : Axis) (d : ℤ) → Kept now → Kept (move_serifs now d)
   unfolding move_serifs

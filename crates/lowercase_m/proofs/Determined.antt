@@ -2,7 +2,7 @@
 use mathlib.Core.Path.{◌≡◌, sym, ◌∙◌}
 use Rattle.axis.specs.declared.kinds.Group.{Group}
 use Rattle.axis.specs.declared.edge.Axis.{Axis}
-use Rattle.lowercase_m.specs.declared.hint.Hinted.{Hinted}
+use Rattle.lowercase_m.specs.Answer.{Hinted}
 use Rattle.lowercase_m.specs.M.{HintsLowercaseM}
 
 pub determined : (axis : Axis) (group : Group) {r s : Hinted} → HintsLowercaseM axis group r → HintsLowercaseM axis group s → r ≡ s

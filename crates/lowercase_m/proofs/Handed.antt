@@ -1,4 +1,5 @@
 -- What the rule hands on: no edge moves more than twice, so that every position is within `twice_moved`; and which calls it accepts.
+use Rattle.std.specs.Prelude.{None, Some}
 use mathlib.Core.Path.{◌≡◌, refl, sym, ap, ◌∙◌}
 use mathlib.Core.Bool.{Bool, true, false, cond}
 use mathlib.Core.List.{List, [], ◌∷◌}
@@ -15,8 +16,7 @@ use Rattle.refusals.specs.Refusal.{refusal}
 use Rattle.refusals.proofs.Answers.{none-refused, worked}
 use Rattle.refusals.proofs.Tests.{all_hold, no-refusal}
 use Rattle.axis.specs.declared.kinds.Group.{Group}
-use Rattle.axis.specs.declared.kinds.Link.{Link}
-use Rattle.axis.specs.declared.kinds.Link.TheVariants as Links
+use Rattle.axis.specs.Link.{Link}
 use Rattle.axis.specs.declared.edge.Edge.{Edge}
 use Rattle.axis.specs.declared.edge.Axis.{Axis}
 use Rattle.axis.specs.Accepted.{Below, EdgeWithin, AxisWithin}
@@ -25,7 +25,7 @@ use Rattle.axis.specs.Handed.{EdgesAccepted}
 use Rattle.axis.specs.Limits.{most_edges}
 use Rattle.axis.specs.Ring.{times}
 use Rattle.axis.proofs.Accepting.{edges-within}
-use Rattle.lowercase_m.specs.declared.hint.Hinted.{Hinted}
+use Rattle.lowercase_m.specs.Answer.{Hinted}
 use Rattle.lowercase_m.specs.M.{
   stems_of,
   delta,
@@ -150,8 +150,8 @@ module _ (n : ℕ) (d : ℤ) (g : Between most_delta most_delta d) where
   by-link : (axis : Axis) (i : ℕ) (l : Link) → n ≤ most_edges → (n ≡ 12 → i ≡ 9) → Below n l → Moved n (i ∷ []) axis
       → AxisWithin twice_moved (move_serifs (move_link axis l d) d)
   unfolding move_link
-  by-link axis i Links.None m nine b h = serifs axis i n m nine (unlinked axis i h)
-  by-link axis i (Links.To k) m nine b h = serifs (move_done axis k d) i k m nine (done-moved (i ∷ []) axis k (b.at k refl) h)
+  by-link axis i None m nine b h = serifs axis i n m nine (unlinked axis i h)
+  by-link axis i (Some k) m nine b h = serifs (move_done axis k d) i k m nine (done-moved (i ∷ []) axis k (b.at k refl) h)
 
 -- ---- the rule
 start : (axis : Axis) → AxisWithin unmoved axis → Moved axis.len [] axis

@@ -1,8 +1,8 @@
 -- The lowercase m rule (document 01, module 6): which edges it is given to, and which of them it moves.
+use Rattle.std.specs.Prelude.{None, Some}
 use Rattle.std.specs.Prelude.{◌≡◌, Bool, true, cond, ◌&&◌, ◌||◌, List, [], ◌∷◌, ℕ, ◌+◌, ltb, eqb, get_or, ℤ, pos, nat_abs, ◌-ℤ◌, ◌*ℤ◌}
 use Rattle.refusals.specs.Refusal.{Test, ◌unless◌, refusal, answered, bad_parameter}
-use Rattle.axis.specs.declared.kinds.Link.{Link}
-use Rattle.axis.specs.declared.kinds.Link.TheVariants as Links
+use Rattle.axis.specs.Link.{Link}
 use Rattle.axis.specs.declared.kinds.Group.{Group}
 use Rattle.axis.specs.declared.kinds.Group.TheVariants.{Default, Cjk}
 use Rattle.axis.specs.declared.kinds.Mark.TheVariants.{LowercaseM}
@@ -14,7 +14,7 @@ use Rattle.axis.specs.Mark.{unmarked_axis}
 use Rattle.axis.specs.Refusals.{edges_short, edges_indexed, edges_in_range}
 use Rattle.axis.specs.Changes.{Extent, nothing, position, place}
 use Rattle.lowercase_m.specs.declared.stems.Stems.{Stems}
-use Rattle.lowercase_m.specs.declared.hint.Hinted.{Hinted}
+use Rattle.lowercase_m.specs.Answer.{Hinted}
 
 -- ---- the stems
 -- the first edges of the three stems: 0, 2, 4 of six edges, 1, 5, 9 of twelve
@@ -65,8 +65,8 @@ move_only axis i d = put_edge axis i (moved_back (edge_at axis i) d)
 
 -- the linked edge, where there is one, is moved and is done: a second time, where it is the stem itself
 unfoldable pub move_link : Axis → Link → ℤ → Axis
-move_link axis Links.None d = axis
-move_link axis (Links.To k) d = move_done axis k d
+move_link axis None d = axis
+move_link axis (Some k) d = move_done axis k d
 
 -- of twelve edges 8 and 11, the serifs, are moved: a second time, where one of them is the linked edge
 unfoldable pub move_serifs : Axis → ℤ → Axis

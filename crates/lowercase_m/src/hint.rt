@@ -1,24 +1,19 @@
 // The call.
 ghost use Rattle.std.specs.Prelude.{◌≡◌};
+ghost use Rattle.refusals.specs.Outcome.{answer_of};
 ghost use Rattle.refusals.specs.Refusal.{refusal};
 ghost use Rattle.axis.specs.Limits.{most_pos};
 ghost use Rattle.axis.specs.Accepted.{AxisWithin};
 ghost use Rattle.lowercase_m.specs.M.{aligned, count_holds, mTests, HintsLowercaseM};
 ghost use Rattle.lowercase_m.specs.Steps.{StemsOf};
+ghost use Rattle.lowercase_m.specs.Answer.{hinted_of};
 
 use super::moves::move_stem;
 use super::stems::{Stems, applies, delta_of, stems_of};
 use axis::accept::{edges_indices, edges_numbers, few_edges};
 use axis::edge::Axis;
 use axis::kinds::Group;
-use refusals::order::{BAD_INDEX, BAD_PARAMETER, OUT_OF_RANGE, TOO_LONG, or_refused};
-
-// An answer, 0 or the refusal, and the axis.
-#[derive(Clone, Copy)]
-pub struct Hinted {
-    pub answer: u8,
-    pub axis: Axis,
-}
+use refusals::order::{Refusal, require};
 
 // Moves the third stem to the same distance as the second, where the rule applies.
 fn align_stems(axis: Axis, group: Group, stems: Stems) -> Axis
@@ -48,27 +43,21 @@ pub fn count_holds(count: usize) -> bool
     count == 12
 }
 
-// The refusal of the call, or 0.
-fn m_refusal(axis: Axis) -> u8
-    ensures { result ≡ refusal (mTests axis) }
+// The refusal of the call, if there is one.
+fn m_refusal(axis: Axis) -> Result<(), Refusal>
+    ensures { answer_of result ≡ refusal (mTests axis) }
 {
-    let answer = or_refused(0, few_edges(axis.len), TOO_LONG);
-    let answer = or_refused(answer, count_holds(axis.len), BAD_PARAMETER);
-    let answer = or_refused(answer, edges_indices(axis), BAD_INDEX);
-    or_refused(answer, edges_numbers(axis), OUT_OF_RANGE)
+    require(few_edges(axis.len), Refusal::TooLong)?;
+    require(count_holds(axis.len), Refusal::BadParameter)?;
+    require(edges_indices(axis), Refusal::BadIndex)?;
+    require(edges_numbers(axis), Refusal::OutOfRange)
 }
 
 // Makes sure that a lowercase m stays symmetric: its third stem comes to the same distance as its second.
-pub fn hint_lowercase_m(axis: Axis, group: Group) -> Hinted
-    ensures { HintsLowercaseM axis group result }
+pub fn hint_lowercase_m(axis: Axis, group: Group) -> Result<Axis, Refusal>
+    ensures { HintsLowercaseM axis group (hinted_of axis result) }
 {
-    let answer = m_refusal(axis);
-    if 0 < answer {
-        return Hinted { answer, axis };
-    }
+    m_refusal(axis)?;
     let stems = stems_of(axis.len);
-    Hinted {
-        answer: 0,
-        axis: align_stems(axis, group, stems),
-    }
+    Ok(align_stems(axis, group, stems))
 }

@@ -7,7 +7,7 @@ ghost use Rattle.lowercase_m.specs.M.{move_serifs, move_stem, most_delta};
 ghost use Rattle.lowercase_m.specs.Steps.{Places, unmoved, twice_moved, thrice_moved};
 
 use axis::edge::{Axis, Edge, with_done_flag, with_pos};
-use axis::kinds::{Link, Mark};
+use axis::kinds::Mark;
 
 // The edge, moved back by delta, and what moved it.
 pub fn moved_back(edge: Edge, delta: i32, mark: Mark) -> Edge
@@ -42,7 +42,7 @@ pub fn move_stem(axis: Axis, third: usize, delta: i32) -> Axis
     let link = stem.link;
     let mut moved = axis;
     moved.edges[third] = with_done_flag(moved_back(stem, delta, Mark::LowercaseM));
-    let Link::To(k) = link else {
+    let Some(k) = link else {
         return move_serifs(moved, delta);
     };
     let at = k as usize;

@@ -8,7 +8,6 @@ ghost use Rattle.lowercase_m.specs.Steps.{InTable};
 
 use axis::edge::Edge;
 use axis::kinds::Group;
-use axis::link::links_to;
 use fixed::point::magnitude;
 
 // The first edges of the three stems.
@@ -62,7 +61,7 @@ fn links_on(edge: Edge, ix: usize) -> bool
     ensures { result ≡ links_to edge.link (ix + 1) }
 {
     let link = edge.link;
-    links_to(link, (ix + 1) as u16)
+    link == Some((ix + 1) as u16)
 }
 
 // Whether each stem is linked to the edge behind it.

@@ -7,7 +7,7 @@ use Rattle.axis.specs.declared.edge.Edge.{Edge}
 use Rattle.axis.specs.declared.edge.Axis.{Axis}
 use Rattle.axis.specs.Mark.{unmarked, unmarked_axis}
 use Rattle.axis.proofs.Alike.{unmarked-alike}
-use Rattle.lowercase_m.specs.declared.hint.Hinted.{Hinted}
+use Rattle.lowercase_m.specs.Answer.{Hinted}
 use Rattle.lowercase_m.proofs.Blind as Table
 use Rattle.lowercase_m_list.specs.Table.{axis_with}
 use Rattle.lowercase_m_list.specs.M.{axis_of, hinted, without_marks, hint_lowercase_m_list, BlindList}

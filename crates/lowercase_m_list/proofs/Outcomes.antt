@@ -13,9 +13,9 @@ use Rattle.axis.specs.declared.edge.Edge.{Edge}
 use Rattle.axis.specs.declared.edge.Axis.{Axis}
 use Rattle.axis.specs.Edge.{empty_edge}
 use Rattle.axis.specs.Limits.{most_edges}
-use Rattle.lowercase_m.specs.declared.hint.Hinted.{Hinted}
+use Rattle.lowercase_m.specs.Answer.{Hinted}
 use Rattle.lowercase_m.specs.M.{stems_of, aligned, mTests, hint_lowercase_m, hinted}
-use Rattle.lowercase_m_list.specs.declared.hint.Table.{Table}
+use Rattle.lowercase_m_list.specs.Table.{Table}
 use Rattle.lowercase_m_list.specs.Table.{empty_table, copied, axis_with, table_of, hint_table}
 use Rattle.lowercase_m_list.specs.M.{axis_of, hint_lowercase_m_list, HintsLowercaseMList}
 use Rattle.lowercase_m_list.proofs.Tabled.{table_edges, table_axis, aligned-same, refusal-same}

@@ -1,4 +1,5 @@
 -- The rule on a table that holds a list, empty places behind it, is the rule on the list.
+use Rattle.std.specs.Prelude.{None, Some}
 use mathlib.Core.Path.{◌≡◌, refl, ap, ◌∙◌}
 use mathlib.Core.Bool.{Bool, true, false, cond}
 use mathlib.Core.List.{List, [], ◌∷◌, ◌++◌}
@@ -10,8 +11,7 @@ use lib.IntN.{ℤ}
 use lib.ListN.{length, get_or, set, take, replicate}
 use Rattle.signed.proofs.Choices.{cond_map}
 use Rattle.refusals.specs.Refusal.{◌unless◌, refusal, bad_parameter, bad_index, out_of_range}
-use Rattle.axis.specs.declared.kinds.Link.{Link}
-use Rattle.axis.specs.declared.kinds.Link.TheVariants as Links
+use Rattle.axis.specs.Link.{Link}
 use Rattle.axis.specs.declared.kinds.Group.{Group}
 use Rattle.axis.specs.declared.edge.Edge.{Edge}
 use Rattle.axis.specs.declared.edge.Axis.{Axis}
@@ -75,8 +75,8 @@ cut-only n axis i d = cut-put (λ (e : Edge). moved_back e d) n axis i
 
 cut-link : (n : ℕ) (axis : Axis) (l : Link) (d : ℤ) → cut n (move_link axis l d) ≡ move_link (cut n axis) l d
 unfolding move_link
-cut-link n axis Links.None d = refl
-cut-link n axis (Links.To k) d = cut-done n axis k d
+cut-link n axis None d = refl
+cut-link n axis (Some k) d = cut-done n axis k d
 
 cut-serifs : (n : ℕ) (axis : Axis) (d : ℤ) → cut n (move_serifs axis d) ≡ move_serifs (cut n axis) d
 unfolding move_serifs

@@ -1,4 +1,5 @@
 -- Document 01's m rows on a lent list, lists of other lengths, each refusal, and request #105's marks: one table, one statement.
+use Rattle.std.specs.Prelude.{None, Some}
 use mathlib.Core.Path.{◌≡◌, refl}
 use mathlib.Core.List.{List, [], ◌∷◌}
 use Prim.Native.Nat.{ℕ}
@@ -6,8 +7,7 @@ use lib.IntN.{pos}
 use lib.ListN.{replicate}
 use Rattle.axis.specs.Limits.{most_edges}
 use Rattle.refusals.specs.Refusal.{refusal}
-use Rattle.axis.specs.declared.kinds.Link.{Link}
-use Rattle.axis.specs.declared.kinds.Link.TheVariants.{None, To}
+use Rattle.axis.specs.Link.{Link}
 use Rattle.axis.specs.declared.kinds.Direction.TheVariants as Directions
 use Rattle.axis.specs.declared.kinds.Group.{Group}
 use Rattle.axis.specs.declared.kinds.Group.TheVariants.{Default, Cjk}
@@ -71,19 +71,19 @@ worked =
     ∷ same Default (replicate 5 empty_edge) 2
     ∷ same Default (replicate most_edges empty_edge) 2
     ∷ same Default (replicate 129 empty_edge) 1
-    ∷ same Default (six (To 6) (far 207)) 3
+    ∷ same Default (six (Some 6) (far 207)) 3
     ∷ same Default (six None (far 65536)) 4
     -- a move by nothing marks the stem; the serifs are marked, and are not done
     ∷ row Default (six None (by Stem (edge 207 256 None))) 0 (six None (moved 207 256))
     ∷ row Default (twelve (far 207) (by Blue (edge 190 260 None)) (edge 230 300 None)) 0
     (twelve (moved 207 256) (by LowercaseM (edge 190 246 None)) (by LowercaseM (edge 230 286 None)))
     -- the edge that the third stem is linked to moves with it, is done, and is marked too, whatever it was; a stem that is linked to itself moves twice
-    ∷ row Default (behind (edge 207 270 (To 5)) (by Stem (edge 260 330 None))) 0 (behind (finished (by LowercaseM (edge 207 256 (To 5)))) (moved 260 316))
-    ∷ row Default (behind (edge 207 270 (To 4)) (by Stem (edge 260 330 None))) 0
-    (behind (finished (by LowercaseM (edge 207 242 (To 4)))) (by Stem (edge 260 330 None)))
+    ∷ row Default (behind (edge 207 270 (Some 5)) (by Stem (edge 260 330 None))) 0 (behind (finished (by LowercaseM (edge 207 256 (Some 5)))) (moved 260 316))
+    ∷ row Default (behind (edge 207 270 (Some 4)) (by Stem (edge 260 330 None))) 0
+    (behind (finished (by LowercaseM (edge 207 242 (Some 4)))) (by Stem (edge 260 330 None)))
     -- marks are kept where the rule does not apply, and by a refusal
     ∷ same Default (twelve (far 208) (by Blue (edge 190 260 None)) (by Stem (edge 230 300 None))) 0
-    ∷ same Default (six (To 6) (by Stem (far 207))) 3
+    ∷ same Default (six (Some 6) (by Stem (far 207))) 3
     ∷ []
 
 -- the definition gives the value of each row

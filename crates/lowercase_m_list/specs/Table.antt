@@ -1,5 +1,5 @@
 -- What the steps over the working table promise each other.
-use Rattle.std.specs.Prelude.{List, ◌++◌, ℕ, take, drop, replicate}
+use Rattle.std.specs.Prelude.{Result, Ok, Err, List, ◌++◌, ℕ, take, drop, replicate}
 use Rattle.refusals.specs.Refusal.{answered}
 use Rattle.axis.specs.declared.kinds.Group.{Group}
 use Rattle.axis.specs.declared.kinds.Dimension.TheVariants as Dimensions
@@ -8,9 +8,10 @@ use Rattle.axis.specs.declared.edge.Edge.{Edge}
 use Rattle.axis.specs.declared.edge.Axis.{Axis}
 use Rattle.axis.specs.Edge.{empty_edge}
 use Rattle.axis.specs.Limits.{most_edges}
-use Rattle.lowercase_m.specs.declared.hint.Hinted.{Hinted}
+use Rattle.lowercase_m.specs.Answer.{Hinted}
 use Rattle.lowercase_m.specs.M.{hint_lowercase_m}
-use Rattle.lowercase_m_list.specs.declared.hint.Table.{Table}
+use Rattle.refusals.specs.declared.order.Refusal.{Refusal}
+use Rattle.refusals.specs.Outcome.{number_of}
 
 -- a table of empty edges
 unfoldable pub empty_table : List Edge
@@ -23,6 +24,17 @@ copied n from to = take n from ++ drop n to
 -- an axis over a table; the rule reads neither its dimension nor its major direction
 abbrev pub axis_with : List Edge → ℕ → Axis
 axis_with edges len = record { dim = Dimensions.Horizontal; major_dir = Directions.None; edges = edges; len = len }
+
+-- an answer, how many edges of a table are to be put back, and the table
+pub record Table : Type 0 where
+  pub answer : ℕ
+  pub count : ℕ
+  pub edges : List Edge
+
+-- the answer, and beside a refusal the table that was given, of which none are to be put back
+abbrev pub table_given : List Edge → ℕ → Result (List Edge) Refusal → Table
+table_given given len (Ok edges) = record { answer = 0; count = len; edges = edges }
+table_given given len (Err r) = record { answer = number_of r; count = 0; edges = given }
 
 -- the table form's answer and edges, and how many of them are to be put back: none beside a refusal
 abbrev pub table_of : Hinted → ℕ → Table

@@ -1,24 +1,22 @@
 // The call.
 ghost use Rattle.std.specs.Prelude.{◌≡◌};
+ghost use Rattle.refusals.specs.Outcome.{answer_of};
 ghost use Rattle.lowercase_m_list.specs.M.{HintsLowercaseMList};
-ghost use Rattle.lowercase_m_list.specs.Table.{hint_table};
+ghost use Rattle.lowercase_m_list.specs.Table.{table_given, hint_table};
 
 use super::table::{load, store};
 use axis::edge::{Axis, Edge};
 use axis::kinds::{Dimension, Direction, Group};
 use axis::limits::MOST_EDGES;
-
-// An answer, 0 or the refusal, and how many edges of the table are to be put back.
-#[derive(Clone, Copy)]
-struct Table {
-    pub answer: u8,
-    pub count: usize,
-    pub edges: [Edge; MOST_EDGES],
-}
+use refusals::order::Refusal;
 
 // The table form on a list's table and length.
-fn hint_table(edges: [Edge; MOST_EDGES], len: usize, group: Group) -> Table
-    ensures { result ≡ hint_table edges len group }
+fn hint_table(
+    edges: [Edge; MOST_EDGES],
+    len: usize,
+    group: Group,
+) -> Result<[Edge; MOST_EDGES], Refusal>
+    ensures { table_given edges len result ≡ hint_table edges len group }
 {
     let axis = Axis {
         dim: Dimension::Horizontal,
@@ -26,31 +24,17 @@ fn hint_table(edges: [Edge; MOST_EDGES], len: usize, group: Group) -> Table
         edges,
         len,
     };
-    let hinted = lowercase_m::hint::hint_lowercase_m(axis, group);
-    let answer = hinted.answer;
-    let changed = hinted.axis;
-    let edges = changed.edges;
-    if 0 < answer {
-        return Table {
-            answer,
-            count: 0,
-            edges,
-        };
-    }
-    Table {
-        answer,
-        count: len,
-        edges,
-    }
+    let hinted = lowercase_m::hint::hint_lowercase_m(axis, group)?;
+    Ok(hinted.edges)
 }
 
 // Makes sure that a lowercase m stays symmetric: its third stem comes to the same distance as its second.
-pub fn hint_lowercase_m(edges: &mut [Edge], group: Group) -> u8
-    ensures { HintsLowercaseMList edges.old group result edges.new }
+pub fn hint_lowercase_m(edges: &mut [Edge], group: Group) -> Result<(), Refusal>
+    ensures { HintsLowercaseMList edges.old group (answer_of result) edges.new }
 {
     let len = edges.len();
     let table = load(edges);
-    let hinted = hint_table(table, len, group);
-    store(edges, hinted.edges, hinted.count);
-    hinted.answer
+    let hinted = hint_table(table, len, group)?;
+    store(edges, hinted, len);
+    Ok(())
 }

@@ -20,11 +20,7 @@ pub fn load(edges: &[Edge]) -> [Edge; MOST_EDGES]
 {
     let n = least(edges.len(), MOST_EDGES);
     let mut table = empty_table();
-    let mut i: usize = 0;
-    while i < n {
-        table[i] = edges[i];
-        i += 1;
-    }
+    table[..n].copy_from_slice(&edges[..n]);
     table
 }
 
@@ -33,9 +29,5 @@ pub fn store(edges: &mut [Edge], table: [Edge; MOST_EDGES], n: usize)
     requires { (n ≤ length edges.old) × (n ≤ most_edges) }
     ensures { edges.new ≡ copied n table edges.old }
 {
-    let mut i: usize = 0;
-    while i < n {
-        edges[i] = table[i];
-        i += 1;
-    }
+    edges[..n].copy_from_slice(&table[..n]);
 }

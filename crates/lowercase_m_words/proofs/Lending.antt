@@ -1,18 +1,22 @@
 -- The m rule over lent edges, by what the test of its edges tells.
+use Rattle.std.specs.Prelude.{Result}
 use mathlib.Core.Path.{◌≡◌, refl, sym, ap, ◌∙◌}
-use mathlib.Core.Bool.{Bool, true}
+use mathlib.Core.Bool.{Bool, true, false}
 use mathlib.Core.List.{List}
 use Prim.Native.Nat.{ℕ, ◌<◌, ◌≤◌}
 use native.Mathlib.Omega.{arith}
 use lib.Dec.{leb}
 use lib.IntN.{ℤ}
 use Rattle.refusals.proofs.Tests.{or-held}
+use Rattle.refusals.specs.declared.order.Refusal.{Refusal}
+use Rattle.refusals.specs.declared.order.Refusal.TheVariants as Refusals
+use Rattle.refusals.specs.Outcome.{answer_of, Required}
 use Rattle.refusals.specs.Refusal.{bad_parameter, refusal, or_refused}
 use Rattle.axis.specs.declared.kinds.Dimension.TheVariants as Dimensions
 use Rattle.axis.specs.declared.kinds.Group.{Group}
 use Rattle.axis.specs.Limits.{most_edges, most_pos}
 use Rattle.axis.specs.Accepted.{AxisWithin}
-use Rattle.lowercase_m.specs.declared.hint.Hinted.{Hinted}
+use Rattle.lowercase_m.specs.Answer.{Hinted}
 use Rattle.lowercase_m.specs.M.{count_holds, mTests, hinted, hint_lowercase_m}
 use Rattle.words.specs.Field.{group_of}
 use Rattle.words.specs.Edge.{edges_in, edges_over}
@@ -26,6 +30,12 @@ use Rattle.words_edge_test.proofs.Calls.{ready, call-refused, call-done}
 use Rattle.words_edge_test.proofs.Order.{own-tests}
 use Rattle.lowercase_m_words.specs.M.{aligning}
 use Rattle.lowercase_m_words.specs.Lent.{MLent}
+
+-- the outcome of the test of the count, as an answer
+pub own-is : (right : Bool) (own : Result (Unit {0}) Refusal) → Required right Refusals.BadParameter own → answer_of own ≡ or_refused 0 right bad_parameter
+unfolding or_refused
+own-is true own q = ap answer_of q.outcome
+own-is false own q = ap answer_of q.outcome
 
 pub record ReadyM (ws : List ℤ) : Type 0 where
   pub whole : Whole ws

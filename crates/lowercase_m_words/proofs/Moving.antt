@@ -1,4 +1,5 @@
 -- The moves of the m rule, by the stores that the code does.
+use Rattle.std.specs.Prelude.{None, Some}
 use mathlib.Core.Path.{◌≡◌, sym, ap, subst, ◌∙◌}
 use mathlib.Core.List.{List}
 use Prim.Native.Nat.{ℕ, ◌+◌, ◌<◌}
@@ -9,8 +10,7 @@ use Rattle.signed.specs.Range.{Between}
 use Rattle.signed.proofs.Choices.{cond-true, cond-false}
 use Rattle.axis.specs.declared.kinds.Dimension.{Dimension}
 use Rattle.axis.specs.declared.kinds.Dimension.TheVariants as Dimensions
-use Rattle.axis.specs.declared.kinds.Link.{Link}
-use Rattle.axis.specs.declared.kinds.Link.TheVariants as Links
+use Rattle.axis.specs.Link.{Link}
 use Rattle.axis.specs.declared.kinds.Mark.TheVariants.{LowercaseM}
 use Rattle.axis.specs.declared.edge.Edge.{Edge}
 use Rattle.axis.specs.Edge.{edge_at}
@@ -69,7 +69,7 @@ serifs-law {ws} {w1} {w2} {a} {d} n e b c =
 
 -- ---- the stem, its link and the serifs
 module _ {ws w1 : List ℤ} {a d : ℤ} {stem : Edge} (i : ℕ) (r : stem ≡ reduced (edge_at (edges_of ws) i)) (e : a ≡ d) (b : Became (moving_done i a) ws w1) where
-  pub unlinked-law : {w2 : List ℤ} → stem.link ≡ Links.None → Became (moving_serifs a) w1 w2 → Became (moving_stem i d) ws w2
+  pub unlinked-law : {w2 : List ℤ} → stem.link ≡ None → Became (moving_serifs a) w1 w2 → Became (moving_stem i d) ws w2
   unfolding move_stem move_link flat_axis axis_run
   unlinked-law q c =
       became-as
@@ -78,7 +78,7 @@ module _ {ws w1 : List ℤ} {a d : ℤ} {stem : Edge} (i : ℕ) (r : stem ≡ re
       ∙ ap (λ (l : Link). move_serifs (move_link (move_done (axis_in ws dim) i d) l d) d) (sym q ∙ ap (λ (x : Edge). x.link) r))
       (became-then b c)
 
-  pub linked-law : {w2 w3 : List ℤ} (j : ℕ) → stem.link ≡ Links.To j → Became (moving_done j a) w1 w2 → Became (moving_serifs a) w2 w3
+  pub linked-law : {w2 w3 : List ℤ} (j : ℕ) → stem.link ≡ Some j → Became (moving_done j a) w1 w2 → Became (moving_serifs a) w2 w3
       → Became (moving_stem i d) ws w3
   unfolding move_stem move_link flat_axis axis_run
   linked-law j q f c =

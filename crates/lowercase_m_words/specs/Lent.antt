@@ -1,6 +1,6 @@
 -- The lowercase m rule over lent edges and a group.
 use Rattle.std.specs.Prelude.{List, ℕ, ℤ}
-use Rattle.lowercase_m.specs.declared.hint.Hinted.{Hinted}
+use Rattle.lowercase_m.specs.Answer.{Hinted}
 use Rattle.lowercase_m.specs.M.{hint_lowercase_m}
 use Rattle.words.specs.Field.{group_of}
 use Rattle.words.specs.Edge.{edges_over}

@@ -10,7 +10,7 @@ ghost use Rattle.words_call.specs.Lent.{edges_of};
 ghost use Rattle.words_edge.specs.Whole.{Whole, Became};
 ghost use Rattle.lowercase_m_words.specs.M.{moving_done, moving_only, moving_serifs, moving_stem};
 
-use axis::kinds::{Link, Mark};
+use axis::kinds::Mark;
 use lowercase_m::moves::moved_back;
 use words::edge::EDGE_WORDS;
 use words_edge::edge::{put_fixed, put_pos, read_edge};
@@ -56,7 +56,7 @@ pub fn stem_in(words: &mut [i32], third: usize, delta: i32)
     let stem = read_edge(words, third);
     let link = stem.link;
     move_done(words, third, delta);
-    let Link::To(k) = link else {
+    let Some(k) = link else {
         serifs_in(words, delta);
         return;
     };

@@ -1,11 +1,11 @@
 -- An empty list says that there was nothing to mend.
+use Rattle.std.specs.Prelude.{Some}
 use mathlib.Core.Path.{◌≡◌, refl, sym, ap, subst, ◌∙◌}
 use mathlib.Core.List.{List, []}
 use Prim.Native.Nat.{ℕ, ◌<◌}
 use Rattle.axis.specs.declared.edge.Edge.{Edge}
 use Rattle.axis.specs.declared.edge.Axis.{Axis}
-use Rattle.axis.specs.declared.kinds.Link.{Link}
-use Rattle.axis.specs.declared.kinds.Link.TheVariants as Links
+use Rattle.axis.specs.Link.{Link}
 use Rattle.axis.specs.declared.segment.Segment.{Segment}
 use Rattle.axis.specs.declared.segment.Segments.{Segments}
 use Rattle.axis.specs.Edge.{edge_at}
@@ -23,7 +23,7 @@ unlisted : (l : List Alteration) (x : Table) (i : ℕ) (f : Field) (now old : Li
 unfolding before
 unlisted l x i f now old e h = ap (λ (m : List Alteration). before m x i f now) (sym e) ∙ h
 
-same_index : (a b : ℕ) → Links.To a ≡ Links.To b → a ≡ b
+same_index : (a b : ℕ) → Some a ≡ Some b → a ≡ b
 same_index a b e = cc
 
 module _ (axis : Axis) (t : Segments) (a : Mendable axis t) (none : alterations axis t (mended_axis axis t) (mended_segments axis t) ≡ []) where

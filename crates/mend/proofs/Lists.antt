@@ -1,4 +1,5 @@
 -- The list of alterations: how long it is, and when it is empty.
+use Rattle.std.specs.Prelude.{None, Some}
 use mathlib.Core.Path.{◌≡◌, refl, sym, ap, ◌∙◌}
 use mathlib.Core.Bool.{Bool, true, false, cond}
 use mathlib.Core.List.{List, [], ◌∷◌, ◌++◌}
@@ -8,8 +9,7 @@ use borrow.Author.Tests.{eq-eqb}
 use lib.ListN.{length, length-append}
 use Rattle.axis.specs.declared.edge.Edge.{Edge}
 use Rattle.axis.specs.declared.edge.Axis.{Axis}
-use Rattle.axis.specs.declared.kinds.Link.{Link}
-use Rattle.axis.specs.declared.kinds.Link.TheVariants as Links
+use Rattle.axis.specs.Link.{Link}
 use Rattle.axis.specs.declared.segment.Segment.{Segment}
 use Rattle.axis.specs.declared.segment.Segments.{Segments}
 use Rattle.axis.specs.Edge.{edge_at}
@@ -42,8 +42,8 @@ pub edge_few : (k : ℕ) (a b : Edge) → length (of_edge k a b) ≤ 4
 edge_few k a b =
     let p = listed-few L.edges k L.link a.link b.link in
     let q = listed-few L.edges k L.serif a.serif b.serif in
-    let r = listed-few L.edges k L.first (Links.To a.first) (Links.To b.first) in
-    let s = listed-few L.edges k L.last (Links.To a.last) (Links.To b.last) in
+    let r = listed-few L.edges k L.first (Some a.first) (Some b.first) in
+    let s = listed-few L.edges k L.last (Some a.last) (Some b.last) in
     simp length-append (omega arith)
 
 pub segments-few : (f : ℕ → List Alteration) (n : ℕ) → ((i : ℕ) → length (f i) ≤ 3) → length (in_order f n) ≤ 3 * n
@@ -71,8 +71,8 @@ few-altered axis t axis' t' h g =
 
 -- ---- when it is empty
 same-link : (a : Link) → same_link a a ≡ true
-same-link Links.None = refl
-same-link (Links.To k) = eq-eqb k k refl
+same-link None = refl
+same-link (Some k) = eq-eqb k k refl
 
 listed-none : (x : Table) (i : ℕ) (f : Field) (a : Link) → listed x i f a a ≡ []
 listed-none x i f a = rw (same-link a)
@@ -85,9 +85,9 @@ edge_none k e =
     rw (
       listed-none L.edges k L.link e.link,
       listed-none L.edges k L.serif e.serif,
-      listed-none L.edges k L.first (Links.To e.first),
+      listed-none L.edges k L.first (Some e.first),
       listed-none
-          L.edges k L.last (Links.To e.last),
+          L.edges k L.last (Some e.last),
     )
 
 order-none : (f : ℕ → List Alteration) (n : ℕ) → ((i : ℕ) → f i ≡ []) → in_order f n ≡ []

@@ -1,4 +1,5 @@
 -- What `rings` makes of the lists of an axis is what mending says of the axis.
+use Rattle.std.specs.Prelude.{None, Some}
 use mathlib.Core.Path.{◌≡◌, refl, sym, ap, subst, ◌∙◌}
 use mathlib.Core.Bool.{Bool, true, false, cond, not, ◌&&◌}
 use mathlib.Core.List.{List, ◌++◌}
@@ -10,8 +11,7 @@ use lib.Dec.{eqb, ltb}
 use lib.ListN.{get_or}
 use Rattle.signed.proofs.Signed.{lt-or-le}
 use Rattle.axis.specs.declared.edge.Axis.{Axis}
-use Rattle.axis.specs.declared.kinds.Link.{Link}
-use Rattle.axis.specs.declared.kinds.Link.TheVariants as Links
+use Rattle.axis.specs.Link.{Link}
 use Rattle.axis.specs.declared.segment.Segments.{Segments}
 use Rattle.axis.specs.Accepted.{Below}
 use Rattle.axis.specs.Edge.{empty_edge, edge_at}
@@ -94,8 +94,8 @@ module _ (axis : Axis) (t : Segments) (edges next : List ℕ) (few : t.len ≤ m
   own_is k i l h = ap (λ (x : ℕ). eqb x k) (g.edge_of i h) ∙ by (segment_at t i).edge
     where
       by : (x : Link) → eqb (index_or most_edges x) k ≡ links_to x k
-      by Links.None = ne_eqb most_edges k (λ (q : most_edges ≡ k). omega arith)
-      by (Links.To j) = refl
+      by None = ne_eqb most_edges k (λ (q : most_edges ≡ k). omega arith)
+      by (Some j) = refl
 
   -- the test along the lists tells whether the ring is sound
   pub ring-told : (k : ℕ) → k < axis.len → (c : ℕ) → c ≡ count (own_in edges k) n
@@ -126,8 +126,8 @@ module _ (axis : Axis) (t : Segments) (edges next : List ℕ) (few : t.len ≤ m
   module _ (broken : List Bool) (counts lows highs seen next' : List ℕ) (b : Told axis t broken) (a : Tallied edges n counts lows highs)
       (l : Led edges n broken lows next seen next') where
     -- the next of a segment of edge k
-    pub next-planned : (i k : ℕ) → i < n → k < axis.len → (segment_at t i).edge ≡ Links.To k
-        → Links.To (get_or next' i 0) ≡ mended_next axis t i (Links.To k) (segment_at t i).next
+    pub next-planned : (i k : ℕ) → i < n → k < axis.len → (segment_at t i).edge ≡ Some k
+        → Some (get_or next' i 0) ≡ mended_next axis t i (Some k) (segment_at t i).next
     unfolding mended_next links_to
     next-planned i k h m e = by (is_sound axis t k) refl
       where
@@ -137,18 +137,18 @@ module _ (axis : Axis) (t : Segments) (edges next : List ℕ) (few : t.len ≤ m
         own : is_of t k i ≡ true
         own = ap (λ (x : Link). links_to x k) e ∙ eq-eqb k k refl
 
-        whole : (x : Link) → index_or n x < n → Links.To (index_or n x) ≡ x
-        whole Links.None q = absurd (omega arith)
-        whole (Links.To j) q = refl
+        whole : (x : Link) → index_or n x < n → Some (index_or n x) ≡ x
+        whole None q = absurd (omega arith)
+        whole (Some j) q = refl
 
-        by : (x : Bool) → is_sound axis t k ≡ x → Links.To (get_or next' i 0) ≡ cond x (segment_at t i).next (Links.To (behind (is_of t k) n i))
+        by : (x : Bool) → is_sound axis t k ≡ x → Some (get_or next' i 0) ≡ cond x (segment_at t i).next (Some (behind (is_of t k) n i))
         by true q =
-            ap Links.To (l.kept i k edge-is (omega arith) (b.ring k m ∙ ap not q) ∙ g.next_of i h)
+            ap Some (l.kept i k edge-is (omega arith) (b.ring k m ∙ ap not q) ∙ g.next_of i h)
             ∙ whole (segment_at t i).next
             (leads-inside (is_of t k) (led_to t) n (edge_at axis k).first (edge_at axis k).last
             (sound-is (is_of t k) (led_to t) n (edge_at axis k).first (edge_at axis k).last q) i h own)
         by false q =
-            ap Links.To
+            ap Some
             (l.anew i k h edge-is (omega arith) (b.ring k m ∙ ap not q)
             ∙ first-agrees (own_in edges k) (is_of t k) n (λ j r. own_is k j (omega arith) r) (n - (i + 1)) (i + 1) (get_or lows k 0) (omega arith)
             ∙ ap (first_from (is_of t k) (n - (i + 1)) (i + 1)) (a.low k (omega arith) ∙ low-is k m))
@@ -189,12 +189,12 @@ module _ (axis : Axis) (t : Segments) (edges next : List ℕ) (few : t.len ≤ m
         where
           by : (x : Link) → (segment_at t i).edge ≡ x → Below axis.len x
               → planned_next n (get_or edges i 0) (get_or next' i 0) (segment_at t i).next ≡ mended_next axis t i x (segment_at t i).next
-          by Links.None e w =
-              ap (λ (b : Bool). cond b (Links.To (get_or next' i 0)) (kept n (segment_at t i).next))
+          by None e w =
+              ap (λ (b : Bool). cond b (Some (get_or next' i 0)) (kept n (segment_at t i).next))
               (le-ltb (get_or edges i 0) most_edges (omega (arith, g.edge_of i h ∙ ap (index_or most_edges) e)))
-          by (Links.To k) e w =
+          by (Some k) e w =
               let m = w.at k refl in
-              ap (λ (b : Bool). cond b (Links.To (get_or next' i 0)) (kept n (segment_at t i).next))
+              ap (λ (b : Bool). cond b (Some (get_or next' i 0)) (kept n (segment_at t i).next))
               (lt-ltb (get_or edges i 0) most_edges (omega (arith, g.edge_of i h ∙ ap (index_or most_edges) e)))
               ∙ next-planned i k h m e
 

@@ -1,4 +1,5 @@
 -- Every ring of a mended axis is sound, and its indices pass document 01's test.
+use Rattle.std.specs.Prelude.{None, Some}
 use mathlib.Core.Path.{◌≡◌, refl, sym, ap, subst, ◌∙◌}
 use mathlib.Core.Bool.{Bool, true, false, cond}
 use mathlib.Core.Logic.{◌⊎◌, inl, inr, ⊎_elim}
@@ -10,8 +11,7 @@ use lib.ListN.{length}
 use Rattle.signed.proofs.Signed.{lt-or-le}
 use Rattle.axis.specs.declared.edge.Edge.{Edge}
 use Rattle.axis.specs.declared.edge.Axis.{Axis}
-use Rattle.axis.specs.declared.kinds.Link.{Link}
-use Rattle.axis.specs.declared.kinds.Link.TheVariants as Links
+use Rattle.axis.specs.Link.{Link}
 use Rattle.axis.specs.declared.segment.Segment.{Segment}
 use Rattle.axis.specs.declared.segment.Segments.{Segments}
 use Rattle.axis.specs.Accepted.{Below}
@@ -38,14 +38,14 @@ pub record Mendable (axis : Axis) (t : Segments) : Type 0 where
   pub named : (k : ℕ) → k < axis.len → 0 < count (is_of t k) t.len
 
 -- ---- one index
-none-holds : (n : ℕ) → link_holds n Links.None ≡ true
+none-holds : (n : ℕ) → link_holds n None ≡ true
 unfolding link_holds
 none-holds n = refl
 
 pub kept-holds : (n : ℕ) (l : Link) → link_holds n (kept n l) ≡ true
 kept-holds n l = by (link_holds n l) refl
   where
-    by : (b : Bool) → link_holds n l ≡ b → link_holds n (cond b l Links.None) ≡ true
+    by : (b : Bool) → link_holds n l ≡ b → link_holds n (cond b l None) ≡ true
     by true e = e
     by false e = none-holds n
 
@@ -55,8 +55,8 @@ kept_same n l e = rw e
 -- an index that is read as a number below n is one
 pub index_below : (n : ℕ) (l : Link) → index_or n l < n → link_holds n l ≡ true
 unfolding link_holds
-index_below n Links.None h = absurd (omega arith)
-index_below n (Links.To k) h = lt-ltb k n h
+index_below n None h = absurd (omega arith)
+index_below n (Some k) h = lt-ltb k n h
 
 module _ (axis : Axis) (t : Segments) (a : Mendable axis t) where
   abbrev n : ℕ
@@ -84,7 +84,7 @@ module _ (axis : Axis) (t : Segments) (a : Mendable axis t) where
   count_same = refl
 
   -- ---- the next of a segment of edge k
-  next-at : (i k : ℕ) → i < n → is_of t k i ≡ true → (segment_at t' i).next ≡ cond (is_sound axis t k) (segment_at t i).next (Links.To (behind (is_of t k) n i))
+  next-at : (i k : ℕ) → i < n → is_of t k i ≡ true → (segment_at t' i).next ≡ cond (is_sound axis t k) (segment_at t i).next (Some (behind (is_of t k) n i))
   unfolding mended_next
   next-at i k h o =
       ap (λ (s : Segment). s.next) (mended-segment-at axis t a.segments_whole i h)
@@ -102,11 +102,11 @@ module _ (axis : Axis) (t : Segments) (a : Mendable axis t) where
       (cond b (edge_at axis k).last (highest (is_of t k) n))
   ring k h true e =
       sound-same (is_of t k) (led_to t) (λ (i : ℕ). index_or n (segment_at t' i).next) n (edge_at axis k).first (edge_at axis k).last
-      (λ i q o. ap (index_or n) (sym (next-at i k q o ∙ ap (λ (b : Bool). cond b (segment_at t i).next (Links.To (behind (is_of t k) n i))) e)))
+      (λ i q o. ap (index_or n) (sym (next-at i k q o ∙ ap (λ (b : Bool). cond b (segment_at t i).next (Some (behind (is_of t k) n i))) e)))
       a.few (sound-is (is_of t k) (led_to t) n (edge_at axis k).first (edge_at axis k).last e)
   ring k h false e =
       rising-sound (is_of t k) (λ (i : ℕ). index_or n (segment_at t' i).next) n
-      (λ i q o. ap (index_or n) (next-at i k q o ∙ ap (λ (b : Bool). cond b (segment_at t i).next (Links.To (behind (is_of t k) n i))) e))
+      (λ i q o. ap (index_or n) (next-at i k q o ∙ ap (λ (b : Bool). cond b (segment_at t i).next (Some (behind (is_of t k) n i))) e))
       a.few (a.named k h)
 
   -- every ring is sound

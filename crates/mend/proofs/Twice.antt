@@ -1,4 +1,5 @@
 -- What needs no mending is mended to itself; so is what was mended.
+use Rattle.std.specs.Prelude.{None, Some}
 use mathlib.Core.Path.{◌≡◌, refl, sym, ap, subst, ◌∙◌}
 use mathlib.Core.Bool.{Bool, true, cond}
 use mathlib.Core.Logic.{⊎_elim}
@@ -9,8 +10,7 @@ use lib.Seq.{ext_get_or}
 use Rattle.signed.proofs.Signed.{lt-or-le}
 use Rattle.axis.specs.declared.edge.Edge.{Edge}
 use Rattle.axis.specs.declared.edge.Axis.{Axis}
-use Rattle.axis.specs.declared.kinds.Link.{Link}
-use Rattle.axis.specs.declared.kinds.Link.TheVariants as Links
+use Rattle.axis.specs.Link.{Link}
 use Rattle.axis.specs.declared.segment.Segment.{Segment}
 use Rattle.axis.specs.declared.segment.Segments.{Segments}
 use Rattle.axis.specs.Accepted.{Below}
@@ -87,8 +87,8 @@ module _ (axis : Axis) (t : Segments) (g : Good axis t) where
 
   next-same : (i : ℕ) (l next : Link) → Below axis.len l → link_holds t.len next ≡ true → mended_next axis t i l next ≡ next
   unfolding mended_next
-  next-same i Links.None next b h = kept_same t.len next h
-  next-same i (Links.To k) next b h = ap (λ (x : Bool). cond x next (Links.To (behind (is_of t k) t.len i))) (sound-test k (b.at k refl))
+  next-same i None next b h = kept_same t.len next h
+  next-same i (Some k) next b h = ap (λ (x : Bool). cond x next (Some (behind (is_of t k) t.len i))) (sound-test k (b.at k refl))
 
   segment-same : (i : ℕ) → i < t.len → mended_segment axis t i (segment_at t i) ≡ segment_at t i
   segment-same i h =
@@ -118,12 +118,12 @@ module _ (axis : Axis) (t : Segments) (a : Mendable axis t) where
   t' = mended_segments axis t
 
   -- the next of a mended segment is a segment: without an edge, and with one
-  next-without : (i : ℕ) → i < t.len → (segment_at t i).edge ≡ Links.None → (segment_at t' i).next ≡ kept t.len (segment_at t i).next
+  next-without : (i : ℕ) → i < t.len → (segment_at t i).edge ≡ None → (segment_at t' i).next ≡ kept t.len (segment_at t i).next
   unfolding mended_next
   next-without i h e =
       ap (λ (s : Segment). s.next) (mended-segment-at axis t a.segments_whole i h) ∙ ap (λ (l : Link). mended_next axis t i l (segment_at t i).next) e
 
-  is-of : (i k : ℕ) → (segment_at t i).edge ≡ Links.To k → is_of t' k i ≡ true
+  is-of : (i k : ℕ) → (segment_at t i).edge ≡ Some k → is_of t' k i ≡ true
   unfolding links_to
   is-of i k e = ap (λ (l : Link). links_to l k) (edge_same axis t a i ∙ e) ∙ eq-eqb k k refl
 
@@ -137,8 +137,8 @@ module _ (axis : Axis) (t : Segments) (a : Mendable axis t) where
   next-holds i h = by (segment_at t i).edge refl (a.to_edges i h)
     where
       by : (l : Link) → (segment_at t i).edge ≡ l → Below axis.len l → link_holds t.len (segment_at t' i).next ≡ true
-      by Links.None e b = subst (λ (x : Link). link_holds t.len x ≡ true) (sym (next-without i h e)) (kept-holds t.len (segment_at t i).next)
-      by (Links.To k) e b = next-led i k h (b.at k refl) (is-of i k e)
+      by None e b = subst (λ (x : Link). link_holds t.len x ≡ true) (sym (next-without i h e)) (kept-holds t.len (segment_at t i).next)
+      by (Some k) e b = next-led i k h (b.at k refl) (is-of i k e)
 
   pub mended-good : Good axis' t'
   unfolding mended_axis mended_segments

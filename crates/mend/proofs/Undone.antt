@@ -1,4 +1,5 @@
 -- The list undone gives the axis back, field by field.
+use Rattle.std.specs.Prelude.{None, Some}
 use mathlib.Core.Path.{◌≡◌, refl, sym, ap, ◌∙◌}
 use mathlib.Core.Bool.{Bool, true, false, cond, ◌&&◌}
 use mathlib.Core.List.{List, [], ◌∷◌, ◌++◌}
@@ -11,8 +12,7 @@ use lib.Dec.{eqb}
 use Rattle.axis.proofs.Tests.{and-false}
 use Rattle.axis.specs.declared.edge.Edge.{Edge}
 use Rattle.axis.specs.declared.edge.Axis.{Axis}
-use Rattle.axis.specs.declared.kinds.Link.{Link}
-use Rattle.axis.specs.declared.kinds.Link.TheVariants as Links
+use Rattle.axis.specs.Link.{Link}
 use Rattle.axis.specs.declared.segment.Segment.{Segment}
 use Rattle.axis.specs.declared.segment.Segments.{Segments}
 use Rattle.axis.specs.Edge.{edge_at}
@@ -43,10 +43,10 @@ before-append (a ∷ xs) ys x i f now = ap (cond (is_field a x i f) a.old) (befo
 
 -- ---- one field
 same-is : (a b : Link) → same_link a b ≡ true → a ≡ b
-same-is Links.None Links.None e = refl
-same-is Links.None (Links.To k) e = never e
-same-is (Links.To j) Links.None e = never e
-same-is (Links.To j) (Links.To k) e = ap Links.To (eqb-true j k e)
+same-is None None e = refl
+same-is None (Some k) e = never e
+same-is (Some j) None e = never e
+same-is (Some j) (Some k) e = ap Some (eqb-true j k e)
 
 -- its own entry
 here : (x : Table) (i : ℕ) (f : Field) (a b : Link) → before (listed x i f a b) x i f b ≡ a
@@ -99,12 +99,12 @@ segment-skips j i a b f now h =
 edge-skips-segment : (j i : ℕ) (a b : Edge) (f : Field) (now : Link) → before (of_edge j a b) L.segments i f now ≡ now
 edge-skips-segment j i a b f now =
     four L.segments i f (listed L.edges j L.link a.link b.link) (listed L.edges j L.serif a.serif b.serif)
-    (listed L.edges j L.first (Links.To a.first) (Links.To b.first))
-    (listed L.edges j L.last (Links.To a.last) (Links.To b.last)) now
+    (listed L.edges j L.first (Some a.first) (Some b.first))
+    (listed L.edges j L.last (Some a.last) (Some b.last)) now
     ∙ skips L.edges L.segments j i L.link f a.link b.link _ refl
     ∙ skips L.edges L.segments j i L.serif f a.serif b.serif _ refl
-    ∙ skips L.edges L.segments j i L.first f (Links.To a.first) (Links.To b.first) _ refl
-    ∙ skips L.edges L.segments j i L.last f (Links.To a.last) (Links.To b.last) now refl
+    ∙ skips L.edges L.segments j i L.first f (Some a.first) (Some b.first) _ refl
+    ∙ skips L.edges L.segments j i L.last f (Some a.last) (Some b.last) now refl
 
 segment-skips-edge : (j i : ℕ) (a b : Segment) (f : Field) (now : Link) → before (of_segment j a b) L.edges i f now ≡ now
 segment-skips-edge j i a b f now =
@@ -117,12 +117,12 @@ segment-skips-edge j i a b f now =
 edge-skips : (j i : ℕ) (a b : Edge) (f : Field) (now : Link) → (j ≡ i → ⊥) → before (of_edge j a b) L.edges i f now ≡ now
 edge-skips j i a b f now h =
     four L.edges i f (listed L.edges j L.link a.link b.link) (listed L.edges j L.serif a.serif b.serif)
-    (listed L.edges j L.first (Links.To a.first) (Links.To b.first))
-    (listed L.edges j L.last (Links.To a.last) (Links.To b.last)) now
+    (listed L.edges j L.first (Some a.first) (Some b.first))
+    (listed L.edges j L.last (Some a.last) (Some b.last)) now
     ∙ passes L.edges L.edges j i L.link f a.link b.link _ h
     ∙ passes L.edges L.edges j i L.serif f a.serif b.serif _ h
-    ∙ passes L.edges L.edges j i L.first f (Links.To a.first) (Links.To b.first) _ h
-    ∙ passes L.edges L.edges j i L.last f (Links.To a.last) (Links.To b.last) now h
+    ∙ passes L.edges L.edges j i L.first f (Some a.first) (Some b.first) _ h
+    ∙ passes L.edges L.edges j i L.last f (Some a.last) (Some b.last) now h
 
 -- the fields of a segment
 module _ (i : ℕ) (a b : Segment) where
@@ -218,10 +218,10 @@ module _ (k : ℕ) (a b : Edge) where
   edge-serifs = listed L.edges k L.serif a.serif b.serif
 
   abbrev firsts : List Alteration
-  firsts = listed L.edges k L.first (Links.To a.first) (Links.To b.first)
+  firsts = listed L.edges k L.first (Some a.first) (Some b.first)
 
   abbrev lasts : List Alteration
-  lasts = listed L.edges k L.last (Links.To a.last) (Links.To b.last)
+  lasts = listed L.edges k L.last (Some a.last) (Some b.last)
 
   -- that of one of its fields says nothing of another
   past-link : (f : Field) (now : Link) → (eqb 1 1 && eqb 0 (field_number f)) ≡ false → before edge-links L.edges k f now ≡ now
@@ -231,10 +231,10 @@ module _ (k : ℕ) (a b : Edge) where
   past-serif f now e = skips L.edges L.edges k k L.serif f a.serif b.serif now (kind _ _ e)
 
   past_first : (f : Field) (now : Link) → (eqb 1 1 && eqb 3 (field_number f)) ≡ false → before firsts L.edges k f now ≡ now
-  past_first f now e = skips L.edges L.edges k k L.first f (Links.To a.first) (Links.To b.first) now (kind _ _ e)
+  past_first f now e = skips L.edges L.edges k k L.first f (Some a.first) (Some b.first) now (kind _ _ e)
 
   past-last : (f : Field) (now : Link) → (eqb 1 1 && eqb 4 (field_number f)) ≡ false → before lasts L.edges k f now ≡ now
-  past-last f now e = skips L.edges L.edges k k L.last f (Links.To a.last) (Links.To b.last) now (kind _ _ e)
+  past-last f now e = skips L.edges L.edges k k L.last f (Some a.last) (Some b.last) now (kind _ _ e)
 
   edge_link : before (of_edge k a b) L.edges k L.link b.link ≡ a.link
   edge_link =
@@ -252,18 +252,18 @@ module _ (k : ℕ) (a b : Edge) where
       (ap (before firsts L.edges k L.serif) (past-last L.serif b.serif refl) ∙ past_first L.serif b.serif refl)
       ∙ here L.edges k L.serif a.serif b.serif
 
-  edge-first : before (of_edge k a b) L.edges k L.first (Links.To b.first) ≡ Links.To a.first
+  edge-first : before (of_edge k a b) L.edges k L.first (Some b.first) ≡ Some a.first
   edge-first =
-      four L.edges k L.first edge-links edge-serifs firsts lasts (Links.To b.first)
+      four L.edges k L.first edge-links edge-serifs firsts lasts (Some b.first)
       ∙ past-link L.first _ refl ∙ past-serif L.first _ refl
-      ∙ ap (before firsts L.edges k L.first) (past-last L.first (Links.To b.first) refl)
-      ∙ here L.edges k L.first (Links.To a.first) (Links.To b.first)
+      ∙ ap (before firsts L.edges k L.first) (past-last L.first (Some b.first) refl)
+      ∙ here L.edges k L.first (Some a.first) (Some b.first)
 
-  edge-last : before (of_edge k a b) L.edges k L.last (Links.To b.last) ≡ Links.To a.last
+  edge-last : before (of_edge k a b) L.edges k L.last (Some b.last) ≡ Some a.last
   edge-last =
-      four L.edges k L.last edge-links edge-serifs firsts lasts (Links.To b.last)
+      four L.edges k L.last edge-links edge-serifs firsts lasts (Some b.last)
       ∙ past-link L.last _ refl ∙ past-serif L.last _ refl ∙ past_first L.last _ refl
-      ∙ here L.edges k L.last (Links.To a.last) (Links.To b.last)
+      ∙ here L.edges k L.last (Some a.last) (Some b.last)
 
 module _ (axis : Axis) (t : Segments) (axis' : Axis) (t' : Segments) where
   abbrev of_s : ℕ → List Alteration
@@ -288,10 +288,10 @@ module _ (axis : Axis) (t : Segments) (axis' : Axis) (t' : Segments) where
   pub edge-serif-undone : (k : ℕ) → k < axis.len → before (alterations axis t axis' t') L.edges k L.serif (edge_at axis' k).serif ≡ (edge_at axis k).serif
   edge-serif-undone k h = edge-field k L.serif (edge_at axis k).serif (edge_at axis' k).serif h (edge_serif k (edge_at axis k) (edge_at axis' k))
 
-  pub first-undone : (k : ℕ) → k < axis.len → before (alterations axis t axis' t') L.edges k L.first (Links.To (edge_at axis' k).first)
-      ≡ Links.To (edge_at axis k).first
-  first-undone k h = edge-field k L.first (Links.To (edge_at axis k).first) (Links.To (edge_at axis' k).first) h (edge-first k (edge_at axis k) (edge_at axis' k))
+  pub first-undone : (k : ℕ) → k < axis.len → before (alterations axis t axis' t') L.edges k L.first (Some (edge_at axis' k).first)
+      ≡ Some (edge_at axis k).first
+  first-undone k h = edge-field k L.first (Some (edge_at axis k).first) (Some (edge_at axis' k).first) h (edge-first k (edge_at axis k) (edge_at axis' k))
 
-  pub last-undone : (k : ℕ) → k < axis.len → before (alterations axis t axis' t') L.edges k L.last (Links.To (edge_at axis' k).last)
-      ≡ Links.To (edge_at axis k).last
-  last-undone k h = edge-field k L.last (Links.To (edge_at axis k).last) (Links.To (edge_at axis' k).last) h (edge-last k (edge_at axis k) (edge_at axis' k))
+  pub last-undone : (k : ℕ) → k < axis.len → before (alterations axis t axis' t') L.edges k L.last (Some (edge_at axis' k).last)
+      ≡ Some (edge_at axis k).last
+  last-undone k h = edge-field k L.last (Some (edge_at axis k).last) (Some (edge_at axis' k).last) h (edge-last k (edge_at axis k) (edge_at axis' k))

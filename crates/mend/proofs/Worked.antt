@@ -1,4 +1,5 @@
 -- Rings made anew, and axes mended, by hand.
+use Rattle.std.specs.Prelude.{None, Some}
 use mathlib.Core.Path.{◌≡◌, refl}
 use mathlib.Core.Bool.{Bool}
 use mathlib.Core.List.{List, [], ◌∷◌}
@@ -10,8 +11,7 @@ use Rattle.axis.specs.declared.edge.Edge.{Edge}
 use Rattle.axis.specs.declared.edge.Axis.{Axis}
 use Rattle.axis.specs.declared.kinds.Dimension.TheVariants as Dimensions
 use Rattle.axis.specs.declared.kinds.Direction.TheVariants as Directions
-use Rattle.axis.specs.declared.kinds.Link.{Link}
-use Rattle.axis.specs.declared.kinds.Link.TheVariants.{None, To}
+use Rattle.axis.specs.Link.{Link}
 use Rattle.axis.specs.declared.segment.Segment.{Segment}
 use Rattle.axis.specs.declared.segment.Segments.{Segments}
 use Rattle.axis.specs.Edge.{fresh_edge, joined_to, with_last}
@@ -64,36 +64,36 @@ was x i f a b = record { table = x; index = i; field = f; old = a; new = b }
 
 -- a link and a serif beyond their lists, and a ring that stops at its first segment: three fields are altered, and the others of the ring get what they had
 abbrev broken : Segments
-broken = table (segment (To 5) (To 0) None ∷ segment None (To 0) (To 0) ∷ [])
+broken = table (segment (Some 5) (Some 0) None ∷ segment None (Some 0) (Some 0) ∷ [])
 
-mended : mended_segments (axis (To 3) 0 1) broken ≡ table (segment None (To 0) (To 1) ∷ segment None (To 0) (To 0) ∷ [])
+mended : mended_segments (axis (Some 3) 0 1) broken ≡ table (segment None (Some 0) (Some 1) ∷ segment None (Some 0) (Some 0) ∷ [])
 unfolding mended_segments by_place mended_next link_holds links_to sound_ring ends walk times every first_from
 mended = refl
 
 listed :
-    alterations (axis (To 3) 0 1) broken (mended_axis (axis (To 3) 0 1) broken) (mended_segments (axis (To 3) 0 1) broken)
-    ≡ was L.segments 0 L.link (To 5) None ∷ was L.segments 0 L.next None (To 1) ∷ was L.edges 0 L.serif (To 3) None ∷ []
+    alterations (axis (Some 3) 0 1) broken (mended_axis (axis (Some 3) 0 1) broken) (mended_segments (axis (Some 3) 0 1) broken)
+    ≡ was L.segments 0 L.link (Some 5) None ∷ was L.segments 0 L.next None (Some 1) ∷ was L.edges 0 L.serif (Some 3) None ∷ []
 unfolding alterations in_order mended_axis mended_segments by_place mended_next link_holds links_to sound_ring ends walk times every first_from last_below
 listed = refl
 
 -- the ring one step further round, and a segment without an edge whose next is one: nothing is altered
 sound :
-    alterations (axis None 1 0) (table (segment None (To 0) (To 1) ∷ segment None (To 0) (To 0) ∷ segment None None (To 1) ∷ []))
-    (mended_axis (axis None 1 0) (table (segment None (To 0) (To 1) ∷ segment None (To 0) (To 0) ∷ segment None None (To 1) ∷ [])))
-    (mended_segments (axis None 1 0) (table (segment None (To 0) (To 1) ∷ segment None (To 0) (To 0) ∷ segment None None (To 1) ∷ [])))
+    alterations (axis None 1 0) (table (segment None (Some 0) (Some 1) ∷ segment None (Some 0) (Some 0) ∷ segment None None (Some 1) ∷ []))
+    (mended_axis (axis None 1 0) (table (segment None (Some 0) (Some 1) ∷ segment None (Some 0) (Some 0) ∷ segment None None (Some 1) ∷ [])))
+    (mended_segments (axis None 1 0) (table (segment None (Some 0) (Some 1) ∷ segment None (Some 0) (Some 0) ∷ segment None None (Some 1) ∷ [])))
     ≡ []
 unfolding alterations in_order mended_axis mended_segments by_place mended_next link_holds links_to sound_ring ends walk times every first_from last_below
 sound = refl
 
 -- ---- alone, exchanged, far beyond
 -- a lone segment that leads nowhere leads to itself
-lone : mended_segments (axis None 0 0) (table (segment None (To 0) None ∷ [])) ≡ table (segment None (To 0) (To 0) ∷ [])
+lone : mended_segments (axis None 0 0) (table (segment None (Some 0) None ∷ [])) ≡ table (segment None (Some 0) (Some 0) ∷ [])
 unfolding mended_segments by_place mended_next link_holds links_to sound_ring ends walk times every first_from
 lone = refl
 
 -- 65,535 is an index, beyond every list: a link, and a next without an edge
-far : mended_segments (axis None 0 0) (table (segment None (To 0) (To 0) ∷ segment (To 65535) None (To 65535) ∷ []))
-    ≡ table (segment None (To 0) (To 0) ∷ segment None None None ∷ [])
+far : mended_segments (axis None 0 0) (table (segment None (Some 0) (Some 0) ∷ segment (Some 65535) None (Some 65535) ∷ []))
+    ≡ table (segment None (Some 0) (Some 0) ∷ segment None None None ∷ [])
 unfolding mended_segments by_place mended_next link_holds links_to sound_ring ends walk times every first_from
 far = refl
 
@@ -109,11 +109,11 @@ two a b =
     }
 
 abbrev each : Segments
-each = table (segment None (To 0) (To 0) ∷ segment None (To 1) (To 1) ∷ [])
+each = table (segment None (Some 0) (Some 0) ∷ segment None (Some 1) (Some 1) ∷ [])
 
 exchanged :
     alterations (two 1 0) each (mended_axis (two 1 0) each) (mended_segments (two 1 0) each)
-    ≡ was L.edges 0 L.first (To 1) (To 0) ∷ was L.edges 0 L.last (To 1) (To 0) ∷ was L.edges 1 L.first (To 0) (To 1) ∷ was L.edges 1 L.last (To 0) (To 1) ∷ []
+    ≡ was L.edges 0 L.first (Some 1) (Some 0) ∷ was L.edges 0 L.last (Some 1) (Some 0) ∷ was L.edges 1 L.first (Some 0) (Some 1) ∷ was L.edges 1 L.last (Some 0) (Some 1) ∷ []
 unfolding alterations in_order mended_axis mended_segments by_place mended_next link_holds links_to sound_ring ends walk times every first_from last_below
 exchanged = refl
 
@@ -151,6 +151,6 @@ no-segments : refusal (mending_tests (axis None 0 0) (table [])) ≡ 7
 unfolding refusal link_holds links_to blue_holds every edge_numbers edges_numbers segment_numbers segments_numbers segment_edge segments_edges edges_named total
 no-segments = refl
 
-beyond : refusal (mending_tests (axis None 0 0) (table (segment None (To 1) None ∷ []))) ≡ 3
+beyond : refusal (mending_tests (axis None 0 0) (table (segment None (Some 1) None ∷ []))) ≡ 3
 unfolding refusal link_holds links_to blue_holds every edge_numbers edges_numbers segment_numbers segments_numbers segment_edge segments_edges
 beyond = refl

@@ -1,9 +1,9 @@
 -- Request #107: the axis mended, all of it from the axis as given.
+use Rattle.std.specs.Prelude.{None, Some}
 use Rattle.std.specs.Prelude.{cond, List, [], ◌∷◌, ◌++◌, ℕ, ◌+◌, take, drop}
 use Rattle.axis.specs.declared.edge.Edge.{Edge}
 use Rattle.axis.specs.declared.edge.Axis.{Axis}
-use Rattle.axis.specs.declared.kinds.Link.{Link}
-use Rattle.axis.specs.declared.kinds.Link.TheVariants as Links
+use Rattle.axis.specs.Link.{Link}
 use Rattle.axis.specs.declared.segment.Segment.{Segment}
 use Rattle.axis.specs.declared.segment.Segments.{Segments}
 use Rattle.axis.specs.Refusals.{link_holds}
@@ -13,13 +13,13 @@ use Rattle.axis.specs.Ring.{is_of, is_sound}
 -- ---- indices
 -- an index beyond a list of n becomes none
 abbrev pub kept : ℕ → Link → Link
-kept n l = cond (link_holds n l) l Links.None
+kept n l = cond (link_holds n l) l None
 
 -- ---- records
 -- the next of segment i, by its edge. Without an edge: none where it is beyond the list. With one whose ring is broken: the next segment of that edge in rising order, the last leading back to the first
 unfoldable pub mended_next : Axis → Segments → ℕ → Link → Link → Link
-mended_next axis t i Links.None next = kept t.len next
-mended_next axis t i (Links.To k) next = cond (is_sound axis t k) next (Links.To (behind (is_of t k) t.len i))
+mended_next axis t i None next = kept t.len next
+mended_next axis t i (Some k) next = cond (is_sound axis t k) next (Some (behind (is_of t k) t.len i))
 
 -- a segment with this link, serif and next, everything else as it was
 abbrev pub segment_with : Segment → Link → Link → Link → Segment

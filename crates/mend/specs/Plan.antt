@@ -1,9 +1,9 @@
 -- An axis as lists of numbers, from which its rings are told and made anew, and what is written by them.
+use Rattle.std.specs.Prelude.{Some}
 use Rattle.std.specs.Prelude.{◌≡◌, Bool, false, not, cond, List, ℕ, ◌<◌, ltb, get_or}
 use Rattle.axis.specs.declared.edge.Axis.{Axis}
 use Rattle.axis.specs.declared.edge.Edge.{Edge}
-use Rattle.axis.specs.declared.kinds.Link.{Link}
-use Rattle.axis.specs.declared.kinds.Link.TheVariants as Links
+use Rattle.axis.specs.Link.{Link}
 use Rattle.axis.specs.declared.segment.Segment.{Segment}
 use Rattle.axis.specs.declared.segment.Segments.{Segments}
 use Rattle.axis.specs.Edge.{edge_at}
@@ -26,7 +26,7 @@ pub record Told (axis : Axis) (t : Segments) (broken : List Bool) : Type 0 where
 -- ---- what is written by these lists
 -- the next of a segment: with an edge the number that it is led to, in a sound ring its own; without one none where its own is beyond the list
 abbrev pub planned_next : ℕ → ℕ → ℕ → Link → Link
-planned_next n edge led next = cond (ltb edge most_edges) (Links.To led) (kept n next)
+planned_next n edge led next = cond (ltb edge most_edges) (Some led) (kept n next)
 
 -- a segment of n by its edge and what it is led to, and segment i by the lists
 abbrev pub planned_segment : ℕ → ℕ → ℕ → Segment → Segment

@@ -27,6 +27,7 @@ pub fn ring_holds(
 {
     let mut ix = first;
     let mut left = count;
+    // a while: each step depends on the segment that it leads to
     while 0 < left {
         let at = place(ix);
         if n <= at {

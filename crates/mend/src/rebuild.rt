@@ -18,6 +18,7 @@ pub fn rebuild(
     ensures { Led edges.now n broken.now seen.old next.old seen.new next.new }
 {
     let mut i = n;
+    // a while: it counts down while it moves elements
     while 0 < i {
         i = i - 1;
         let k = place(edges[i]);

@@ -1,4 +1,5 @@
 -- The list of alterations as words: one word altered, and alterations behind others.
+use Rattle.std.specs.Prelude.{None, Some}
 use mathlib.Core.Path.{◌≡◌, refl, sym, ap, subst, ◌∙◌}
 use mathlib.Core.Bool.{Bool, true, false, cond}
 use mathlib.Core.List.{List, [], ◌∷◌, ◌++◌, append_assoc}
@@ -10,8 +11,7 @@ use lib.Seq.{set-get_or}
 use lib.IntN.{ℤ, pos}
 use Rattle.signed.specs.Equality.{eq_z}
 use Rattle.signed.proofs.Signed.{eq_z-true}
-use Rattle.axis.specs.declared.kinds.Link.{Link}
-use Rattle.axis.specs.declared.kinds.Link.TheVariants as Links
+use Rattle.axis.specs.Link.{Link}
 use Rattle.mend.specs.Altered.{Table, Field, Alteration, same_link, most_altered}
 use Rattle.mend.specs.Altered as L
 use Rattle.words.specs.Field.{link_word}
@@ -57,10 +57,10 @@ amended-as {named} {named'} {at} {new} {new'} {count} {ws} {room} {r} {ws'} {roo
 
 -- ---- one alteration
 same_word : (a b : Link) → eq_z (link_word a) (link_word b) ≡ same_link a b
-same_word Links.None Links.None = refl
-same_word Links.None (Links.To k) = refl
-same_word (Links.To j) Links.None = refl
-same_word (Links.To j) (Links.To k) = refl
+same_word None None = refl
+same_word None (Some k) = refl
+same_word (Some j) None = refl
+same_word (Some j) (Some k) = refl
 
 -- a field whose word is altered is listed
 pub field-listed :

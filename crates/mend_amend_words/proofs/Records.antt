@@ -1,4 +1,5 @@
 -- One segment and one edge whose fields are altered and listed.
+use Rattle.std.specs.Prelude.{None, Some}
 use mathlib.Core.Path.{◌≡◌, refl, sym, ap, subst, ◌∙◌}
 use mathlib.Core.Bool.{Bool, true, false, cond}
 use mathlib.Core.List.{List, ◌++◌, append_assoc}
@@ -12,8 +13,7 @@ use lib.Seq.{get_or-set_same}
 use Rattle.axis.specs.declared.edge.Axis.{Axis}
 use Rattle.axis.specs.declared.edge.Edge.{Edge}
 use Rattle.axis.specs.declared.kinds.Dimension.TheVariants as Dimensions
-use Rattle.axis.specs.declared.kinds.Link.{Link}
-use Rattle.axis.specs.declared.kinds.Link.TheVariants as Links
+use Rattle.axis.specs.Link.{Link}
 use Rattle.axis.specs.declared.segment.Segment.{Segment}
 use Rattle.axis.specs.Accepted.{Below}
 use Rattle.axis.specs.Edge.{empty_edge, edge_at}
@@ -62,21 +62,21 @@ use Rattle.mend_amend_words.proofs.Entries.{field-listed, listed_then, room-kept
 -- an index beyond a list, as a word
 kept-word : (n : ℕ) (l : Link) → kept_word n (link_word l) ≡ link_word (kept n l)
 unfolding link_holds
-kept-word n Links.None = by (ltb 0 n)
+kept-word n None = by (ltb 0 n)
   where
     by : (b : Bool) → cond b (negsuc 0) (negsuc 0) ≡ negsuc 0
     by true = refl
     by false = refl
-kept-word n (Links.To k) = by (ltb k n)
+kept-word n (Some k) = by (ltb k n)
   where
-    by : (b : Bool) → cond b (pos k) (negsuc 0) ≡ link_word (cond b (Links.To k) Links.None)
+    by : (b : Bool) → cond b (pos k) (negsuc 0) ≡ link_word (cond b (Some k) None)
     by true = refl
     by false = refl
 
 next-word : (n edge led : ℕ) (l : Link) → next_word n edge led (link_word l) ≡ link_word (planned_next n edge led l)
 next-word n edge led l = by (ltb edge most_edges)
   where
-    by : (b : Bool) → cond b (pos led) (kept_word n (link_word l)) ≡ link_word (cond b (Links.To led) (kept n l))
+    by : (b : Bool) → cond b (pos led) (kept_word n (link_word l)) ≡ link_word (cond b (Some led) (kept n l))
     by true = refl
     by false = kept-word n l
 
@@ -89,14 +89,14 @@ read_small (negsuc n) = below_none 65536
 kept_small : (n : ℕ) (l : Link) → Below 65536 l → Below 65536 (kept n l)
 kept_small n l b = by (link_holds n l)
   where
-    by : (t : Bool) → Below 65536 (cond t l Links.None)
+    by : (t : Bool) → Below 65536 (cond t l None)
     by true = b
     by false = below_none 65536
 
 next_small : (n edge led : ℕ) (l : Link) → led < 65536 → Below 65536 l → Below 65536 (planned_next n edge led l)
 next_small n edge led l h b = by (ltb edge most_edges)
   where
-    by : (t : Bool) → Below 65536 (cond t (Links.To led) (kept n l))
+    by : (t : Bool) → Below 65536 (cond t (Some led) (kept n l))
     by true = below-to 65536 led h
     by false = kept_small n l b
 
@@ -354,13 +354,13 @@ module _ (es w1 w2 room r1 r2 : List ℤ) (k low high count c1 c2 : ℕ) (broken
       (ap (λ (x : Edge). edge_with x x.link x.serif x.first (cond broken high x.last)) first-wrote-in.read) last-wrote-in)
 
   ends-listed : count + 2 ≤ most_altered → length room ≡ alteration_size * most_altered
-      → Listed (listed L.edges k L.first (Links.To f.first) (Links.To (cond broken low f.first))
-      ++ listed L.edges k L.last (Links.To f.last) (Links.To (cond broken high f.last))) count room c2 r2
+      → Listed (listed L.edges k L.first (Some f.first) (Some (cond broken low f.first))
+      ++ listed L.edges k L.last (Some f.last) (Some (cond broken high f.last))) count room c2 r2
   ends-listed fits size =
-      let t = listed-few L.edges k L.first (Links.To f.first) (Links.To (cond broken low f.first)) in
-      let u = listed-few L.edges k L.last (Links.To f.last) (Links.To (cond broken high f.last)) in
-      listed_then (field-listed L.edges k L.first (Links.To f.first) (Links.To (cond broken low f.first)) a (first_is es k w h) new-first)
-      (field-listed L.edges k L.last (Links.To f.last) (Links.To (cond broken high f.last)) b
+      let t = listed-few L.edges k L.first (Some f.first) (Some (cond broken low f.first)) in
+      let u = listed-few L.edges k L.last (Some f.last) (Some (cond broken high f.last)) in
+      listed_then (field-listed L.edges k L.first (Some f.first) (Some (cond broken low f.first)) a (first_is es k w h) new-first)
+      (field-listed L.edges k L.last (Some f.last) (Some (cond broken high f.last)) b
       (last_is w1 k first-wrote-in.whole g2 ∙ ap (λ (x : Edge). pos x.last) first-wrote-in.read)
       (new-last ∙ ap (λ (x : Edge). pos (cond broken high x.last)) first-wrote-in.read)) (omega arith) size
 
@@ -394,11 +394,11 @@ module _ (es w1 w2 room r1 r2 : List ℤ) (k low high count c1 c2 : ℕ) (broken
         let new = planned_edge (E.edges_in es) broken low high old in
         let p = listed-few L.edges k L.link old.link new.link in
         let q = listed-few L.edges k L.serif old.serif new.serif in
-        let s = listed-few L.edges k L.first (Links.To old.first) (Links.To new.first) in
-        let t = listed-few L.edges k L.last (Links.To old.last) (Links.To new.last) in
+        let s = listed-few L.edges k L.first (Some old.first) (Some new.first) in
+        let t = listed-few L.edges k L.last (Some old.last) (Some new.last) in
         let x = length-append (listed L.edges k L.link old.link new.link) (listed L.edges k L.serif old.serif new.serif) in
-        let y = length-append (listed L.edges k L.first (Links.To old.first) (Links.To new.first))
-        (listed L.edges k L.last (Links.To old.last) (Links.To new.last)) in
+        let y = length-append (listed L.edges k L.first (Some old.first) (Some new.first))
+        (listed L.edges k L.last (Some old.last) (Some new.last)) in
         subst (λ (z : List Alteration). Listed z count room c2 r2)
         (append_assoc (listed L.edges k L.link old.link new.link) (listed L.edges k L.serif old.serif new.serif) (ends_listed k old new))
         (listed_then a.listed (subst (λ (z : Edge). Listed (ends_listed k z (ended broken low high z)) c1 r1 c2 r2) between b.listed) (omega arith) size);

@@ -1,10 +1,10 @@
 -- Words, records and tables that are altered and listed where their words stand.
+use Rattle.std.specs.Prelude.{Some}
 use Rattle.std.specs.Prelude.{◌≡◌, Bool, cond, List, [], ◌∷◌, ◌++◌, ℕ, ◌+◌, ◌*◌, ◌≤◌, ltb, set, ℤ, pos, negsuc}
 use Rattle.signed.specs.Equality.{eq_z}
 use Rattle.signed.specs.Parts.{up}
 use Rattle.axis.specs.declared.edge.Axis.{Axis}
 use Rattle.axis.specs.declared.edge.Edge.{Edge}
-use Rattle.axis.specs.declared.kinds.Link.TheVariants as Links
 use Rattle.axis.specs.declared.segment.Segments.{Segments}
 use Rattle.axis.specs.Edge.{edge_at, put_edge}
 use Rattle.axis.specs.Limits.{most_edges}
@@ -56,7 +56,7 @@ abbrev pub links_listed : ℕ → Edge → Edge → List Alteration
 links_listed k a b = L.listed L.edges k L.link a.link b.link ++ L.listed L.edges k L.serif a.serif b.serif
 
 abbrev pub ends_listed : ℕ → Edge → Edge → List Alteration
-ends_listed k a b = L.listed L.edges k L.first (Links.To a.first) (Links.To b.first) ++ L.listed L.edges k L.last (Links.To a.last) (Links.To b.last)
+ends_listed k a b = L.listed L.edges k L.first (Some a.first) (Some b.first) ++ L.listed L.edges k L.last (Some a.last) (Some b.last)
 
 -- segment i by its edge and what it is led to
 pub record AmendedSegment (i edge led count : ℕ) (ws room : List ℤ) (r : ℕ) (ws' room' : List ℤ) : Type 0 where

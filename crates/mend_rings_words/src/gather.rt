@@ -5,18 +5,17 @@ ghost use Rattle.axis.specs.Link.{index_or};
 ghost use Rattle.mend_rings_words.specs.Followed.{GatheredIn};
 ghost use Rattle.words.specs.Segment.{segments_in};
 
-use axis::kinds::Link;
 use axis::limits::{MOST_EDGES, MOST_SEGMENTS};
 use words::field::link_at;
 use words::segment::{EDGE_PLACE, NEXT_PLACE, SEGMENT_WORDS};
 
 // The index that a link holds, or another number where it holds none.
-fn number_or(link: Link, none: u16) -> u16
+fn number_or(link: Option<u16>, none: u16) -> u16
     ensures { result ≡ index_or none link }
 {
     match link {
-        Link::None => none,
-        Link::To(k) => k,
+        None => none,
+        Some(k) => k,
     }
 }
 

@@ -1,4 +1,5 @@
 -- Lists that are filled place by place, and the kept segments that are followed from three of them.
+use Rattle.std.specs.Prelude.{None, Some}
 use mathlib.Core.Path.{◌≡◌, refl, sym, ap, ◌∙◌}
 use mathlib.Core.Bool.{Bool, false, ◌&&◌}
 use mathlib.Core.List.{List}
@@ -10,8 +11,7 @@ use borrow.Author.Tests.{lt-ltb, le-ltb}
 use lib.ListN.{length, get_or, set, replicate, length-set, length-replicate}
 use lib.Seq.{get_or-set_same, get_or-set_other}
 use Rattle.signed.proofs.Signed.{lt-or-le}
-use Rattle.axis.specs.declared.kinds.Link.{Link}
-use Rattle.axis.specs.declared.kinds.Link.TheVariants as Links
+use Rattle.axis.specs.Link.{Link}
 use Rattle.axis.specs.declared.segment.Segments.{Segments}
 use Rattle.axis.specs.Accepted.{Below}
 use Rattle.axis.specs.Limits.{most_segments}
@@ -59,8 +59,8 @@ abbrev pub serif_or : Segments → ℕ → ℕ
 serif_or t k = index_or k (segment_at t k).serif
 
 pub index-within : (n k : ℕ) (l : Link) → k < n → Below n l → index_or k l < n
-index-within n k Links.None h b = h
-index-within n k (Links.To j) h b = b.at j refl
+index-within n k None h b = h
+index-within n k (Some j) h b = b.at j refl
 
 pub record Three (t : Segments) (xs : List Bool) (ys zs : List ℕ) (i : ℕ) : Type 0 where
   pub given : Filled Bool (edged t) false xs i

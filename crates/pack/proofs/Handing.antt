@@ -1,4 +1,5 @@
 -- What an accepted call hands back is accepted again: indices of segments are segments, and rings are sound.
+use Rattle.std.specs.Prelude.{None, Some}
 use mathlib.Core.Path.{◌≡◌, refl, sym, ap, subst, ◌∙◌}
 use mathlib.Core.Bool.{Bool, true, false, cond, false≢true}
 use Prim.Native.Nat.{ℕ, ◌≤◌, ◌<◌, min}
@@ -9,8 +10,7 @@ use Rattle.refusals.specs.Refusal.{refusal}
 use Rattle.refusals.proofs.Tests.{no-refusal}
 use Rattle.axis.specs.declared.edge.Edge.{Edge}
 use Rattle.axis.specs.declared.edge.Axis.{Axis}
-use Rattle.axis.specs.declared.kinds.Link.{Link}
-use Rattle.axis.specs.declared.kinds.Link.TheVariants as Links
+use Rattle.axis.specs.Link.{Link}
 use Rattle.axis.specs.declared.segment.Segment.{Segment}
 use Rattle.axis.specs.declared.segment.Segments.{Segments}
 use Rattle.axis.specs.Accepted.{Below}
@@ -36,13 +36,13 @@ use Rattle.pack.proofs.Places.{kept-few, new-below, packed-at, packed-len, packe
 use Rattle.pack.proofs.Rings.{first-mine, last-mine, next-mine, ring-sound}
 use Rattle.pack.proofs.Calls.{Taken}
 
-moved-below : (new : ℕ → ℕ) (m : ℕ) (l : Link) → ((k : ℕ) → l ≡ Links.To k → new k < m) → Below m (moved new l)
-moved-below new m Links.None h = below_none m
-moved-below new m (Links.To k) h = below-to m (new k) (h k refl)
+moved-below : (new : ℕ → ℕ) (m : ℕ) (l : Link) → ((k : ℕ) → l ≡ Some k → new k < m) → Below m (moved new l)
+moved-below new m None h = below_none m
+moved-below new m (Some k) h = below-to m (new k) (h k refl)
 
-to-of : (l : Link) → is_linked l ≡ true → (k : ℕ) × (l ≡ Links.To k)
-to-of Links.None e = absurd (false≢true e)
-to-of (Links.To k) e = (k, refl)
+to-of : (l : Link) → is_linked l ≡ true → (k : ℕ) × (l ≡ Some k)
+to-of None e = absurd (false≢true e)
+to-of (Some k) e = (k, refl)
 
 module _ (axis : Axis) (t : Segments) (w : TypedAxis axis) (v : Typed t) (a : Taken axis t) where
   abbrev new : ℕ → ℕ
@@ -68,14 +68,14 @@ module _ (axis : Axis) (t : Segments) (w : TypedAxis axis) (v : Typed t) (a : Ta
   sound k b = sound-is (is_of t k) (led_to t) t.len (edge_at axis k).first (edge_at axis k).last (every-at _ k axis.len a.rings b)
 
   -- the next of a segment with an edge is a segment of that edge, and so kept
-  next-own : (i k j : ℕ) → i < t.len → k < axis.len → (segment_at t i).edge ≡ Links.To k → (segment_at t i).next ≡ Links.To j → (segment_at t j).edge ≡ Links.To k
+  next-own : (i k j : ℕ) → i < t.len → k < axis.len → (segment_at t i).edge ≡ Some k → (segment_at t i).next ≡ Some j → (segment_at t j).edge ≡ Some k
   next-own i k j l b e q =
       let s = sound k b in
       let once : times i (visited (led_to t) (edge_at axis k).first (edge_at axis k).last) ≡ 1 = s.visits i l
       ∙ ap (λ (x : Bool). cond x 1 0) (of-link (segment_at t i).edge k e) in
       ap (λ (x : ℕ). (segment_at t x).edge) (sym (ap (index_or t.len) q)) ∙ (next-mine axis t k s i (omega arith)).1
 
-  next-kept : (i j : ℕ) → i < t.len → is_linked (segment_at t i).edge ≡ true → (segment_at t i).next ≡ Links.To j → kept t j ≡ true
+  next-kept : (i j : ℕ) → i < t.len → is_linked (segment_at t i).edge ≡ true → (segment_at t i).next ≡ Some j → kept t j ≡ true
   next-kept i j l e q =
       let k = to-of (segment_at t i).edge e in
       let b = (h.named i l).at k.0 k.1 in
@@ -102,7 +102,7 @@ module _ (axis : Axis) (t : Segments) (w : TypedAxis axis) (v : Typed t) (a : Ta
         (λ k q. to-new k ((h.segments.serif from.it from.below).at k q)
         (kept-serif t h.segments.link h.segments.serif from.it k from.below from.mine q)))
 
-    next-by : (b : Bool) → is_linked (segment_at t from.it).edge ≡ b → Below table.len (cond b (moved new (segment_at t from.it).next) Links.None)
+    next-by : (b : Bool) → is_linked (segment_at t from.it).edge ≡ b → Below table.len (cond b (moved new (segment_at t from.it).next) None)
     next-by true e =
         moved-below new table.len (segment_at t from.it).next
         (λ k q. to-new k ((h.segments.next from.it from.below).at k q) (next-kept from.it k from.below e q))

@@ -1,4 +1,5 @@
 -- The kept segments are the least set that holds those of edges, and links and serifs of its own.
+use Rattle.std.specs.Prelude.{None, Some}
 use mathlib.Core.Path.{◌≡◌, refl, sym, ap, ◌∙◌}
 use mathlib.Core.Bool.{Bool, true, false, false≢true}
 use mathlib.Core.Logic.{◌⊎◌, inl, inr, ⊎_elim}
@@ -6,8 +7,7 @@ use Prim.Native.Nat.{ℕ, ◌<◌}
 use borrow.Author.Tests.{ltb-true, lt-ltb}
 use lib.Dec.{ltb}
 use Rattle.refusals.proofs.Tests.{and_first, and_second}
-use Rattle.axis.specs.declared.kinds.Link.{Link}
-use Rattle.axis.specs.declared.kinds.Link.TheVariants as Links
+use Rattle.axis.specs.Link.{Link}
 use Rattle.axis.specs.declared.segment.Segments.{Segments}
 use Rattle.axis.specs.Accepted.{Below}
 use Rattle.axis.specs.Link.{is_linked, links_to, index_or}
@@ -20,7 +20,7 @@ use Rattle.pack.specs.Kept.{leads, has_edge, kept, Keeps}
 
 -- ---- a segment leads to its link and its serif, and to no other
 module _ (t : Segments) where
-  pub leads-is : (i k : ℕ) → leads t i k ≡ true → ((segment_at t i).link ≡ Links.To k) ⊎ ((segment_at t i).serif ≡ Links.To k)
+  pub leads-is : (i k : ℕ) → leads t i k ≡ true → ((segment_at t i).link ≡ Some k) ⊎ ((segment_at t i).serif ≡ Some k)
   unfolding leads
   leads-is i k e =
       ⊎_elim
@@ -28,11 +28,11 @@ module _ (t : Segments) where
       (λ (b : links_to (segment_at t i).serif k ≡ true). inr (links-to (segment_at t i).serif k b))
       (or_case (links_to (segment_at t i).link k) (links_to (segment_at t i).serif k) e)
 
-  pub leads-by-link : (i k : ℕ) → (segment_at t i).link ≡ Links.To k → leads t i k ≡ true
+  pub leads-by-link : (i k : ℕ) → (segment_at t i).link ≡ Some k → leads t i k ≡ true
   unfolding leads
   leads-by-link i k e = or_left (links_to (segment_at t i).link k) _ (of-link (segment_at t i).link k e)
 
-  pub leads-by-serif : (i k : ℕ) → (segment_at t i).serif ≡ Links.To k → leads t i k ≡ true
+  pub leads-by-serif : (i k : ℕ) → (segment_at t i).serif ≡ Some k → leads t i k ≡ true
   unfolding leads
   leads-by-serif i k e = or_right (links_to (segment_at t i).link k) _ (of-link (segment_at t i).serif k e)
 
@@ -65,8 +65,8 @@ module _ (t : Segments) where
     pub leads-below : (i k : ℕ) → i < t.len → leads t i k ≡ true → k < t.len
     leads-below i k h e =
         ⊎_elim
-        (λ (a : (segment_at t i).link ≡ Links.To k). (linked i h).at k a)
-        (λ (b : (segment_at t i).serif ≡ Links.To k). (serifed i h).at k b)
+        (λ (a : (segment_at t i).link ≡ Some k). (linked i h).at k a)
+        (λ (b : (segment_at t i).serif ≡ Some k). (serifed i h).at k b)
         (leads-is i k e)
 
     pub kept-below : (k : ℕ) → kept t k ≡ true → k < t.len
@@ -77,10 +77,10 @@ module _ (t : Segments) where
         (λ (b : Led (leads t) t.len k). leads-below b.from k b.below b.leads_to)
         (given-or-led (leads t) t.len (has_edge t) t.len k e)
 
-    pub kept-link : (i k : ℕ) → i < t.len → kept t i ≡ true → (segment_at t i).link ≡ Links.To k → kept t k ≡ true
+    pub kept-link : (i k : ℕ) → i < t.len → kept t i ≡ true → (segment_at t i).link ≡ Some k → kept t k ≡ true
     kept-link i k h e q = kept-least.closed.on i k h ((linked i h).at k q) e (leads-by-link i k q)
 
-    pub kept-serif : (i k : ℕ) → i < t.len → kept t i ≡ true → (segment_at t i).serif ≡ Links.To k → kept t k ≡ true
+    pub kept-serif : (i k : ℕ) → i < t.len → kept t i ≡ true → (segment_at t i).serif ≡ Some k → kept t k ≡ true
     kept-serif i k h e q = kept-least.closed.on i k h ((serifed i h).at k q) e (leads-by-serif i k q)
 
     -- ---- what is followed along two lists, of the links and of the serifs, a segment itself where it has none, is the kept set
@@ -88,9 +88,9 @@ module _ (t : Segments) where
         (a b : ℕ → ℕ) (given s : ℕ → Bool)
         (to-link : (i : ℕ) → i < t.len → a i ≡ index_or i (segment_at t i).link) (to-serif : (i : ℕ) → i < t.len → b i ≡ index_or i (segment_at t i).serif)
         (starts : (k : ℕ) → given k ≡ has_edge t k) (w : Least a b given s) where
-      on-by : (l : Link) (i : ℕ) → kept t i ≡ true → ((k : ℕ) → l ≡ Links.To k → kept t k ≡ true) → kept t (index_or i l) ≡ true
-      on-by Links.None i e h = e
-      on-by (Links.To k) i e h = h k refl
+      on-by : (l : Link) (i : ℕ) → kept t i ≡ true → ((k : ℕ) → l ≡ Some k → kept t k ≡ true) → kept t (index_or i l) ≡ true
+      on-by None i e h = e
+      on-by (Some k) i e h = h k refl
 
       kept-closed : Closed a b (kept t)
       kept-closed = record {
@@ -108,8 +108,8 @@ module _ (t : Segments) where
       closed_on : (i k : ℕ) → i < t.len → k < t.len → s i ≡ true → leads t i k ≡ true → s k ≡ true
       closed_on i k h g e l =
           ⊎_elim
-          (λ (q : (segment_at t i).link ≡ Links.To k). ap s (sym (to-link i h ∙ ap (index_or i) q)) ∙ w.closed.one i e)
-          (λ (q : (segment_at t i).serif ≡ Links.To k). ap s (sym (to-serif i h ∙ ap (index_or i) q)) ∙ w.closed.two i e)
+          (λ (q : (segment_at t i).link ≡ Some k). ap s (sym (to-link i h ∙ ap (index_or i) q)) ∙ w.closed.one i e)
+          (λ (q : (segment_at t i).serif ≡ Some k). ap s (sym (to-serif i h ∙ ap (index_or i) q)) ∙ w.closed.two i e)
           (leads-is i k l)
 
       kept-followed : (k : ℕ) → kept t k ≡ true → s k ≡ true

@@ -1,4 +1,5 @@
 -- The rings of a packed axis: every edge has the same segments in the same order, and where its ring was sound it is sound.
+use Rattle.std.specs.Prelude.{None, Some}
 use mathlib.Core.Path.{◌≡◌, refl, sym, ap, subst, ◌∙◌}
 use mathlib.Core.Bool.{Bool, true, false, cond, false≢true}
 use mathlib.Core.List.{List, map}
@@ -8,8 +9,7 @@ use native.Mathlib.Omega.{arith}
 use lib.ListN.{length}
 use Rattle.axis.specs.declared.edge.Edge.{Edge}
 use Rattle.axis.specs.declared.edge.Axis.{Axis}
-use Rattle.axis.specs.declared.kinds.Link.{Link}
-use Rattle.axis.specs.declared.kinds.Link.TheVariants as Links
+use Rattle.axis.specs.Link.{Link}
 use Rattle.axis.specs.declared.segment.Segment.{Segment}
 use Rattle.axis.specs.declared.segment.Segments.{Segments}
 use Rattle.axis.specs.Edge.{edge_at}
@@ -29,8 +29,8 @@ use Rattle.pack.proofs.Walks.{head-met, last-met, next-met, walk-moved, ends-mov
 
 -- an index that there is, renumbered
 index-moved : (new : ℕ → ℕ) (a b : ℕ) (x : Link) → is_linked x ≡ true → index_or a (moved new x) ≡ new (index_or b x)
-index-moved new a b Links.None e = absurd (false≢true e)
-index-moved new a b (Links.To k) e = refl
+index-moved new a b None e = absurd (false≢true e)
+index-moved new a b (Some k) e = refl
 
 -- ---- what a sound ring visits
 module _ (axis : Axis) (t : Segments) (k : ℕ) (s : Sound axis t k) where
@@ -45,7 +45,7 @@ module _ (axis : Axis) (t : Segments) (k : ℕ) (s : Sound axis t k) where
 
   -- a segment of the edge
   abbrev pub Mine : ℕ → Type 0
-  Mine i = (i < t.len) × ((segment_at t i).edge ≡ Links.To k)
+  Mine i = (i < t.len) × ((segment_at t i).edge ≡ Some k)
 
   pub mine : (i : ℕ) → 0 < times i ring → Mine i
   mine i g =
@@ -102,7 +102,7 @@ module _ (axis : Axis) (t : Segments) (whole : axis.len ≤ length axis.edges) (
   step : (i : ℕ) → Own i → led_to table (new i) ≡ new (led_to t i)
   step i m =
       ap (λ (x : Segment). index_or table.len x.next) (at_new i m)
-      ∙ ap (λ (b : Bool). index_or table.len (cond b (moved new (segment_at t i).next) Links.None)) (ap is_linked m.1)
+      ∙ ap (λ (b : Bool). index_or table.len (cond b (moved new (segment_at t i).next) None)) (ap is_linked m.1)
       ∙ index-moved new table.len t.len (segment_at t i).next (sound-led axis t k s i m.0 m.1)
 
   one : (i j : ℕ) → Kept i → Kept j → new i ≡ new j → i ≡ j

@@ -1,4 +1,5 @@
 -- Segments moved one after the other to their new places, and the places behind them emptied.
+use Rattle.std.specs.Prelude.{None, Some}
 use mathlib.Core.Path.{◌≡◌, refl, sym, ap, ◌∙◌}
 use mathlib.Core.Bool.{Bool, true, false, cond}
 use mathlib.Core.List.{List, [], ◌∷◌, ◌++◌, map, append-nil, append_assoc}
@@ -8,8 +9,7 @@ use native.Mathlib.Omega.{arith}
 use lib.ListN.{length, get_or, set, take, drop, replicate, take-append-drop, length-append, length-map, length-replicate}
 use lib.Seq.{get_or-append-add, get_or-drop, length-take-le, drop-cons, append_snoc, set_at, take_at, drop-append-add, drop-drop}
 use Rattle.axis.specs.declared.edge.Edge.{Edge}
-use Rattle.axis.specs.declared.kinds.Link.{Link}
-use Rattle.axis.specs.declared.kinds.Link.TheVariants as Links
+use Rattle.axis.specs.Link.{Link}
 use Rattle.axis.specs.declared.segment.Segment.{Segment}
 use Rattle.axis.specs.declared.segment.Segments.{Segments}
 use Rattle.axis.specs.Accepted.{Below}
@@ -27,8 +27,8 @@ use Rattle.pack.proofs.Choices.{chosen-length}
 
 -- ---- the same renumbering
 moved_same : (f g : ℕ → ℕ) (n : ℕ) → ((k : ℕ) → k < n → f k ≡ g k) → (l : Link) → Below n l → moved f l ≡ moved g l
-moved_same f g n h Links.None b = refl
-moved_same f g n h (Links.To k) b = ap Links.To (h k (b.at k refl))
+moved_same f g n h None b = refl
+moved_same f g n h (Some k) b = ap Some (h k (b.at k refl))
 
 pub segment-same : (f g : ℕ → ℕ) (n : ℕ) → ((k : ℕ) → k < n → f k ≡ g k) → (s : Segment) → Below n s.link → Below n s.serif → Below n s.next
     → packed_segment f s ≡ packed_segment g s
@@ -51,7 +51,7 @@ segment-same f g n h s a b c =
       first = s.first;
       last = s.last;
       edge = s.edge;
-      next = cond (is_linked s.edge) (r j) Links.None;
+      next = cond (is_linked s.edge) (r j) None;
     }
 
 pub edge_same : (f g : ℕ → ℕ) (n : ℕ) → ((k : ℕ) → k < n → f k ≡ g k) → (e : Edge) → e.first < n → e.last < n → packed_edge f e ≡ packed_edge g e
@@ -218,7 +218,7 @@ packed-is t whole =
     λ j. p j ++ (replicate (t.len - c) empty_segment ++ q j)
 
 pub upto : {n m : ℕ} {l : Link} → n ≤ m → Below n l → Below m l
-upto {l = l} h b = record { at = λ (k : ℕ) (e : l ≡ Links.To k). omega (arith, b.at k e) }
+upto {l = l} h b = record { at = λ (k : ℕ) (e : l ≡ Some k). omega (arith, b.at k e) }
 
 -- one kept segment moved, by its number on a list
 pub put-moved : (t : Segments) (new : List ℕ) (u : Segments) (i : ℕ) (v : Segment) → SegmentsHold t → Renumbers t new → i < t.len

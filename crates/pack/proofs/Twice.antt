@@ -1,4 +1,5 @@
 -- Packed again, packed tables are what they are.
+use Rattle.std.specs.Prelude.{None, Some}
 use mathlib.Core.Path.{◌≡◌, refl, sym, ap, subst, ◌∙◌}
 use mathlib.Core.Bool.{Bool, true, false, cond, ◌&&◌, false≢true}
 use mathlib.Core.Logic.{◌⊎◌, ⊎_elim}
@@ -9,8 +10,7 @@ use lib.Seq.{ext_get_or}
 use Rattle.signed.proofs.Signed.{lt-or-le}
 use Rattle.refusals.proofs.Tests.{and_first, and_second}
 use Rattle.axis.specs.declared.edge.Axis.{Axis}
-use Rattle.axis.specs.declared.kinds.Link.{Link}
-use Rattle.axis.specs.declared.kinds.Link.TheVariants as Links
+use Rattle.axis.specs.Link.{Link}
 use Rattle.axis.specs.declared.segment.Segment.{Segment}
 use Rattle.axis.specs.declared.segment.Segments.{Segments}
 use Rattle.axis.specs.Accepted.{Below}
@@ -27,22 +27,22 @@ use Rattle.pack.proofs.Places.{kept-few, new-below, packed-at, left_at, packed-l
 
 -- a renumbering that leaves the numbers up to n leaves an index up to n
 moved_same : (new : ℕ → ℕ) (n : ℕ) → ((i : ℕ) → i ≤ n → new i ≡ i) → (l : Link) → Below (suc n) l → moved new l ≡ l
-moved_same new n h Links.None b = refl
-moved_same new n h (Links.To k) b = ap Links.To (h k (let q = b.at k refl in omega arith))
+moved_same new n h None b = refl
+moved_same new n h (Some k) b = ap Some (h k (let q = b.at k refl in omega arith))
 
 moved_upto : (new : ℕ → ℕ) (n m : ℕ) → ((i : ℕ) → i < n → new i ≤ m) → (l : Link) → Below n l → Below (suc m) (moved new l)
-moved_upto new n m h Links.None b = record { at = λ (k : ℕ) (e : Links.None ≡ Links.To k). absurd (none-to k e) }
+moved_upto new n m h None b = record { at = λ (k : ℕ) (e : None ≡ Some k). absurd (none-to k e) }
   where
-    none-to : (k : ℕ) → Links.None ≡ Links.To k → ⊥
+    none-to : (k : ℕ) → None ≡ Some k → ⊥
     none-to k e = false≢true (ap is_linked e)
-moved_upto new n m h (Links.To j) b =
-    record { at = λ (k : ℕ) (e : Links.To (new j) ≡ Links.To k). let q = h j (b.at j refl) in let r = same_index (new j) k e in omega arith }
+moved_upto new n m h (Some j) b =
+    record { at = λ (k : ℕ) (e : Some (new j) ≡ Some k). let q = h j (b.at j refl) in let r = same_index (new j) k e in omega arith }
   where
     index : Link → ℕ
-    index Links.None = 0
-    index (Links.To i) = i
+    index None = 0
+    index (Some i) = i
 
-    same_index : (i k : ℕ) → Links.To i ≡ Links.To k → i ≡ k
+    same_index : (i k : ℕ) → Some i ≡ Some k → i ≡ k
     same_index i k e = ap index e
 
 -- indices of segments that are segments
@@ -70,8 +70,8 @@ module _ (t : Segments) (x : Indexed t) where
   leads-new : (i k : ℕ) → i < t.len → kept t i ≡ true → leads t i k ≡ true → leads table (new i) (new k) ≡ true
   leads-new i k h e l =
       ⊎_elim
-      (λ (q : (segment_at t i).link ≡ Links.To k). leads-by-link table (new i) (new k) (ap (λ (s : Segment). s.link) (packed-at t i h e) ∙ ap (moved new) q))
-      (λ (q : (segment_at t i).serif ≡ Links.To k). leads-by-serif table (new i) (new k) (ap (λ (s : Segment). s.serif) (packed-at t i h e) ∙ ap (moved new) q))
+      (λ (q : (segment_at t i).link ≡ Some k). leads-by-link table (new i) (new k) (ap (λ (s : Segment). s.link) (packed-at t i h e) ∙ ap (moved new) q))
+      (λ (q : (segment_at t i).serif ≡ Some k). leads-by-serif table (new i) (new k) (ap (λ (s : Segment). s.serif) (packed-at t i h e) ∙ ap (moved new) q))
       (leads-is t i k l)
 
   -- a kept segment whose new one is kept
@@ -114,8 +114,8 @@ module _ (t : Segments) (x : Indexed t) where
   still : (l : Link) → Below t.len l → moved (new_index table) (moved new l) ≡ moved new l
   still l b = moved_same (new_index table) n same_index (moved new l) (moved_upto new t.len n up l b)
 
-  next-still : (b : Bool) (l : Link) → Below t.len l → cond b (moved (new_index table) (cond b (moved new l) Links.None)) Links.None
-      ≡ cond b (moved new l) Links.None
+  next-still : (b : Bool) (l : Link) → Below t.len l → cond b (moved (new_index table) (cond b (moved new l) None)) None
+      ≡ cond b (moved new l) None
   next-still true l w = still l w
   next-still false l w = refl
 

@@ -1,4 +1,5 @@
 -- Axes packed by hand.
+use Rattle.std.specs.Prelude.{None, Some}
 use mathlib.Core.Path.{◌≡◌, refl}
 use mathlib.Core.Bool.{true, false}
 use mathlib.Core.List.{List, [], ◌∷◌, map}
@@ -10,8 +11,7 @@ use Rattle.axis.specs.declared.edge.Edge.{Edge}
 use Rattle.axis.specs.declared.edge.Axis.{Axis}
 use Rattle.axis.specs.declared.kinds.Dimension.TheVariants as Dimensions
 use Rattle.axis.specs.declared.kinds.Direction.TheVariants as Directions
-use Rattle.axis.specs.declared.kinds.Link.{Link}
-use Rattle.axis.specs.declared.kinds.Link.TheVariants.{None, To}
+use Rattle.axis.specs.Link.{Link}
 use Rattle.axis.specs.declared.segment.Segment.{Segment}
 use Rattle.axis.specs.declared.segment.Segments.{Segments}
 use Rattle.axis.specs.Edge.{fresh_edge, with_last}
@@ -71,7 +71,7 @@ edge first last = with_last (fresh_edge (pos 0) (pos 0) Directions.Up first) las
 -- 1 has the edge, its link is 3, whose serif is 2, in front of it; 0 names a kept one and is named by none
 abbrev four : Segments
 four =
-    table (segment 10 (To 1) None None None ∷ segment 11 (To 3) None (To 0) (To 1) ∷ segment 12 None None None (To 1) ∷ segment 13 None (To 2) None None ∷ [])
+    table (segment 10 (Some 1) None None None ∷ segment 11 (Some 3) None (Some 0) (Some 1) ∷ segment 12 None None None (Some 1) ∷ segment 13 None (Some 2) None None ∷ [])
 
 kept-four : map (kept four) (0 ∷ 1 ∷ 2 ∷ 3 ∷ []) ≡ false ∷ true ∷ true ∷ true ∷ []
 unfolding kept rounds some leads has_edge links_to
@@ -82,7 +82,7 @@ packed-four :
     packed_segments four
     ≡ record {
       segments =
-          segment 11 (To 2) None (To 0) (To 0) ∷ segment 12 None None None None ∷ segment 13 None (To 1) None None ∷ empty_segment ∷ [];
+          segment 11 (Some 2) None (Some 0) (Some 0) ∷ segment 12 None None None None ∷ segment 13 None (Some 1) None None ∷ empty_segment ∷ [];
       len = 3;
     }
 unfolding packed_segments chosen total kept rounds some leads has_edge links_to
@@ -104,22 +104,22 @@ unfolding refusal link_holds every edge_indices edges_indices segment_indices se
 taken = refl
 
 -- an edge without segments meets a stranger; a ring that leaves one out; one that has no next in front of its last; one that does not lead back
-stranger : answer (edge 0 0 ∷ []) (segment 1 None None None (To 0) ∷ []) ≡ 7
+stranger : answer (edge 0 0 ∷ []) (segment 1 None None None (Some 0) ∷ []) ≡ 7
 unfolding refusal link_holds every edge_indices edges_indices segment_indices segment_next segments_indices segments_nexts segment_edge edge_segments segments_edges
     edges_segments rings_sound sound_ring ends walk times links_to
 stranger = refl
 
-left_out : answer (edge 0 0 ∷ []) (segment 1 None None (To 0) (To 0) ∷ segment 2 None None (To 0) (To 1) ∷ []) ≡ 7
+left_out : answer (edge 0 0 ∷ []) (segment 1 None None (Some 0) (Some 0) ∷ segment 2 None None (Some 0) (Some 1) ∷ []) ≡ 7
 unfolding refusal link_holds every edge_indices edges_indices segment_indices segment_next segments_indices segments_nexts segment_edge edge_segments segments_edges
     edges_segments rings_sound sound_ring ends walk times links_to
 left_out = refl
 
-no-next : answer (edge 0 1 ∷ []) (segment 1 None None (To 0) None ∷ segment 2 None None (To 0) (To 0) ∷ []) ≡ 7
+no-next : answer (edge 0 1 ∷ []) (segment 1 None None (Some 0) None ∷ segment 2 None None (Some 0) (Some 0) ∷ []) ≡ 7
 unfolding refusal link_holds every edge_indices edges_indices segment_indices segment_next segments_indices segments_nexts segment_edge edge_segments segments_edges
     edges_segments rings_sound sound_ring ends walk times links_to
 no-next = refl
 
-open-ring : answer (edge 0 1 ∷ []) (segment 1 None None (To 0) (To 1) ∷ segment 2 None None (To 0) (To 1) ∷ []) ≡ 7
+open-ring : answer (edge 0 1 ∷ []) (segment 1 None None (Some 0) (Some 1) ∷ segment 2 None None (Some 0) (Some 1) ∷ []) ≡ 7
 unfolding refusal link_holds every edge_indices edges_indices segment_indices segment_next segments_indices segments_nexts segment_edge edge_segments segments_edges
     edges_segments rings_sound sound_ring ends walk times links_to
 open-ring = refl
@@ -130,6 +130,6 @@ unfolding refusal link_holds every edge_indices edges_indices segment_indices se
     edges_segments
 no-segments = refl
 
-dropped-beyond : answer (edge 0 0 ∷ []) (segment 1 (To 1) None None (To 0) ∷ []) ≡ 3
+dropped-beyond : answer (edge 0 0 ∷ []) (segment 1 (Some 1) None None (Some 0) ∷ []) ≡ 3
 unfolding refusal link_holds every segment_indices segments_indices
 dropped-beyond = refl

@@ -1,9 +1,9 @@
 -- Request #113: an axis with the segments alone that serve its edges.
+use Rattle.std.specs.Prelude.{None, Some}
 use Rattle.std.specs.Prelude.{◌≡◌, cond, List, ◌++◌, map, ℕ, ◌-◌, ◌≤◌, ◌<◌, take, drop, replicate}
 use Rattle.axis.specs.declared.edge.Edge.{Edge}
 use Rattle.axis.specs.declared.edge.Axis.{Axis}
-use Rattle.axis.specs.declared.kinds.Link.{Link}
-use Rattle.axis.specs.declared.kinds.Link.TheVariants as Links
+use Rattle.axis.specs.Link.{Link}
 use Rattle.axis.specs.declared.segment.Segment.{Segment}
 use Rattle.axis.specs.declared.segment.Segments.{Segments}
 use Rattle.axis.specs.Accepted.{Below}
@@ -17,8 +17,8 @@ use Rattle.pack.specs.Kept.{kept, new_index}
 -- ---- indices
 -- the index of a segment, where there is one, renumbered
 abbrev pub moved : (ℕ → ℕ) → Link → Link
-moved new Links.None = Links.None
-moved new (Links.To k) = Links.To (new k)
+moved new None = None
+moved new (Some k) = Some (new k)
 
 -- ---- segments and edges
 -- a segment that is kept: link and serif are renumbered, and next too where it has an edge, else it has none; everything else is as it was
@@ -38,7 +38,7 @@ packed_segment new s = record {
   first = s.first;
   last = s.last;
   edge = s.edge;
-  next = cond (is_linked s.edge) (moved new s.next) Links.None;
+  next = cond (is_linked s.edge) (moved new s.next) None;
 }
 
 -- a segment without its indices of segments: what it is, wherever others stand
@@ -53,12 +53,12 @@ unnumbered s = record {
   height = s.height;
   score = s.score;
   len = s.len;
-  link = Links.None;
-  serif = Links.None;
+  link = None;
+  serif = None;
   first = s.first;
   last = s.last;
   edge = s.edge;
-  next = Links.None;
+  next = None;
 }
 
 -- an edge: its first and its last segment are renumbered, everything else is as it was

@@ -53,6 +53,7 @@ pub fn follow(
     let mut order = [0u16; MOST_SEGMENTS];
     let mut len = enlist(kept, &mut order);
     let mut at = 0;
+    // a while: the list grows while it is followed
     while at < len {
         let i = order[at] as usize;
         len = reach(kept, &mut order, len, links[i]);

@@ -1,4 +1,5 @@
 -- Segments moved down where their words stand, and places emptied.
+use Rattle.std.specs.Prelude.{None, Some}
 use mathlib.Core.Path.{◌≡◌, refl, sym, ap, ◌∙◌}
 use mathlib.Core.Bool.{Bool, true, false, cond}
 use mathlib.Core.List.{List, ◌++◌, append-nil}
@@ -7,8 +8,7 @@ use native.Mathlib.Omega.{arith}
 use lib.ListN.{length, set, take, drop, length-drop}
 use lib.Seq.{ext_get_or, get_or-take, get_or-drop, length-take-le, drop-length}
 use lib.IntN.{ℤ, pos}
-use Rattle.axis.specs.declared.kinds.Link.{Link}
-use Rattle.axis.specs.declared.kinds.Link.TheVariants as Links
+use Rattle.axis.specs.Link.{Link}
 use Rattle.axis.specs.declared.segment.Segment.{Segment}
 use Rattle.axis.specs.declared.segment.Segments.{Segments}
 use Rattle.axis.specs.Accepted.{Below}
@@ -63,7 +63,7 @@ module _ (ws : List ℤ) (i : ℕ) (w : Whole ws) (h : i < segments_in ws) where
 -- three of them are others
 pub renumbered-words : (f : ℕ → ℕ) (s : Segment) (copy : List ℤ) (a b c : ℤ) → copy ≡ segment_words s → a ≡ link_word (moved f s.link)
     → b ≡ link_word (moved f s.serif)
-    → c ≡ link_word (cond (is_linked s.edge) (moved f s.next) Links.None)
+    → c ≡ link_word (cond (is_linked s.edge) (moved f s.next) None)
     → set (set (set copy link_place a) serif_place b) next_place c ≡ segment_words (packed_segment f s)
 unfolding segment_words
 renumbered-words f s copy a b c e p q r = λ j. set (set (set (e j) link_place (p j)) serif_place (q j)) next_place (r j)
@@ -78,10 +78,10 @@ given_back ws i w h =
     ∙ sym (segment-in ws i w h)
 
 moved-small : (f : ℕ → ℕ) (n : ℕ) (l : Link) → ((k : ℕ) → f k ≤ k) → n ≤ 65536 → Below n l → Below 65536 (moved f l)
-moved-small f n Links.None g few b = below_none 65536
-moved-small f n (Links.To k) g few b = below-to 65536 (f k) (omega (arith, g k, b.at k refl))
+moved-small f n None g few b = below_none 65536
+moved-small f n (Some k) g few b = below-to 65536 (f k) (omega (arith, g k, b.at k refl))
 
-next_small : (f : ℕ → ℕ) (n : ℕ) (b : Bool) (l : Link) → ((k : ℕ) → f k ≤ k) → n ≤ 65536 → Below n l → Below 65536 (cond b (moved f l) Links.None)
+next_small : (f : ℕ → ℕ) (n : ℕ) (b : Bool) (l : Link) → ((k : ℕ) → f k ≤ k) → n ≤ 65536 → Below n l → Below 65536 (cond b (moved f l) None)
 next_small f n true l g few b = moved-small f n l g few b
 next_small f n false l g few b = below_none 65536
 
@@ -93,7 +93,7 @@ unfolding segment_from segment_words
 packed-back f n s g few a b c e =
     let p = link-back (moved f s.link) (moved-small f n s.link g few a) in
     let q = link-back (moved f s.serif) (moved-small f n s.serif g few b) in
-    let r = link-back (cond (is_linked s.edge) (moved f s.next) Links.None) (next_small f n (is_linked s.edge) s.next g few c) in
+    let r = link-back (cond (is_linked s.edge) (moved f s.next) None) (next_small f n (is_linked s.edge) s.next g few c) in
     λ j. record {
       flags = (e j).flags;
       dir = (e j).dir;
@@ -141,7 +141,7 @@ module _ (ws₀ : List ℤ) (w : Whole ws₀) where
 
     -- and its indices are segments
     below : {n : ℕ} (g : Segment → Link) → Below n (g (segment_at T i)) → n ≤ most_segments → Below most_segments (g (segment_at (flat_segments ws) i))
-    below {n} g b few = record { at = λ (k : ℕ) (e : g (segment_at (flat_segments ws) i) ≡ Links.To k). omega (arith, b.at k (sym (ap g here) ∙ e)) }
+    below {n} g b few = record { at = λ (k : ℕ) (e : g (segment_at (flat_segments ws) i) ≡ Some k). omega (arith, b.at k (sym (ap g here) ∙ e)) }
 
     pub down-ready : Whole ws × (i < segments_in ws) × Below most_segments (segment_at (flat_segments ws) i).link
         × Below most_segments (segment_at (flat_segments ws) i).serif

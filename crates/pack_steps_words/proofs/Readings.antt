@@ -1,11 +1,13 @@
 -- What is read of segments where their words stand.
+use Rattle.std.specs.Prelude.{None, Some, MatchOption}
+use Rattle.std.specs.Option.{is_some}
 use mathlib.Core.Path.{◌≡◌, sym, ap, ◌∙◌}
 use mathlib.Core.Bool.{Bool}
 use mathlib.Core.List.{List}
 use Prim.Native.Nat.{ℕ, ◌<◌}
 use native.Mathlib.Omega.{arith}
 use lib.IntN.{ℤ}
-use Rattle.axis.specs.declared.kinds.Link.{Link}
+use Rattle.axis.specs.Link.{Link}
 use Rattle.axis.specs.Link.{is_linked, index_or}
 use Rattle.pack.proofs.Filled.{edged, link_or, serif_or}
 use Rattle.words.specs.Word.{word_at}
@@ -14,6 +16,16 @@ use Rattle.words.specs.Segment.{link_place, serif_place, edge_place, word_of_seg
 use Rattle.words_segment.specs.Whole.{Whole}
 use Rattle.words_segment.proofs.Reading.{link-in, serif-in, edge_in}
 use Rattle.words_segment.proofs.Wholes.{segments-len}
+
+-- what the library tells of a link
+pub some-linked : (l : Link) (r : Bool) → r ≡ is_some l → r ≡ is_linked l
+some-linked None r h = h
+some-linked (Some k) r h = h
+
+-- what the library's `map_or` reads of a link, or i where there is none
+pub read-or : (l : Link) (i r : ℕ) → MatchOption l (r ≡ i) (λ (k : ℕ). r ≡ k) → r ≡ index_or i l
+read-or None i r h = h
+read-or (Some k) i r h = h
 
 module _ (ws : List ℤ) (w : Whole ws) (i : ℕ) (h : i < segments_in ws) where
   pub inside : i < (flat_segments ws).len

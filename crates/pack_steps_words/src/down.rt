@@ -1,6 +1,5 @@
 // Kept segments moved down to their new places, and the places behind them emptied.
 ghost use Rattle.std.specs.Prelude.{◌≡◌, cond, ◌≤◌, ◌<◌};
-ghost use Rattle.axis.specs.declared.kinds.Link.TheVariants as Links;
 ghost use Rattle.axis.specs.Accepted.{Below};
 ghost use Rattle.axis.specs.Limits.{most_segments};
 ghost use Rattle.axis.specs.Link.{is_linked};
@@ -11,9 +10,7 @@ ghost use Rattle.pack.specs.Packed.{moved, packed_segment, moved_segments, clear
 ghost use Rattle.words.specs.Segment.{segment_words, segments_in, flat_segments};
 ghost use Rattle.words_segment.specs.Whole.{Whole, Became};
 
-use axis::kinds::Link;
 use axis::limits::MOST_SEGMENTS;
-use axis::link::is_linked;
 use words::field::{link_at, link_word};
 use words::segment::{EDGE_PLACE, LINK_PLACE, NEXT_PLACE, SEGMENT_WORDS, SERIF_PLACE};
 use words::word::write_words;
@@ -22,26 +19,26 @@ use words::word::write_words;
 const EMPTY_WORDS: [i32; SEGMENT_WORDS] = [0, 0, 0, 0, 0, 0, 0, 0, 0, -1, -1, 0, 0, -1, -1];
 
 // The index of a segment, where there is one, renumbered.
-fn moved_link(link: Link, new: &[u16; MOST_SEGMENTS]) -> Link
+fn moved_link(link: Option<u16>, new: &[u16; MOST_SEGMENTS]) -> Option<u16>
     requires { Below most_segments link }
     ensures { result ≡ moved (number_at new.now) link }
 {
-    let Link::To(k) = link else {
-        return Link::None;
+    let Some(k) = link else {
+        return None;
     };
     let at = k as usize;
-    Link::To(new[at])
+    Some(new[at])
 }
 
 // The next of a segment, renumbered; where it has no edge it has none.
-fn moved_next(edge: Link, next: Link, new: &[u16; MOST_SEGMENTS]) -> Link
+fn moved_next(edge: Option<u16>, next: Option<u16>, new: &[u16; MOST_SEGMENTS]) -> Option<u16>
     requires { Below most_segments next }
-    ensures { result ≡ cond (is_linked edge) (moved (number_at new.now) next) Links.None }
+    ensures { result ≡ cond (is_linked edge) (moved (number_at new.now) next) None }
 {
-    if is_linked(edge) {
+    if edge.is_some() {
         return moved_link(next, new);
     }
-    Link::None
+    None
 }
 
 // The words of a segment, renumbered.

@@ -4,7 +4,6 @@ ghost use Rattle.words.specs.Segment.{flat_segments};
 ghost use Rattle.words_segment.specs.Whole.{Whole};
 
 use axis::limits::MOST_SEGMENTS;
-use axis::link::{index_or, is_linked};
 use pack::follow::follow;
 use words::field::link_at;
 use words::segment::{EDGE_PLACE, LINK_PLACE, SEGMENT_WORDS, SERIF_PLACE};
@@ -22,9 +21,9 @@ pub fn kept_in(words: &[i32]) -> [bool; MOST_SEGMENTS]
         let edge = link_at(words, SEGMENT_WORDS * i + EDGE_PLACE);
         let link = link_at(words, SEGMENT_WORDS * i + LINK_PLACE);
         let serif = link_at(words, SEGMENT_WORDS * i + SERIF_PLACE);
-        kept[i] = is_linked(edge);
-        links[i] = index_or(link, i) as u16;
-        serifs[i] = index_or(serif, i) as u16;
+        kept[i] = edge.is_some();
+        links[i] = link.map_or(i, usize::from) as u16;
+        serifs[i] = serif.map_or(i, usize::from) as u16;
     }
     follow(&mut kept, &links, &serifs);
     kept

@@ -1,5 +1,6 @@
 // The call over lent segments and lent edges.
 ghost use Rattle.std.specs.Prelude.{◌≡◌, ◌≤◌};
+ghost use Rattle.refusals.specs.Outcome.{answer_of};
 ghost use Rattle.refusals.specs.Refusal.{refusal};
 ghost use Rattle.axis.specs.Limits.{most_edges, most_segments};
 ghost use Rattle.pack.specs.Call.{packing_tests, Holding};
@@ -15,21 +16,18 @@ use pack::number::number;
 use pack_steps_words::down::{clear_in, move_in};
 use pack_steps_words::ends::ends_in;
 use pack_steps_words::keep::kept_in;
-use refusals::order::{BROKEN_RING, or_refused};
+use refusals::order::{Refusal, require};
 use turn_words::lend::turning_front;
 use turn_words::test::index_refusal;
 use words::word::count_word;
 
-// The refusal of the call, or 0: rings are followed where every index is tested.
-fn packing_refusal(segments: &[i32], edges: &[i32]) -> u8
+// The refusal of the call, if there is one: rings are followed where every index is tested.
+fn packing_refusal(segments: &[i32], edges: &[i32]) -> Result<(), Refusal>
     requires { (segments_in segments.now ≤ most_segments) × (edges_in edges.now ≤ most_edges) }
-    ensures { result ≡ refusal (packing_tests (edges_of edges.now) (flat_segments segments.now)) }
+    ensures { answer_of result ≡ refusal (packing_tests (edges_of edges.now) (flat_segments segments.now)) }
 {
-    let answer = index_refusal(segments, edges);
-    if 0 < answer {
-        return answer;
-    }
-    or_refused(0, rings_sound_in(segments, edges), BROKEN_RING)
+    index_refusal(segments, edges)?;
+    require(rings_sound_in(segments, edges), Refusal::BrokenRing)
 }
 
 // Packs both lists, and tells how many segments are kept.
@@ -48,18 +46,12 @@ fn pack_in(segments: &mut [i32], edges: &mut [i32]) -> usize
 }
 
 // Keeps the segments that belong to an edge and those reached from kept ones by links or serifs, and tells how many they are.
-pub fn lend_packing(segments: &mut [i32], edges: &mut [i32], count: &mut i32) -> u8
-    ensures { PackedLent segments.old edges.old count.old result (segments.new, (edges.new, count.new)) }
+pub fn lend_packing(segments: &mut [i32], edges: &mut [i32], count: &mut i32) -> Result<(), Refusal>
+    ensures { PackedLent segments.old edges.old count.old (answer_of result) (segments.new, (edges.new, count.new)) }
 {
-    let refusal = turning_front(segments, edges);
-    if 0 < refusal {
-        return refusal;
-    }
-    let refusal = packing_refusal(segments, edges);
-    if 0 < refusal {
-        return refusal;
-    }
+    turning_front(segments, edges)?;
+    packing_refusal(segments, edges)?;
     let kept = pack_in(segments, edges);
     *count = count_word(kept);
-    0
+    Ok(())
 }

@@ -4,7 +4,7 @@ use mathlib.Core.List.{List}
 use Prim.Native.Nat.{ℕ}
 use lib.Ieee.{Float}
 use lib.IntN.{ℤ}
-use Rattle.path.specs.declared.hand.Handed.{Handed}
+use Rattle.path.specs.Answer.{Handed}
 use Rattle.path.specs.Handing.{HandsStep}
 use Rattle.path.specs.Lending.{StepLent}
 

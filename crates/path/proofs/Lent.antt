@@ -9,8 +9,7 @@ use Rattle.path_places.specs.declared.PixelPoint.{PixelPoint}
 use Rattle.path_trip.specs.declared.step.PathStep.{PathStep}
 use Rattle.path_trip.specs.Numbers.{kind_of, first_of, second_of}
 use Rattle.path.specs.declared.hand.Cursor.{Cursor}
-use Rattle.path.specs.declared.hand.Handed.{Handed}
-use Rattle.path.specs.declared.hand.Handed.TheVariants.{Refused, Finished, Step}
+use Rattle.path.specs.Answer.{Handed, Refused, Finished, Step}
 use Rattle.path.specs.Handing.{HandsStep}
 use Rattle.path.specs.Lending.{four, answer_of, kind_after, places_after, next_after, StepLent}
 

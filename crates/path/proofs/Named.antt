@@ -1,4 +1,5 @@
 -- What a call hands out, as the code comes to it.
+use Rattle.std.specs.Prelude.{Ok, Err}
 use mathlib.Core.Path.{◌≡◌, sym}
 use mathlib.Core.Bool.{true}
 use mathlib.Core.List.{List}
@@ -12,23 +13,21 @@ use Rattle.weak_contour.specs.Limits.{most_result}
 use Rattle.weak.specs.Weak.{ends_hold}
 use Rattle.weak.proofs.Refusals.{passed}
 use Rattle.path_trip.specs.declared.step.PathStep.{PathStep}
-use Rattle.path_walk.specs.declared.walk.Sought.TheVariants.{Here, Past}
 use Rattle.path_trip.specs.Path.{points, path}
 use Rattle.path_trip.specs.Trips.{Admitted}
 use Rattle.path_walk.specs.Steps.{seek}
 use Rattle.path_walk.proofs.Seeks.{in-here, in-past}
-use Rattle.path.specs.declared.hand.Handed.{Handed}
-use Rattle.path.specs.declared.hand.Handed.TheVariants.{Refused, Finished, Step}
+use Rattle.path.specs.Answer.{Handed, Refused, Finished, Step}
 use Rattle.path.specs.Handing.{path_tests, named, handed}
 
 -- ---- what a number names
 -- a step of the path
-pub named_here : (p : List PathStep) (k : ℕ) (s : PathStep) → seek p k ≡ Here s → named p k ≡ Step s (record { at = k + 1 })
+pub named_here : (p : List PathStep) (k : ℕ) (s : PathStep) → seek p k ≡ Ok s → named p k ≡ Step s (record { at = k + 1 })
 unfolding named
 named_here p k s e = let r = in-here p k s e in rw (lt-ltb k (length p) r.0, r.1)
 
 -- none
-pub named_past : (p : List PathStep) (k l : ℕ) → seek p k ≡ Past l → named p k ≡ Finished
+pub named_past : (p : List PathStep) (k l : ℕ) → seek p k ≡ Err l → named p k ≡ Finished
 unfolding named
 named_past p k l e = rw (le-ltb k (length p) (in-past p k l e))
 

@@ -7,8 +7,7 @@ use Rattle.weak.specs.Weak.{outline_tests}
 use Rattle.path_trip.specs.declared.step.PathStep.{PathStep}
 use Rattle.path_trip.specs.declared.step.PathStep.TheVariants.{Close}
 use Rattle.path_trip.specs.Path.{points, path}
-use Rattle.path.specs.declared.hand.Handed.{Handed}
-use Rattle.path.specs.declared.hand.Handed.TheVariants.{Refused, Finished, Step}
+use Rattle.path.specs.Answer.{Handed, Refused, Finished, Step}
 
 -- the tests of an outline of fitted points: those of weak points, for coordinates that weak points can leave
 abbrev pub path_tests : List ℤ → List ℤ → List ℕ → List ℕ → List Test

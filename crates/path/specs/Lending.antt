@@ -3,8 +3,7 @@ use Rattle.std.specs.Prelude.{◌≡◌, List, [], ◌∷◌, ℕ, Float, ℤ}
 use Rattle.path_places.specs.Places.{origin}
 use Rattle.path_places.specs.declared.PixelPoint.{PixelPoint}
 use Rattle.path_trip.specs.Numbers.{kind_of, first_of, second_of}
-use Rattle.path.specs.declared.hand.Handed.{Handed}
-use Rattle.path.specs.declared.hand.Handed.TheVariants.{Refused, Finished, Step}
+use Rattle.path.specs.Answer.{Handed, Refused, Finished, Step}
 use Rattle.path.specs.Handing.{handed}
 
 -- two places as four numbers

@@ -77,6 +77,7 @@ fn lay_walk(
 {
     let mut n = count;
     let mut j: usize = 0;
+    // a while: a step walks by one point, or by two where a curve ends at an on-curve point
     while j < trip.count {
         j = lay_point(xs, ys, marks, a, e, trip, j, kinds, places, n);
         n += 1;
@@ -124,12 +125,10 @@ pub fn lay_path(
 {
     let mut n: usize = 0;
     let mut a: usize = 0;
-    let mut c: usize = 0;
-    while c < ends.len() {
-        let e = wide(ends[c]) + 1;
+    for end in ends {
+        let e = wide(*end) + 1;
         n = lay_contour(xs, ys, marks, a, e, kinds, places, n);
         a = e;
-        c += 1;
     }
     n
 }

@@ -14,7 +14,7 @@ use Rattle.path_trip.specs.declared.step.PathStep.{PathStep}
 use Rattle.path_trip.specs.declared.step.PathStep.TheVariants.{Close}
 use Rattle.path_trip.specs.Path.{points, path}
 use Rattle.path_walk.proofs.Lengths.{at_most}
-use Rattle.path.specs.declared.hand.Handed.TheVariants.{Refused, Finished, Step}
+use Rattle.path.specs.Answer.{Refused, Finished, Step}
 use Rattle.path.specs.Handing.{path_tests, named, handed}
 use Rattle.path.proofs.Named.{accepted}
 use Rattle.path_lay.specs.Laying.{Lists}

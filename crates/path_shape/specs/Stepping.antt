@@ -1,8 +1,7 @@
 -- The steps that calls of `path_step` hand out, one after the other.
 use Rattle.std.specs.Prelude.{List, [], ◌∷◌, ℕ, zero, suc, ℤ}
 use Rattle.path_trip.specs.declared.step.PathStep.{PathStep}
-use Rattle.path.specs.declared.hand.Handed.{Handed}
-use Rattle.path.specs.declared.hand.Handed.TheVariants.{Refused, Finished, Step}
+use Rattle.path.specs.Answer.{Handed, Refused, Finished, Step}
 use Rattle.path.specs.Handing.{handed}
 
 -- the steps of at most n calls, of which the first handed out this, and each other has the cursor that the one before it handed back, up to the first that hands

@@ -24,14 +24,12 @@ fn first_on(marks: &[u8], from: usize, to: usize) -> usize
     requires { (from ≤ to) × (to ≤ length marks.now) }
     ensures { First marks.now from to result }
 {
-    let mut i = from;
-    while i < to {
+    for i in from..to {
         if marks[i] != 0 {
             return i;
         }
-        i += 1;
     }
-    i
+    to
 }
 
 // The start and the walk of the contour from `a` up to `e`.

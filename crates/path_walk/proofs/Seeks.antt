@@ -1,4 +1,5 @@
 -- Step k of a list of steps: one point of a walk at a time, one contour at a time.
+use Rattle.std.specs.Prelude.{Ok, Err}
 use mathlib.Core.Path.{◌≡◌, refl, sym, ap, ◌∙◌}
 use mathlib.Core.Bool.{Bool, true, false, cond}
 use mathlib.Core.List.{List, [], ◌∷◌, ◌++◌}
@@ -10,8 +11,7 @@ use Rattle.path_places.specs.declared.PixelPoint.{PixelPoint}
 use Rattle.path_trip.specs.declared.step.PathStep.{PathStep}
 use Rattle.path_trip.specs.declared.step.PathStep.TheVariants.{Move, Line, Curve, Close}
 use Rattle.path_walk.specs.declared.walk.End.TheVariants.{Start, Point, Between}
-use Rattle.path_walk.specs.declared.walk.Sought.{Sought}
-use Rattle.path_walk.specs.declared.walk.Sought.TheVariants.{Here, Past}
+use Rattle.path_walk.specs.Sought.{Sought}
 use Rattle.path_trip.specs.Path.{Points, place, middle, on_curve, Round, round_of, curve_end, walked, steps_of, path_from, path}
 use Rattle.path_trip.specs.Trips.{around, Walk}
 use Rattle.path_walk.specs.Steps.{seek, count_of, step_of, end_of, end_place}
@@ -19,7 +19,7 @@ use Rattle.weak.proofs.Refusals.{drop-one}
 
 -- ---- one list of steps
 -- the first step
-seek-first : (s : PathStep) (ss : List PathStep) (k : ℕ) → k < 1 → seek (s ∷ ss) k ≡ Here s
+seek-first : (s : PathStep) (ss : List PathStep) (k : ℕ) → k < 1 → seek (s ∷ ss) k ≡ Ok s
 unfolding seek
 seek-first s ss zero h = refl
 seek-first s ss (suc k) h = let z : ⊥ = omega arith in absurd z
@@ -31,33 +31,33 @@ seek-next s ss zero h = let z : ⊥ = omega arith in absurd z
 seek-next s ss (suc k) h = let p : k ≡ suc k - 1 = omega arith in ap (seek ss) p
 
 -- no steps
-past_all : (k : ℕ) → seek [] k ≡ Past k
+past_all : (k : ℕ) → seek [] k ≡ Err k
 unfolding seek
 past_all k = refl
 
 -- what is behind steps that were passed
-pub seek-past : (p q : List PathStep) (k l : ℕ) → seek p k ≡ Past l → seek (p ++ q) k ≡ seek q l
+pub seek-past : (p q : List PathStep) (k l : ℕ) → seek p k ≡ Err l → seek (p ++ q) k ≡ seek q l
 unfolding seek
 seek-past [] q k l e = let z : k ≡ l = cc in ap (seek q) z
 seek-past (s ∷ p) q zero l e = let z : ◌≡◌ {A = ℕ} 0 1 = cc in let y : ⊥ = omega arith in absurd y
 seek-past (s ∷ p) q (suc k) l e = seek-past p q k l e
 
 -- a step of the first list
-pub seek-here : (p q : List PathStep) (k : ℕ) (s : PathStep) → seek p k ≡ Here s → seek (p ++ q) k ≡ Here s
+pub seek-here : (p q : List PathStep) (k : ℕ) (s : PathStep) → seek p k ≡ Ok s → seek (p ++ q) k ≡ Ok s
 unfolding seek
 seek-here [] q k s e = let z : ◌≡◌ {A = ℕ} 0 1 = cc in let y : ⊥ = omega arith in absurd y
 seek-here (t ∷ p) q zero s e = e
 seek-here (t ∷ p) q (suc k) s e = seek-here p q k s e
 
 -- what a call hands out of a list
-pub in-here : (p : List PathStep) (k : ℕ) (s : PathStep) → seek p k ≡ Here s → (k < length p) × (get_or p k Close ≡ s)
+pub in-here : (p : List PathStep) (k : ℕ) (s : PathStep) → seek p k ≡ Ok s → (k < length p) × (get_or p k Close ≡ s)
 unfolding seek
 in-here [] k s e = let z : ◌≡◌ {A = ℕ} 0 1 = cc in let y : ⊥ = omega arith in absurd y
 in-here (t ∷ p) zero s e = (omega arith, cc)
 in-here (t ∷ p) (suc k) s e = let r = in-here p k s e in (omega (arith, r.0), r.1)
 
 -- a number behind the list
-pub in-past : (p : List PathStep) (k l : ℕ) → seek p k ≡ Past l → length p ≤ k
+pub in-past : (p : List PathStep) (k l : ℕ) → seek p k ≡ Err l → length p ≤ k
 unfolding seek
 in-past [] k l e = omega arith
 in-past (t ∷ p) zero l e = let z : ◌≡◌ {A = ℕ} 0 1 = cc in let y : ⊥ = omega arith in absurd y
@@ -90,7 +90,7 @@ module _ (w : List ℕ) (a e s n : ℕ) (t : Walk w a e s n) where
 -- ---- one walk
 module _ (o : Points) (start : PixelPoint) where
   turn-first : (i : ℕ) (is : List ℕ) (on joined : Bool) (k : ℕ) → on_curve o i ≡ on → k < count_of on joined
-      → seek (walked o start joined (i ∷ is)) k ≡ Here (step_of o start i is)
+      → seek (walked o start joined (i ∷ is)) k ≡ Ok (step_of o start i is)
   unfolding walked
   turn-first i is true true k e h = rw e (seek-first _ _ k h)
   turn-first i is true false k e h = let z : ⊥ = omega arith in absurd z
@@ -111,7 +111,7 @@ module _ (o : Points) (start : PixelPoint) where
 
   module _ (w : List ℕ) (a e s n : ℕ) (t : Walk w a e s n) where
     pub walk_first : (j : ℕ) → j < n → (on joined : Bool) (k : ℕ) → on_curve o (around a e (s + j)) ≡ on → k < count_of on joined
-        → seek (walked o start joined (drop j w)) k ≡ Here (step_of o start (around a e (s + j)) (drop (j + 1) w))
+        → seek (walked o start joined (drop j w)) k ≡ Ok (step_of o start (around a e (s + j)) (drop (j + 1) w))
     walk_first j h on joined k q l =
         ap (λ (x : List ℕ). seek (walked o start joined x) k) (one_more w a e s n t j h) ∙ turn-first (around a e (s + j)) (drop (j + 1) w) on joined k q l
 
@@ -123,10 +123,10 @@ module _ (o : Points) (start : PixelPoint) where
     pub walk-closed : (j : ℕ) → n ≤ j → (joined : Bool) → walked o start joined (drop j w) ≡ Close ∷ []
     walk-closed j h joined = ap (walked o start joined) (drop_of_length-le w {i = j} (omega (arith, t.len))) ∙ closes joined
 
-    pub walk-close : (j : ℕ) → n ≤ j → (joined : Bool) (k : ℕ) → k ≡ 0 → seek (walked o start joined (drop j w)) k ≡ Here Close
+    pub walk-close : (j : ℕ) → n ≤ j → (joined : Bool) (k : ℕ) → k ≡ 0 → seek (walked o start joined (drop j w)) k ≡ Ok Close
     walk-close j h joined k z = ap (λ (x : List PathStep). seek x k) (walk-closed j h joined) ∙ seek-first Close [] k (omega arith)
 
-    pub walk-past : (j : ℕ) → n ≤ j → (joined : Bool) (k : ℕ) → (k ≡ 0 → ⊥) → seek (walked o start joined (drop j w)) k ≡ Past (k - 1)
+    pub walk-past : (j : ℕ) → n ≤ j → (joined : Bool) (k : ℕ) → (k ≡ 0 → ⊥) → seek (walked o start joined (drop j w)) k ≡ Err (k - 1)
     walk-past j h joined k z = ap (λ (x : List PathStep). seek x k) (walk-closed j h joined) ∙ seek-next Close [] k (omega arith) ∙ past_all (k - 1)
 
 -- the place of a curve's end
@@ -150,9 +150,9 @@ step-curve o start i is p r q e f = rw q (λ z. Curve (e z) (f z))
 
 -- ---- one contour
 -- the move
-pub seek-move : (o : Points) (r : Round) (p : PixelPoint) (k : ℕ) → p ≡ r.start → k ≡ 0 → Here (Move p) ≡ seek (steps_of o r) k
+pub seek-move : (o : Points) (r : Round) (p : PixelPoint) (k : ℕ) → p ≡ r.start → k ≡ 0 → Ok (Move p) ≡ seek (steps_of o r) k
 unfolding steps_of
-seek-move o r p k q e = ap (λ (x : PixelPoint). Here (Move x)) q ∙ sym (seek-first _ _ k (omega arith))
+seek-move o r p k q e = ap (λ (x : PixelPoint). Ok (Move x)) q ∙ sym (seek-first _ _ k (omega arith))
 
 -- a step behind the move
 pub seek-walk : (o : Points) (r : Round) (p : PixelPoint) (k : ℕ) → p ≡ r.start → (k ≡ 0 → ⊥)
@@ -173,7 +173,7 @@ unfolding path_from
 path-one o a es c h = rw (drop-one es c 0 h, add-one (get_or es c 0))
 
 -- no contour is left to seek in
-pub path-none : (o : Points) (a : ℕ) (es : List ℕ) (c k : ℕ) → length es ≤ c → seek (path_from o a (drop c es)) k ≡ Past k
+pub path-none : (o : Points) (a : ℕ) (es : List ℕ) (c k : ℕ) → length es ≤ c → seek (path_from o a (drop c es)) k ≡ Err k
 unfolding path_from seek
 path-none o a es c k h = rw (drop_of_length-le es {i = c} h)
 
@@ -192,10 +192,10 @@ module _ (o : Points) (a : ℕ) (es : List ℕ) (c k w : ℕ) (r : Sought) (h : 
   sought : r ≡ seek (steps_of o (round_of o a (get_or es c 0))) k
   sought = let p : w + 1 - 1 ≡ get_or es c 0 = omega arith in q ∙ ap (λ (x : ℕ). seek (steps_of o (round_of o a x)) k) p
 
-  pub contour-here : (s : PathStep) → r ≡ Here s → seek (path_from o a (drop c es)) k ≡ r
+  pub contour-here : (s : PathStep) → r ≡ Ok s → seek (path_from o a (drop c es)) k ≡ r
   contour-here s t = ap (λ (x : List PathStep). seek x k) (path-one o a es c h) ∙ seek-here _ _ k s (sym sought ∙ t) ∙ sym t
 
-  pub contour-past : (l : ℕ) → r ≡ Past l → seek (path_from o a (drop c es)) k ≡ seek (path_from o (w + 1) (drop (c + 1) es)) l
+  pub contour-past : (l : ℕ) → r ≡ Err l → seek (path_from o a (drop c es)) k ≡ seek (path_from o (w + 1) (drop (c + 1) es)) l
   contour-past l t =
       ap (λ (x : List PathStep). seek x k) (path-one o a es c h) ∙ seek-past _ _ k l (sym sought ∙ t)
       ∙ ap (λ (x : ℕ). seek (path_from o (x + 1) (drop (c + 1) es)) l) (sym e)

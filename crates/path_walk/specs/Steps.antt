@@ -1,18 +1,17 @@
 -- What the functions on the way to a step promise each other.
-use Rattle.std.specs.Prelude.{Bool, not, cond, ◌&&◌, List, [], ◌∷◌, ℕ, zero, suc, ◌≤◌, ◌<◌}
+use Rattle.std.specs.Prelude.{Bool, not, cond, ◌&&◌, List, [], ◌∷◌, ℕ, zero, suc, ◌≤◌, ◌<◌, Ok, Err}
 use Rattle.path_places.specs.declared.PixelPoint.{PixelPoint}
 use Rattle.path_trip.specs.declared.step.PathStep.{PathStep}
 use Rattle.path_trip.specs.declared.step.PathStep.TheVariants.{Line, Curve}
 use Rattle.path_trip.specs.Path.{Points, place, middle, on_curve, curve_end}
 use Rattle.path_walk.specs.declared.walk.End.{End}
 use Rattle.path_walk.specs.declared.walk.End.TheVariants as Ends
-use Rattle.path_walk.specs.declared.walk.Sought.{Sought}
-use Rattle.path_walk.specs.declared.walk.Sought.TheVariants.{Here, Past}
+use Rattle.path_walk.specs.Sought.{Sought}
 
 -- step k of a list of steps, or how far k is behind its end
 unfoldable pub seek : List PathStep → ℕ → Sought
-seek [] k = Past k
-seek (s ∷ ss) zero = Here s
+seek [] k = Err k
+seek (s ∷ ss) zero = Ok s
 seek (s ∷ ss) (suc k) = seek ss k
 
 -- how many steps a point gives: none on the curve behind an off-curve point, else one

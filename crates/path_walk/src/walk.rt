@@ -9,13 +9,6 @@ use path_trip::place::{middle_of, place_of};
 use path_trip::step::PathStep;
 use path_trip::trip::{Trip, around_at, is_on, trip_of};
 
-// A step of a list of steps, or how far a number is behind the list's end.
-#[derive(Clone, Copy)]
-pub enum Sought {
-    Past(usize),
-    Here(PathStep),
-}
-
 // How many steps a point gives.
 fn count_of(on: bool, joined: bool) -> usize
     ensures { result ≡ count_of on joined }
@@ -118,7 +111,14 @@ fn step_here(
 }
 
 // Step k of the contour from `a` up to `e`, or how far k is behind its steps.
-pub fn contour_step(xs: &[i32], ys: &[i32], marks: &[u8], a: usize, e: usize, k: usize) -> Sought
+pub fn contour_step(
+    xs: &[i32],
+    ys: &[i32],
+    marks: &[u8],
+    a: usize,
+    e: usize,
+    k: usize,
+) -> Result<PathStep, usize>
     requires admitted { Admitted (points xs.now ys.now marks.now) }
     requires within { Within (points xs.now ys.now marks.now) a e }
     ensures { result ≡ seek (steps_of (points xs.now ys.now marks.now) (round_of (points xs.now ys.now marks.now) a (e - 1))) k }
@@ -126,24 +126,22 @@ pub fn contour_step(xs: &[i32], ys: &[i32], marks: &[u8], a: usize, e: usize, k:
     let trip = trip_of(xs, ys, marks, a, e);
     if k == 0 {
         let start = trip.start;
-        return Sought::Here(PathStep::Move(start));
+        return Ok(PathStep::Move(start));
     }
     let mut left = k - 1;
     let mut joined = true;
-    let mut j: usize = 0;
-    while j < trip.count {
+    for j in 0..trip.count {
         let i = around_at(a, e, trip.from + j);
         let on = is_on(marks[i]);
         let count = count_of(on, joined);
         if left < count {
-            return Sought::Here(step_here(xs, ys, marks, a, e, trip, j));
+            return Ok(step_here(xs, ys, marks, a, e, trip, j));
         }
         left -= count;
         joined = on;
-        j += 1;
     }
     if left == 0 {
-        return Sought::Here(PathStep::Close);
+        return Ok(PathStep::Close);
     }
-    Sought::Past(left - 1)
+    Err(left - 1)
 }

@@ -1,12 +1,12 @@
 -- Edges that are alike but for their marks are placed alike (request #105).
+use Rattle.std.specs.Prelude.{None, Some}
 use mathlib.Core.Path.{◌≡◌, refl, sym, ap, subst}
 use mathlib.Core.List.{List}
 use Prim.Native.Nat.{ℕ, zero, suc, ◌+◌}
 use lib.IntN.{ℤ}
 use lib.Dec.{ltb}
 use Rattle.fixed.specs.declared.width.WidthRule.{WidthRule}
-use Rattle.axis.specs.declared.kinds.Link.{Link}
-use Rattle.axis.specs.declared.kinds.Link.TheVariants as Links
+use Rattle.axis.specs.Link.{Link}
 use Rattle.axis.specs.declared.edge.Edge.{Edge}
 use Rattle.axis.specs.declared.edge.Axis.{Axis}
 use Rattle.axis.specs.Edge.{edge_at}
@@ -38,15 +38,15 @@ module _ (a b : Axis) (alike : AlikeAxis a b) where
 
   held : (h i k : ℕ) (l : Link) → AlikeAxis (held_to a h i k l) (held_to b h i k l)
   unfolding held_to
-  held h i k Links.None = alike
-  held h i k (Links.To l) =
+  held h i k None = alike
+  held h i k (Some l) =
       cond-alike AlikeAxis _ _ _ a _ b (λ j. is_far ((at l).same j).pos ((at h).same j).pos)
       (put-alike a b i _ _ alike (placed_alike _ _ _ _ _ _ (at i) (ap (λ (e : Edge). e.pos) (at k).same))) alike
 
   bound : (h i : ℕ) (dir : LinkDir) (l : Link) → AlikeAxis (bound_by a h i dir l) (bound_by b h i dir l)
   unfolding bound_by
-  bound h i dir Links.None = alike
-  bound h i dir (Links.To k) =
+  bound h i dir None = alike
+  bound h i dir (Some k) =
       cond-alike AlikeAxis _ _ _ a _ b (λ j. has_passed dir ((at i).same j).pos ((at k).same j).pos)
       (subst (λ (l : Link). AlikeAxis (held_to a h i k (edge_at a i).link) (held_to b h i k l)) (ap (λ (e : Edge). e.link) (at i).same)
       (held h i k (edge_at a i).link)) alike

@@ -1,4 +1,5 @@
 -- Request #105: positions, and bounds, are as without marks.
+use Rattle.std.specs.Prelude.{None}
 use mathlib.Core.Path.{◌≡◌}
 use mathlib.Core.Bool.{Bool, not}
 use mathlib.Core.List.{List, [], ◌∷◌}
@@ -8,7 +9,6 @@ use lib.IntN.{ℤ}
 use Rattle.refusals.specs.Refusal.{◌unless◌, too_long, bad_parameter, bad_index, out_of_range, retired, refusal, answered}
 use Rattle.fixed.specs.declared.width.WidthRule.{WidthRule}
 use Rattle.fixed.specs.Width.{rule_holds}
-use Rattle.axis.specs.declared.kinds.Link.TheVariants as Links
 use Rattle.axis.specs.declared.edge.Axis.{Axis}
 use Rattle.axis.specs.Limits.{most_edges}
 use Rattle.axis.specs.Mark.{Blind}
@@ -16,7 +16,7 @@ use Rattle.axis.proofs.Alike.{AlikeAxis, at-alike, put-alike, alike_len, indices
 use Rattle.place.specs.declared.adjust.LinkDir.{LinkDir}
 use Rattle.place.specs.Placing.{both_below, lower_bound}
 use Rattle.place.proofs.Alike.{linked-alike, serif-alike, upper-same, adjusted-alike}
-use Rattle.place.specs.declared.bounds.Bounds.{Bounds}
+use Rattle.place.specs.Answer.{Bounds}
 use Rattle.place.specs.Fitting.{
   linked_tests,
   serif_tests,
@@ -90,7 +90,7 @@ module _ (a b : Axis) (alike : AlikeAxis a b) where
       ∷ bad_index unless ltb edge (alike_len a b alike i)
       ∷ out_of_range unless numbers-alike a b alike i
       ∷ []))
-      (bounds Links.None Links.None)
+      (bounds None None)
       (bounds (lower_bound edge) (upper-same a b alike edge i) 0)
 
 pub align-linked-edge : (rule : WidthRule) (xs : List ℤ) (base stem : ℕ) → Blind (λ (axis : Axis). align_linked_edge axis rule xs base stem) unmarked_fitted

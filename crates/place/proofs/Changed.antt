@@ -1,12 +1,12 @@
 -- The adjustment changes nothing but the position of its edge, which is bound then.
+use Rattle.std.specs.Prelude.{None, Some}
 use mathlib.Core.Path.{refl}
 use mathlib.Core.List.{List, [], ◌∷◌}
 use Prim.Native.Nat.{ℕ, zero, suc}
 use borrow.Author.Tests.{eq-eqb}
 use lib.Dec.{eqb}
 use Rattle.signed.proofs.Choices.{either_way}
-use Rattle.axis.specs.declared.kinds.Link.{Link}
-use Rattle.axis.specs.declared.kinds.Link.TheVariants as Links
+use Rattle.axis.specs.Link.{Link}
 use Rattle.axis.specs.declared.kinds.Mark.{Mark}
 use Rattle.axis.specs.declared.kinds.Mark.TheVariants.{Bound}
 use Rattle.axis.specs.declared.edge.Edge.{Edge}
@@ -32,15 +32,15 @@ module _ (axis : Axis) (i : ℕ) where
 
   held : (h k : ℕ) (l : Link) → Kept (held_to axis h i k l)
   unfolding held_to among
-  held h k Links.None = as_it_was
-  held h k (Links.To l) =
+  held h k None = as_it_was
+  held h k (Some l) =
       either_way Kept (is_far (edge_at axis l).pos (edge_at axis h).pos) _ axis
       (position-put (Bound ∷ []) axis i _ (placed-only (Bound ∷ []) (edge_at axis i) (edge_at axis k).pos Bound refl)) as_it_was
 
   bound : (h : ℕ) (dir : LinkDir) (l : Link) → Kept (bound_by axis h i dir l)
   unfolding bound_by
-  bound h dir Links.None = as_it_was
-  bound h dir (Links.To k) = either_way Kept (has_passed dir (edge_at axis i).pos (edge_at axis k).pos) _ axis (held h k (edge_at axis i).link) as_it_was
+  bound h dir None = as_it_was
+  bound h dir (Some k) = either_way Kept (has_passed dir (edge_at axis i).pos (edge_at axis k).pos) _ axis (held h k (edge_at axis i).link) as_it_was
 
 pub adjusted-only : (axis : Axis) (i : ℕ) (dir : LinkDir) → OnlyAxis (wherever (eqb i) (position (Bound ∷ []))) axis (adjusted axis i dir)
 unfolding adjusted

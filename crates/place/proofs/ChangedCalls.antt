@@ -1,4 +1,5 @@
 -- What the calls change: of the edge that they place nothing but its position and its mark, linked, serif or bound, and nothing else; a refusal nothing.
+use Rattle.std.specs.Prelude.{None}
 use mathlib.Core.Path.{◌≡◌, refl, sym, subst}
 use mathlib.Core.Bool.{Bool}
 use mathlib.Core.List.{List, [], ◌∷◌}
@@ -8,7 +9,6 @@ use lib.Dec.{eqb}
 use lib.IntN.{ℤ}
 use Rattle.refusals.specs.Refusal.{refusal, answered}
 use Rattle.fixed.specs.declared.width.WidthRule.{WidthRule}
-use Rattle.axis.specs.declared.kinds.Link.TheVariants as Links
 use Rattle.axis.specs.declared.kinds.Mark.{Mark}
 use Rattle.axis.specs.declared.kinds.Mark.TheVariants as Marks
 use Rattle.axis.specs.declared.edge.Axis.{Axis}
@@ -19,8 +19,8 @@ use Rattle.axis.proofs.Only.{placed-only, same-axis, call-changes}
 use Rattle.place.specs.declared.adjust.LinkDir.{LinkDir}
 use Rattle.place.specs.Placing.{linked_pos, serif_pos, lower_bound, upper_bound}
 use Rattle.place.proofs.Changed.{position-put, adjusted-only}
-use Rattle.place.specs.declared.place.Fitted.{Fitted}
-use Rattle.place.specs.declared.bounds.Bounds.{Bounds}
+use Rattle.place.specs.Answer.{Fitted}
+use Rattle.place.specs.Answer.{Bounds}
 use Rattle.place.specs.Fitting.{
   linked_tests,
   serif_tests,
@@ -70,13 +70,13 @@ adjust-link axis edge dir ttb p = call axis _ (refusal (adjust_tests axis edge t
 
 -- `latin_remaining_bounds` hands back no axis; a refusal hands back no bounds either
 pub latin-remaining-bounds : (axis : Axis) (edge : ℕ) {r : Bounds} → FindsLatinRemainingBounds axis edge r → 0 < r.answer
-    → r ≡ bounds Links.None Links.None r.answer
+    → r ≡ bounds None None r.answer
 unfolding latin_remaining_bounds
 latin-remaining-bounds axis edge p =
-    subst (λ (r : Bounds). 0 < r.answer → r ≡ bounds Links.None Links.None r.answer) (sym p)
+    subst (λ (r : Bounds). 0 < r.answer → r ≡ bounds None None r.answer) (sym p)
     (by (refusal (edge_tests axis edge)) (bounds (lower_bound edge) (upper_bound axis edge) 0) refl)
   where
-    by : (k : ℕ) (done : Bounds) → done.answer ≡ 0 → 0 < (answered k (bounds Links.None Links.None) done).answer
-        → answered k (bounds Links.None Links.None) done ≡ bounds Links.None Links.None (answered k (bounds Links.None Links.None) done).answer
+    by : (k : ℕ) (done : Bounds) → done.answer ≡ 0 → 0 < (answered k (bounds None None) done).answer
+        → answered k (bounds None None) done ≡ bounds None None (answered k (bounds None None) done).answer
     by zero done e h = absurd (omega (arith, e))
     by (suc k) done e h = refl

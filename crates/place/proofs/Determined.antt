@@ -7,8 +7,8 @@ use lib.IntN.{ℤ}
 use Rattle.fixed.specs.declared.width.WidthRule.{WidthRule}
 use Rattle.axis.specs.declared.edge.Axis.{Axis}
 use Rattle.place.specs.declared.adjust.LinkDir.{LinkDir}
-use Rattle.place.specs.declared.place.Fitted.{Fitted}
-use Rattle.place.specs.declared.bounds.Bounds.{Bounds}
+use Rattle.place.specs.Answer.{Fitted}
+use Rattle.place.specs.Answer.{Bounds}
 use Rattle.place.specs.Fitting.{AlignsLinkedEdge, AlignsSerifEdge, FindsLatinRemainingBounds, AdjustsLink}
 
 pub align-linked-edge : (axis : Axis) (rule : WidthRule) (xs : List ℤ) (base stem : ℕ) {r s : Fitted}

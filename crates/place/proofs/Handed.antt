@@ -1,4 +1,5 @@
 -- Edges that are accepted, with parameters that are right, are answered by 0 by each of the calls.
+use Rattle.std.specs.Prelude.{None}
 use mathlib.Core.Path.{◌≡◌, refl, ap}
 use mathlib.Core.Bool.{true, false}
 use mathlib.Core.List.{List}
@@ -9,13 +10,12 @@ use Rattle.refusals.proofs.Answers.{worked}
 use Rattle.refusals.proofs.Tests.{no-refusal}
 use Rattle.fixed.specs.declared.width.WidthRule.{WidthRule}
 use Rattle.fixed.specs.Width.{rule_holds}
-use Rattle.axis.specs.declared.kinds.Link.TheVariants as Links
 use Rattle.axis.specs.declared.edge.Axis.{Axis}
 use Rattle.axis.specs.Handed.{EdgesAccepted}
 use Rattle.place.specs.declared.adjust.LinkDir.{LinkDir}
 use Rattle.place.specs.Placing.{both_below}
-use Rattle.place.specs.declared.place.Fitted.{Fitted}
-use Rattle.place.specs.declared.bounds.Bounds.{Bounds}
+use Rattle.place.specs.Answer.{Fitted}
+use Rattle.place.specs.Answer.{Bounds}
 use Rattle.place.specs.Fitting.{
   linked_tests,
   serif_tests,
@@ -45,7 +45,7 @@ module _ (axis : Axis) (a : EdgesAccepted axis) where
   pub bounds-accepts : (i : ℕ) → ltb i axis.len ≡ true → (latin_remaining_bounds axis i).answer ≡ 0
   unfolding latin_remaining_bounds
   bounds-accepts i b =
-      ap (λ (f : Bounds). f.answer) (worked (bounds Links.None Links.None) _ _
+      ap (λ (f : Bounds). f.answer) (worked (bounds None None) _ _
       (no-refusal (edge_tests axis i) (a.short, (a.indexed, (b, (a.in_range, refl))))))
 
   pub adjust-accepts : (i : ℕ) (dir : LinkDir) → ltb i axis.len ≡ true → (adjust_link axis i dir false).answer ≡ 0

@@ -1,11 +1,11 @@
 -- The edges that bound an edge, and what it takes to adjust it.
+use Rattle.std.specs.Prelude.{None, Some}
 use mathlib.Core.Path.{◌≡◌, refl, ap}
 use mathlib.Core.Bool.{Bool, true, false, ◌&&◌, cond}
 use Prim.Native.Nat.{ℕ, zero, suc, ◌+◌, ◌-◌, ◌<◌}
 use native.Mathlib.Omega.{arith}
 use borrow.Author.Tests.{lt-ltb}
 use lib.Dec.{ltb}
-use Rattle.axis.specs.declared.kinds.Link.TheVariants as Links
 use Rattle.axis.specs.declared.edge.Axis.{Axis}
 use Rattle.axis.specs.Edge.{edge_at}
 use Rattle.axis.specs.Refusals.{link_holds}
@@ -16,15 +16,15 @@ use Rattle.place.specs.declared.adjust.LinkDir.TheVariants.{Prev, Next}
 use Rattle.place.specs.Placing.{lower_bound, upper_bound, neighbour, bound_by, adjusted}
 
 -- ---- the edge before
-pub lower-none : (i : ℕ) → i ≡ 0 → Links.None ≡ lower_bound i
+pub lower-none : (i : ℕ) → i ≡ 0 → None ≡ lower_bound i
 unfolding lower_bound
 lower-none zero e = refl
 lower-none (suc i) e = absurd (omega (arith, e))
 
-pub lower-some : (i : ℕ) → (i ≡ 0 → ⊥) → Links.To (i - 1) ≡ lower_bound i
+pub lower-some : (i : ℕ) → (i ≡ 0 → ⊥) → Some (i - 1) ≡ lower_bound i
 unfolding lower_bound
 lower-some zero n = absurd (n refl)
-lower-some (suc i) n = ap Links.To (omega arith)
+lower-some (suc i) n = ap Some (omega arith)
 
 -- ---- the neighbour is an edge
 lower-tested : (i n : ℕ) → i < n → link_holds n (lower_bound i) ≡ true
@@ -36,7 +36,7 @@ upper-tested : (axis : Axis) (i : ℕ) → link_holds axis.len (upper_bound axis
 unfolding upper_bound link_holds
 upper-tested axis i = by (ltb (i + 1) axis.len) (edge_at axis (i + 1)).flags.done refl
   where
-    by : (t d : Bool) → ltb (i + 1) axis.len ≡ t → link_holds axis.len (cond (t && d) (Links.To (i + 1)) Links.None) ≡ true
+    by : (t d : Bool) → ltb (i + 1) axis.len ≡ t → link_holds axis.len (cond (t && d) (Some (i + 1)) None) ≡ true
     by true true e = e
     by true false e = refl
     by false d e = refl

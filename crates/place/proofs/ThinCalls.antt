@@ -15,7 +15,7 @@ use Rattle.axis.specs.Edge.{edge_at, put_edge}
 use Rattle.place.specs.Placing.{linked_edge}
 use Rattle.place.specs.Thin.{PixelApart, Differ, HasWidth}
 use Rattle.place.proofs.Thin.{linked-apart, two_edges, put_one}
-use Rattle.place.specs.declared.place.Fitted.{Fitted}
+use Rattle.place.specs.Answer.{Fitted}
 use Rattle.place.specs.Fitting.{linked_tests, fitted, align_linked_edge, AlignsLinkedEdge}
 
 module _ (axis : Axis) (xs : List ℤ) (base stem : ℕ) where

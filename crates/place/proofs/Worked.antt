@@ -1,4 +1,5 @@
 -- Calls that place one edge, worked out by hand from document 01 and the table of request #105: where it comes to, and what it is marked with.
+use Rattle.std.specs.Prelude.{None, Some}
 use mathlib.Core.Path.{◌≡◌, refl}
 use mathlib.Core.Bool.{true, false}
 use mathlib.Core.List.{List, [], ◌∷◌}
@@ -8,8 +9,7 @@ use lib.IntN.{pos}
 use Rattle.refusals.specs.Refusal.{refusal}
 use Rattle.fixed.specs.declared.width.WidthRule.TheVariants.{Keep}
 use Rattle.fixed.specs.Width.{fitted_width, rule_holds}
-use Rattle.axis.specs.declared.kinds.Link.{Link}
-use Rattle.axis.specs.declared.kinds.Link.TheVariants.{None, To}
+use Rattle.axis.specs.Link.{Link}
 use Rattle.axis.specs.declared.kinds.Direction.TheVariants as Directions
 use Rattle.axis.specs.declared.kinds.Dimension.TheVariants.{Vertical}
 use Rattle.axis.specs.declared.kinds.Mark.{Mark}
@@ -46,18 +46,18 @@ pub record Worked : Type 0 where
   pub serif : align_serif_edge (pair (edge Nothing 30 30 None)) 0 1 ≡ fitted (pair (edge Serif 30 20 None)) 0
   pub serif_again : align_serif_edge (pair (edge Bound 30 20 None)) 0 1 ≡ fitted (pair (edge Serif 30 20 None)) 0
   -- at 90 it has passed the previous edge, at 210 the next, which is done at 200: it is held to that one, and bound
-  pub bound : adjust_link (three (edge Nothing 60 90 (To 2)) (edge Stem 160 200 (To 1))) 1 Prev false
-      ≡ fitted (three (edge Bound 60 100 (To 2)) (edge Stem 160 200 (To 1))) 0
-  pub bound_next : adjust_link (three (edge Serif 60 210 (To 2)) (finished (edge Stem 160 200 (To 1)))) 1 Next false
-      ≡ fitted (three (edge Bound 60 200 (To 2)) (finished (edge Stem 160 200 (To 1)))) 0
+  pub bound : adjust_link (three (edge Nothing 60 90 (Some 2)) (edge Stem 160 200 (Some 1))) 1 Prev false
+      ≡ fitted (three (edge Bound 60 100 (Some 2)) (edge Stem 160 200 (Some 1))) 0
+  pub bound_next : adjust_link (three (edge Serif 60 210 (Some 2)) (finished (edge Stem 160 200 (Some 1)))) 1 Next false
+      ≡ fitted (three (edge Bound 60 200 (Some 2)) (finished (edge Stem 160 200 (Some 1)))) 0
   -- it keeps its mark where it has passed none, and where its link is within 16 of the previous edge
-  pub not_passed : adjust_link (three (edge Serif 60 110 (To 2)) (edge Stem 160 200 (To 1))) 1 Prev false
-      ≡ fitted (three (edge Serif 60 110 (To 2)) (edge Stem 160 200 (To 1))) 0
-  pub link_near : adjust_link (three (edge Serif 60 90 (To 2)) (edge Stem 160 116 (To 1))) 1 Prev false
-      ≡ fitted (three (edge Serif 60 90 (To 2)) (edge Stem 160 116 (To 1))) 0
+  pub not_passed : adjust_link (three (edge Serif 60 110 (Some 2)) (edge Stem 160 200 (Some 1))) 1 Prev false
+      ≡ fitted (three (edge Serif 60 110 (Some 2)) (edge Stem 160 200 (Some 1))) 0
+  pub link_near : adjust_link (three (edge Serif 60 90 (Some 2)) (edge Stem 160 116 (Some 1))) 1 Prev false
+      ≡ fitted (three (edge Serif 60 90 (Some 2)) (edge Stem 160 116 (Some 1))) 0
   -- and by a refusal, here of the retired order
-  pub refused : adjust_link (three (edge Serif 60 90 (To 2)) (edge Stem 160 200 (To 1))) 1 Prev true
-      ≡ fitted (three (edge Serif 60 90 (To 2)) (edge Stem 160 200 (To 1))) 10
+  pub refused : adjust_link (three (edge Serif 60 90 (Some 2)) (edge Stem 160 200 (Some 1))) 1 Prev true
+      ≡ fitted (three (edge Serif 60 90 (Some 2)) (edge Stem 160 200 (Some 1))) 10
 
 pub worked : Worked
 unfolding align_linked_edge align_serif_edge adjust_link linked_pos serif_pos fitted_width rule_holds lower_bound upper_bound has_passed neighbour held_to bound_by adjusted

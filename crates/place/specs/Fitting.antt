@@ -1,18 +1,18 @@
 -- The calls that place one edge (document 01, module 5): by its link, by its serif, by its neighbours. Each is its refusal, then one step of `place`.
+use Rattle.std.specs.Prelude.{None}
 use Rattle.std.specs.Prelude.{◌≡◌, Bool, List, [], ◌∷◌, ℕ, ltb, ℤ}
 use Rattle.refusals.specs.Refusal.{Test, ◌unless◌, bad_parameter, bad_index, refusal, answered}
 use Rattle.fixed.specs.declared.width.WidthRule.{WidthRule}
 use Rattle.fixed.specs.Width.{rule_holds}
-use Rattle.axis.specs.declared.kinds.Link.{Link}
-use Rattle.axis.specs.declared.kinds.Link.TheVariants as Links
+use Rattle.axis.specs.Link.{Link}
 use Rattle.axis.specs.declared.edge.Axis.{Axis}
 use Rattle.axis.specs.Edge.{edge_at, put_edge}
 use Rattle.axis.specs.Mark.{unmarked_axis}
 use Rattle.axis.specs.Refusals.{edges_short, bottom_to_top, edges_indexed, edges_in_range}
 use Rattle.place.specs.declared.adjust.LinkDir.{LinkDir}
 use Rattle.place.specs.Placing.{both_below, linked_edge, serif_edge, lower_bound, upper_bound, adjusted}
-use Rattle.place.specs.declared.place.Fitted.{Fitted}
-use Rattle.place.specs.declared.bounds.Bounds.{Bounds}
+use Rattle.place.specs.Answer.{Fitted}
+use Rattle.place.specs.Answer.{Bounds}
 
 -- ---- the tests of the calls, in document 01's order
 -- of `align_linked_edge`
@@ -66,7 +66,7 @@ bounds lower upper k = record { answer = k; lower = lower; upper = upper }
 -- `latin_remaining_bounds`: the refusal and no bounds, or 0 and the two bounds
 unfoldable pub latin_remaining_bounds : Axis → ℕ → Bounds
 latin_remaining_bounds axis i =
-    answered (refusal (edge_tests axis i)) (bounds Links.None Links.None) (bounds (lower_bound i) (upper_bound axis i) 0)
+    answered (refusal (edge_tests axis i)) (bounds None None) (bounds (lower_bound i) (upper_bound axis i) 0)
 
 abbrev pub FindsLatinRemainingBounds : Axis → ℕ → Bounds → Type 0
 FindsLatinRemainingBounds axis i r = r ≡ latin_remaining_bounds axis i

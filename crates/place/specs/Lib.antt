@@ -3,3 +3,5 @@ pub mod Placing
 pub mod Steps
 pub mod Thin
 pub mod Fitting
+-- what a call hands back, with its answer
+pub mod Answer

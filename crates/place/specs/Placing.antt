@@ -1,10 +1,10 @@
 -- How one edge is placed (document 01, module 5): by its link, by its serif, by its neighbours.
+use Rattle.std.specs.Prelude.{None, Some}
 use Rattle.std.specs.Prelude.{Bool, cond, ◌&&◌, List, ℕ, zero, suc, ◌+◌, ltb, ℤ, nat_abs, ◌+ℤ◌, ◌-ℤ◌}
 use Rattle.std.specs.Int.Signed.{lt_z}
 use Rattle.fixed.specs.declared.width.WidthRule.{WidthRule}
 use Rattle.fixed.specs.Width.{fitted_width}
-use Rattle.axis.specs.declared.kinds.Link.{Link}
-use Rattle.axis.specs.declared.kinds.Link.TheVariants as Links
+use Rattle.axis.specs.Link.{Link}
 use Rattle.axis.specs.declared.kinds.Mark.TheVariants.{Linked, Bound, Serif}
 use Rattle.axis.specs.declared.edge.Edge.{Edge}
 use Rattle.axis.specs.declared.edge.Axis.{Axis}
@@ -37,12 +37,12 @@ serif_edge base serif = placed serif (serif_pos base.pos base.opos serif.opos) S
 -- ---- the bounds
 -- the edge before, where there is one
 unfoldable pub lower_bound : ℕ → Link
-lower_bound zero = Links.None
-lower_bound (suc i) = Links.To i
+lower_bound zero = None
+lower_bound (suc i) = Some i
 
 -- the edge behind, where there is one and it is done
 unfoldable pub upper_bound : Axis → ℕ → Link
-upper_bound axis i = cond (ltb (i + 1) axis.len && (edge_at axis (i + 1)).flags.done) (Links.To (i + 1)) Links.None
+upper_bound axis i = cond (ltb (i + 1) axis.len && (edge_at axis (i + 1)).flags.done) (Some (i + 1)) None
 
 -- ---- the adjustment
 -- an edge at p has passed its neighbour at q: it is below the previous or above the next one
@@ -61,13 +61,13 @@ neighbour Next axis i = upper_bound axis i
 
 -- the edge takes the position of its neighbour k, where its link is far from the previous edge h, in both directions
 unfoldable pub held_to : Axis → ℕ → ℕ → ℕ → Link → Axis
-held_to axis h i k Links.None = axis
-held_to axis h i k (Links.To l) = cond (is_far (edge_at axis l).pos (edge_at axis h).pos) (put_edge axis i (placed (edge_at axis i) (edge_at axis k).pos Bound)) axis
+held_to axis h i k None = axis
+held_to axis h i k (Some l) = cond (is_far (edge_at axis l).pos (edge_at axis h).pos) (put_edge axis i (placed (edge_at axis i) (edge_at axis k).pos Bound)) axis
 
 -- where it has passed the neighbour
 unfoldable pub bound_by : Axis → ℕ → ℕ → LinkDir → Link → Axis
-bound_by axis h i dir Links.None = axis
-bound_by axis h i dir (Links.To k) = cond (has_passed dir (edge_at axis i).pos (edge_at axis k).pos) (held_to axis h i k (edge_at axis i).link) axis
+bound_by axis h i dir None = axis
+bound_by axis h i dir (Some k) = cond (has_passed dir (edge_at axis i).pos (edge_at axis k).pos) (held_to axis h i k (edge_at axis i).link) axis
 
 -- the first edge has no previous one, and stays
 unfoldable pub adjusted : Axis → ℕ → LinkDir → Axis

@@ -8,7 +8,7 @@ ghost use Rattle.place.specs.Steps.{most_reach};
 
 use super::bounds::{lower_bound, upper_bound};
 use axis::edge::{Axis, with_pos};
-use axis::kinds::{Link, Mark};
+use axis::kinds::Mark;
 use fixed::point::magnitude;
 
 // Which neighbour an edge is held to.
@@ -38,7 +38,7 @@ pub fn is_far(pos1: i32, pos2: i32) -> bool
 }
 
 // The neighbour that an edge is held to, where there is one; a next one that is not done is none.
-fn neighbour_of(axis: Axis, edge: usize, dir: LinkDir) -> Link
+fn neighbour_of(axis: Axis, edge: usize, dir: LinkDir) -> Option<u16>
     requires { (edge < axis.len) × (axis.len ≤ most_edges) }
     ensures { result ≡ neighbour dir axis edge }
 {
@@ -57,7 +57,7 @@ pub fn adjust(axis: Axis, edge: usize, dir: LinkDir) -> Axis
         return axis;
     }
     let neighbour = neighbour_of(axis, edge, dir);
-    let Link::To(k) = neighbour else {
+    let Some(k) = neighbour else {
         return axis;
     };
     let edge1 = axis.edges[edge];
@@ -66,7 +66,7 @@ pub fn adjust(axis: Axis, edge: usize, dir: LinkDir) -> Axis
         return axis;
     }
     let link = edge1.link;
-    let Link::To(l) = link else {
+    let Some(l) = link else {
         return axis;
     };
     let linked = axis.edges[l as usize];

@@ -6,7 +6,7 @@ ghost use Rattle.fixed.specs.Width.{rule_holds};
 ghost use Rattle.place.specs.Placing.{linked_pos, linked_edge, serif_pos, serif_edge};
 ghost use Rattle.place.specs.Steps.{most_reach, InReach};
 
-use axis::edge::{Axis, Edge, with_pos};
+use axis::edge::{Edge, with_pos};
 use axis::kinds::Mark;
 use fixed::width::{WidthRule, stem_width};
 
@@ -51,11 +51,4 @@ pub fn serif_edge(base: Edge, serif: Edge) -> Edge
 {
     let pos = serif_pos(base.pos, base.opos, serif.opos);
     with_pos(serif, pos, Mark::Serif)
-}
-
-// An answer, 0 or the refusal, and the axis.
-#[derive(Clone, Copy)]
-pub struct Fitted {
-    pub answer: u8,
-    pub axis: Axis,
 }

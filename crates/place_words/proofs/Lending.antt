@@ -1,4 +1,5 @@
 -- The calls that place one edge, over lent edges, by what the test of their edges tells.
+use Rattle.std.specs.Prelude.{None, Result}
 use mathlib.Core.Path.{◌≡◌, refl, sym, ap, ◌∙◌}
 use mathlib.Core.Bool.{Bool, true, not}
 use mathlib.Core.List.{List}
@@ -7,13 +8,15 @@ use native.Mathlib.Omega.{arith}
 use borrow.Author.Tests.{ltb-true}
 use lib.Dec.{ltb, leb}
 use lib.IntN.{ℤ}
-use Rattle.refusals.proofs.Tests.{or-held}
+use Rattle.refusals.proofs.Tests.{or-held, none-tested, or-decided}
+use Rattle.refusals.specs.declared.order.Refusal.{Refusal}
+use Rattle.refusals.specs.Outcome.{number_of, answer_of, Required}
+use Rattle.refusals.proofs.Outcomes.{then-last}
 use Rattle.refusals.specs.Refusal.{bad_parameter, retired, refusal, or_refused}
 use Rattle.fixed.specs.declared.width.WidthRule.{WidthRule}
 use Rattle.fixed.specs.Width.{rule_holds}
 use Rattle.axis.specs.declared.kinds.Dimension.TheVariants as Dimensions
-use Rattle.axis.specs.declared.kinds.Link.{Link}
-use Rattle.axis.specs.declared.kinds.Link.TheVariants as Links
+use Rattle.axis.specs.Link.{Link}
 use Rattle.axis.specs.declared.edge.Axis.{Axis}
 use Rattle.axis.specs.Edge.{edge_at}
 use Rattle.axis.specs.Limits.{most_edges, most_pos}
@@ -22,8 +25,8 @@ use Rattle.place.specs.declared.adjust.LinkDir.{LinkDir}
 use Rattle.place.specs.Placing.{both_below, lower_bound, upper_bound, adjusted}
 use Rattle.place.specs.Steps.{InReach}
 use Rattle.place.proofs.Reach.{below-first, below-second}
-use Rattle.place.specs.declared.bounds.Bounds.{Bounds}
-use Rattle.place.specs.declared.place.Fitted.{Fitted}
+use Rattle.place.specs.Answer.{Bounds}
+use Rattle.place.specs.Answer.{Fitted}
 use Rattle.place.specs.Fitting.{
   linked_tests,
   serif_tests,
@@ -73,6 +76,11 @@ pair-named ws p q n = sym (n ∙ (λ x. both_below (sym (edges-len ws) x) (p x) 
 
 one-named : (ws : List ℤ) {i k : ℕ} {named : Bool} → i ≡ k → named ≡ ltb i (edges_in ws) → ltb k (edges_of ws).len ≡ named
 one-named ws p n = sym (n ∙ (λ x. ltb (p x) (sym (edges-len ws) x)))
+
+-- the answer of a call's own test, as its definition has it
+pub own-answer : {g h : Bool} {r : Refusal} {o : Result (Unit {0}) Refusal} → Required g r o → g ≡ h → answer_of o ≡ or_refused 0 h (number_of r)
+unfolding refusal
+own-answer {g} {h} {r} q e = then-last none-tested q e ∙ or-decided 0 (number_of r) h (omega arith)
 
 -- ---- the linked edge
 module _ (ws : List ℤ) (rule : ℤ) (xs : List ℤ) (base stem : ℤ) {width : WidthRule} {i j own r : ℕ} {named others : Bool} (w : width ≡ rule_of rule)
@@ -201,12 +209,12 @@ module _ (ws : List ℤ) (edge : ℤ) (old : ℤ × ℤ) {i r : ℕ} {named : Bo
   unfolding latin_remaining_bounds
   bounds-refused h =
       call-refused ws true 0 _ true bounds-is (λ (x : Bounds). x.answer) (λ (x : Bounds). bounds_words x) (edge_tests (edges_of ws) (named_edge edge))
-      (bounds Links.None Links.None) (bounds (lower_bound (named_edge edge)) (upper_bound (edges_of ws) (named_edge edge)) 0) (λ k. refl) refl bounds-same h
+      (bounds None None) (bounds (lower_bound (named_edge edge)) (upper_bound (edges_of ws) (named_edge edge)) 0) (λ k. refl) refl bounds-same h
 
   pub bounds-done : r ≤ 0 → {lower upper : Link} → lower ≡ lower_bound i → upper ≡ upper_bound (edges_of ws) i → (a b : ℤ) → a ≡ link_word lower
       → b ≡ link_word upper → BoundsLent ws edge old 0 (a, b)
   unfolding latin_remaining_bounds
   bounds-done h {lower} {upper} l u a b x y =
       call-done ws true 0 _ true bounds-is (λ (z : Bounds). z.answer) (λ (z : Bounds). bounds_words z) (edge_tests (edges_of ws) (named_edge edge))
-      (bounds Links.None Links.None) (bounds (lower_bound (named_edge edge)) (upper_bound (edges_of ws) (named_edge edge)) 0) (λ k. refl) refl bounds-same h
+      (bounds None None) (bounds (lower_bound (named_edge edge)) (upper_bound (edges_of ws) (named_edge edge)) 0) (λ k. refl) refl bounds-same h
       (λ k. ((x ∙ ap (λ (z : Link). link_word z) (l ∙ ap lower_bound p)) k, (y ∙ ap (λ (z : Link). link_word z) (u ∙ ap (upper_bound (edges_of ws)) p)) k))

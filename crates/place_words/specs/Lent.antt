@@ -1,7 +1,7 @@
 -- The calls that place one edge over lent edges: by its link, by its serif, by its neighbours.
 use Rattle.std.specs.Prelude.{true, cond, List, ℕ, ℤ}
-use Rattle.place.specs.declared.bounds.Bounds.{Bounds}
-use Rattle.place.specs.declared.place.Fitted.{Fitted}
+use Rattle.place.specs.Answer.{Bounds}
+use Rattle.place.specs.Answer.{Fitted}
 use Rattle.place.specs.Fitting.{align_linked_edge, align_serif_edge, adjust_link, latin_remaining_bounds}
 use Rattle.place.specs.declared.adjust.LinkDir.{LinkDir}
 use Rattle.place.specs.declared.adjust.LinkDir.TheVariants.{Prev, Next}

@@ -1,9 +1,9 @@
 -- The steps of placing, as what they make of an axis.
+use Rattle.std.specs.Prelude.{None, Some}
 use Rattle.std.specs.Prelude.{◌≡◌, List, ℕ, ℤ}
 use Rattle.fixed.specs.declared.width.WidthRule.{WidthRule}
 use Rattle.axis.specs.declared.kinds.Dimension.{Dimension}
-use Rattle.axis.specs.declared.kinds.Link.{Link}
-use Rattle.axis.specs.declared.kinds.Link.TheVariants as Links
+use Rattle.axis.specs.Link.{Link}
 use Rattle.axis.specs.declared.kinds.Mark.TheVariants.{Bound}
 use Rattle.axis.specs.declared.edge.Axis.{Axis}
 use Rattle.axis.specs.Edge.{edge_at, put_edge, placed}
@@ -28,8 +28,8 @@ adjusting i dir axis = adjusted axis i dir
 
 -- the edge at the position of another one, where there is one
 abbrev pub held_at : Axis → ℕ → Link → Axis
-held_at axis i Links.None = axis
-held_at axis i (Links.To k) = put_edge axis i (placed (edge_at axis i) (edge_at axis k).pos Bound)
+held_at axis i None = axis
+held_at axis i (Some k) = put_edge axis i (placed (edge_at axis i) (edge_at axis k).pos Bound)
 
 -- that is the adjustment, on every dimension
 pub record BoundBy (ws : List ℤ) (i : ℕ) (dir : LinkDir) (bound : Link) : Type 0 where

@@ -8,37 +8,37 @@ ghost use Rattle.words_edge.specs.Whole.{Whole, Became};
 ghost use Rattle.place_words.specs.Placing.{adjusting, BoundBy};
 
 use super::bounds::neighbour_in;
-use axis::kinds::{Link, Mark};
+use axis::kinds::Mark;
 use place::adjust::{LinkDir, has_passed, is_far};
 use words_edge::edge::{put_pos, read_edge};
 
 // The neighbour whose position the edge takes: where it has passed it and its link is far from the previous edge.
-fn bound_of(words: &[i32], edge: usize, dir: LinkDir) -> Link
+fn bound_of(words: &[i32], edge: usize, dir: LinkDir) -> Option<u16>
     requires { Whole words.now × AxisWithin most_pos (edges_of words.now) × (edge < edges_in words.now) }
     ensures { BoundBy words.now edge dir result }
 {
     if edge == 0 {
-        return Link::None;
+        return None;
     }
     let neighbour = neighbour_in(words, edge, dir);
-    let Link::To(k) = neighbour else {
-        return Link::None;
+    let Some(k) = neighbour else {
+        return None;
     };
     let edge1 = read_edge(words, edge);
     let edge2 = read_edge(words, k as usize);
     if !has_passed(dir, edge1.pos, edge2.pos) {
-        return Link::None;
+        return None;
     }
     let link = edge1.link;
-    let Link::To(l) = link else {
-        return Link::None;
+    let Some(l) = link else {
+        return None;
     };
     let linked = read_edge(words, l as usize);
     let prev_edge = read_edge(words, edge - 1);
     if is_far(linked.pos, prev_edge.pos) {
-        return Link::To(k);
+        return Some(k);
     }
-    Link::None
+    None
 }
 
 // Puts the edge to its neighbour's position, where it takes it.
@@ -47,7 +47,7 @@ pub fn adjust_in(words: &mut [i32], edge: usize, dir: LinkDir)
     ensures { Became (adjusting edge dir) words.old words.new }
 {
     let bound = bound_of(words, edge, dir);
-    let Link::To(k) = bound else {
+    let Some(k) = bound else {
         return;
     };
     let to = read_edge(words, k as usize);

@@ -31,6 +31,7 @@ fn answer_block<W: Write>(
 {
     let mut at: usize = 0;
     let mut count = begun;
+    // a while: the step depends on how much of the block was answered
     while at < block.len() {
         let done = refit_block(block, at, line, count, out);
         put(to, &out[..done.size])?;

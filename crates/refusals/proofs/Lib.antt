@@ -2,3 +2,5 @@
 -- says.
 pub mod Tests
 pub mod Answers
+-- what outcomes say of tests, and the answer behind a question mark
+pub mod Outcomes

@@ -23,6 +23,10 @@ out_of_range = 4
 abbrev pub no_room : ℕ
 no_room = 5
 
+-- a line of a log is no frame (request #103)
+abbrev pub no_frame : ℕ
+no_frame = 6
+
 -- an edge has no segment, or a ring that is not sound (requests #107 and #113); the tests have it last
 abbrev pub broken_ring : ℕ
 broken_ring = 7

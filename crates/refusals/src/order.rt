@@ -1,39 +1,90 @@
-// The numbers of refusals, and the tests of a call one behind the other.
+// Why a call is refused, and the tests of a call one behind the other.
 ghost use Rattle.std.specs.Prelude.{◌≡◌};
-ghost use Rattle.refusals.specs.Refusal.{or_refused};
+ghost use Rattle.refusals.specs.Outcome.{number_of, answer_of, Required};
 
-// Document 01's numbers of the refusals.
-pub const TOO_LONG: u8 = 1;
+use std::error::Error;
+use std::fmt;
 
-pub const BAD_PARAMETER: u8 = 2;
+// Why a call is refused: document 01's refusals, and those that later requests add.
+#[derive(Clone, Copy, Debug, PartialEq, Eq)]
+pub enum Refusal {
+    // A list is too long, or the point lists of one outline differ in length.
+    TooLong,
+    // A number or a list that is passed beside the tables breaks its rule.
+    BadParameter,
+    // A contour end or an index breaks its rule.
+    BadIndex,
+    // A coordinate, position, score, len or delta is outside the table.
+    OutOfRange,
+    // Building calls for one edge more than there is room for.
+    NoRoom,
+    // An edge has no segment, or a ring that is not sound (requests #107 and #113).
+    BrokenRing,
+    // A line of a log is no frame.
+    NotFrame,
+    // A point between its references needs a quotient that is too steep (request #109).
+    TooSteep,
+    // A list of references does not match touch marks and contours (request #110).
+    Unmatched,
+    // An order of edges is asked for that is retired (request #114).
+    Retired,
+    // A length is not of whole records, or words are not those of their fields.
+    NotWords,
+}
 
-pub const BAD_INDEX: u8 = 3;
+impl From<Refusal> for u8 {
+    ghost from_gives = { λ refusal number. number ≡ number_of refusal };
 
-pub const OUT_OF_RANGE: u8 = 4;
+    fn from(refusal: Refusal) -> u8 {
+        match refusal {
+            Refusal::TooLong => 1,
+            Refusal::BadParameter => 2,
+            Refusal::BadIndex => 3,
+            Refusal::OutOfRange => 4,
+            Refusal::NoRoom => 5,
+            Refusal::NotFrame => 6,
+            Refusal::BrokenRing => 7,
+            Refusal::TooSteep => 8,
+            Refusal::Unmatched => 9,
+            Refusal::Retired => 10,
+            Refusal::NotWords => 255,
+        }
+    }
+}
 
-pub const NO_ROOM: u8 = 5;
+impl fmt::Display for Refusal {
+    fn fmt<W: fmt::Write>(&self, f: &mut fmt::Formatter<W>) -> fmt::Result {
+        f.write_str(match self {
+            Refusal::TooLong => "a list is too long, or lists differ in length",
+            Refusal::BadParameter => "a parameter breaks its rule",
+            Refusal::BadIndex => "an index breaks its rule",
+            Refusal::OutOfRange => "a number is out of range",
+            Refusal::NoRoom => "there is no room for an edge",
+            Refusal::NotFrame => "a line is no frame",
+            Refusal::BrokenRing => "the segments of an edge are no ring",
+            Refusal::TooSteep => "a point is too steep",
+            Refusal::Unmatched => "the references do not match",
+            Refusal::Retired => "the order is retired",
+            Refusal::NotWords => "words are not those of their fields",
+        })
+    }
+}
 
-// That of requests #107 and #113, of an edge without a segment or with a ring that is not sound.
-pub const BROKEN_RING: u8 = 7;
+impl Error for Refusal {}
 
-// Request #109's, of a point that needs a quotient which is too steep.
-pub const TOO_STEEP: u8 = 8;
-
-// Request #110's, of a list of references that does not match.
-pub const UNMATCHED: u8 = 9;
-
-// Request #114's, of an order of edges that is retired.
-pub const RETIRED: u8 = 10;
-
-// The refusal so far, or, where there is none, that of one test more.
-pub fn or_refused(answer: u8, holds: bool, number: u8) -> u8
-    ensures { result ≡ or_refused answer holds number }
+// One test of a call: it holds, or the call is refused.
+pub fn require(holds: bool, refusal: Refusal) -> Result<(), Refusal>
+    ensures { Required holds refusal result }
 {
-    if 0 < answer {
-        return answer;
+    if holds { Ok(()) } else { Err(refusal) }
+}
+
+// The answer as C has it: 0, or the number of the refusal.
+pub fn answer_of(outcome: Result<(), Refusal>) -> u8
+    ensures { result ≡ answer_of outcome }
+{
+    match outcome {
+        Ok(()) => 0,
+        Err(refusal) => u8::from(refusal),
     }
-    if holds {
-        return 0;
-    }
-    number
 }

@@ -1,4 +1,5 @@
 -- Edges that are alike but for their marks are placed alike.
+use Rattle.std.specs.Prelude.{None, Some}
 use mathlib.Core.Path.{◌≡◌, refl, ap, subst, ◌∙◌}
 use mathlib.Core.Bool.{cond, ◌||◌}
 use Prim.Native.Nat.{ℕ, zero, suc, ◌+◌, ◌-◌}
@@ -6,8 +7,7 @@ use lib.Dec.{eqb}
 use lib.IntN.{ℤ}
 use Rattle.axis.specs.declared.kinds.Group.{Group}
 use Rattle.axis.specs.declared.kinds.Group.TheVariants.{Default, Cjk}
-use Rattle.axis.specs.declared.kinds.Link.{Link}
-use Rattle.axis.specs.declared.kinds.Link.TheVariants as Links
+use Rattle.axis.specs.Link.{Link}
 use Rattle.axis.specs.declared.kinds.Mark.{Mark}
 use Rattle.axis.specs.declared.edge.Axis.{Axis}
 use Rattle.axis.specs.Edge.{edge_at}
@@ -52,12 +52,12 @@ module _ (a b : Axis) (done : (i : ℕ) → (edge_at a i).flags.done ≡ (edge_a
   pub before_same : (i : ℕ) → done_before a i ≡ done_before b i
   unfolding done_before
   before_same zero = refl
-  before_same (suc k) = λ j. cond (done k j) (Links.To k) (before_same k j)
+  before_same (suc k) = λ j. cond (done k j) (Some k) (before_same k j)
 
   from-same : (n k : ℕ) → done_from a n k ≡ done_from b n k
   unfolding done_from
   from-same zero k = refl
-  from-same (suc n) k = λ j. cond (done k j) (Links.To k) (from-same n (k + 1) j)
+  from-same (suc n) k = λ j. cond (done k j) (Some k) (from-same n (k + 1) j)
 
   pub behind-same : a.len ≡ b.len → (i : ℕ) → done_behind a i ≡ done_behind b i
   behind-same e i = from-same (a.len - (i + 1)) (i + 1) ∙ ap (λ (n : ℕ). done_from b (n - (i + 1)) (i + 1)) e
@@ -79,36 +79,36 @@ module _ (a b : Axis) (alike : AlikeAxis a b) where
   module _ (past : Progress) (i : ℕ) where
     near_same : (l : Link) → near_of a i l ≡ near_of b i l
     unfolding near_of
-    near_same Links.None = refl
-    near_same (Links.To k) = λ j. cond (is_near ((at i).same j) ((at k).same j)) (Links.To k) Links.None
+    near_same None = refl
+    near_same (Some k) = λ j. cond (is_near ((at i).same j) ((at k).same j)) (Some k) None
 
     bounds-same : (k : ℕ) (l f : Link) → by_bounds a past i k l f ≡ by_bounds b past i k l f
     unfolding by_bounds
-    bounds-same k (Links.To m) (Links.To f) = λ j. latin_between ((at m).same j) ((at f).same j) ((at i).same j) past
-    bounds-same k (Links.To m) Links.None = λ j. spaced_plan ((at k).same j) ((at i).same j) past
-    bounds-same k Links.None f = λ j. spaced_plan ((at k).same j) ((at i).same j) past
+    bounds-same k (Some m) (Some f) = λ j. latin_between ((at m).same j) ((at f).same j) ((at i).same j) past
+    bounds-same k (Some m) None = λ j. spaced_plan ((at k).same j) ((at i).same j) past
+    bounds-same k None f = λ j. spaced_plan ((at k).same j) ((at i).same j) past
 
     anchor-same : (l : Link) → by_anchor a past i l ≡ by_anchor b past i l
     unfolding by_anchor
-    anchor-same Links.None = λ j. anchor_plan ((at i).same j) i past
-    anchor-same (Links.To k) = bounds-same k (done_before a i) (done_behind a i) ∙ λ j. by_bounds b past i k (before i j) (behind i j)
+    anchor-same None = λ j. anchor_plan ((at i).same j) i past
+    anchor-same (Some k) = bounds-same k (done_before a i) (done_behind a i) ∙ λ j. by_bounds b past i k (before i j) (behind i j)
 
     serif-same : (l : Link) → by_serif a past i l ≡ by_serif b past i l
     unfolding by_serif
-    serif-same (Links.To k) = λ j. serif_plan ((at k).same j) ((at i).same j) Ways.Held past
-    serif-same Links.None = anchor-same past.anchor
+    serif-same (Some k) = λ j. serif_plan ((at k).same j) ((at i).same j) Ways.Held past
+    serif-same None = anchor-same past.anchor
 
     serifs-same : (l : Link) → serifs_plan a past i l ≡ serifs_plan b past i l
     unfolding serifs_plan
-    serifs-same Links.None = λ j. stays_plan ((at i).same j) past
-    serifs-same (Links.To k) = λ j. serif_plan ((at k).same j) ((at i).same j) Ways.Fixed (one_less past)
+    serifs-same None = λ j. stays_plan ((at i).same j) past
+    serifs-same (Some k) = λ j. serif_plan ((at k).same j) ((at i).same j) Ways.Fixed (one_less past)
 
     others_same : (l f : Link) → others_plan a past i l f ≡ others_plan b past i l f
     unfolding others_plan
-    others_same (Links.To m) (Links.To f) = λ j. cjk_between ((at m).same j) ((at f).same j) ((at i).same j) past
-    others_same (Links.To m) Links.None = λ j. serif_plan ((at m).same j) ((at i).same j) Ways.Placed past
-    others_same Links.None (Links.To f) = λ j. serif_plan ((at f).same j) ((at i).same j) Ways.Placed past
-    others_same Links.None Links.None = λ j. stays_plan ((at i).same j) past
+    others_same (Some m) (Some f) = λ j. cjk_between ((at m).same j) ((at f).same j) ((at i).same j) past
+    others_same (Some m) None = λ j. serif_plan ((at m).same j) ((at i).same j) Ways.Placed past
+    others_same None (Some f) = λ j. serif_plan ((at f).same j) ((at i).same j) Ways.Placed past
+    others_same None None = λ j. stays_plan ((at i).same j) past
 
     plan-same : (round : Round) → plan_of round a past i ≡ plan_of round b past i
     unfolding plan_of

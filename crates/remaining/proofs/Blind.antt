@@ -1,4 +1,5 @@
 -- The answer, the anchor and the positions are as without marks.
+use Rattle.std.specs.Prelude.{None}
 use mathlib.Core.Path.{◌≡◌, refl}
 use mathlib.Core.Bool.{not}
 use mathlib.Core.List.{[], ◌∷◌}
@@ -6,8 +7,7 @@ use Prim.Native.Nat.{ℕ}
 use lib.Dec.{leb}
 use Rattle.refusals.specs.Refusal.{◌unless◌, too_long, bad_index, out_of_range, steep, refusal}
 use Rattle.axis.specs.declared.kinds.Group.{Group}
-use Rattle.axis.specs.declared.kinds.Link.{Link}
-use Rattle.axis.specs.declared.kinds.Link.TheVariants as Links
+use Rattle.axis.specs.Link.{Link}
 use Rattle.axis.specs.declared.edge.Axis.{Axis}
 use Rattle.axis.specs.Limits.{most_edges}
 use Rattle.axis.specs.Mark.{Blind}
@@ -35,7 +35,7 @@ module _ (group : Group) (count : ℕ) (anchor : Link) where
     same : without_marks (align_remaining_edges a group count anchor) ≡ without_marks (align_remaining_edges b group count anchor)
     unfolding align_remaining_edges
     same =
-        answered-alike without_marks _ _ (remaining Links.None a) (remaining Links.None b) _ _ refused-same (λ (n : ℕ). λ k. remaining Links.None (h.same k) n)
+        answered-alike without_marks _ _ (remaining None a) (remaining None b) _ _ refused-same (λ (n : ℕ). λ k. remaining None (h.same k) n)
         (λ k. remaining (all.past k).anchor (all.axis.same k) 0)
 
   pub marks-unread : Blind (λ (axis : Axis). align_remaining_edges axis group count anchor) without_marks

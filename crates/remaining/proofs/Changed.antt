@@ -1,4 +1,5 @@
 -- What the call changes: position and done of edges below the count, with a mark of remaining edges, and nothing else; a refusal nothing.
+use Rattle.std.specs.Prelude.{None, Some}
 use mathlib.Core.Path.{◌≡◌, refl, sym, subst}
 use mathlib.Core.Bool.{true, ◌||◌}
 use Prim.Native.Nat.{ℕ, zero, suc, ◌<◌}
@@ -10,8 +11,7 @@ use Rattle.signed.proofs.Choices.{either_way}
 use Rattle.refusals.specs.Refusal.{refusal}
 use Rattle.axis.specs.declared.kinds.Group.{Group}
 use Rattle.axis.specs.declared.kinds.Group.TheVariants.{Default, Cjk}
-use Rattle.axis.specs.declared.kinds.Link.{Link}
-use Rattle.axis.specs.declared.kinds.Link.TheVariants as Links
+use Rattle.axis.specs.Link.{Link}
 use Rattle.axis.specs.declared.kinds.Mark.{Mark}
 use Rattle.axis.specs.declared.kinds.Mark.TheVariants as Marks
 use Rattle.axis.specs.declared.edge.Edge.{Edge}
@@ -69,31 +69,31 @@ module _ (axis : Axis) (past : Progress) (i : ℕ) where
 
   bounds-marked : (k : ℕ) (l f : Link) → MarkedBy (by_bounds axis past i k l f)
   unfolding by_bounds among
-  bounds-marked k (Links.To m) (Links.To f) = refl
-  bounds-marked k (Links.To m) Links.None = refl
-  bounds-marked k Links.None f = refl
+  bounds-marked k (Some m) (Some f) = refl
+  bounds-marked k (Some m) None = refl
+  bounds-marked k None f = refl
 
   anchor-marked : (l : Link) → MarkedBy (by_anchor axis past i l)
   unfolding by_anchor among
-  anchor-marked Links.None = refl
-  anchor-marked (Links.To k) = bounds-marked k (done_before axis i) (done_behind axis i)
+  anchor-marked None = refl
+  anchor-marked (Some k) = bounds-marked k (done_before axis i) (done_behind axis i)
 
   serif-marked : (l : Link) → MarkedBy (by_serif axis past i l)
   unfolding by_serif among
-  serif-marked (Links.To k) = refl
-  serif-marked Links.None = anchor-marked past.anchor
+  serif-marked (Some k) = refl
+  serif-marked None = anchor-marked past.anchor
 
   serifs-marked : (l : Link) → MarkedBy (serifs_plan axis past i l)
   unfolding serifs_plan among
-  serifs-marked Links.None = tt
-  serifs-marked (Links.To k) = refl
+  serifs-marked None = tt
+  serifs-marked (Some k) = refl
 
   others-marked : (l f : Link) → MarkedBy (others_plan axis past i l f)
   unfolding others_plan among
-  others-marked (Links.To m) (Links.To f) = refl
-  others-marked (Links.To m) Links.None = refl
-  others-marked Links.None (Links.To f) = refl
-  others-marked Links.None Links.None = tt
+  others-marked (Some m) (Some f) = refl
+  others-marked (Some m) None = refl
+  others-marked None (Some f) = refl
+  others-marked None None = tt
 
   plan-marked : (round : Round) → MarkedBy (plan_of round axis past i)
   unfolding plan_of
@@ -114,14 +114,14 @@ module _ (old : Axis) where
 
   held_kept : (axis : Axis) (g i k : ℕ) (l : Link) → i < old.len → Kept axis → Kept (held_to axis g i k l)
   unfolding held_to among
-  held_kept axis g i k Links.None q h = h
-  held_kept axis g i k (Links.To l) q h =
+  held_kept axis g i k None q h = h
+  held_kept axis g i k (Some l) q h =
       either_way Kept (is_far (edge_at axis l).pos (edge_at axis g).pos) _ axis (place_kept axis i (edge_at axis k).pos Marks.Bound refl q h) h
 
   bound-kept : (axis : Axis) (g i : ℕ) (dir : LinkDir) (l : Link) → i < old.len → Kept axis → Kept (bound_by axis g i dir l)
   unfolding bound_by
-  bound-kept axis g i dir Links.None q h = h
-  bound-kept axis g i dir (Links.To k) q h =
+  bound-kept axis g i dir None q h = h
+  bound-kept axis g i dir (Some k) q h =
       either_way Kept (has_passed dir (edge_at axis i).pos (edge_at axis k).pos) _ axis (held_kept axis g i k (edge_at axis i).link q h) h
 
   adjusted-kept : (axis : Axis) (i : ℕ) (dir : LinkDir) → i < old.len → Kept axis → Kept (adjusted axis i dir)
@@ -169,7 +169,7 @@ unfolding align_remaining_edges
 changed axis group count anchor p =
     let Small = OnlyAxis (wherever (λ (i : ℕ). ltb i axis.len) (place remaining_marks)) in
     subst (λ (r : Remaining). Changes Small r.answer axis r.axis) (sym p)
-    (call-changes Small (refusal (remaining_tests axis group count anchor)) axis (λ (k : ℕ). remaining Links.None axis k)
+    (call-changes Small (refusal (remaining_tests axis group count anchor)) axis (λ (k : ℕ). remaining None axis k)
     (outcome (remaining_of axis group count anchor))
     (λ (r : Remaining). r.answer) (λ (r : Remaining). r.axis) (λ (k : ℕ). refl) (same-axis _ axis) refl
     (λ e. pass_kept axis group (state axis (begun count anchor)) (same-axis _ axis)))

@@ -1,4 +1,5 @@
 -- Behind Latin's loop every edge is done; and where every edge is done already, nothing is changed, by either group.
+use Rattle.std.specs.Prelude.{None, Some}
 use mathlib.Core.Path.{◌≡◌, refl, sym, ap, subst, ◌∙◌}
 use mathlib.Core.Bool.{Bool, true, false, cond, ◌||◌}
 use mathlib.Core.List.{[], ◌∷◌}
@@ -18,8 +19,7 @@ use Rattle.refusals.proofs.Tests.{all_hold}
 use Rattle.axis.specs.declared.flags.Flags.{Flags}
 use Rattle.axis.specs.declared.kinds.Group.{Group}
 use Rattle.axis.specs.declared.kinds.Group.TheVariants.{Default, Cjk}
-use Rattle.axis.specs.declared.kinds.Link.{Link}
-use Rattle.axis.specs.declared.kinds.Link.TheVariants as Links
+use Rattle.axis.specs.Link.{Link}
 use Rattle.axis.specs.declared.kinds.Mark.{Mark}
 use Rattle.axis.specs.declared.kinds.Mark.TheVariants.{Bound}
 use Rattle.axis.specs.declared.edge.Edge.{Edge}
@@ -102,19 +102,19 @@ module _ (axis : Axis) (past : Progress) (i : ℕ) where
 
   bounds-hold : (k : ℕ) (l f : Link) → Holds (by_bounds axis past i k l f)
   unfolding by_bounds
-  bounds-hold k (Links.To m) (Links.To f) = refl
-  bounds-hold k (Links.To m) Links.None = refl
-  bounds-hold k Links.None f = refl
+  bounds-hold k (Some m) (Some f) = refl
+  bounds-hold k (Some m) None = refl
+  bounds-hold k None f = refl
 
   anchor-holds : (l : Link) → Holds (by_anchor axis past i l)
   unfolding by_anchor
-  anchor-holds Links.None = refl
-  anchor-holds (Links.To k) = bounds-hold k (done_before axis i) (done_behind axis i)
+  anchor-holds None = refl
+  anchor-holds (Some k) = bounds-hold k (done_before axis i) (done_behind axis i)
 
   serif-holds : (l : Link) → Holds (by_serif axis past i l)
   unfolding by_serif
-  serif-holds (Links.To k) = refl
-  serif-holds Links.None = anchor-holds past.anchor
+  serif-holds (Some k) = refl
+  serif-holds None = anchor-holds past.anchor
 
   latin-holds : Holds (plan_of Rounds.Latin axis past i)
   unfolding plan_of
@@ -202,8 +202,8 @@ pub call-done : (axis : Axis) (count : ℕ) (anchor : Link) → axis.len ≤ len
 unfolding align_remaining_edges
 call-done axis count anchor l e j q =
     let s = remaining_of axis Default count anchor in
-    let none = none-refused (remaining Links.None axis) (outcome s) (λ (r : Remaining). r.answer) (λ k. refl)
+    let none = none-refused (remaining None axis) (outcome s) (λ (r : Remaining). r.answer) (λ k. refl)
     (refusal (remaining_tests axis Default count anchor)) e in
     let t = all_hold (remaining_tests axis Default count anchor) refl none in
-    subst (λ (k : ℕ). IsDone (answered k (remaining Links.None axis) (outcome s)).axis j) (sym none)
+    subst (λ (k : ℕ). IsDone (answered k (remaining None axis) (outcome s)).axis j) (sym none)
     (latin-done axis count anchor l (not-true _ t.1.1.1.1.0) j q)

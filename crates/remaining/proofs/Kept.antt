@@ -1,4 +1,5 @@
 -- What the visits keep: edges stay accepted, as many, and the anchor is one of them.
+use Rattle.std.specs.Prelude.{None, Some}
 use mathlib.Core.Path.{◌≡◌, refl, ◌∙◌}
 use mathlib.Core.Bool.{◌||◌}
 use Prim.Native.Nat.{ℕ, zero, suc, ◌<◌}
@@ -9,8 +10,7 @@ use Rattle.signed.specs.Range.{Between}
 use Rattle.signed.proofs.Choices.{either_way, cond_cases}
 use Rattle.axis.specs.declared.kinds.Group.{Group}
 use Rattle.axis.specs.declared.kinds.Group.TheVariants.{Default, Cjk}
-use Rattle.axis.specs.declared.kinds.Link.{Link}
-use Rattle.axis.specs.declared.kinds.Link.TheVariants as Links
+use Rattle.axis.specs.Link.{Link}
 use Rattle.axis.specs.declared.kinds.Mark.{Mark}
 use Rattle.axis.specs.declared.edge.Axis.{Axis}
 use Rattle.axis.specs.Edge.{edge_at}
@@ -59,16 +59,16 @@ use Rattle.remaining.specs.Remaining.{
 module _ (axis : Axis) (w : AxisWithin most_pos axis) where
   held-within : (h i k : ℕ) (l : Link) → i < axis.len → k < axis.len → AxisWithin most_pos (held_to axis h i k l)
   unfolding held_to
-  held-within h i k Links.None a b = w
-  held-within h i k (Links.To l) a b =
+  held-within h i k None a b = w
+  held-within h i k (Some l) a b =
       let e = w.edge i a in
       either_way (AxisWithin most_pos) (is_far (edge_at axis l).pos (edge_at axis h).pos) _ axis
       (put-within most_pos i axis _ w (record { opos = e.opos; pos = (w.edge k b).pos; blue = e.blue; link = e.link; serif = e.serif })) w
 
   bound-within : (h i : ℕ) (dir : LinkDir) (l : Link) → i < axis.len → Below axis.len l → AxisWithin most_pos (bound_by axis h i dir l)
   unfolding bound_by
-  bound-within h i dir Links.None a b = w
-  bound-within h i dir (Links.To k) a b =
+  bound-within h i dir None a b = w
+  bound-within h i dir (Some k) a b =
       either_way (AxisWithin most_pos) (has_passed dir (edge_at axis i).pos (edge_at axis k).pos) _ axis
       (held-within h i k (edge_at axis i).link a (b.at k refl)) w
 
@@ -112,31 +112,31 @@ module _ (axis : Axis) (past : Progress) (i n : ℕ) (a : i < n) (b : Below n pa
 
   bounds-anchored : (k : ℕ) (l f : Link) → Anchored (by_bounds axis past i k l f)
   unfolding by_bounds
-  bounds-anchored k (Links.To m) (Links.To f) = b
-  bounds-anchored k (Links.To m) Links.None = b
-  bounds-anchored k Links.None f = b
+  bounds-anchored k (Some m) (Some f) = b
+  bounds-anchored k (Some m) None = b
+  bounds-anchored k None f = b
 
   anchor-anchored : (l : Link) → Anchored (by_anchor axis past i l)
   unfolding by_anchor
-  anchor-anchored Links.None = below-to n i a
-  anchor-anchored (Links.To k) = bounds-anchored k (done_before axis i) (done_behind axis i)
+  anchor-anchored None = below-to n i a
+  anchor-anchored (Some k) = bounds-anchored k (done_before axis i) (done_behind axis i)
 
   serif-anchored : (l : Link) → Anchored (by_serif axis past i l)
   unfolding by_serif
-  serif-anchored (Links.To k) = b
-  serif-anchored Links.None = anchor-anchored past.anchor
+  serif-anchored (Some k) = b
+  serif-anchored None = anchor-anchored past.anchor
 
   serifs-anchored : (l : Link) → Anchored (serifs_plan axis past i l)
   unfolding serifs_plan
-  serifs-anchored Links.None = b
-  serifs-anchored (Links.To k) = b
+  serifs-anchored None = b
+  serifs-anchored (Some k) = b
 
   others-anchored : (l f : Link) → Anchored (others_plan axis past i l f)
   unfolding others_plan
-  others-anchored (Links.To m) (Links.To f) = b
-  others-anchored (Links.To m) Links.None = b
-  others-anchored Links.None (Links.To f) = b
-  others-anchored Links.None Links.None = b
+  others-anchored (Some m) (Some f) = b
+  others-anchored (Some m) None = b
+  others-anchored None (Some f) = b
+  others-anchored None None = b
 
   pub plan-anchored : (round : Round) → Anchored (plan_of round axis past i)
   unfolding plan_of

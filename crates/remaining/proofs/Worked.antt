@@ -1,4 +1,5 @@
 -- Loops worked out by hand from the Rust: where each edge goes, what becomes the anchor, what each edge is marked with, and which positions no edge may have.
+use Rattle.std.specs.Prelude.{None, Some}
 use mathlib.Core.Path.{◌≡◌, refl}
 use mathlib.Core.Bool.{Bool, true, false}
 use mathlib.Core.List.{List, [], ◌∷◌, map}
@@ -8,8 +9,7 @@ use lib.IntN.{ℤ, pos, neg_ℤ}
 use Rattle.fixed.specs.Point.{rounded, rounded_z}
 use Rattle.fixed.specs.Pixel.{pix_floor, pix_round}
 use Rattle.fixed_ratio.specs.Ratio.{mul_div}
-use Rattle.axis.specs.declared.kinds.Link.{Link}
-use Rattle.axis.specs.declared.kinds.Link.TheVariants as Links
+use Rattle.axis.specs.Link.{Link}
 use Rattle.axis.specs.declared.kinds.Direction.TheVariants as Directions
 use Rattle.axis.specs.declared.kinds.Dimension.TheVariants.{Vertical}
 use Rattle.axis.specs.declared.kinds.Group.{Group}
@@ -56,10 +56,10 @@ done o p = at (left o) p
 
 -- with a serif, and with a link
 abbrev serif : ℕ → Edge → Edge
-serif k e = joined_to e e.link (Links.To k)
+serif k e = joined_to e e.link (Some k)
 
 abbrev link : ℕ → Edge → Edge
-link k e = joined_to e (Links.To k) e.serif
+link k e = joined_to e (Some k) e.serif
 
 abbrev minus : ℕ → ℤ
 minus n = neg_ℤ (pos n)
@@ -80,7 +80,7 @@ abbrev latin : Link → List Edge → Told
 latin anchor es = told (map (λ (e : Edge). e.pos) (run Default 0 anchor es).axis.edges) (run Default 0 anchor es).past.anchor
 
 abbrev cjk : ℕ → List Edge → List ℤ
-cjk count es = map (λ (e : Edge). e.pos) (run Cjk count Links.None es).axis.edges
+cjk count es = map (λ (e : Edge). e.pos) (run Cjk count None es).axis.edges
 
 abbrev marks_of : State → List Mark
 marks_of s = map (λ (e : Edge). e.mark) s.axis.edges
@@ -97,7 +97,7 @@ most = pos 16777216
 
 -- the anchor is edge 0
 abbrev zeroth : Link
-zeroth = Links.To 0
+zeroth = Some 0
 
 record Worked : Type 0 where
   -- a serif at 79 from its base goes with it, at 80 and 81 it does not
@@ -106,12 +106,12 @@ record Worked : Type 0 where
   serif_at_81 : latin zeroth (done (pos 0) (pos 10) ∷ serif 0 (left (pos 81)) ∷ []) ≡ told (pos 10 ∷ pos 106 ∷ []) zeroth
   -- a base that is not done counts too, and so does the edge itself, which then stays where it is
   serif_undone : latin zeroth (done (pos 0) (pos 0) ∷ serif 2 (left (pos 30)) ∷ left (pos 50) ∷ []) ≡ told (pos 0 ∷ pos 30 ∷ pos 64 ∷ []) zeroth
-  serif_itself : marks_of (run Default 0 Links.None (serif 0 (left (pos 5)) ∷ [])) ≡ Marks.Serif ∷ []
+  serif_itself : marks_of (run Default 0 None (serif 0 (left (pos 5)) ∷ [])) ≡ Marks.Serif ∷ []
   -- between two that are done, to the nearest; without an anchor it becomes it even there
-  between : latin (Links.To 2) (done (pos 0) (pos 0) ∷ left (pos 51) ∷ done (pos 100) (pos 128) ∷ []) ≡ told (pos 0 ∷ pos 65 ∷ pos 128 ∷ []) (Links.To 2)
-  between_free : latin Links.None (done (pos 0) (pos 0) ∷ left (pos 51) ∷ done (pos 100) (pos 128) ∷ []) ≡ told (pos 0 ∷ pos 64 ∷ pos 128 ∷ []) (Links.To 1)
-  between_low : latin (Links.To 2) (done (pos 0) (pos 0) ∷ left (pos 31) ∷ done (pos 100) (pos 128) ∷ []) ≡ told (pos 0 ∷ pos 40 ∷ pos 128 ∷ []) (Links.To 2)
-  free_low : latin Links.None (done (pos 0) (pos 0) ∷ left (pos 31) ∷ done (pos 100) (pos 128) ∷ []) ≡ told (pos 0 ∷ pos 0 ∷ pos 128 ∷ []) (Links.To 1)
+  between : latin (Some 2) (done (pos 0) (pos 0) ∷ left (pos 51) ∷ done (pos 100) (pos 128) ∷ []) ≡ told (pos 0 ∷ pos 65 ∷ pos 128 ∷ []) (Some 2)
+  between_free : latin None (done (pos 0) (pos 0) ∷ left (pos 51) ∷ done (pos 100) (pos 128) ∷ []) ≡ told (pos 0 ∷ pos 64 ∷ pos 128 ∷ []) (Some 1)
+  between_low : latin (Some 2) (done (pos 0) (pos 0) ∷ left (pos 31) ∷ done (pos 100) (pos 128) ∷ []) ≡ told (pos 0 ∷ pos 40 ∷ pos 128 ∷ []) (Some 2)
+  free_low : latin None (done (pos 0) (pos 0) ∷ left (pos 31) ∷ done (pos 100) (pos 128) ∷ []) ≡ told (pos 0 ∷ pos 0 ∷ pos 128 ∷ []) (Some 1)
   -- a half goes away from zero
   half_up : latin zeroth (done (pos 0) (pos 0) ∷ left (pos 1) ∷ done (pos 2) (pos 1) ∷ []) ≡ told (pos 0 ∷ pos 1 ∷ pos 1 ∷ []) zeroth
   half_down : latin zeroth (done (pos 0) (pos 0) ∷ left (pos 1) ∷ done (pos 2) (minus 1) ∷ []) ≡ told (pos 0 ∷ minus 1 ∷ minus 1 ∷ []) zeroth
@@ -122,30 +122,30 @@ record Worked : Type 0 where
   spaced_16 : latin zeroth (done (pos 0) (pos 0) ∷ left (pos 16) ∷ []) ≡ told (pos 0 ∷ pos 32 ∷ []) zeroth
   spaced_47 : latin zeroth (done (pos 0) (pos 0) ∷ left (pos 47) ∷ []) ≡ told (pos 0 ∷ pos 32 ∷ []) zeroth
   spaced_48 : latin zeroth (done (pos 0) (pos 0) ∷ left (pos 48) ∷ []) ≡ told (pos 0 ∷ pos 64 ∷ []) zeroth
-  front_16 : latin (Links.To 1) (left (minus 16) ∷ done (pos 0) (pos 0) ∷ []) ≡ told (pos 0 ∷ pos 0 ∷ []) (Links.To 1)
-  front_17 : latin (Links.To 1) (left (minus 17) ∷ done (pos 0) (pos 0) ∷ []) ≡ told (minus 32 ∷ pos 0 ∷ []) (Links.To 1)
-  front_49 : latin (Links.To 1) (left (minus 49) ∷ done (pos 0) (pos 0) ∷ []) ≡ told (minus 64 ∷ pos 0 ∷ []) (Links.To 1)
+  front_16 : latin (Some 1) (left (minus 16) ∷ done (pos 0) (pos 0) ∷ []) ≡ told (pos 0 ∷ pos 0 ∷ []) (Some 1)
+  front_17 : latin (Some 1) (left (minus 17) ∷ done (pos 0) (pos 0) ∷ []) ≡ told (minus 32 ∷ pos 0 ∷ []) (Some 1)
+  front_49 : latin (Some 1) (left (minus 49) ∷ done (pos 0) (pos 0) ∷ []) ≡ told (minus 64 ∷ pos 0 ∷ []) (Some 1)
   -- nothing done: the first becomes the anchor, the others follow it
-  nothing_done : latin Links.None (left (pos 40) ∷ left (pos 70) ∷ left (pos 100) ∷ []) ≡ told (pos 64 ∷ pos 96 ∷ pos 128 ∷ []) zeroth
-  given_marks : marks_of (run Default 0 Links.None (left (pos 40) ∷ left (pos 70) ∷ serif 1 (left (pos 100)) ∷ []))
+  nothing_done : latin None (left (pos 40) ∷ left (pos 70) ∷ left (pos 100) ∷ []) ≡ told (pos 64 ∷ pos 96 ∷ pos 128 ∷ []) zeroth
+  given_marks : marks_of (run Default 0 None (left (pos 40) ∷ left (pos 70) ∷ serif 1 (left (pos 100)) ∷ []))
       ≡ Marks.RemainingAnchor ∷ Marks.Spaced ∷ Marks.Serif ∷ []
-  all_done : dones_of (run Default 0 Links.None (left (pos 40) ∷ left (pos 70) ∷ serif 1 (left (pos 100)) ∷ [])) ≡ true ∷ true ∷ true ∷ []
+  all_done : dones_of (run Default 0 None (left (pos 40) ∷ left (pos 70) ∷ serif 1 (left (pos 100)) ∷ [])) ≡ true ∷ true ∷ true ∷ []
   -- edges turned by the call: the second is between the new anchor and the third
-  turned : latin Links.None (left (pos 40) ∷ left (pos 50) ∷ done (pos 60) (pos 60) ∷ []) ≡ told (pos 64 ∷ pos 62 ∷ pos 60 ∷ []) zeroth
-  turned_two : latin Links.None (left (pos 0) ∷ done (pos 1) (minus 1) ∷ []) ≡ told (pos 0 ∷ minus 1 ∷ []) zeroth
+  turned : latin None (left (pos 40) ∷ left (pos 50) ∷ done (pos 60) (pos 60) ∷ []) ≡ told (pos 64 ∷ pos 62 ∷ pos 60 ∷ []) zeroth
+  turned_two : latin None (left (pos 0) ∷ done (pos 1) (minus 1) ∷ []) ≡ told (pos 0 ∷ minus 1 ∷ []) zeroth
   -- by its serif at 54, held to 100 before it and then to 64 behind it; by a link that is the previous edge not at all
-  held : latin Links.None (done (pos 0) (pos 100) ∷ link 2 (serif 2 (left (pos 10))) ∷ done (pos 20) (pos 64) ∷ [])
-      ≡ told (pos 100 ∷ pos 64 ∷ pos 64 ∷ []) Links.None
-  held_mark : marks_of (run Default 0 Links.None (done (pos 0) (pos 100) ∷ link 2 (serif 2 (left (pos 10))) ∷ done (pos 20) (pos 64) ∷ []))
+  held : latin None (done (pos 0) (pos 100) ∷ link 2 (serif 2 (left (pos 10))) ∷ done (pos 20) (pos 64) ∷ [])
+      ≡ told (pos 100 ∷ pos 64 ∷ pos 64 ∷ []) None
+  held_mark : marks_of (run Default 0 None (done (pos 0) (pos 100) ∷ link 2 (serif 2 (left (pos 10))) ∷ done (pos 20) (pos 64) ∷ []))
       ≡ Marks.Stem ∷ Marks.Bound ∷ Marks.Stem ∷ []
-  not_held : latin Links.None (done (pos 0) (pos 100) ∷ link 0 (serif 2 (left (pos 10))) ∷ done (pos 20) (pos 64) ∷ [])
-      ≡ told (pos 100 ∷ pos 54 ∷ pos 64 ∷ []) Links.None
+  not_held : latin None (done (pos 0) (pos 100) ∷ link 0 (serif 2 (left (pos 10))) ∷ done (pos 20) (pos 64) ∷ [])
+      ≡ told (pos 100 ∷ pos 54 ∷ pos 64 ∷ []) None
   -- CJK between two by font positions, not done; with a count of 0 not at all; by its serif, done
   cjk-between : cjk 1 (at (left_at 0 0) (pos 10) ∷ left_at 10 7 ∷ at (left_at 40 28) (pos 50) ∷ []) ≡ pos 10 ∷ pos 20 ∷ pos 50 ∷ []
-  cjk_undone : dones_of (run Cjk 1 Links.None (at (left_at 0 0) (pos 10) ∷ left_at 10 7 ∷ at (left_at 40 28) (pos 50) ∷ [])) ≡ true ∷ false ∷ true ∷ []
+  cjk_undone : dones_of (run Cjk 1 None (at (left_at 0 0) (pos 10) ∷ left_at 10 7 ∷ at (left_at 40 28) (pos 50) ∷ [])) ≡ true ∷ false ∷ true ∷ []
   cjk_none_left : cjk 0 (at (left_at 0 0) (pos 10) ∷ left_at 10 7 ∷ at (left_at 40 28) (pos 50) ∷ []) ≡ pos 10 ∷ pos 7 ∷ pos 50 ∷ []
   cjk_serif : cjk 1 (at (left_at 0 0) (pos 10) ∷ serif 2 (left_at 10 7) ∷ at (left_at 40 28) (pos 50) ∷ []) ≡ pos 10 ∷ pos 29 ∷ pos 50 ∷ []
-  cjk_serif_done : dones_of (run Cjk 1 Links.None (at (left_at 0 0) (pos 10) ∷ serif 2 (left_at 10 7) ∷ at (left_at 40 28) (pos 50) ∷ [])) ≡ true ∷ true ∷ true ∷ []
+  cjk_serif_done : dones_of (run Cjk 1 None (at (left_at 0 0) (pos 10) ∷ serif 2 (left_at 10 7) ∷ at (left_at 40 28) (pos 50) ∷ [])) ≡ true ∷ true ∷ true ∷ []
   -- with one alone, and with none
   cjk_before : cjk 1 (at (left_at 0 0) (pos 10) ∷ left_at 10 7 ∷ []) ≡ pos 10 ∷ pos 17 ∷ []
   cjk_behind : cjk 1 (left_at 10 7 ∷ at (left_at 40 28) (pos 50) ∷ []) ≡ pos 29 ∷ pos 50 ∷ []

@@ -1,10 +1,10 @@
 -- Where a remaining edge goes (the Rust's `align_remaining_edges`), by the edges that decide it.
+use Rattle.std.specs.Prelude.{Some}
 use Rattle.std.specs.Prelude.{Bool, true, cond, ℕ, ◌-◌, ltb, ℤ, pos, nat_abs, ◌+ℤ◌, ◌-ℤ◌, ◌*ℤ◌}
 use Rattle.std.specs.Int.Signed.{shr_z}
 use Rattle.signed.specs.Equality.{eq_z}
 use Rattle.fixed.specs.Pixel.{pix_round}
 use Rattle.fixed_ratio.specs.Ratio.{mul_div}
-use Rattle.axis.specs.declared.kinds.Link.TheVariants as Links
 use Rattle.axis.specs.declared.kinds.Mark.{Mark}
 use Rattle.axis.specs.declared.kinds.Mark.TheVariants as Marks
 use Rattle.axis.specs.declared.edge.Edge.{Edge}
@@ -17,7 +17,7 @@ use Rattle.remaining.specs.declared.kinds.Way.TheVariants as Ways
 -- ---- what the visits have come to
 -- with another anchor
 abbrev pub anchored_at : Progress → ℕ → Progress
-anchored_at past i = record { anchor = Links.To i; count = past.count; beyond = past.beyond }
+anchored_at past i = record { anchor = Some i; count = past.count; beyond = past.beyond }
 
 -- one of the edges that stems have passed over is placed; there are never fewer than none
 abbrev pub one_less : Progress → Progress

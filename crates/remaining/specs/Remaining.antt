@@ -1,10 +1,10 @@
 -- Remaining edges (the Rust's `align_remaining_edges` and `find_bounding_completed_edges`): the edges that blue zones and stems have left where they were.
+use Rattle.std.specs.Prelude.{None, Some}
 use Rattle.std.specs.Prelude.{false, not, cond, ◌||◌, List, [], ◌∷◌, ℕ, zero, suc, ◌+◌, ◌-◌, eqb, ℤ}
 use Rattle.refusals.specs.Refusal.{Test, ◌unless◌, refusal, answered, bad_index, steep}
 use Rattle.axis.specs.declared.kinds.Group.{Group}
 use Rattle.axis.specs.declared.kinds.Group.TheVariants.{Default, Cjk}
-use Rattle.axis.specs.declared.kinds.Link.{Link}
-use Rattle.axis.specs.declared.kinds.Link.TheVariants as Links
+use Rattle.axis.specs.Link.{Link}
 use Rattle.axis.specs.declared.kinds.Mark.{Mark}
 use Rattle.axis.specs.declared.kinds.Mark.TheVariants as Marks
 use Rattle.axis.specs.declared.edge.Axis.{Axis}
@@ -26,13 +26,13 @@ use Rattle.remaining.specs.Plan.{one_less, as_beyond, stays_plan, serif_plan, is
 -- ---- the done edges around an edge
 -- the nearest one before edge i
 unfoldable pub done_before : Axis → ℕ → Link
-done_before axis zero = Links.None
-done_before axis (suc k) = cond (edge_at axis k).flags.done (Links.To k) (done_before axis k)
+done_before axis zero = None
+done_before axis (suc k) = cond (edge_at axis k).flags.done (Some k) (done_before axis k)
 
 -- the first of n edges from k on
 unfoldable pub done_from : Axis → ℕ → ℕ → Link
-done_from axis zero k = Links.None
-done_from axis (suc n) k = cond (edge_at axis k).flags.done (Links.To k) (done_from axis n (k + 1))
+done_from axis zero k = None
+done_from axis (suc n) k = cond (edge_at axis k).flags.done (Some k) (done_from axis n (k + 1))
 
 -- the nearest one behind edge i
 abbrev pub done_behind : Axis → ℕ → Link
@@ -41,24 +41,24 @@ done_behind axis i = done_from axis (axis.len - (i + 1)) (i + 1)
 -- ---- Latin's plan for edge i
 -- its serif, where that is near
 unfoldable pub near_of : Axis → ℕ → Link → Link
-near_of axis i Links.None = Links.None
-near_of axis i (Links.To k) = cond (is_near (edge_at axis i) (edge_at axis k)) (Links.To k) Links.None
+near_of axis i None = None
+near_of axis i (Some k) = cond (is_near (edge_at axis i) (edge_at axis k)) (Some k) None
 
 -- with an anchor a: between the nearest done edges, where both are there, else by the anchor
 unfoldable pub by_bounds : Axis → Progress → ℕ → ℕ → Link → Link → Plan
-by_bounds axis past i a (Links.To b) (Links.To f) = latin_between (edge_at axis b) (edge_at axis f) (edge_at axis i) past
-by_bounds axis past i a (Links.To b) Links.None = spaced_plan (edge_at axis a) (edge_at axis i) past
-by_bounds axis past i a Links.None f = spaced_plan (edge_at axis a) (edge_at axis i) past
+by_bounds axis past i a (Some b) (Some f) = latin_between (edge_at axis b) (edge_at axis f) (edge_at axis i) past
+by_bounds axis past i a (Some b) None = spaced_plan (edge_at axis a) (edge_at axis i) past
+by_bounds axis past i a None f = spaced_plan (edge_at axis a) (edge_at axis i) past
 
 -- where there is no anchor yet it becomes it, even between done edges
 unfoldable pub by_anchor : Axis → Progress → ℕ → Link → Plan
-by_anchor axis past i Links.None = anchor_plan (edge_at axis i) i past
-by_anchor axis past i (Links.To a) = by_bounds axis past i a (done_before axis i) (done_behind axis i)
+by_anchor axis past i None = anchor_plan (edge_at axis i) i past
+by_anchor axis past i (Some a) = by_bounds axis past i a (done_before axis i) (done_behind axis i)
 
 -- by a near serif first
 unfoldable pub by_serif : Axis → Progress → ℕ → Link → Plan
-by_serif axis past i (Links.To k) = serif_plan (edge_at axis k) (edge_at axis i) Ways.Held past
-by_serif axis past i Links.None = by_anchor axis past i past.anchor
+by_serif axis past i (Some k) = serif_plan (edge_at axis k) (edge_at axis i) Ways.Held past
+by_serif axis past i None = by_anchor axis past i past.anchor
 
 abbrev pub latin_plan : Axis → Progress → ℕ → Plan
 latin_plan axis past i = by_serif axis past i (near_of axis i (edge_at axis i).serif)
@@ -66,15 +66,15 @@ latin_plan axis past i = by_serif axis past i (near_of axis i (edge_at axis i).s
 -- ---- CJK's plans
 -- first the edges with a serif, at any distance
 unfoldable pub serifs_plan : Axis → Progress → ℕ → Link → Plan
-serifs_plan axis past i Links.None = stays_plan (edge_at axis i) past
-serifs_plan axis past i (Links.To k) = serif_plan (edge_at axis k) (edge_at axis i) Ways.Fixed (one_less past)
+serifs_plan axis past i None = stays_plan (edge_at axis i) past
+serifs_plan axis past i (Some k) = serif_plan (edge_at axis k) (edge_at axis i) Ways.Fixed (one_less past)
 
 -- then the others: between the nearest done edges, shifted with the only one there is, or left
 unfoldable pub others_plan : Axis → Progress → ℕ → Link → Link → Plan
-others_plan axis past i (Links.To b) (Links.To f) = cjk_between (edge_at axis b) (edge_at axis f) (edge_at axis i) past
-others_plan axis past i (Links.To b) Links.None = serif_plan (edge_at axis b) (edge_at axis i) Ways.Placed past
-others_plan axis past i Links.None (Links.To f) = serif_plan (edge_at axis f) (edge_at axis i) Ways.Placed past
-others_plan axis past i Links.None Links.None = stays_plan (edge_at axis i) past
+others_plan axis past i (Some b) (Some f) = cjk_between (edge_at axis b) (edge_at axis f) (edge_at axis i) past
+others_plan axis past i (Some b) None = serif_plan (edge_at axis b) (edge_at axis i) Ways.Placed past
+others_plan axis past i None (Some f) = serif_plan (edge_at axis f) (edge_at axis i) Ways.Placed past
+others_plan axis past i None None = stays_plan (edge_at axis i) past
 
 -- ---- one visit
 unfoldable pub plan_of : Round → Axis → Progress → ℕ → Plan
@@ -164,7 +164,7 @@ remaining_tests axis group count anchor =
 -- `align_remaining_edges`: the refusal, no anchor and the axis as it came, or 0, the anchor or its absence, and the axis
 unfoldable pub align_remaining_edges : Axis → Group → ℕ → Link → Remaining
 align_remaining_edges axis group count anchor =
-    answered (refusal (remaining_tests axis group count anchor)) (remaining Links.None axis) (outcome (remaining_of axis group count anchor))
+    answered (refusal (remaining_tests axis group count anchor)) (remaining None axis) (outcome (remaining_of axis group count anchor))
 
 -- ---- marks
 -- those that the call gives

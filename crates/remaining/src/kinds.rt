@@ -1,10 +1,10 @@
 // What visits come to, and what the visit of an edge plans.
-use axis::kinds::{Link, Mark};
+use axis::kinds::Mark;
 
 // What the visits have come to beside the edges: the anchor or its absence, how many edges stems have passed over, and whether a position was given that no edge may have.
 #[derive(Clone, Copy)]
 pub struct Progress {
-    pub anchor: Link,
+    pub anchor: Option<u16>,
     pub count: usize,
     pub beyond: bool,
 }

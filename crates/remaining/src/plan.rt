@@ -8,7 +8,7 @@ ghost use Rattle.remaining.specs.Plan.{is_close, is_near, serif_plan, anchor_pla
 
 use super::kinds::{Plan, Progress, Way};
 use axis::edge::Edge;
-use axis::kinds::{Link, Mark};
+use axis::kinds::Mark;
 use axis::limits::{LEAST_POS, MOST_POS};
 use fixed::pixel::pix_round;
 use fixed::point::magnitude;
@@ -64,7 +64,7 @@ pub fn anchor_plan(edge: Edge, i: usize, past: Progress) -> Plan
         mark: Mark::RemainingAnchor,
         way: Way::Held,
         next: Progress {
-            anchor: Link::To(i as u16),
+            anchor: Some(i as u16),
             count: past.count,
             beyond: past.beyond,
         },

@@ -1,5 +1,6 @@
 -- CJK's order: where done edges are in order, original and font positions do not fall, and no edge that is not done has a serif, all edges are in order behind
 -- remaining edges.
+use Rattle.std.specs.Prelude.{None, Some}
 use mathlib.Core.Path.{◌≡◌, refl, sym, ap, subst, ◌∙◌}
 use mathlib.Core.Bool.{Bool, true, false}
 use mathlib.Core.Logic.{⊎_elim, ◌≢◌}
@@ -15,8 +16,7 @@ use lib.Signed.{◌≤ℤ◌}
 use Rattle.signed.proofs.Choices.{cond-true, cond-false, cond_cases, clash}
 use Rattle.signed.proofs.Signed.{lt-or-le}
 use Rattle.axis.specs.declared.kinds.Group.TheVariants.{Cjk}
-use Rattle.axis.specs.declared.kinds.Link.{Link}
-use Rattle.axis.specs.declared.kinds.Link.TheVariants as Links
+use Rattle.axis.specs.Link.{Link}
 use Rattle.axis.specs.declared.kinds.Mark.{Mark}
 use Rattle.axis.specs.declared.edge.Edge.{Edge}
 use Rattle.axis.specs.declared.edge.Axis.{Axis}
@@ -142,18 +142,18 @@ module _ (axis : Axis) (count : ℕ) (anchor : Link) (k : ℕ) (r : CjkReady axi
       moves-by : (b f : Link) → done_before axis i ≡ b → done_behind axis i ≡ f → Last (is_done axis) i b → Next axis (axis.len - (i + 1)) (i + 1) f
           → Moves (i + 1) (carried s i (others_plan s.axis s.past i b f))
       unfolding others_plan stored
-      moves-by (Links.To b) (Links.To f) u v x y =
+      moves-by (Some b) (Some f) u v x y =
           let p = h.kept b (x.some b refl).passes in
           let q = h.kept f (y.some f refl).done in
           moves_put _ _ _
           ((λ t. between_pos (here t).fpos (p t).fpos (p t).pos (q t).fpos (q t).pos) ∙ sym (λ t. (others_plan axis past i (u t) (v t)).pos))
-      moves-by (Links.To b) Links.None u v x y =
+      moves-by (Some b) None u v x y =
           let p = h.kept b (x.some b refl).passes in
           moves_put _ _ _ ((λ t. serif_pos (p t).pos (p t).opos (here t).opos) ∙ sym (λ t. (others_plan axis past i (u t) (v t)).pos))
-      moves-by Links.None (Links.To f) u v x y =
+      moves-by None (Some f) u v x y =
           let q = h.kept f (y.some f refl).done in
           moves_put _ _ _ ((λ t. serif_pos (q t).pos (q t).opos (here t).opos) ∙ sym (λ t. (others_plan axis past i (u t) (v t)).pos))
-      moves-by Links.None Links.None u v x y = moves-on _ (λ n. (λ t. (here t).pos) ∙ sym (λ t. (others_plan axis past i (u t) (v t)).pos))
+      moves-by None None u v x y = moves-on _ (λ n. (λ t. (here t).pos) ∙ sym (λ t. (others_plan axis past i (u t) (v t)).pos))
 
       moves-left : Moves (i + 1) (carried s i (plan_of Rounds.Others s.axis s.past i))
       unfolding plan_of
@@ -189,9 +189,9 @@ module _ (axis : Axis) (count : ℕ) (anchor : Link) (k : ℕ) (r : CjkReady axi
         subst (λ (b : Link). (edge_at axis i).pos ≤ℤ (others_plan axis past (i + 1) b (done_behind axis (i + 1))).pos) (sym (before-next axis i ∙ cond-true _ _ _ d))
         (by (done_behind axis (i + 1)) behind)
       where
-        by : (f : Link) → Behind f → (edge_at axis i).pos ≤ℤ (others_plan axis past (i + 1) (Links.To i) f).pos
-        by Links.None y = shifted-above (edge_at axis i).pos (edge_at axis i).opos (edge_at axis (i + 1)).opos units
-        by (Links.To f) y =
+        by : (f : Link) → Behind f → (edge_at axis i).pos ≤ℤ (others_plan axis past (i + 1) (Some i) f).pos
+        by None y = shifted-above (edge_at axis i).pos (edge_at axis i).opos (edge_at axis (i + 1)).opos units
+        by (Some f) y =
             let n = y.some f refl in
             let o = n.from in
             let b : f < axis.len = omega (arith, n.below) in
@@ -205,9 +205,9 @@ module _ (axis : Axis) (count : ℕ) (anchor : Link) (k : ℕ) (r : CjkReady axi
         subst (λ (f : Link). (others_plan axis past i (done_before axis i) f).pos ≤ℤ (edge_at axis (i + 1)).pos) (sym (behind-next axis i l ∙ cond-true _ _ _ d))
         (by (done_before axis i) (before-is axis i))
       where
-        by : (b : Link) → Last (is_done axis) i b → (others_plan axis past i b (Links.To (i + 1))).pos ≤ℤ (edge_at axis (i + 1)).pos
-        by Links.None x = shifted-below (edge_at axis (i + 1)).pos (edge_at axis (i + 1)).opos (edge_at axis i).opos units
-        by (Links.To b) x =
+        by : (b : Link) → Last (is_done axis) i b → (others_plan axis past i b (Some (i + 1))).pos ≤ℤ (edge_at axis (i + 1)).pos
+        by None x = shifted-below (edge_at axis (i + 1)).pos (edge_at axis (i + 1)).opos (edge_at axis i).opos units
+        by (Some b) x =
             let n = x.some b refl in
             let o = n.order in
             ((cjk-lies (edge_at axis b) (edge_at axis (i + 1)) (edge_at axis i) past (r.font_rise.at b i o (omega arith)) font).rising
@@ -222,7 +222,7 @@ module _ (axis : Axis) (count : ℕ) (anchor : Link) (k : ℕ) (r : CjkReady axi
         (by (done_before axis i) (done_behind axis (i + 1)) (before-is axis i) behind)
       where
         by : (b f : Link) → Last (is_done axis) i b → Behind f → (others_plan axis past i b f).pos ≤ℤ (others_plan axis past (i + 1) b f).pos
-        by (Links.To b) (Links.To f) x y =
+        by (Some b) (Some f) x y =
             let m = x.some b refl in
             let n = y.some f refl in
             let o = m.order in
@@ -231,9 +231,9 @@ module _ (axis : Axis) (count : ℕ) (anchor : Link) (k : ℕ) (r : CjkReady axi
             between-grows (edge_at axis i).fpos (edge_at axis (i + 1)).fpos (edge_at axis b).fpos (edge_at axis b).pos (edge_at axis f).fpos
             (edge_at axis f).pos
             (r.font_rise.at b i o (omega arith)) font (r.font_rise.at (i + 1) f (omega arith) w) (r.in_order.at b f (omega arith) w m.passes n.done)
-        by (Links.To b) Links.None x y = shifted-rises (edge_at axis b).pos (edge_at axis b).opos (edge_at axis i).opos (edge_at axis (i + 1)).opos units
-        by Links.None (Links.To f) x y = shifted-rises (edge_at axis f).pos (edge_at axis f).opos (edge_at axis i).opos (edge_at axis (i + 1)).opos units
-        by Links.None Links.None x y =
+        by (Some b) None x y = shifted-rises (edge_at axis b).pos (edge_at axis b).opos (edge_at axis i).opos (edge_at axis (i + 1)).opos units
+        by None (Some f) x y = shifted-rises (edge_at axis f).pos (edge_at axis f).opos (edge_at axis i).opos (edge_at axis (i + 1)).opos units
+        by None None x y =
             let there = r.there in
             absurd (clash _
             (⊎_elim (λ (q : k < i). x.none refl k q)

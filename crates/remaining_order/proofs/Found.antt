@@ -1,4 +1,5 @@
 -- The done edges around an edge: the last one before it, and the first one behind it; and the first and the last of all.
+use Rattle.std.specs.Prelude.{None, Some}
 use mathlib.Core.Path.{◌≡◌, refl, sym, ap, subst}
 use mathlib.Core.Bool.{Bool, true, false, cond}
 use mathlib.Core.Logic.{⊎_elim}
@@ -7,8 +8,7 @@ use native.Mathlib.Nat.{eq-or-lt_of_le}
 use native.Mathlib.Numerals.{add-one}
 use native.Mathlib.Omega.{arith}
 use Rattle.signed.proofs.Choices.{clash}
-use Rattle.axis.specs.declared.kinds.Link.{Link}
-use Rattle.axis.specs.declared.kinds.Link.TheVariants as Links
+use Rattle.axis.specs.Link.{Link}
 use Rattle.axis.specs.declared.edge.Axis.{Axis}
 use Rattle.gaps.specs.Gaps.{is_done, last_of, first_of}
 use Rattle.gaps.proofs.Firsts.{First, first_is}
@@ -21,7 +21,7 @@ module _ (axis : Axis) where
   last-before : (i : ℕ) → last_of (is_done axis) i ≡ done_before axis i
   unfolding last_of done_before
   last-before zero = refl
-  last-before (suc k) = ap (cond (is_done axis k) (Links.To k)) (last-before k)
+  last-before (suc k) = ap (cond (is_done axis k) (Some k)) (last-before k)
 
   pub before-is : (i : ℕ) → Last (is_done axis) i (done_before axis i)
   before-is i = subst (Last (is_done axis) i) (last-before i) (last_is (is_done axis) i)
@@ -36,10 +36,10 @@ module _ (axis : Axis) where
 
   -- what l is: the first of them, or none
   pub record Next (n k : ℕ) (l : Link) : Type 0 where
-    pub none : l ≡ Links.None → (j : ℕ) → k ≤ j → j < k + n → is_done axis j ≡ false
-    pub some : (f : ℕ) → l ≡ Links.To f → IsNext n k f
+    pub none : l ≡ None → (j : ℕ) → k ≤ j → j < k + n → is_done axis j ≡ false
+    pub some : (f : ℕ) → l ≡ Some f → IsNext n k f
 
-  no-link : {k : ℕ} → Links.To k ≡ Links.None → ⊥
+  no-link : {k : ℕ} → Some k ≡ None → ⊥
   no-link e = let z : ◌≡◌ {A = ℕ} 0 1 = cc in omega arith
 
   pub from_is : (n k : ℕ) → Next n k (done_from axis n k)
@@ -47,10 +47,10 @@ module _ (axis : Axis) where
   from_is zero k = record { none = λ e j g h. absurd (omega arith); some = λ f e. absurd (no-link (sym e)) }
   from_is (suc n) k = by (is_done axis k) refl (from_is n (k + 1))
     where
-      by : (t : Bool) → is_done axis k ≡ t → Next n (k + 1) (done_from axis n (k + 1)) → Next (suc n) k (cond t (Links.To k) (done_from axis n (k + 1)))
+      by : (t : Bool) → is_done axis k ≡ t → Next n (k + 1) (done_from axis n (k + 1)) → Next (suc n) k (cond t (Some k) (done_from axis n (k + 1)))
       by true q x = record {
         none = λ e. absurd (no-link e);
-        some = λ (f : ℕ) (e : Links.To k ≡ Links.To f).
+        some = λ (f : ℕ) (e : Some k ≡ Some f).
             let w : k ≡ f = cc in
             subst (IsNext (suc n) k) w (record { from = omega arith; below = omega arith; done = q; between = λ j g h. absurd (omega arith) });
       }
@@ -71,15 +71,15 @@ module _ (axis : Axis) where
       }
 
   -- ---- one edge further
-  pub before-next : (i : ℕ) → done_before axis (i + 1) ≡ cond (is_done axis i) (Links.To i) (done_before axis i)
+  pub before-next : (i : ℕ) → done_before axis (i + 1) ≡ cond (is_done axis i) (Some i) (done_before axis i)
   unfolding done_before
   before-next i = rw add-one
 
-  pub behind-next : (i : ℕ) → i + 1 < axis.len → done_behind axis i ≡ cond (is_done axis (i + 1)) (Links.To (i + 1)) (done_behind axis (i + 1))
+  pub behind-next : (i : ℕ) → i + 1 < axis.len → done_behind axis i ≡ cond (is_done axis (i + 1)) (Some (i + 1)) (done_behind axis (i + 1))
   unfolding done_from
   behind-next i h = go (axis.len - (i + 1)) (axis.len - (i + 1 + 1)) (omega arith)
     where
-      go : (a b : ℕ) → a ≡ suc b → done_from axis a (i + 1) ≡ cond (is_done axis (i + 1)) (Links.To (i + 1)) (done_from axis b (i + 1 + 1))
+      go : (a b : ℕ) → a ≡ suc b → done_from axis a (i + 1) ≡ cond (is_done axis (i + 1)) (Some (i + 1)) (done_from axis b (i + 1 + 1))
       go a b e = rw e
 
 -- ---- the first and the last of all
@@ -95,9 +95,9 @@ done-ends axis k l d =
     by (first_of (is_done axis) axis.len) (last_of (is_done axis) axis.len) (first_is (is_done axis) axis.len) (last_is (is_done axis) axis.len)
   where
     by : (f e : Link) → First (is_done axis) axis.len f → Last (is_done axis) axis.len e → DoneEnds axis
-    by Links.None e x y = absurd (clash _ ((x.none refl).fails k l) d)
-    by (Links.To f) Links.None x y = absurd (clash _ (y.none refl k l) d)
-    by (Links.To f) (Links.To e) x y =
+    by None e x y = absurd (clash _ ((x.none refl).fails k l) d)
+    by (Some f) None x y = absurd (clash _ (y.none refl k l) d)
+    by (Some f) (Some e) x y =
         let low = x.some f refl in
         let high = y.some e refl in
         record {

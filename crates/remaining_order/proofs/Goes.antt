@@ -1,4 +1,5 @@
 -- What Latin's visits leave as it was, the anchor a given and done and no serif near: edges not yet visited, and done ones; and where a visited edge is put.
+use Rattle.std.specs.Prelude.{None, Some}
 use mathlib.Core.Path.{◌≡◌, refl, sym, ap, subst, ◌∙◌}
 use mathlib.Core.Bool.{Bool, true, false}
 use mathlib.Core.Logic.{◌⊎◌, inl, inr, ⊎_elim, ◌≢◌}
@@ -10,8 +11,7 @@ use lib.Dec.{eqb}
 use lib.IntN.{ℤ}
 use lib.ListN.{length}
 use Rattle.signed.proofs.Choices.{cond-false, clash}
-use Rattle.axis.specs.declared.kinds.Link.{Link}
-use Rattle.axis.specs.declared.kinds.Link.TheVariants as Links
+use Rattle.axis.specs.Link.{Link}
 use Rattle.axis.specs.declared.kinds.Mark.{Mark}
 use Rattle.axis.specs.declared.edge.Edge.{Edge}
 use Rattle.axis.specs.declared.edge.Axis.{Axis}
@@ -39,13 +39,13 @@ module _ (axis : Axis) (a : ℕ) where
   pub record Goes (i : ℕ) (s : State) : Type 0 where
     pub len : s.axis.len ≡ axis.len
     pub long : axis.len ≤ length s.axis.edges
-    pub anchor : s.past.anchor ≡ Links.To a
+    pub anchor : s.past.anchor ≡ Some a
     pub later : (j : ℕ) → i ≤ j → edge_at s.axis j ≡ edge_at axis j
     pub kept : (j : ℕ) → is_done axis j ≡ true → edge_at s.axis j ≡ edge_at axis j
     pub opos : (j : ℕ) → (edge_at s.axis j).opos ≡ (edge_at axis j).opos
     pub done : (j : ℕ) → j < i → is_done s.axis j ≡ true
 
-  pub goes-begun : (count : ℕ) → axis.len ≤ length axis.edges → Goes 0 (state axis (begun count (Links.To a)))
+  pub goes-begun : (count : ℕ) → axis.len ≤ length axis.edges → Goes 0 (state axis (begun count (Some a)))
   goes-begun count l =
       record { len = refl; long = l; anchor = refl; later = λ j h. refl; kept = λ j d. refl; opos = λ j. refl; done = λ j h. absurd (omega arith) }
 
@@ -104,18 +104,18 @@ module _ (axis : Axis) (a : ℕ) where
       carried s i (by_bounds s.axis s.past i a b f) ≡ state
       (held s.axis i (by_bounds s.axis s.past i a b f).pos (by_bounds s.axis s.past i a b f).mark) s.past
   unfolding by_bounds stored
-  bounds-carried s i (Links.To b) (Links.To f) = refl
-  bounds-carried s i (Links.To b) Links.None = refl
-  bounds-carried s i Links.None f = refl
+  bounds-carried s i (Some b) (Some f) = refl
+  bounds-carried s i (Some b) None = refl
+  bounds-carried s i None f = refl
 
   module _ (near : NoneNear axis) (i : ℕ) (s : State) (g : Goes i s) (there : i < axis.len) where
-    no_serif : is_done axis i ≡ false → near_of s.axis i (edge_at s.axis i).serif ≡ Links.None
+    no_serif : is_done axis i ≡ false → near_of s.axis i (edge_at s.axis i).serif ≡ None
     unfolding near_of
     no_serif d = ap (λ (e : Edge). near_of s.axis i e.serif) (g.later i (omega arith)) ∙ by (edge_at axis i).serif refl
       where
-        by : (l : Link) → (edge_at axis i).serif ≡ l → near_of s.axis i l ≡ Links.None
-        by Links.None q = refl
-        by (Links.To k) q = cond-false _ _ _ ((λ x. is_close (g.opos i x) (g.opos k x)) ∙ near.at i k there d q)
+        by : (l : Link) → (edge_at axis i).serif ≡ l → near_of s.axis i l ≡ None
+        by None q = refl
+        by (Some k) q = cond-false _ _ _ ((λ x. is_close (g.opos i x) (g.opos k x)) ∙ near.at i k there d q)
 
     plan-is : is_done axis i ≡ false → plan_of Rounds.Latin s.axis s.past i ≡ bounds_at i s
     unfolding plan_of by_serif by_anchor

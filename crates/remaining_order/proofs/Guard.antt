@@ -8,7 +8,7 @@ use lib.IntN.{ℤ, pos}
 use lib.ListN.{length}
 use Rattle.refusals.specs.Refusal.{refusal, answered}
 use Rattle.axis.specs.declared.kinds.Group.TheVariants.{Default}
-use Rattle.axis.specs.declared.kinds.Link.{Link}
+use Rattle.axis.specs.Link.{Link}
 use Rattle.axis.specs.declared.edge.Axis.{Axis}
 use Rattle.gaps.specs.Gaps.{is_done, not_done, counts, counted, found_to, found_in, gaps_tests, refused_by, lost_gaps, EdgesRise}
 use Rattle.gaps.proofs.Order.{done-rise, rise-kept, pass-keeps, order-kept}

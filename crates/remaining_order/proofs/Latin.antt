@@ -1,6 +1,7 @@
 -- Latin's order: where done edges are in order, the anchor is done and no serif is near, all edges are in order behind remaining edges exactly where the places
 -- by the anchor
 -- fit at both ends of the done ones; and so always where the anchor alone is done.
+use Rattle.std.specs.Prelude.{None, Some}
 use mathlib.Core.Path.{◌≡◌, refl, sym, ap, subst, ◌∙◌}
 use mathlib.Core.Bool.{Bool, true, false}
 use mathlib.Core.Logic.{inl, inr, ⊎_elim, ◌≢◌}
@@ -13,8 +14,7 @@ use lib.Signed.{◌≤ℤ◌, ≤ℤ_refl}
 use Rattle.signed.proofs.Choices.{clash}
 use Rattle.signed.proofs.Signed.{lt-or-le}
 use Rattle.axis.specs.declared.kinds.Group.TheVariants.{Default}
-use Rattle.axis.specs.declared.kinds.Link.{Link}
-use Rattle.axis.specs.declared.kinds.Link.TheVariants as Links
+use Rattle.axis.specs.Link.{Link}
 use Rattle.axis.specs.declared.kinds.Mark.{Mark}
 use Rattle.axis.specs.declared.edge.Edge.{Edge}
 use Rattle.axis.specs.declared.edge.Axis.{Axis}
@@ -36,14 +36,14 @@ module _ (axis : Axis) (a first last : ℕ) (r : LatinReady axis a first last) w
   -- ---- by the anchor
   module _ (i : ℕ) (s : State) (g : Goes axis a i s) where
     -- where no done edge is before it, or none behind it
-    front-place : (f : Link) → (by_bounds s.axis s.past i a Links.None f).pos ≡ place_by axis a i
+    front-place : (f : Link) → (by_bounds s.axis s.past i a None f).pos ≡ place_by axis a i
     unfolding by_bounds
     front-place f = place_same axis a i s g r.anchor
 
-    back-place : (b : Link) → (by_bounds s.axis s.past i a b Links.None).pos ≡ place_by axis a i
+    back-place : (b : Link) → (by_bounds s.axis s.past i a b None).pos ≡ place_by axis a i
     unfolding by_bounds
-    back-place Links.None = place_same axis a i s g r.anchor
-    back-place (Links.To b) = place_same axis a i s g r.anchor
+    back-place None = place_same axis a i s g r.anchor
+    back-place (Some b) = place_same axis a i s g r.anchor
 
     abbrev given : ℤ
     given = (bounds_at axis a i s).pos
@@ -55,18 +55,18 @@ module _ (axis : Axis) (a first last : ℕ) (r : LatinReady axis a first last) w
     put = held s.axis i given mark
 
     -- ---- the edge behind the last done one, without a link
-    none-behind : i < axis.len → last < i → done_behind s.axis i ≡ Links.None
+    none-behind : i < axis.len → last < i → done_behind s.axis i ≡ None
     none-behind there l = by (done_behind s.axis i) (from_is s.axis (s.axis.len - (i + 1)) (i + 1))
       where
-        by : (f : Link) → Next s.axis (s.axis.len - (i + 1)) (i + 1) f → f ≡ Links.None
-        by Links.None x = refl
-        by (Links.To f) x =
+        by : (f : Link) → Next s.axis (s.axis.len - (i + 1)) (i + 1) f → f ≡ None
+        by None x = refl
+        by (Some f) x =
             let n = x.some f refl in
             let k = n.from in
             let b = n.below in
             absurd (clash _ (r.last_done.later f (omega arith) (omega (arith, g.len))) (sym (done-same axis a i s g f (omega arith)) ∙ n.done))
 
-    put_back : i < axis.len → is_done s.axis i ≡ false → last < i → (edge_at axis i).link ≡ Links.None → (edge_at put i).pos ≡ place_by axis a i
+    put_back : i < axis.len → is_done s.axis i ≡ false → last < i → (edge_at axis i).link ≡ None → (edge_at put i).pos ≡ place_by axis a i
     put_back there d l n =
         ap (λ (x : Axis). (edge_at x i).pos) (held-unlinked s.axis i given mark here (ap (λ (e : Edge). e.link) (g.later i (omega arith)) ∙ n))
         ∙ fixed-own s.axis i given mark here
@@ -89,7 +89,7 @@ module _ (axis : Axis) (a first last : ℕ) (r : LatinReady axis a first last) w
   record Ends (i : ℕ) (s : State) : Type 0 where
     goes : Goes axis a i s
     front : 0 < i → is_done axis 0 ≡ false → (edge_at s.axis 0).pos ≡ place_by axis a 0
-    back : last + 1 < i → (edge_at axis (last + 1)).link ≡ Links.None → (edge_at s.axis (last + 1)).pos ≡ place_by axis a (last + 1)
+    back : last + 1 < i → (edge_at axis (last + 1)).link ≡ None → (edge_at s.axis (last + 1)).pos ≡ place_by axis a (last + 1)
 
   ends_next : (i : ℕ) (s : State) → i < axis.len → Ends i s → (visit Rounds.Latin s i).past.beyond ≡ false → Ends (i + 1) (visit Rounds.Latin s i)
   ends_next i s there h e = latin-cases axis a r.none_near i s g there (Ends (i + 1)) e done left
@@ -120,7 +120,7 @@ module _ (axis : Axis) (a first last : ℕ) (r : LatinReady axis a first last) w
         back = λ q n. ⊎_elim
             (λ (z : last + 1 ≡ i).
             subst (λ (k : ℕ). (edge_at (put i s g) k).pos ≡ place_by axis a k) (sym z)
-            (put_back i s g there d (omega arith) (subst (λ (k : ℕ). (edge_at axis k).link ≡ Links.None) z n)))
+            (put_back i s g there d (omega arith) (subst (λ (k : ℕ). (edge_at axis k).link ≡ None) z n)))
             (λ (l : last + 1 < i). ap (λ (x : Edge). x.pos) (held-other s.axis i (given i s g) (mark i s g) (last + 1) (λ w. omega (arith, w, l)))
             ∙ h.back l n)
             (eq-or-lt_of_le (omega arith));
@@ -172,7 +172,7 @@ module _ (axis : Axis) (a first last : ℕ) (r : LatinReady axis a first last) w
         where
           by : (b f : Link) → Last (is_done s.axis) i b → Next s.axis (s.axis.len - (i + 1)) (i + 1) f
               → Lies i s (by_bounds s.axis s.past i a b f).pos
-          by Links.None f x y =
+          by None f x y =
               let z : i ≡ 0 =
               ⊎_elim (λ (q : 0 < i). absurd (clash _ (x.none refl 0 q) (g.done 0 q))) (λ (q : i ≤ 0). omega arith) (lt-or-le 0 i) in
               record {
@@ -180,21 +180,21 @@ module _ (axis : Axis) (a first last : ℕ) (r : LatinReady axis a first last) w
                 over = λ k l b q. le-by (front-place i s g f) refl (over-front z k l b q);
                 spaced = λ n. front-place i s g f;
               }
-          by (Links.To b) Links.None x y = record {
-            under = λ k e. le-by refl (back-place i s g (Links.To b)) (h.ahead k e there (λ j l m.
+          by (Some b) None x y = record {
+            under = λ k e. le-by refl (back-place i s g (Some b)) (h.ahead k e there (λ j l m.
                 ⊎_elim (λ (z : i ≡ j). subst (λ (v : ℕ). is_done axis v ≡ false) z was)
                 (λ (z : i < j). sym (done-same axis a i s g j l) ∙ y.none refl j (omega arith) (omega (arith, g.len)))
                 (eq-or-lt_of_le l)));
             over = λ k l b q. absurd (clash _ (y.none refl k (omega arith) (omega (arith, g.len))) q);
-            spaced = λ n. back-place i s g (Links.To b);
+            spaced = λ n. back-place i s g (Some b);
           }
-          by (Links.To b) (Links.To f) x y =
+          by (Some b) (Some f) x y =
               let before = x.some b refl in
               let behind = y.some f refl in
               let lower = before.order in
               let upper = behind.from in
               let below : f < axis.len = omega (arith, behind.below, g.len) in
-              let p = (by_bounds s.axis s.past i a (Links.To b) (Links.To f)).pos in
+              let p = (by_bounds s.axis s.past i a (Some b) (Some f)).pos in
               let rising = (latin-lies (edge_at s.axis b) (edge_at s.axis f) (edge_at s.axis i) s.past
               (le-by (g.opos b) (g.opos i) (r.rise.at b i lower there)) (le-by (g.opos i) (g.opos f) (r.rise.at i f (omega arith) below))).rising
               (h.in_order.at b f (omega arith) (omega (arith, g.len)) before.passes behind.done) in
@@ -300,9 +300,9 @@ module _ (axis : Axis) (a first last : ℕ) (r : LatinReady axis a first last) w
         latin-cases axis a r.none_near i s h.goes there (Orderly (i + 1)) e (λ d. orderly-on i s there d h) (λ d. orderly-put i s there d h)
 
   -- ---- all visits
-  module _ (count : ℕ) (e : (align_remaining_edges axis Default count (Links.To a)).answer ≡ 0) where
+  module _ (count : ℕ) (e : (align_remaining_edges axis Default count (Some a)).answer ≡ 0) where
     abbrev start : State
-    start = state axis (begun count (Links.To a))
+    start = state axis (begun count (Some a))
 
     abbrev end : State
     end = visited Rounds.Latin start
@@ -310,14 +310,14 @@ module _ (axis : Axis) (a first last : ℕ) (r : LatinReady axis a first last) w
     begins : Goes axis a 0 start
     begins = goes-begun axis a count r.places
 
-    done-with : Passed axis Default count (Links.To a)
-    done-with = passed axis Default count (Links.To a) e
+    done-with : Passed axis Default count (Some a)
+    done-with = passed axis Default count (Some a) e
 
     none_beyond : end.past.beyond ≡ false
     unfolding pass_of
     none_beyond = done-with.none_beyond
 
-    outcome : (align_remaining_edges axis Default count (Links.To a)).axis ≡ end.axis
+    outcome : (align_remaining_edges axis Default count (Some a)).axis ≡ end.axis
     unfolding pass_of
     outcome = done-with.edges
 
@@ -350,7 +350,7 @@ module _ (axis : Axis) (a first last : ℕ) (r : LatinReady axis a first last) w
             (eq-or-lt_of_le (omega arith)) in
             inr (le-by (sym (ends.front (omega arith) q)) (sym (kept-pos first f.done)) (o.at 0 first n (omega (arith, ends.goes.len))))
 
-    above-fits : (edge_at axis (last + 1)).link ≡ Links.None → InOrder end.axis → FitsAbove axis a last
+    above-fits : (edge_at axis (last + 1)).link ≡ None → InOrder end.axis → FitsAbove axis a last
     above-fits n o =
         ⊎_elim
         (λ (l : last + 1 < axis.len). inr (le-by (sym (kept-pos last r.last_done.done)) (sym (ends.back l n))
@@ -384,6 +384,6 @@ module _ (axis : Axis) (a : ℕ) (r : LatinReady axis a a a) where
       (λ (l : axis.len ≤ a + 1). let z : a ≡ axis.len - 1 = omega arith in inl (subst (λ (y : ℕ). is_done axis y ≡ true) z r.anchor))
       (lt-or-le (a + 1) axis.len)
 
-  pub anchor-alone : (count : ℕ) → (align_remaining_edges axis Default count (Links.To a)).answer ≡ 0
-      → InOrder (align_remaining_edges axis Default count (Links.To a)).axis
+  pub anchor-alone : (count : ℕ) → (align_remaining_edges axis Default count (Some a)).answer ≡ 0
+      → InOrder (align_remaining_edges axis Default count (Some a)).axis
   anchor-alone count e = (latin-order axis a a a r count e).in_order alone-below alone-above

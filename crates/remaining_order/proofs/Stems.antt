@@ -1,6 +1,7 @@
 -- Behind the stem pass with none passed over every edge is done, and remaining edges change nothing: so `hint_edges`' own condition for calling them decides
 -- nothing, with the
 -- lowercase m rule in between or without.
+use Rattle.std.specs.Prelude.{None}
 use mathlib.Core.Path.{◌≡◌, refl, sym, ap, ◌∙◌}
 use mathlib.Core.Bool.{Bool, true, false, not, cond, ◌||◌}
 use mathlib.Core.List.{List, [], ◌∷◌}
@@ -13,8 +14,7 @@ use lib.ListN.{length}
 use Rattle.refusals.specs.Refusal.{◌unless◌, refusal, answered, bad_index, steep}
 use Rattle.fixed.specs.declared.width.WidthRule.{WidthRule}
 use Rattle.axis.specs.declared.kinds.Group.{Group}
-use Rattle.axis.specs.declared.kinds.Link.{Link}
-use Rattle.axis.specs.declared.kinds.Link.TheVariants as Links
+use Rattle.axis.specs.Link.{Link}
 use Rattle.axis.specs.declared.edge.Edge.{Edge}
 use Rattle.axis.specs.declared.edge.Axis.{Axis}
 use Rattle.axis.specs.Changes.{Extent, nothing, position, place, zone, Only, OnlyAxis}
@@ -24,7 +24,7 @@ use Rattle.axis.proofs.Only.{same-axis}
 use Rattle.gaps.specs.Gaps.{is_done}
 use Rattle.lowercase_m.specs.M.{hint_lowercase_m}
 use Rattle.lowercase_m.proofs.Changed as M
-use Rattle.stems.specs.declared.outcome.Stems.{Stems}
+use Rattle.stems.specs.Answer.{Stems}
 use Rattle.stems.specs.Stems.{align_stem_edges}
 use Rattle.stems.proofs.Changed as Changed
 use Rattle.stems.proofs.Done.{none-passed-over}
@@ -45,9 +45,9 @@ module _ (axis : Axis) (group : Group) (count : ℕ) (given : Link) (all : (j : 
       ∷ []))
       (λ i. (stays i).past.beyond)
 
-  call : align_remaining_edges axis group count given ≡ answered (refusal (table_tests axis given)) (remaining Links.None axis) (remaining given axis 0)
+  call : align_remaining_edges axis group count given ≡ answered (refusal (table_tests axis given)) (remaining None axis) (remaining given axis 0)
   unfolding align_remaining_edges
-  call = λ i. answered (tests i) (remaining Links.None axis) (outcome (stays i))
+  call = λ i. answered (tests i) (remaining None axis) (outcome (stays i))
 
   pub none_left : NoneLeft axis group count given
   none_left = record {
@@ -59,16 +59,16 @@ module _ (axis : Axis) (group : Group) (count : ℕ) (given : Link) (all : (j : 
     };
   }
     where
-      by-axis : (k : ℕ) → (answered k (remaining Links.None axis) (remaining given axis 0)).axis ≡ axis
+      by-axis : (k : ℕ) → (answered k (remaining None axis) (remaining given axis 0)).axis ≡ axis
       by-axis zero = refl
       by-axis (suc k) = refl
 
-      by_answer : (k : ℕ) → (answered k (remaining Links.None axis) (remaining given axis 0)).answer ≡ k
+      by_answer : (k : ℕ) → (answered k (remaining None axis) (remaining given axis 0)).answer ≡ k
       by_answer zero = refl
       by_answer (suc k) = refl
 
-      by-anchor : (k : ℕ) → (answered k (remaining Links.None axis) (remaining given axis 0)).answer ≡ 0
-          → (answered k (remaining Links.None axis) (remaining given axis 0)).anchor ≡ given
+      by-anchor : (k : ℕ) → (answered k (remaining None axis) (remaining given axis 0)).answer ≡ 0
+          → (answered k (remaining None axis) (remaining given axis 0)).anchor ≡ given
       by-anchor zero e = refl
       by-anchor (suc k) e = absurd (omega (arith, e))
 

@@ -1,5 +1,6 @@
 -- What a store of Latin's leaves: no other edge is changed, the edge itself is done, and it stays where it is put if it has passed no neighbour, or has no
 -- link.
+use Rattle.std.specs.Prelude.{None, Some}
 use mathlib.Core.Path.{◌≡◌, refl, sym, ap, ◌∙◌}
 use mathlib.Core.Bool.{Bool, true, false, cond, ◌&&◌}
 use mathlib.Core.List.{[], ◌∷◌}
@@ -15,8 +16,7 @@ use lib.Signed.{◌≤ℤ◌}
 use Rattle.signed.proofs.Choices.{cond-false, either_way}
 use Rattle.signed.proofs.Signed.{signed, to-lt-false}
 use Rattle.refusals.proofs.Tests.{and_first, and_second}
-use Rattle.axis.specs.declared.kinds.Link.{Link}
-use Rattle.axis.specs.declared.kinds.Link.TheVariants as Links
+use Rattle.axis.specs.Link.{Link}
 use Rattle.axis.specs.declared.kinds.Mark.{Mark}
 use Rattle.axis.specs.declared.kinds.Mark.TheVariants.{Bound}
 use Rattle.axis.specs.declared.edge.Edge.{Edge}
@@ -65,21 +65,21 @@ next-stays axis zero h = refl
 next-stays axis (suc g) h = by (ltb (suc g + 1) axis.len && is_done axis (suc g + 1)) refl
   where
     by : (t : Bool) → (ltb (suc g + 1) axis.len && is_done axis (suc g + 1)) ≡ t
-        → bound_by axis g (suc g) Next (cond t (Links.To (suc g + 1)) Links.None) ≡ axis
+        → bound_by axis g (suc g) Next (cond t (Some (suc g + 1)) None) ≡ axis
     by false q = refl
     by true q =
         let k = h (ltb-true _ _ (and_first (ltb (suc g + 1) axis.len) _ q)) (and_second (ltb (suc g + 1) axis.len) _ q) in
         cond-false _ _ axis (to-lt-false (edge_at axis (suc g + 1)).pos (edge_at axis (suc g)).pos (omega (arith, signed)))
 
 -- it has no link
-unlinked-stays : (axis : Axis) (i : ℕ) (dir : LinkDir) → (edge_at axis i).link ≡ Links.None → adjusted axis i dir ≡ axis
+unlinked-stays : (axis : Axis) (i : ℕ) (dir : LinkDir) → (edge_at axis i).link ≡ None → adjusted axis i dir ≡ axis
 unfolding adjusted bound_by held_to
 unlinked-stays axis zero dir e = refl
 unlinked-stays axis (suc g) dir e = by (neighbour dir axis (suc g))
   where
     by : (l : Link) → bound_by axis g (suc g) dir l ≡ axis
-    by Links.None = refl
-    by (Links.To k) =
+    by None = refl
+    by (Some k) =
         either_way (λ (x : Axis). x ≡ axis) (has_passed dir (edge_at axis (suc g)).pos (edge_at axis k).pos)
         (held_to axis g (suc g) k (edge_at axis (suc g)).link) axis
         (ap (held_to axis g (suc g) k) e) refl
@@ -129,7 +129,7 @@ module _ (axis : Axis) (i : ℕ) (p : ℤ) (m : Mark) where
           omega (arith, signed, a, other, own))
 
   -- and where it has no link
-  pub held-unlinked : i < length axis.edges → (edge_at axis i).link ≡ Links.None → held axis i p m ≡ fix_at axis i p m
+  pub held-unlinked : i < length axis.edges → (edge_at axis i).link ≡ None → held axis i p m ≡ fix_at axis i p m
   held-unlinked h n =
       let e = ap (λ (x : Edge). x.link) (get_or-set_same axis.edges i (fixed_at (edge_at axis i) p m) empty_edge h) ∙ n in
       ap (λ (x : Axis). adjusted x i Next) (unlinked-stays (fix_at axis i p m) i Prev e) ∙ unlinked-stays (fix_at axis i p m) i Next e

@@ -1,4 +1,5 @@
 -- Visits that give no position that no edge may have: what holds before them and is kept by each holds behind all.
+use Rattle.std.specs.Prelude.{None}
 use mathlib.Core.Path.{◌≡◌, refl, ap, subst}
 use mathlib.Core.Bool.{Bool, true, false, cond, ◌||◌}
 use Prim.Native.Nat.{ℕ, zero, suc, ◌+◌, ◌≤◌, ◌<◌}
@@ -9,8 +10,7 @@ use Rattle.refusals.proofs.Answers.{none-refused, worked}
 use Rattle.refusals.proofs.Tests.{all_hold}
 use Rattle.signed.proofs.Choices.{cond_cases, clash}
 use Rattle.axis.specs.declared.kinds.Group.{Group}
-use Rattle.axis.specs.declared.kinds.Link.{Link}
-use Rattle.axis.specs.declared.kinds.Link.TheVariants as Links
+use Rattle.axis.specs.Link.{Link}
 use Rattle.axis.specs.declared.edge.Axis.{Axis}
 use Rattle.axis.specs.Limits.{most_pos}
 use Rattle.axis.specs.Refusals.{within}
@@ -34,10 +34,10 @@ unfolding align_remaining_edges
 passed axis group count anchor e =
     let s = remaining_of axis group count anchor in
     let ts = remaining_tests axis group count anchor in
-    let none = none-refused (remaining Links.None axis) (outcome s) (λ (r : Remaining). r.answer) (λ k. refl) (refusal ts) e in
+    let none = none-refused (remaining None axis) (outcome s) (λ (r : Remaining). r.answer) (λ k. refl) (refusal ts) e in
     record {
       none_beyond = not-true _ (all_hold ts refl none).1.1.1.1.0;
-      edges = ap (λ (r : Remaining). r.axis) (worked (remaining Links.None axis) (outcome s) (refusal ts) none);
+      edges = ap (λ (r : Remaining). r.axis) (worked (remaining None axis) (outcome s) (refusal ts) none);
     }
 
 -- ---- visits

@@ -1,5 +1,6 @@
 -- Tables by hand that are out of order behind remaining edges, small ones of each kind, and what the guard then tells of them: it names them, with least 0 and
 -- links not asked for.
+use Rattle.std.specs.Prelude.{None, Some}
 use mathlib.Core.Path.{◌≡◌, refl}
 use mathlib.Core.Bool.{false}
 use mathlib.Core.List.{List, [], ◌∷◌, map}
@@ -14,8 +15,7 @@ use Rattle.fixed_ratio.specs.Ratio.{mul_div}
 use Rattle.axis.specs.declared.kinds.Dimension.TheVariants.{Vertical}
 use Rattle.axis.specs.declared.kinds.Direction.TheVariants as Directions
 use Rattle.axis.specs.declared.kinds.Group.TheVariants.{Default}
-use Rattle.axis.specs.declared.kinds.Link.{Link}
-use Rattle.axis.specs.declared.kinds.Link.TheVariants as Links
+use Rattle.axis.specs.Link.{Link}
 use Rattle.axis.specs.declared.kinds.Mark.TheVariants.{Stem}
 use Rattle.axis.specs.declared.edge.Edge.{Edge}
 use Rattle.axis.specs.Edge.{fresh_edge, placed, finished, joined_to}
@@ -23,7 +23,7 @@ use Rattle.axis.specs.Link.{links_to}
 use Rattle.axis.specs.Refusals.{link_holds, blue_holds, every, edge_indices, edge_numbers, edges_indices, edges_numbers}
 use Rattle.axis.specs.Visits.{visits}
 use Rattle.place.specs.Placing.{serif_pos, lower_bound, upper_bound, has_passed, neighbour, held_to, bound_by, adjusted}
-use Rattle.gaps.specs.declared.find.Gaps.{Gaps}
+use Rattle.gaps.specs.Answer.{Gaps}
 use Rattle.gaps.specs.Gaps.{row_from, rows, gone, lost_gap, lost_stem, lost, last_of, pair_to, ends, counted, first_of, found_to, lost_gaps}
 use Rattle.remaining.specs.Plan.{half_floor, spaced_pos, between_pos}
 use Rattle.remaining.specs.Remaining.{
@@ -52,10 +52,10 @@ done o p = finished (placed (left o) p Stem)
 
 -- with a serif, and with a link
 abbrev serif : ℕ → Edge → Edge
-serif k e = joined_to e e.link (Links.To k)
+serif k e = joined_to e e.link (Some k)
 
 abbrev link : ℕ → Edge → Edge
-link k e = joined_to e (Links.To k) e.serif
+link k e = joined_to e (Some k) e.serif
 
 -- ---- what they come to
 abbrev behind : Link → List Edge → Remaining
@@ -77,20 +77,20 @@ guarded anchor es =
 -- so many gaps lost, and the first of them
 abbrev losing : ℕ → ℕ → ℕ → ℤ → ℤ → Gaps
 losing gaps i j before after =
-    record { answer = 0; count = gaps; pair = record { first = Links.To i; second = Links.To j; before = before; after = after }; stems = 0; not_done = 0 }
+    record { answer = 0; count = gaps; pair = record { first = Some i; second = Some j; before = before; after = after }; stems = 0; not_done = 0 }
 
 abbrev zeroth : Link
-zeroth = Links.To 0
+zeroth = Some 0
 
 record Worked : Type 0 where
   -- no anchor: the first edge becomes it, above the one that is done, and the second comes between the two
-  turned : guarded Links.None (left (pos 40) ∷ left (pos 50) ∷ done (pos 60) (pos 60) ∷ [])
+  turned : guarded None (left (pos 40) ∷ left (pos 50) ∷ done (pos 60) (pos 60) ∷ [])
       ≡ told 0 (pos 64 ∷ pos 62 ∷ pos 60 ∷ []) (losing 2 0 1 (pos 10) (minus 2))
-  turned_two : guarded Links.None (left (pos 0) ∷ done (pos 1) (minus 1) ∷ []) ≡ told 0 (pos 0 ∷ minus 1 ∷ []) (losing 1 0 1 (pos 1) (minus 1))
+  turned_two : guarded None (left (pos 0) ∷ done (pos 1) (minus 1) ∷ []) ≡ told 0 (pos 0 ∷ minus 1 ∷ []) (losing 1 0 1 (pos 1) (minus 1))
   -- a serif alone: by an edge that is not done, which then becomes the anchor
-  near-serif : guarded Links.None (serif 1 (left (pos 1)) ∷ left (pos 2) ∷ []) ≡ told 0 (pos 1 ∷ pos 0 ∷ []) (losing 1 0 1 (pos 1) (minus 1))
+  near-serif : guarded None (serif 1 (left (pos 1)) ∷ left (pos 2) ∷ []) ≡ told 0 (pos 1 ∷ pos 0 ∷ []) (losing 1 0 1 (pos 1) (minus 1))
   -- the place by the anchor is above the first done edge
-  below : guarded (Links.To 2) (left (minus 3) ∷ done (pos 0) (minus 5) ∷ done (pos 2) (pos 0) ∷ [])
+  below : guarded (Some 2) (left (minus 3) ∷ done (pos 0) (minus 5) ∷ done (pos 2) (pos 0) ∷ [])
       ≡ told 0 (pos 0 ∷ minus 5 ∷ pos 0 ∷ []) (losing 2 0 1 (pos 3) (minus 5))
   -- it is below the last done edge
   above : guarded zeroth (done (minus 3) (minus 2) ∷ done (pos 0) (minus 1) ∷ left (pos 1) ∷ [])
@@ -101,7 +101,7 @@ record Worked : Type 0 where
   above_held : guarded zeroth (done (minus 30) (minus 40) ∷ done (pos 0) (minus 1) ∷ link 0 (left (pos 1)) ∷ [])
       ≡ told 0 (minus 40 ∷ minus 1 ∷ minus 1 ∷ []) (losing 1 1 2 (pos 1) (pos 0))
   -- below the first done edge a link mends nothing: edge 0 is held to none
-  below_linked : guarded (Links.To 2) (link 2 (left (minus 3)) ∷ done (pos 0) (minus 5) ∷ done (pos 2) (pos 0) ∷ [])
+  below_linked : guarded (Some 2) (link 2 (left (minus 3)) ∷ done (pos 0) (minus 5) ∷ done (pos 2) (pos 0) ∷ [])
       ≡ told 0 (pos 0 ∷ minus 5 ∷ pos 0 ∷ []) (losing 2 0 1 (pos 3) (minus 5))
 
 worked : Worked

@@ -2,11 +2,11 @@
 use Rattle.std.specs.Prelude.{◌≡◌, Bool, true, not, cond, ◌||◌, ℕ, ◌<◌, ltb}
 use Rattle.refusals.specs.Refusal.{refusal}
 use Rattle.axis.specs.declared.kinds.Group.{Group}
-use Rattle.axis.specs.declared.kinds.Link.{Link}
+use Rattle.axis.specs.Link.{Link}
 use Rattle.axis.specs.declared.edge.Axis.{Axis}
 use Rattle.axis.specs.Link.{is_linked}
 use Rattle.gaps.specs.Gaps.{is_done}
-use Rattle.stems.specs.declared.outcome.Stems.{Stems}
+use Rattle.stems.specs.Answer.{Stems}
 use Rattle.remaining.specs.Remaining.{table_tests, align_remaining_edges}
 
 -- something was passed over, or there is no anchor

@@ -1,7 +1,7 @@
 -- The order of edges behind remaining edges: what is needed of edges before, and what decides.
+use Rattle.std.specs.Prelude.{None, Some}
 use Rattle.std.specs.Prelude.{◌≡◌, true, false, ◌⊎◌, ℕ, ◌+◌, ◌-◌, ◌≤◌, ◌<◌, ℤ, length, ◌≤ℤ◌}
 use Rattle.axis.specs.declared.kinds.Group.TheVariants.{Default}
-use Rattle.axis.specs.declared.kinds.Link.TheVariants as Links
 use Rattle.axis.specs.declared.edge.Axis.{Axis}
 use Rattle.axis.specs.Edge.{edge_at}
 use Rattle.gaps.specs.Gaps.{is_done, EdgesRise}
@@ -31,7 +31,7 @@ pub record LastDone (axis : Axis) (i : ℕ) : Type 0 where
 -- ---- Latin
 -- no edge that is not done has a serif nearer than 80
 pub record NoneNear (axis : Axis) : Type 0 where
-  pub at : (i k : ℕ) → i < axis.len → is_done axis i ≡ false → (edge_at axis i).serif ≡ Links.To k → is_near (edge_at axis i) (edge_at axis k) ≡ false
+  pub at : (i k : ℕ) → i < axis.len → is_done axis i ≡ false → (edge_at axis i).serif ≡ Some k → is_near (edge_at axis i) (edge_at axis k) ≡ false
 
 -- what is needed before: a place for each edge, original positions that do not fall, done edges in order, the anchor a done, no near serif; and which done edges are the first and the last
 pub record LatinReady (axis : Axis) (a first last : ℕ) : Type 0 where
@@ -58,9 +58,9 @@ FitsAbove axis a last = (is_done axis (axis.len - 1) ≡ true) ⊎ ((edge_at axi
 -- shown of a call that answers 0: all edges are in order behind it exactly where both hold; but where the edge behind the last done one has a link, it may be held to that, and the second
 -- is not needed
 pub record LatinOrder (axis : Axis) (count a first last : ℕ) : Type 0 where
-  pub in_order : FitsBelow axis a first → FitsAbove axis a last → InOrder (align_remaining_edges axis Default count (Links.To a)).axis
-  pub fits_below : InOrder (align_remaining_edges axis Default count (Links.To a)).axis → FitsBelow axis a first
-  pub fits_above : (edge_at axis (last + 1)).link ≡ Links.None → InOrder (align_remaining_edges axis Default count (Links.To a)).axis → FitsAbove axis a last
+  pub in_order : FitsBelow axis a first → FitsAbove axis a last → InOrder (align_remaining_edges axis Default count (Some a)).axis
+  pub fits_below : InOrder (align_remaining_edges axis Default count (Some a)).axis → FitsBelow axis a first
+  pub fits_above : (edge_at axis (last + 1)).link ≡ None → InOrder (align_remaining_edges axis Default count (Some a)).axis → FitsAbove axis a last
 
 -- ---- CJK
 -- font positions do not fall
@@ -76,4 +76,4 @@ pub record CjkReady (axis : Axis) (k : ℕ) : Type 0 where
   pub in_order : DoneInOrder axis
   pub there : k < axis.len
   pub done : is_done axis k ≡ true
-  pub no_serif : (i : ℕ) → i < axis.len → is_done axis i ≡ false → (edge_at axis i).serif ≡ Links.None
+  pub no_serif : (i : ℕ) → i < axis.len → is_done axis i ≡ false → (edge_at axis i).serif ≡ None

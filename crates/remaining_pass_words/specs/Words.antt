@@ -1,10 +1,9 @@
 -- Remaining edges in place: what is read of an edge, its stores as what they make of an axis, and the loops by the definition of `remaining`.
+use Rattle.std.specs.Prelude.{None}
 use Rattle.std.specs.Prelude.{◌≡◌, List, ℕ, ◌<◌, length, ℤ}
-use Rattle.axis.specs.declared.kinds.Blue.TheVariants as Blues
 use Rattle.axis.specs.declared.kinds.Dimension.{Dimension}
 use Rattle.axis.specs.declared.kinds.Direction.TheVariants as Directions
 use Rattle.axis.specs.declared.kinds.Group.{Group}
-use Rattle.axis.specs.declared.kinds.Link.TheVariants as Links
 use Rattle.axis.specs.declared.kinds.Mark.{Mark}
 use Rattle.axis.specs.declared.kinds.Mark.TheVariants as Marks
 use Rattle.axis.specs.declared.edge.Edge.{Edge}
@@ -28,8 +27,8 @@ asked e = record {
   pos = e.pos;
   flags = e.flags;
   dir = Directions.None;
-  blue = Blues.None;
-  link = Links.None;
+  blue = None;
+  link = None;
   serif = e.serif;
   first = 0;
   last = 0;

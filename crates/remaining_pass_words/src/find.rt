@@ -9,7 +9,6 @@ ghost use Rattle.words_edge.specs.Whole.{Whole};
 ghost use Rattle.remaining.specs.Remaining.{done_before, done_behind, near_of};
 
 use super::read::read_edge;
-use axis::kinds::Link;
 use remaining::plan::is_near;
 use words::edge::EDGE_WORDS;
 
@@ -23,47 +22,45 @@ pub fn is_done(words: &[i32], i: usize) -> bool
 }
 
 // The nearest done edge before an edge.
-pub fn done_before(words: &[i32], i: usize) -> Link
+pub fn done_before(words: &[i32], i: usize) -> Option<u16>
     requires { Whole words.now × (i < edges_in words.now) }
     ensures { result ≡ done_before (edges_of words.now) i }
 {
-    let mut k = i;
-    while 0 < k {
-        k = k - 1;
+    for k in (0..i).rev() {
         if is_done(words, k) {
-            return Link::To(k as u16);
+            return Some(k as u16);
         }
     }
-    Link::None
+    None
 }
 
 // The nearest done edge behind an edge.
-pub fn done_behind(words: &[i32], i: usize) -> Link
+pub fn done_behind(words: &[i32], i: usize) -> Option<u16>
     requires { Whole words.now × (i < edges_in words.now) }
     ensures { result ≡ done_behind (edges_of words.now) i }
 {
     let n = words.len() / EDGE_WORDS;
     for k in i + 1..n {
         if is_done(words, k) {
-            return Link::To(k as u16);
+            return Some(k as u16);
         }
     }
-    Link::None
+    None
 }
 
 // The edge whose serif an edge is, where that is near enough for Latin.
-pub fn near_serif(words: &[i32], i: usize) -> Link
+pub fn near_serif(words: &[i32], i: usize) -> Option<u16>
     requires { Whole words.now × AxisWithin most_pos (edges_of words.now) × (i < edges_in words.now) }
     ensures { result ≡ near_of (edges_of words.now) i (edge_at (edges_of words.now) i).serif }
 {
     let edge = read_edge(words, i);
     let serif = edge.serif;
-    let Link::To(k) = serif else {
-        return Link::None;
+    let Some(k) = serif else {
+        return None;
     };
     let base = read_edge(words, k as usize);
     if is_near(edge, base) {
-        return Link::To(k);
+        return Some(k);
     }
-    Link::None
+    None
 }

@@ -9,7 +9,6 @@ ghost use Rattle.remaining_pass_words.specs.Words.{Ready};
 
 use super::find::{done_before, done_behind, near_serif};
 use super::read::read_edge;
-use axis::kinds::Link;
 use remaining::kinds::{Plan, Progress, Round, Way};
 use remaining::plan::{
     anchor_plan, cjk_between, latin_between, one_less, serif_plan, spaced_plan, stays_plan,
@@ -32,10 +31,10 @@ fn by_bounds(words: &[i32], past: Progress, i: usize, a: usize) -> Plan
     let edge = read_edge(words, i);
     let before = done_before(words, i);
     let behind = done_behind(words, i);
-    let Link::To(b) = before else {
+    let Some(b) = before else {
         return spaced_plan(read_edge(words, a), edge, past);
     };
-    let Link::To(f) = behind else {
+    let Some(f) = behind else {
         return spaced_plan(read_edge(words, a), edge, past);
     };
     let first = read_edge(words, b as usize);
@@ -49,11 +48,11 @@ fn latin_plan(words: &[i32], past: Progress, i: usize) -> Plan
     ensures { result ≡ latin_plan (edges_of words.now) past i }
 {
     let serif = near_serif(words, i);
-    if let Link::To(k) = serif {
+    if let Some(k) = serif {
         return by_serif(words, past, i, k as usize, Way::Held);
     }
     let anchor = past.anchor;
-    let Link::To(a) = anchor else {
+    let Some(a) = anchor else {
         return anchor_plan(read_edge(words, i), i, past);
     };
     by_bounds(words, past, i, a as usize)
@@ -66,7 +65,7 @@ fn serifs_plan(words: &[i32], past: Progress, i: usize) -> Plan
 {
     let edge = read_edge(words, i);
     let serif = edge.serif;
-    let Link::To(k) = serif else {
+    let Some(k) = serif else {
         return stays_plan(edge, past);
     };
     by_serif(words, one_less(past), i, k as usize, Way::Fixed)
@@ -80,13 +79,13 @@ fn others_plan(words: &[i32], past: Progress, i: usize) -> Plan
     let edge = read_edge(words, i);
     let before = done_before(words, i);
     let behind = done_behind(words, i);
-    let Link::To(b) = before else {
-        let Link::To(f) = behind else {
+    let Some(b) = before else {
+        let Some(f) = behind else {
             return stays_plan(edge, past);
         };
         return by_serif(words, past, i, f as usize, Way::Placed);
     };
-    let Link::To(f) = behind else {
+    let Some(f) = behind else {
         return by_serif(words, past, i, b as usize, Way::Placed);
     };
     let first = read_edge(words, b as usize);

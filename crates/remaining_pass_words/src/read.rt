@@ -7,7 +7,7 @@ ghost use Rattle.words_edge.specs.Whole.{Whole};
 ghost use Rattle.remaining_pass_words.specs.Words.{asked};
 
 use axis::edge::Edge;
-use axis::kinds::{Blue, Direction, Link, Mark};
+use axis::kinds::{Direction, Mark};
 use words::edge::{EDGE_WORDS, FLAGS_PLACE, OPOS_PLACE, POS_PLACE, SERIF_PLACE};
 use words::field::{flags_of, link_of, short_of};
 use words::word::read_word;
@@ -24,8 +24,8 @@ pub fn read_edge(words: &[i32], i: usize) -> Edge
         pos: read_word(words, at + POS_PLACE),
         flags: flags_of(read_word(words, at + FLAGS_PLACE)),
         dir: Direction::None,
-        blue: Blue::None,
-        link: Link::None,
+        blue: None,
+        link: None,
         serif: link_of(read_word(words, at + SERIF_PLACE)),
         first: 0,
         last: 0,

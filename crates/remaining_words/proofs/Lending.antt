@@ -1,4 +1,5 @@
 -- The call, by what the test of its edges tells and what the loops come to.
+use Rattle.std.specs.Prelude.{None}
 use mathlib.Core.Path.{◌≡◌, refl, sym, ap, subst, ◌∙◌}
 use mathlib.Core.Bool.{Bool, true, false, not, cond, ◌&&◌}
 use mathlib.Core.List.{List, [], ◌∷◌}
@@ -11,8 +12,7 @@ use Rattle.refusals.specs.Refusal.{Test, ◌unless◌, steep, refusal, answered}
 use Rattle.refusals.proofs.Tests.{all_hold, own_first}
 use Rattle.axis.specs.declared.kinds.Dimension.TheVariants.{Horizontal}
 use Rattle.axis.specs.declared.kinds.Group.{Group}
-use Rattle.axis.specs.declared.kinds.Link.{Link}
-use Rattle.axis.specs.declared.kinds.Link.TheVariants as Links
+use Rattle.axis.specs.Link.{Link}
 use Rattle.axis.specs.declared.edge.Axis.{Axis}
 use Rattle.axis.specs.Limits.{most_edges}
 use Rattle.axis.specs.Refusals.{link_holds, edges_indices, edges_numbers}
@@ -80,7 +80,7 @@ module _ (ws : List ℤ) (dim group count anchor old : ℤ) {start : Link} {r : 
   final = refusal (steep unless not S.past.beyond ∷ [])
 
   abbrev none : ℕ → Remaining
-  none = remaining Links.None A
+  none = remaining None A
 
   pub remaining-ready : r ≤ 0 → {past : Progress} → past.anchor ≡ start → ReadyPass ws past
   remaining-ready h {past} q =

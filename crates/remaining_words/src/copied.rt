@@ -1,5 +1,5 @@
 // The loops over a copy of the edges, so that a position that no edge may have leaves them as they were.
-ghost use Rattle.std.specs.Prelude.{◌≡◌, ◌<◌, length, set};
+ghost use Rattle.std.specs.Prelude.{◌≡◌, length};
 ghost use Rattle.remaining_pass_words.specs.Words.{ReadyPass};
 ghost use Rattle.remaining_words.specs.Lent.{Tried};
 
@@ -7,25 +7,13 @@ use axis::kinds::Group;
 use remaining::kinds::Progress;
 use remaining_pass_words::pass::pass_in;
 use words::edge::TABLE_WORDS;
-use words::word::read_word;
-
-// Writes a word.
-fn put(to: &mut [i32], i: usize, word: i32)
-    requires { i < length to.old }
-    ensures { to.new ≡ set to.old i word }
-{
-    to[i] = word;
-}
 
 // Copies words over as many others.
 pub fn copy(from: &[i32], to: &mut [i32])
     requires { length to.old ≡ length from.now }
     ensures { to.new ≡ from.now }
 {
-    let n = from.len();
-    for i in 0..n {
-        put(to, i, read_word(from, i));
-    }
+    to.copy_from_slice(from);
 }
 
 // Aligns a copy of the edges, and then them.

@@ -1,9 +1,10 @@
 // Remaining edges over lent edges: they are tested where their words stand, aligned in a copy, and written.
+ghost use Rattle.refusals.specs.Outcome.{answer_of};
 ghost use Rattle.remaining_words.specs.Lent.{RemainingLent};
 
 use super::copied::align_copied;
 use axis::accept::link_holds;
-use refusals::order::TOO_STEEP;
+use refusals::order::Refusal;
 use remaining::kinds::Progress;
 use words::edge::EDGE_WORDS;
 use words::field::{group_of, link_word};
@@ -21,16 +22,13 @@ pub fn lend_remaining(
     count: i32,
     anchor: i32,
     found: &mut i32,
-) -> u8
-    ensures { RemainingLent edges.old dim group count anchor found.old result (edges.new, found.new) }
+) -> Result<(), Refusal>
+    ensures { RemainingLent edges.old dim group count anchor found.old (answer_of result) (edges.new, found.new) }
 {
     let others = both(both_in(dim, group, CHOICE), is_in(count, INDEX));
     let start = named_anchor(anchor);
     let named = link_holds(start, edges.len() / EDGE_WORDS);
-    let answer = edges_test(edges, others, 0, named, true);
-    if 0 < answer {
-        return answer;
-    }
+    edges_test(edges, others, Ok(()), named, true)?;
     let begun = Progress {
         anchor: start,
         count: size_of(count),
@@ -38,9 +36,9 @@ pub fn lend_remaining(
     };
     let past = align_copied(edges, group_of(group), begun);
     if past.beyond {
-        return TOO_STEEP;
+        return Err(Refusal::TooSteep);
     }
     let last = past.anchor;
     *found = link_word(last);
-    0
+    Ok(())
 }

@@ -53,12 +53,9 @@ fn feed_block<W: Write>(
     requires n_in_bounds { n ≤ length block.now }
 {
     let mut line = begun;
-    let mut i = 0;
-    while i < n {
-        let byte = block[i];
-        i += 1;
-        if byte != 10 {
-            line = feed(words, line, byte);
+    for byte in &block[..n] {
+        if *byte != 10 {
+            line = feed(words, line, *byte);
             continue;
         }
         reply(to, words, line, out, text)?;

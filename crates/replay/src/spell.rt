@@ -37,8 +37,7 @@ pub fn spell(words: &[i32], n: usize, text: &mut [u8]) -> usize
     requires { most_text ≤ length text.old }
     ensures { result ≤ most_text }
 {
-    let mut i = 0;
-    while i < n {
+    for i in 0..n {
         if LONGEST <= i {
             return 0;
         }
@@ -46,8 +45,7 @@ pub fn spell(words: &[i32], n: usize, text: &mut [u8]) -> usize
             return 0;
         }
         spell_word(text, i * 8, words[i]);
-        i += 1;
     }
-    text[i * 8] = 10;
-    i * 8 + 1
+    text[n * 8] = 10;
+    n * 8 + 1
 }

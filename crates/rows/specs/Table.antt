@@ -1,4 +1,5 @@
 -- The starred rows of document 01, "Rows that show both sides", and that the definitions give them.
+use Rattle.std.specs.Prelude.{None, Some}
 use Rattle.std.specs.Prelude.{ℕ, true, false, List, [], ◌∷◌, pos, refl}
 use Rattle.signed.specs.Table.{minus}
 use Rattle.refusals.specs.Refusal.{refusal}
@@ -13,8 +14,7 @@ use Rattle.axis.specs.declared.kinds.Dimension.TheVariants.{Vertical}
 use Rattle.axis.specs.declared.kinds.Direction.{Direction}
 use Rattle.axis.specs.declared.kinds.Direction.TheVariants as Directions
 use Rattle.axis.specs.declared.kinds.Direction.TheVariants.{Up, Down}
-use Rattle.axis.specs.declared.kinds.Link.{Link}
-use Rattle.axis.specs.declared.kinds.Link.TheVariants as Links
+use Rattle.axis.specs.Link.{Link}
 use Rattle.axis.specs.declared.kinds.Mark.{Mark}
 use Rattle.axis.specs.declared.kinds.Mark.TheVariants as Marks
 use Rattle.axis.specs.declared.kinds.Group.TheVariants.{Default, Cjk}
@@ -47,7 +47,7 @@ edge o p = placed (fresh_edge (pos 0) (pos o) Directions.None 0) (pos p) Marks.N
 
 -- the same, linked to an edge
 abbrev linked : ℕ → ℕ → ℕ → Edge
-linked o p k = joined_to (edge o p) (Links.To k) Links.None
+linked o p k = joined_to (edge o p) (Some k) None
 
 -- an edge with the mark of what placed it
 abbrev by : Mark → Edge → Edge
@@ -66,11 +66,11 @@ segment dir p score len to = record {
   score = pos score;
   len = pos len;
   link = to;
-  serif = Links.None;
+  serif = None;
   first = 0;
   last = 0;
-  edge = Links.None;
-  next = Links.None;
+  edge = None;
+  next = None;
 }
 
 -- the rows, in the document's order
@@ -91,11 +91,11 @@ table =
     -- the same, currents 5, 99, 20: 5, 15, 25
     ∷ weak (pos 0 ∷ pos 10 ∷ pos 20 ∷ []) (pos 5 ∷ pos 99 ∷ pos 20 ∷ []) (1 ∷ 0 ∷ 0 ∷ []) (2 ∷ []) 0 (pos 5 ∷ pos 15 ∷ pos 25 ∷ [])
     -- Latin, Keep, bottom to top; edge 0 is the anchor, done, unlinked, at 0 and unmoved; edges 1 and 2 have opos 100 and 160, linked to each other: 130 and 190
-    ∷ stems Vertical Default false (Links.To 0) Keep (finished (edge 0 0) ∷ linked 100 100 2 ∷ linked 160 160 1 ∷ [])
-    0 0 (Links.To 0) (finished (edge 0 0) ∷ finished (by Marks.Stem (linked 100 130 2)) ∷ finished (by Marks.Stem (linked 160 190 1)) ∷ [])
+    ∷ stems Vertical Default false (Some 0) Keep (finished (edge 0 0) ∷ linked 100 100 2 ∷ linked 160 160 1 ∷ [])
+    0 0 (Some 0) (finished (edge 0 0) ∷ finished (by Marks.Stem (linked 100 130 2)) ∷ finished (by Marks.Stem (linked 160 190 1)) ∷ [])
     -- the same, 87 and 157 (tie between offsets 38 and 26): 119 and 189
-    ∷ stems Vertical Default false (Links.To 0) Keep (finished (edge 0 0) ∷ linked 87 87 2 ∷ linked 157 157 1 ∷ [])
-    0 0 (Links.To 0) (finished (edge 0 0) ∷ finished (by Marks.Stem (linked 87 119 2)) ∷ finished (by Marks.Stem (linked 157 189 1)) ∷ [])
+    ∷ stems Vertical Default false (Some 0) Keep (finished (edge 0 0) ∷ linked 87 87 2 ∷ linked 157 157 1 ∷ [])
+    0 0 (Some 0) (finished (edge 0 0) ∷ finished (by Marks.Stem (linked 87 119 2)) ∷ finished (by Marks.Stem (linked 157 189 1)) ∷ [])
     -- CJK, Keep, vertical, not round, no STEM_ADJUST, passed delta 0, 40 and 80: 26 and 66
     ∷ stem_cjk Vertical false Keep (edge 40 40 ∷ edge 80 80 ∷ []) (pos 0) 0 (minus 14) (by Marks.Stem (edge 40 26) ∷ by Marks.Stem (edge 80 66) ∷ [])
     -- the same with STEM_ADJUST: 24 and 64
@@ -107,8 +107,8 @@ table =
     ∷ m Default (edge 0 0 ∷ empty_edge ∷ edge 100 128 ∷ empty_edge ∷ edge 207 270 ∷ empty_edge ∷ [])
     0 (edge 0 0 ∷ empty_edge ∷ edge 100 128 ∷ empty_edge ∷ finished (by Marks.LowercaseM (edge 207 256)) ∷ empty_edge ∷ [])
     -- positions 0 (major) and 100 (opposite), both 0 to 200 wide, score 32,000, len 0, 1000 per em, scale 65,536: linked to each other, score 100, len 200
-    ∷ link (segment Up 0 32000 0 Links.None ∷ segment Down 100 32000 0 Links.None ∷ []) Up (pos 1000) (pos 65536)
-    0 (segment Up 0 100 200 (Links.To 1) ∷ segment Down 100 100 200 (Links.To 0) ∷ [])
+    ∷ link (segment Up 0 32000 0 None ∷ segment Down 100 32000 0 None ∷ []) Up (pos 1000) (pos 65536)
+    0 (segment Up 0 100 200 (Some 1) ∷ segment Down 100 100 200 (Some 0) ∷ [])
     ∷ []
 
 -- every row holds

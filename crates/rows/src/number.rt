@@ -72,11 +72,8 @@ fn feed(words: &mut [i32], read: Reading, byte: u8) -> Reading {
 // Writes the numbers of a text into a buffer, as many as there is room for, and tells how many they are.
 pub fn numbers(text: &[u8], words: &mut [i32]) -> usize {
     let mut read = behind(0);
-    let mut i = 0;
-    while i < text.len() {
-        let byte = text[i];
-        read = feed(words, read, byte);
-        i += 1;
+    for byte in text {
+        read = feed(words, read, *byte);
     }
     let read = ended(words, read);
     read.count

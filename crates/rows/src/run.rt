@@ -18,15 +18,7 @@ pub fn text(bytes: &[u8]) {
 
 // Whether a buffer begins with an answer of as many words as were told.
 fn begins(out: &[i32], told: usize, expected: &[i32]) -> bool {
-    if told != expected.len() {
-        return false;
-    }
-    for i in 0..told {
-        if word_at(out, i) != word_at(expected, i) {
-            return false;
-        }
-    }
-    true
+    told == expected.len() && (0..told).all(|i| word_at(out, i) == word_at(expected, i))
 }
 
 // Answers a job, and tells beside the row's text whether the answer is the one that is expected.

@@ -1,4 +1,11 @@
 -- The refusals: the magnification between the lists and the contour ends, coordinates by a limit for all, and what an accepted outline is. Assumes nothing.
+use Rattle.std.specs.Prelude.{Result, Ok, Err}
+use Rattle.std.specs.Result.{result_eq}
+use denote.Enum.Bare.{sameb}
+use Rattle.refusals.specs.contracts.order.Refusal.{the_type}
+use Rattle.refusals.specs.declared.order.Refusal.{Refusal}
+use Rattle.refusals.specs.declared.order.Refusal.TheVariants as Refusals
+use Rattle.refusals.specs.Outcome.{answer_of, Required}
 use mathlib.Core.Path.{◌≡◌, refl, sym, ap, subst, ◌∙◌}
 use mathlib.Core.Bool.{Bool, true, false, cond, ◌&&◌}
 use mathlib.Core.List.{List, [], ◌∷◌}
@@ -21,6 +28,27 @@ use Rattle.path_trip.specs.Path.{points}
 use Rattle.path_trip.specs.Trips.{Admitted}
 use Rattle.shown_lines.specs.Lines.{most_magnify, Reach, InField}
 use Rattle.shown_count.specs.Count.{magnified, shown_tests}
+
+-- ---- the outcomes, as the code tests them
+-- whether the lists are refused by 1
+pub long-tested : (same : Unit {0} → Unit {0} → Bool) (o : Result (Unit {0}) Refusal) → result_eq same (sameb the_type) o (Err Refusals.TooLong) ≡ eqb (answer_of o) 1
+long-tested same (Ok x) = refl
+long-tested same (Err Refusals.TooLong) = refl
+long-tested same (Err Refusals.BadParameter) = refl
+long-tested same (Err Refusals.BadIndex) = refl
+long-tested same (Err Refusals.OutOfRange) = refl
+long-tested same (Err Refusals.NoRoom) = refl
+long-tested same (Err Refusals.BrokenRing) = refl
+long-tested same (Err Refusals.NotFrame) = refl
+long-tested same (Err Refusals.TooSteep) = refl
+long-tested same (Err Refusals.Unmatched) = refl
+long-tested same (Err Refusals.Retired) = refl
+long-tested same (Err Refusals.NotWords) = refl
+
+-- a test that refuses
+pub required-no : (g : Bool) (r e : Refusal) → Required g r (Err e) → (g ≡ false) × (e ≡ r)
+required-no true r e q = let z : ◌≡◌ {A = Result (Unit {0}) Refusal} (Err e) (Ok tt) = q.outcome in cc
+required-no false r e q = let z : ◌≡◌ {A = Result (Unit {0}) Refusal} (Err e) (Err r) = q.outcome in (refl, cc)
 
 -- ---- the order
 -- the refusal by lists and contour ends, by the first four tests

@@ -3,7 +3,7 @@ use mathlib.Core.Path.{◌≡◌, sym, ◌∙◌}
 use mathlib.Core.List.{List}
 use Prim.Native.Nat.{ℕ}
 use lib.IntN.{ℤ}
-use Rattle.shown_count.specs.declared.count.Shown.{Shown}
+use Rattle.shown_count.specs.Answer.{Shown}
 use Rattle.shown_count.specs.Count.{CountsShown, ShownLent}
 
 -- `count_shown`

@@ -9,7 +9,7 @@ use Rattle.refusals.specs.Refusal.{refusal, answered}
 use Rattle.path_trip.specs.Path.{points}
 use Rattle.shown_rows.specs.Turns.{most_columns}
 use Rattle.shown.proofs.Limits.{blacks-most, euler-most}
-use Rattle.shown_count.specs.declared.count.Shown.{Shown}
+use Rattle.shown_count.specs.Answer.{Shown}
 use Rattle.shown_count.specs.Count.{shown_tests, picture, refused_by, counted_of, shown, CountsShown}
 use Rattle.shown_count.proofs.Accepting.{passed}
 

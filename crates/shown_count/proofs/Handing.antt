@@ -15,7 +15,7 @@ use Rattle.shown_lines.specs.Lines.{field_half}
 use Rattle.shown.proofs.Counts.{euler-turns}
 use Rattle.shown_picture.specs.Rows.{most_count, Small, PictureCounted}
 use Rattle.shown_picture.proofs.Reading.{rows-small}
-use Rattle.shown_count.specs.declared.count.Shown.{Shown}
+use Rattle.shown_count.specs.Answer.{Shown}
 use Rattle.shown_count.specs.Count.{shown_tests, picture, refused_by, counted_of, shown, CountsShown, ShownLent}
 use Rattle.shown_count.proofs.Accepting.{Passed, passed}
 

@@ -9,7 +9,7 @@ use Rattle.path_trip.specs.Path.{points}
 use Rattle.shown_rows.specs.Turns.{most_columns}
 use Rattle.shown.specs.Shown.{lines_of, black, black_count, euler}
 use Rattle.shown.specs.Field.{field_half, most_magnify}
-use Rattle.shown_count.specs.declared.count.Shown.{Shown}
+use Rattle.shown_count.specs.Answer.{Shown}
 
 -- ---- the refusals
 -- a coordinate, multiplied

@@ -1,2 +1,3 @@
--- What the contracts of `shown_count` cite.
+-- What the contracts of `shown_count` cite: what a call hands back, and what counting promises.
+pub mod Answer
 pub mod Count

@@ -2,14 +2,15 @@
 ghost use Rattle.std.specs.Prelude.{◌≡◌, ◌≤◌, pos, ◌-ℤ◌};
 ghost use Rattle.shown_picture.specs.Rows.{most_count};
 ghost use Rattle.shown_count.specs.Count.{CountsShown};
+ghost use Rattle.shown_count.specs.Answer.{shown_of};
 
 use super::accept::{shown_refusal, times_of};
+use refusals::order::Refusal;
 use shown_picture::picture::count_picture;
 
-// What a call hands back: 0 or document 01's number of the refusal, how many pixels are black, and their Euler number.
+// How many pixels are black, and their Euler number.
 #[derive(Clone, Copy)]
 pub struct Shown {
-    pub answer: u8,
     pub black: u32,
     pub euler: i32,
 }
@@ -23,23 +24,21 @@ fn euler_of(outer: u32, inner: u32) -> i32
 }
 
 // Counts the pixels that a display shows black of an outline, its coordinates multiplied by `magnify`, and tells their Euler number, pieces less holes. The refusals are 1, 2 for a `magnify` outside
-// 1 to 64, 3, and 4 for a coordinate that magnified leaves -65,535 to 65,535; beside a refusal both numbers are 0.
-pub fn count_shown(xs: &[i32], ys: &[i32], marks: &[u8], ends: &[u16], magnify: i32) -> Shown
-    ensures { CountsShown xs.now ys.now marks.now ends.now magnify result }
+// 1 to 64, 3, and 4 for a coordinate that magnified leaves -65,535 to 65,535.
+pub fn count_shown(
+    xs: &[i32],
+    ys: &[i32],
+    marks: &[u8],
+    ends: &[u16],
+    magnify: i32,
+) -> Result<Shown, Refusal>
+    ensures { CountsShown xs.now ys.now marks.now ends.now magnify (shown_of result) }
 {
-    let answer = shown_refusal(xs, ys, marks, ends, magnify);
-    if 0 < answer {
-        return Shown {
-            answer,
-            black: 0,
-            euler: 0,
-        };
-    }
+    shown_refusal(xs, ys, marks, ends, magnify)?;
     let counts = count_picture(xs, ys, marks, ends, times_of(magnify));
     let euler = euler_of(counts.outer, counts.inner);
-    Shown {
-        answer: 0,
+    Ok(Shown {
         black: counts.black,
         euler,
-    }
+    })
 }

@@ -1,9 +1,11 @@
 // The public call in lent places.
+ghost use Rattle.refusals.specs.Outcome.{answer_of};
 ghost use Rattle.shown_count.specs.Count.{ShownLent};
 
 use super::count::count_shown;
+use refusals::order::Refusal;
 
-// As `count_shown`. The answer is 0, or document 01's number of the refusal, 1, 2, 3 or 4, which writes nothing.
+// As `count_shown`. The refusals are 1, 2, 3 and 4, which write nothing.
 pub fn lend_shown(
     xs: &[i32],
     ys: &[i32],
@@ -12,16 +14,13 @@ pub fn lend_shown(
     magnify: i32,
     black: &mut u32,
     euler: &mut i32,
-) -> u8
+) -> Result<(), Refusal>
     ensures { ShownLent xs.now ys.now marks.now ends.now magnify black.old euler.old
-        result black.new euler.new }
+        (answer_of result) black.new euler.new }
 {
-    let shown = count_shown(xs, ys, marks, ends, magnify);
-    if 0 < shown.answer {
-        return shown.answer;
-    }
+    let shown = count_shown(xs, ys, marks, ends, magnify)?;
     let number = shown.euler;
     *black = shown.black;
     *euler = number;
-    0
+    Ok(())
 }

@@ -93,11 +93,9 @@ pub fn cross_curve(changes: &mut [u16], left: u32, p: Halves, c: Halves, q: Halv
         return;
     }
     let mut low = place_at(p.y, c.y, q.y, 0);
-    let mut k: u32 = 0;
-    while k < 16 {
+    for k in 0..16 {
         let high = place_at(p.y, c.y, q.y, k + 1);
         cross_part(changes, left, p, c, q, k, low, high, y);
         low = high;
-        k += 1;
     }
 }

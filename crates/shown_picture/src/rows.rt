@@ -35,11 +35,7 @@ fn plus(a: Counts, b: Counts) -> Counts
 fn clear(changes: &mut [u16])
     ensures { Cleared changes.old changes.new }
 {
-    let mut i: usize = 0;
-    while i < changes.len() {
-        changes[i] = 0;
-        i += 1;
-    }
+    changes.fill(0);
 }
 
 // Counts one row, from the column `left` on: its pixels are written over those of the row below it.
@@ -94,8 +90,7 @@ pub fn count_rows(
     ensures { RowsRead (picture magnify (points xs.now ys.now marks.now) ends.now) window result }
 {
     let mut counts = NOTHING;
-    let mut j: u32 = 0;
-    while j < window.rows {
+    for j in 0..window.rows {
         let row = count_row(
             xs,
             ys,
@@ -108,7 +103,6 @@ pub fn count_rows(
             changes,
         );
         counts = plus(counts, row);
-        j += 1;
     }
     clear(changes);
     let top = close_row(below, changes);

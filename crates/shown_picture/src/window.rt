@@ -58,11 +58,9 @@ fn extremes_of(list: &[i32], count: usize) -> Extremes
 {
     let mut least: usize = 0;
     let mut largest: usize = 0;
-    let mut i: usize = 1;
-    while i < count {
+    for i in 1..count {
         least = lesser(list, least, i);
         largest = greater(list, largest, i);
-        i += 1;
     }
     Extremes { least, largest }
 }

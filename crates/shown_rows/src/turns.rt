@@ -82,10 +82,9 @@ pub fn close_row(below: &mut [u8], changes: &[u16]) -> Counts
     let mut blacks: u32 = 0;
     let mut outers: u32 = 0;
     let mut inners: u32 = 0;
-    let mut i: usize = 0;
-    while i < changes.len() {
+    for (i, change) in changes.iter().enumerate() {
         let b = is_black(below[i]);
-        winding = gained(winding, changes[i]);
+        winding = gained(winding, *change);
         let d = is_wound(winding);
         let here = pixel_of(d);
         below[i] = here;
@@ -94,7 +93,6 @@ pub fn close_row(below: &mut [u8], changes: &[u16]) -> Counts
         inners += inner_turn(b, c, d);
         a = b;
         c = d;
-        i += 1;
     }
     Counts {
         black: blacks,

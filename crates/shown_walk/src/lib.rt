@@ -38,21 +38,18 @@ fn cross_contour(
     let spot = tour.start;
     let start = spot_halves(xs, ys, marks, magnify, spot);
     let mut p = start;
-    let mut j: usize = 0;
-    while j < tour.count {
+    for j in 0..tour.count {
         let i = around_at(a, e, tour.from + j);
         let c = point_place(xs, ys, marks, magnify, i);
         if is_on(marks[i]) {
             cross_straight(changes, left, p, c, y);
             p = c;
-            j += 1;
             continue;
         }
         let end = end_of(xs, ys, marks, a, e, tour.from, tour.count, j);
         let q = end_halves(xs, ys, marks, magnify, start, end);
         cross_curve(changes, left, p, c, q, y);
         p = q;
-        j += 1;
     }
     cross_straight(changes, left, p, start, y);
 }
@@ -75,11 +72,9 @@ pub fn cross_outline(
         changes.old changes.new }
 {
     let mut a: usize = 0;
-    let mut c: usize = 0;
-    while c < ends.len() {
-        let e = wide(ends[c]) + 1;
+    for end in ends {
+        let e = wide(*end) + 1;
         cross_contour(changes, left, xs, ys, marks, a, e, magnify, y);
         a = e;
-        c += 1;
     }
 }

@@ -1,11 +1,13 @@
 // The call.
 ghost use Rattle.std.specs.Prelude.{◌≡◌, ◌<◌};
+ghost use Rattle.refusals.specs.Outcome.{answer_of};
 ghost use Rattle.signed.specs.Range.{Between};
 ghost use Rattle.refusals.specs.Refusal.{refusal};
 ghost use Rattle.axis.specs.Limits.{most_edges, most_pos};
 ghost use Rattle.axis.specs.Accepted.{AxisWithin};
 ghost use Rattle.stems_cjk.specs.Cjk.{placed_stem, hinted_stem, most_width, most_cjk_start};
 ghost use Rattle.stems_cjk.specs.Hint.{stem_tests, HintsNormalStemCjk};
+ghost use Rattle.stems_cjk.specs.Answer.{outcome_of};
 
 use axis::accept::{edges_indices, edges_numbers, few_edges, is_inside};
 use axis::edge::{Axis, with_pos};
@@ -13,7 +15,7 @@ use axis::kinds::Mark;
 use axis::limits::{LEAST_PASSED, MOST_PASSED};
 use fixed::width::{WidthRule, rule_holds};
 use place::named::both_below;
-use refusals::order::{BAD_INDEX, BAD_PARAMETER, OUT_OF_RANGE, TOO_LONG, or_refused};
+use refusals::order::{Refusal, require};
 use stems_cjk::outcome::StemCjk;
 use stems_cjk::stem::{Stem, stem_of};
 
@@ -43,7 +45,7 @@ fn hint_stem(axis: Axis, edge: usize, edge2: usize, stem: Stem) -> Axis
     place_stem(axis, edge2, edge, stem.pos, stem.width)
 }
 
-// The refusal of the call, or 0.
+// The refusal of the call, if there is one.
 fn stem_refusal(
     axis: Axis,
     rule: WidthRule,
@@ -51,18 +53,17 @@ fn stem_refusal(
     edge: usize,
     edge2: usize,
     delta: i32,
-) -> u8
-    ensures { result ≡ refusal (stem_tests axis rule standards.now edge edge2 delta) }
+) -> Result<(), Refusal>
+    ensures { answer_of result ≡ refusal (stem_tests axis rule standards.now edge edge2 delta) }
 {
-    let answer = or_refused(0, few_edges(axis.len), TOO_LONG);
-    let answer = or_refused(answer, rule_holds(rule, standards), BAD_PARAMETER);
-    let answer = or_refused(answer, edges_indices(axis), BAD_INDEX);
-    let answer = or_refused(answer, both_below(edge, edge2, axis.len), BAD_INDEX);
-    let answer = or_refused(answer, edges_numbers(axis), OUT_OF_RANGE);
-    or_refused(
-        answer,
+    require(few_edges(axis.len), Refusal::TooLong)?;
+    require(rule_holds(rule, standards), Refusal::BadParameter)?;
+    require(edges_indices(axis), Refusal::BadIndex)?;
+    require(both_below(edge, edge2, axis.len), Refusal::BadIndex)?;
+    require(edges_numbers(axis), Refusal::OutOfRange)?;
+    require(
         is_inside(delta, LEAST_PASSED, MOST_PASSED),
-        OUT_OF_RANGE,
+        Refusal::OutOfRange,
     )
 }
 
@@ -75,17 +76,10 @@ pub fn hint_normal_stem_cjk(
     edge: usize,
     edge2: usize,
     delta: i32,
-) -> StemCjk
-    ensures { HintsNormalStemCjk axis stem_adjust rule standards.now edge edge2 delta result }
+) -> Result<StemCjk, Refusal>
+    ensures { HintsNormalStemCjk axis stem_adjust rule standards.now edge edge2 delta (outcome_of axis result) }
 {
-    let answer = stem_refusal(axis, rule, standards, edge, edge2, delta);
-    if 0 < answer {
-        return StemCjk {
-            answer,
-            delta: 0,
-            axis,
-        };
-    }
+    stem_refusal(axis, rule, standards, edge, edge2, delta)?;
     let dim = axis.dim;
     let stem = stem_of(
         dim,
@@ -96,9 +90,8 @@ pub fn hint_normal_stem_cjk(
         axis.edges[edge2],
         delta,
     );
-    StemCjk {
-        answer: 0,
+    Ok(StemCjk {
         delta: stem.delta,
         axis: hint_stem(axis, edge, edge2, stem),
-    }
+    })
 }

@@ -21,7 +21,7 @@ use Rattle.place.specs.Placing.{both_below}
 use Rattle.place.specs.Steps.{InReach}
 use Rattle.place.proofs.Reach.{below-first, below-second}
 use Rattle.stems_cjk.specs.Cjk.{stem_of, hinted_stem}
-use Rattle.stems_cjk.specs.declared.outcome.StemCjk.{StemCjk}
+use Rattle.stems_cjk.specs.Answer.{StemCjk}
 use Rattle.stems_cjk.specs.Hint.{hinted, stem_tests, hint_normal_stem_cjk}
 use Rattle.words.specs.Field.{choice_of, dimension_of, rule_of}
 use Rattle.words.specs.Edge.{axis_run, flat_axis, edges_in, edges_over}

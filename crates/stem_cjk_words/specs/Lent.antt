@@ -2,7 +2,7 @@
 -- own delta.
 use Rattle.std.specs.Prelude.{List, ℕ, ℤ}
 use Rattle.axis.specs.declared.kinds.Direction.TheVariants as Directions
-use Rattle.stems_cjk.specs.declared.outcome.StemCjk.{StemCjk}
+use Rattle.stems_cjk.specs.Answer.{StemCjk}
 use Rattle.stems_cjk.specs.Hint.{hint_normal_stem_cjk}
 use Rattle.words.specs.Field.{choice_of, dimension_of, rule_of}
 use Rattle.words.specs.Edge.{flat_axis, edges_over}

@@ -1,4 +1,5 @@
 // The CJK stem over lent edges: the edges are tested and placed where their words stand.
+ghost use Rattle.refusals.specs.Outcome.{answer_of};
 ghost use Rattle.stem_cjk_words.specs.Lent.{StemLent};
 
 use super::stem::stem_in;
@@ -6,7 +7,7 @@ use axis::accept::is_inside;
 use axis::limits::{LEAST_PASSED, MOST_PASSED};
 use fixed::width::rule_holds;
 use place::named::both_below;
-use refusals::order::{BAD_PARAMETER, or_refused};
+use refusals::order::{Refusal, require};
 use words::edge::EDGE_WORDS;
 use words::field::{choice_of, dimension_of, rule_of};
 use words_call::shown::are_choices;
@@ -24,22 +25,19 @@ pub fn lend_stem(
     edge2: i32,
     delta: i32,
     own_delta: &mut i32,
-) -> u8
-    ensures { StemLent edges.old dim stem_adjust rule standards.now edge edge2 delta own_delta.old result (edges.new, own_delta.new) }
+) -> Result<(), Refusal>
+    ensures { StemLent edges.old dim stem_adjust rule standards.now edge edge2 delta own_delta.old (answer_of result) (edges.new, own_delta.new) }
 {
     let width = rule_of(rule);
     let one = named_edge(edge);
     let two = named_edge(edge2);
     let named = both_below(one, two, edges.len() / EDGE_WORDS);
-    let own = or_refused(0, rule_holds(width, standards), BAD_PARAMETER);
+    let own = require(rule_holds(width, standards), Refusal::BadParameter);
     let others = are_choices(dim, stem_adjust, rule);
     let passed = is_inside(delta, LEAST_PASSED, MOST_PASSED);
-    let answer = edges_test(edges, others, own, named, passed);
-    if 0 < answer {
-        return answer;
-    }
+    edges_test(edges, others, own, named, passed)?;
     let axis = dimension_of(dim);
     let adjust = choice_of(stem_adjust);
     *own_delta = stem_in(edges, axis, adjust, width, standards, one, two, delta);
-    0
+    Ok(())
 }

@@ -1,13 +1,12 @@
 -- States that are alike but for the marks of their edges are visited alike (request #105).
+use Rattle.std.specs.Prelude.{None, Some}
 use mathlib.Core.Path.{◌≡◌, refl, ap, subst, ◌∙◌}
 use mathlib.Core.List.{List}
 use Prim.Native.Nat.{ℕ, ◌+◌}
 use lib.Dec.{ltb}
 use lib.IntN.{ℤ, ◌-ℤ◌}
-use Rattle.axis.specs.declared.kinds.Link.{Link}
-use Rattle.axis.specs.declared.kinds.Link.TheVariants as Links
-use Rattle.axis.specs.declared.kinds.Blue.{Blue}
-use Rattle.axis.specs.declared.kinds.Blue.TheVariants as Blues
+use Rattle.axis.specs.Link.{Link}
+use Rattle.axis.specs.Link.{Blue}
 use Rattle.axis.specs.declared.kinds.Group.{Group}
 use Rattle.axis.specs.declared.kinds.Group.TheVariants.{Default, Cjk}
 use Rattle.axis.specs.declared.kinds.Mark.{Mark}
@@ -24,7 +23,6 @@ use Rattle.stems_cjk.specs.declared.stem.Stem.{Stem}
 use Rattle.stems_cjk.specs.Cjk.{stem_of}
 use Rattle.stems_cjk.proofs.Alike.{stem-same, hinted-alike}
 use Rattle.stems.specs.declared.kinds.Mode.{Mode}
-use Rattle.stems.specs.declared.kinds.LastStem.TheVariants as LastStems
 use Rattle.stems.specs.declared.kinds.Trail.{Trail}
 use Rattle.stems.specs.Visit.{too_close, original_len, width_of, start_beside, delta_after}
 use Rattle.stems.proofs.Alike.{close-same}
@@ -108,13 +106,13 @@ module _ (m : Mode) (xs : List ℤ) (s t : State) (h : AlikeState s t) (i : ℕ)
 
     latin : (l : Link) → AlikeState (latin_stem m xs s i k l) (latin_stem m xs t i k l)
     unfolding latin_stem
-    latin (Links.To a) = record {
+    latin (Some a) = record {
       axis = adjusted-alike _ _ (beside s.axis t.axis h.axis i k m.rule xs a) i Prev;
       count = h.count;
       anchor = h.anchor;
       trail = h.trail;
     }
-    latin Links.None = record {
+    latin None = record {
       axis = first s.axis t.axis h.axis i k m.rule xs _ _ (λ j. free_pos m.rule xs (own.same j) (link.same j));
       count = h.count;
       anchor = refl;
@@ -126,7 +124,7 @@ module _ (m : Mode) (xs : List ℤ) (s t : State) (h : AlikeState s t) (i : ℕ)
       axis = by-link s.axis t.axis h.axis i k m.rule xs;
       count = h.count;
       anchor = h.anchor;
-      trail = λ j. record { last = LastStems.At (own.same j).pos; delta = (h.trail j).delta };
+      trail = λ j. record { last = Some (own.same j).pos; delta = (h.trail j).delta };
     }
 
     -- the stem of the two edges
@@ -145,7 +143,7 @@ module _ (m : Mode) (xs : List ℤ) (s t : State) (h : AlikeState s t) (i : ℕ)
       anchor = refl;
       trail =
           λ j. record {
-            last = LastStems.At (second_pos (own.same j) (link.same j) p);
+            last = Some (second_pos (own.same j) (link.same j) p);
             delta = delta_after m.dim (h.anchor j) (h.trail j).delta
                 p.delta;
           };
@@ -164,8 +162,8 @@ module _ (m : Mode) (xs : List ℤ) (s t : State) (h : AlikeState s t) (i : ℕ)
 
     by-zone : (b : Blue) → AlikeState (zone_stem b m xs s i k) (zone_stem b m xs t i k)
     unfolding zone_stem
-    by-zone Blues.None = by-group m.group
-    by-zone (Blues.Fitted z) = record { axis = by-link s.axis t.axis h.axis i k m.rule xs; count = h.count; anchor = h.anchor; trail = h.trail }
+    by-zone None = by-group m.group
+    by-zone (Some z) = record { axis = by-link s.axis t.axis h.axis i k m.rule xs; count = h.count; anchor = h.anchor; trail = h.trail }
 
     close-is : too_close m.group s.trail.last (edge_at s.axis i) (edge_at s.axis k)
         ≡ too_close m.group t.trail.last (edge_at t.axis i) (edge_at t.axis k)
@@ -178,8 +176,8 @@ module _ (m : Mode) (xs : List ℤ) (s t : State) (h : AlikeState s t) (i : ℕ)
 
   linked : (l : Link) → AlikeState (visit_link m xs s i l) (visit_link m xs t i l)
   unfolding visit_link
-  linked Links.None = over
-  linked (Links.To k) =
+  linked None = over
+  linked (Some k) =
       cond-alike AlikeState _ _ _ _ _ _ (close-is k) over
       (subst (λ (b : Blue). AlikeState (zone_stem (edge_at s.axis k).blue m xs s i k) (zone_stem b m xs t i k)) (ap (λ (e : Edge). e.blue) (link k).same)
       (by-zone k (edge_at s.axis k).blue))

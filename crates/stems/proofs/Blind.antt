@@ -1,4 +1,5 @@
 -- Request #105, the stem pass: its answer, its count, its anchor and its positions are as without marks.
+use Rattle.std.specs.Prelude.{None}
 use mathlib.Core.Path.{◌≡◌, refl, ap, ◌∙◌}
 use mathlib.Core.Bool.{Bool, not}
 use mathlib.Core.List.{List, [], ◌∷◌}
@@ -8,8 +9,7 @@ use lib.IntN.{ℤ}
 use Rattle.refusals.specs.Refusal.{◌unless◌, too_long, bad_parameter, bad_index, out_of_range, retired, refusal}
 use Rattle.fixed.specs.declared.width.WidthRule.{WidthRule}
 use Rattle.fixed.specs.Width.{rule_holds}
-use Rattle.axis.specs.declared.kinds.Link.{Link}
-use Rattle.axis.specs.declared.kinds.Link.TheVariants as Links
+use Rattle.axis.specs.Link.{Link}
 use Rattle.axis.specs.declared.kinds.Group.{Group}
 use Rattle.axis.specs.declared.edge.Axis.{Axis}
 use Rattle.axis.specs.Limits.{most_edges}
@@ -55,8 +55,8 @@ module _ (group : Group) (adjust ttb : Bool) (anchor : Link) (rule : WidthRule) 
     same : without_marks (align_stem_edges a group adjust ttb anchor rule xs) ≡ without_marks (align_stem_edges b group adjust ttb anchor rule xs)
     unfolding align_stem_edges
     same =
-        answered-alike without_marks _ _ (stems 0 Links.None a) (stems 0 Links.None b) _ _ refused-same
-        (λ (n : ℕ). λ k. stems 0 Links.None (h.same k) n)
+        answered-alike without_marks _ _ (stems 0 None a) (stems 0 None b) _ _ refused-same
+        (λ (n : ℕ). λ k. stems 0 None (h.same k) n)
         (pass_same (mode_of a group adjust rule) xs anchor a b h ∙ ap (λ (m : Mode). without_marks (stems_of m xs anchor b)) mode-is)
 
   pub marks-unread : Blind (λ (axis : Axis). align_stem_edges axis group adjust ttb anchor rule xs) without_marks

@@ -1,4 +1,5 @@
 -- Request #112, the visit: a thin Latin stem beside an anchor comes to lie about the centre chosen, before the neighbour bound, for every axis and every index.
+use Rattle.std.specs.Prelude.{None, Some}
 use mathlib.Core.Path.{◌≡◌, refl, sym, ap, ◌∙◌}
 use mathlib.Core.Bool.{cond}
 use mathlib.Core.List.{List, [], ◌∷◌}
@@ -11,8 +12,7 @@ use Rattle.signed.proofs.Order.{of-<ℤ}
 use Rattle.signed.proofs.Signed.{to-lt-true}
 use Rattle.signed.proofs.Choices.{cond-false}
 use Rattle.signed.proofs.By.{by₂}
-use Rattle.axis.specs.declared.kinds.Link.TheVariants as Links
-use Rattle.axis.specs.declared.kinds.Blue.{Blue}
+use Rattle.axis.specs.Link.{Blue}
 use Rattle.axis.specs.declared.kinds.Group.{Group}
 use Rattle.axis.specs.declared.kinds.Mark.TheVariants.{Stem}
 use Rattle.axis.specs.declared.edge.Edge.{Edge}
@@ -27,11 +27,11 @@ use Rattle.stems.specs.Centre.{stem_width, shifted_centre, before_bound, ThinSte
 use Rattle.stems.proofs.Straight.{own-width}
 
 -- ---- edges in their places
-no-link : (k : ℕ) → Links.None ≡ Links.To k → ⊥
+no-link : (k : ℕ) → None ≡ Some k → ⊥
 no-link k e = let z : ◌≡◌ {A = ℕ} 0 1 = cc in omega arith
 
 -- an edge that has a link has a place
-pub linked-place : (es : List Edge) (i k : ℕ) → (get_or es i empty_edge).link ≡ Links.To k → i < length es
+pub linked-place : (es : List Edge) (i k : ℕ) → (get_or es i empty_edge).link ≡ Some k → i < length es
 linked-place [] i k h = absurd (no-link k h)
 linked-place (e ∷ es) zero k h = omega arith
 linked-place (e ∷ es) (suc i) k h = let r = linked-place es i k h in omega arith
@@ -70,7 +70,7 @@ module _ (m : Mode) (xs : List ℤ) (s : State) (i k a : ℕ) where
   alone : i ≡ k → stem_width m xs s i k ≡ pos 0
   alone q = rw q (own-width m.rule xs e2.opos)
 
-  visited : ThinStem m xs s i k a → visit m xs s i ≡ latin_stem m xs s i k (Links.To a)
+  visited : ThinStem m xs s i k a → visit m xs s i ≡ latin_stem m xs s i k (Some a)
   unfolding visit visit_link too_close zone_stem group_stem
   visited h =
       cond-false e.flags.done s (visit_link m xs s i e.link) h.not_done

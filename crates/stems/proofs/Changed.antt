@@ -1,4 +1,5 @@
 -- What the call changes: position and done of edges below the count, with a mark of the pass, and nothing else; a refusal nothing.
+use Rattle.std.specs.Prelude.{None, Some}
 use mathlib.Core.Path.{◌≡◌, refl, sym, subst}
 use mathlib.Core.Bool.{Bool, true, ◌&&◌}
 use mathlib.Core.List.{List}
@@ -12,10 +13,8 @@ use Rattle.signed.proofs.Choices.{either_way}
 use Rattle.refusals.specs.Refusal.{refusal}
 use Rattle.refusals.proofs.Tests.{all_hold}
 use Rattle.fixed.specs.declared.width.WidthRule.{WidthRule}
-use Rattle.axis.specs.declared.kinds.Link.{Link}
-use Rattle.axis.specs.declared.kinds.Link.TheVariants as Links
-use Rattle.axis.specs.declared.kinds.Blue.{Blue}
-use Rattle.axis.specs.declared.kinds.Blue.TheVariants as Blues
+use Rattle.axis.specs.Link.{Link}
+use Rattle.axis.specs.Link.{Blue}
 use Rattle.axis.specs.declared.kinds.Group.{Group}
 use Rattle.axis.specs.declared.kinds.Group.TheVariants.{Default, Cjk}
 use Rattle.axis.specs.declared.kinds.Mark.TheVariants as Marks
@@ -37,7 +36,7 @@ use Rattle.stems.specs.declared.kinds.Second.TheVariants.{Stays, Placed, Fixed}
 use Rattle.stems.specs.declared.kinds.Plan.{Plan}
 use Rattle.stems.specs.Visit.{too_close}
 use Rattle.stems.specs.Plan.{anchored_plan, free_plan, latin_plan, stem_plan, cjk_plan, group_plan, zone_plan, is_bounded, is_over, second_edge, held_edge}
-use Rattle.stems.specs.declared.outcome.Stems.{Stems}
+use Rattle.stems.specs.Answer.{Stems}
 use Rattle.stems.specs.Stems.{State, counted, begun, stems, stems_of, mode_of, stems_tests, align_stem_edges, AlignsStemEdges, stems_marks}
 use Rattle.stems.specs.StepsPass.{plan_at, first_put, second_put, carried_out, step_link, step}
 use Rattle.stems.proofs.Straight.{steps-are}
@@ -50,8 +49,8 @@ record Marked (plan : Plan) : Type 0 where
 module _ (rule : WidthRule) (xs : List ℤ) (e e2 : Edge) (t : Trail) where
   latin-marked : (a : Edge) (anchor : Link) → Marked (latin_plan rule xs e e2 a anchor t)
   unfolding latin_plan anchored_plan free_plan among
-  latin-marked a Links.None = record { marks = refl }
-  latin-marked a (Links.To j) = either_way Marked e2.flags.done _ _ (record { marks = refl }) (record { marks = refl })
+  latin-marked a None = record { marks = refl }
+  latin-marked a (Some j) = either_way Marked e2.flags.done _ _ (record { marks = refl }) (record { marks = refl })
 
 stem-marked : (e e2 : Edge) (s : Stem) (d : ℤ) → Marked (stem_plan e e2 s d)
 unfolding stem_plan among
@@ -65,8 +64,8 @@ module _ (m : Mode) (xs : List ℤ) (e e2 a : Edge) (anchor : Link) (before : Bo
 
   zone-marked : (b : Blue) → Marked (zone_plan b m xs e e2 a anchor before t)
   unfolding zone_plan among
-  zone-marked Blues.None = group-marked m.group
-  zone-marked (Blues.Fitted z) = record { marks = refl }
+  zone-marked None = group-marked m.group
+  zone-marked (Some z) = record { marks = refl }
 
 -- ---- the stores
 abbrev PlacedOnly : Edge → Edge → Type 0
@@ -108,8 +107,8 @@ module _ (m : Mode) (xs : List ℤ) (old : Axis) (b : ℕ) (within : AxisWithin 
 
   by-link : (s : State) (i : ℕ) (l : Link) → Below old.len l → i < old.len → KeptBy s → KeptBy (step_link m xs s i l)
   unfolding step_link
-  by-link s i Links.None e q h = h
-  by-link s i (Links.To k) e q h =
+  by-link s i None e q h = h
+  by-link s i (Some k) e q h =
       either_way KeptBy (too_close m.group s.trail.last (edge_at s.axis i) (edge_at s.axis k)) (counted s) _ h
       (carried s i k (plan_at m xs s i k) (zone-marked m xs _ _ _ _ _ _ (edge_at s.axis k).blue) q (e.at k refl) h)
 
@@ -138,7 +137,7 @@ changed axis group adjust ttb anchor rule xs p =
     let Small = OnlyAxis (wherever (λ (i : ℕ). ltb i axis.len) (place stems_marks)) in
     let m = mode_of axis group adjust rule in
     subst (λ (r : Stems). Changes Small r.answer axis r.axis) (sym p)
-    (call-changes Small (refusal (stems_tests axis ttb anchor rule xs)) axis (λ (k : ℕ). stems 0 Links.None axis k) (stems_of m xs anchor axis)
+    (call-changes Small (refusal (stems_tests axis ttb anchor rule xs)) axis (λ (k : ℕ). stems 0 None axis k) (stems_of m xs anchor axis)
     (λ (r : Stems). r.answer) (λ (r : Stems). r.axis)
     (λ (k : ℕ). refl) (same-axis _ axis) (stems-done m xs anchor axis)
     (λ e. let t = all_hold (stems_tests axis ttb anchor rule xs) refl e in pass m xs axis most_pos

@@ -1,4 +1,5 @@
 -- Where no edge was passed over, every edge is done.
+use Rattle.std.specs.Prelude.{None, Some}
 use mathlib.Core.Path.{◌≡◌, refl, sym, ap, subst, ◌∙◌}
 use mathlib.Core.Bool.{Bool, true}
 use mathlib.Core.List.{List}
@@ -13,8 +14,7 @@ use Rattle.signed.proofs.Choices.{cond_cases}
 use Rattle.refusals.specs.Refusal.{refusal}
 use Rattle.refusals.proofs.Answers.{none-refused}
 use Rattle.fixed.specs.declared.width.WidthRule.{WidthRule}
-use Rattle.axis.specs.declared.kinds.Link.{Link}
-use Rattle.axis.specs.declared.kinds.Link.TheVariants as Links
+use Rattle.axis.specs.Link.{Link}
 use Rattle.axis.specs.declared.kinds.Group.{Group}
 use Rattle.axis.specs.declared.edge.Edge.{Edge}
 use Rattle.axis.specs.declared.edge.Axis.{Axis}
@@ -23,7 +23,7 @@ use Rattle.axis.specs.Visits.{visits}
 use Rattle.stems.specs.declared.kinds.Mode.{Mode}
 use Rattle.stems.specs.declared.kinds.Plan.{Plan}
 use Rattle.stems.specs.Visit.{too_close}
-use Rattle.stems.specs.declared.outcome.Stems.{Stems}
+use Rattle.stems.specs.Answer.{Stems}
 use Rattle.stems.specs.Stems.{State, counted, begun, stems, stems_of, mode_of, stems_tests, align_stem_edges}
 use Rattle.stems.specs.StepsPass.{plan_at, first_put, second_put, carried_out, step_link, step}
 use Rattle.stems.proofs.Straight.{steps-are}
@@ -62,8 +62,8 @@ module _ (m : Mode) (xs : List ℤ) where
 
   link-visited : (n i : ℕ) (s : State) (l : Link) → n ≤ length s.axis.edges → i < n → Visited n i (step_link m xs s i l)
   unfolding step_link
-  link-visited n i s Links.None l h = counted-visited n i s l
-  link-visited n i s (Links.To k) l h =
+  link-visited n i s None l h = counted-visited n i s l
+  link-visited n i s (Some k) l h =
       cond_cases (Visited n i) (too_close m.group s.trail.last (edge_at s.axis i) (edge_at s.axis k)) (counted s) _ (λ t. counted-visited n i s l)
       (λ t. let plan = plan_at m xs s i k in record { long = omega (arith, carried-long s i k plan); done = λ e. carried-done s i k plan (omega arith) })
 
@@ -76,8 +76,8 @@ module _ (m : Mode) (xs : List ℤ) where
   -- nothing that was counted is forgotten
   link-counts : (s : State) (i : ℕ) (l : Link) → s.count ≤ (step_link m xs s i l).count
   unfolding step_link carried_out
-  link-counts s i Links.None = omega arith
-  link-counts s i (Links.To k) =
+  link-counts s i None = omega arith
+  link-counts s i (Some k) =
       cond_cases (λ (t : State). s.count ≤ t.count) (too_close m.group s.trail.last (edge_at s.axis i) (edge_at s.axis k)) (counted s) _
       (λ t. omega arith) (λ t. omega arith)
 
@@ -124,7 +124,7 @@ pub none-passed-over : (axis : Axis) (group : Group) (adjust ttb : Bool) (anchor
 unfolding align_stem_edges
 none-passed-over axis group adjust ttb anchor rule xs l a c j h =
     let work = stems_of (mode_of axis group adjust rule) xs anchor axis in
-    let z = none-refused (stems 0 Links.None axis) work (λ (s : Stems). s.answer) (λ j. refl) (refusal (stems_tests axis ttb anchor rule xs)) a in
+    let z = none-refused (stems 0 None axis) work (λ (s : Stems). s.answer) (λ j. refl) (refusal (stems_tests axis ttb anchor rule xs)) a in
     let out = outcome axis group adjust ttb anchor rule xs z in
     ap (λ (s : Stems). (edge_at s.axis j).flags.done) out ∙ all_done (mode_of axis group adjust rule) xs anchor axis l
     (ap (λ (s : Stems). s.count) (sym out) ∙ c) j h

@@ -1,4 +1,5 @@
 -- How far one visit can take the positions: what is within b before it is within b and `most_growth` after it.
+use Rattle.std.specs.Prelude.{None, Some}
 use mathlib.Core.Path.{◌≡◌, subst}
 use mathlib.Core.Bool.{Bool}
 use mathlib.Core.List.{List}
@@ -10,10 +11,8 @@ use Rattle.signed.specs.Range.{Between}
 use Rattle.signed.proofs.Signed.{add-law, sub-law}
 use Rattle.signed.proofs.Choices.{either_way}
 use Rattle.fixed.specs.declared.width.WidthRule.{WidthRule}
-use Rattle.axis.specs.declared.kinds.Link.{Link}
-use Rattle.axis.specs.declared.kinds.Link.TheVariants as Links
-use Rattle.axis.specs.declared.kinds.Blue.{Blue}
-use Rattle.axis.specs.declared.kinds.Blue.TheVariants as Blues
+use Rattle.axis.specs.Link.{Link}
+use Rattle.axis.specs.Link.{Blue}
 use Rattle.axis.specs.declared.kinds.Group.{Group}
 use Rattle.axis.specs.declared.kinds.Group.TheVariants.{Default, Cjk}
 use Rattle.axis.specs.declared.kinds.Dimension.{Dimension}
@@ -29,7 +28,6 @@ use Rattle.stems_cjk.specs.declared.stem.Stem.{Stem}
 use Rattle.stems_cjk.specs.Cjk.{most_cjk_start, most_width, most_move}
 use Rattle.stems_cjk.proofs.Moves.{stem-pos-range, stem-width-range, stem-delta-range}
 use Rattle.stems.specs.declared.kinds.Mode.{Mode}
-use Rattle.stems.specs.declared.kinds.LastStem.TheVariants as LastStems
 use Rattle.stems.specs.declared.kinds.Trail.{Trail}
 use Rattle.stems.specs.declared.kinds.Second.{Second}
 use Rattle.stems.specs.declared.kinds.Second.TheVariants.{Stays, Placed, Fixed}
@@ -92,11 +90,11 @@ fixed-within b x h = record {
   fixed = λ (z : ℤ) (e : Fixed x ≡ Fixed z). let q : x ≡ z = cc in subst (Between b b) q h;
 }
 
-pub last_none : LastWithin LastStems.None
-last_none = record { at = λ (z : ℤ) (e : LastStems.None ≡ LastStems.At z). never cc }
+pub last_none : LastWithin None
+last_none = record { at = λ (z : ℤ) (e : None ≡ Some z). never cc }
 
-last-at : (x : ℤ) → Between most_place most_place x → LastWithin (LastStems.At x)
-last-at x h = record { at = λ (z : ℤ) (e : LastStems.At x ≡ LastStems.At z). let q : x ≡ z = cc in subst (Between most_place most_place) q h }
+last-at : (x : ℤ) → Between most_place most_place x → LastWithin (Some x)
+last-at x h = record { at = λ (z : ℤ) (e : Some x ≡ Some z). let q : x ≡ z = cc in subst (Between most_place most_place) q h }
 
 -- an edge at an accepted original position, within b
 pub record EdgeIn (b : ℕ) (e : Edge) : Type 0 where
@@ -165,8 +163,8 @@ module _ (b : ℕ) (r : Reached b) where
   latin-within : (rule : WidthRule) (xs : List ℤ) (e e2 a : Edge) (anchor : Link) (t : Trail)
       → EdgeIn b e → EdgeIn b e2 → EdgeIn b a → TrailWithin t → PlanWithin (b + most_growth) (latin_plan rule xs e e2 a anchor t)
   unfolding latin_plan
-  latin-within rule xs e e2 a Links.None t h g l k = free-within rule xs e e2 t h g k
-  latin-within rule xs e e2 a (Links.To j) t h g l k = anchored-within rule xs e e2 a t h g l k
+  latin-within rule xs e e2 a None t h g l k = free-within rule xs e e2 t h g k
+  latin-within rule xs e e2 a (Some j) t h g l k = anchored-within rule xs e e2 a t h g l k
 
   -- ---- CJK
   fixed-plan-within : (p q d : ℤ) → Between most_end most_end p → Between most_end most_end q → Between most_passed most_passed d
@@ -189,8 +187,8 @@ module _ (b : ℕ) (r : Reached b) where
   beside-within : (anchor : Link) (old d : ℤ) → Between most_passed most_passed old → Between most_move most_move d
       → Between most_passed most_passed (delta_beside anchor old d)
   unfolding delta_beside
-  beside-within Links.None old d h g = omega (arith, g)
-  beside-within (Links.To j) old d h g = h
+  beside-within None old d h g = omega (arith, g)
+  beside-within (Some j) old d h g = h
 
   after-within : (dim : Dimension) (anchor : Link) (old d : ℤ) → Between most_passed most_passed old → Between most_move most_move d
       → Between most_passed most_passed (delta_after dim anchor old d)
@@ -219,8 +217,8 @@ module _ (b : ℕ) (r : Reached b) where
   zone-within : (blue : Blue) (m : Mode) (xs : List ℤ) (e e2 a : Edge) (anchor : Link) (before : Bool) (t : Trail)
       → EdgeIn b e → EdgeIn b e2 → EdgeIn b a → TrailWithin t → PlanWithin (b + most_growth) (zone_plan blue m xs e e2 a anchor before t)
   unfolding zone_plan
-  zone-within Blues.None m xs e e2 a anchor before t h g l k = group-within m.group m xs e e2 a anchor before t h g l k
-  zone-within (Blues.Fitted z) m xs e e2 a anchor before t h g l k = linked-within m.rule xs e e2 t h g k
+  zone-within None m xs e e2 a anchor before t h g l k = group-within m.group m xs e e2 a anchor before t h g l k
+  zone-within (Some z) m xs e e2 a anchor before t h g l k = linked-within m.rule xs e e2 t h g k
 
   pub plan-within : (m : Mode) (xs : List ℤ) (e e2 a : Edge) (anchor : Link) (before : Bool) (t : Trail)
       → EdgeIn b e → EdgeIn b e2 → EdgeIn b a → TrailWithin t → PlanWithin (b + most_growth) (plan_of m xs e e2 a anchor before t)

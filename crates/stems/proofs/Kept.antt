@@ -1,4 +1,5 @@
 -- What the visits keep: each edge stays within its limits, and the pass within the reach.
+use Rattle.std.specs.Prelude.{None, Some, MatchOption}
 use mathlib.Core.Path.{◌≡◌, refl, ap, subst}
 use mathlib.Core.Bool.{Bool, ◌&&◌}
 use mathlib.Core.List.{List}
@@ -10,8 +11,7 @@ use Rattle.signed.proofs.Choices.{either_way}
 use Rattle.refusals.specs.Refusal.{refusal, answered}
 use Rattle.refusals.proofs.Tests.{all_hold}
 use Rattle.fixed.specs.declared.width.WidthRule.{WidthRule}
-use Rattle.axis.specs.declared.kinds.Link.{Link}
-use Rattle.axis.specs.declared.kinds.Link.TheVariants as Links
+use Rattle.axis.specs.Link.{Link}
 use Rattle.axis.specs.declared.kinds.Group.{Group}
 use Rattle.axis.specs.declared.kinds.Mark.{Mark}
 use Rattle.axis.specs.declared.edge.Edge.{Edge}
@@ -94,17 +94,22 @@ counted-sound b c n i s h g = record {
 
 -- the anchor, or the visited edge where there is none, is an edge
 pub anchor-or : (n i : ℕ) (anchor : Link) → Below n anchor → i < n → index_or i anchor < n
-anchor-or n i Links.None h q = q
-anchor-or n i (Links.To k) h q = h.at k refl
+anchor-or n i None h q = q
+anchor-or n i (Some k) h q = h.at k refl
+
+-- what the library's `map_or` reads of an anchor, or i where there is none
+pub read-or : (l : Link) (i r : ℕ) → MatchOption l (r ≡ i) (λ (k : ℕ). r ≡ k) → r ≡ index_or i l
+read-or None i r h = h
+read-or (Some k) i r h = h
 
 anchor-kept : (n i : ℕ) (plan : Plan) (anchor : Link) → Below n anchor → i < n → Below n (anchor_after plan anchor i)
 unfolding anchor_after
-anchor-kept n i plan anchor h q = either_way (Below n) plan.anchors (Links.To i) anchor (below-to n i q) h
+anchor-kept n i plan anchor h q = either_way (Below n) plan.anchors (Some i) anchor (below-to n i q) h
 
 pub edge_in : (b n i j : ℕ) (s : State) → StateSound b n i s → j < n → EdgeIn b (edge_at s.axis j)
 edge_in b n i j s h q = let e = edge-at b n j s.axis h.axis-in h.len q in record { opos = e.opos; pos = e.pos }
 
-pub link-in : (b n i k : ℕ) (s : State) → StateSound b n i s → i < n → (edge_at s.axis i).link ≡ Links.To k → k < n
+pub link-in : (b n i k : ℕ) (s : State) → StateSound b n i s → i < n → (edge_at s.axis i).link ≡ Some k → k < n
 link-in b n i k s h q e = (edge-at b n i s.axis h.axis-in h.len q).link.at k e
 
 pub plan-in : (b n i k : ℕ) (m : Mode) (xs : List ℤ) (s : State) → Reached b → StateSound b n i s → i < n → k < n
@@ -134,8 +139,8 @@ link-sound :
     (b n i : ℕ) (m : Mode) (xs : List ℤ) (s : State) (l : Link) → Reached b → StateSound b n i s → i < n → (edge_at s.axis i).link ≡ l
     → StateSound (b + most_growth) n (i + 1) (step_link m xs s i l)
 unfolding step_link
-link-sound b n i m xs s Links.None r h q e = counted-sound b (b + most_growth) n i s (omega arith) h
-link-sound b n i m xs s (Links.To k) r h q e =
+link-sound b n i m xs s None r h q e = counted-sound b (b + most_growth) n i s (omega arith) h
+link-sound b n i m xs s (Some k) r h q e =
     let p = link-in b n i k s h q e in
     either_way (StateSound (b + most_growth) n (i + 1)) (too_close m.group s.trail.last (edge_at s.axis i) (edge_at s.axis k)) (counted s) _
     (counted-sound b (b + most_growth) n i s (omega arith) h)
@@ -231,7 +236,7 @@ unfolding align_stem_edges
 call-counts axis group adjust ttb anchor rule xs = by (refusal (stems_tests axis ttb anchor rule xs)) refl
   where
     by : (k : ℕ) → refusal (stems_tests axis ttb anchor rule xs) ≡ k
-        → (answered k (stems 0 Links.None axis) (stems_of (mode_of axis group adjust rule) xs anchor axis)).count ≤ most_edges
+        → (answered k (stems 0 None axis) (stems_of (mode_of axis group adjust rule) xs anchor axis)).count ≤ most_edges
     by zero e =
         let t = all_hold (stems_tests axis ttb anchor rule xs) refl e in
         let indexed = t.1.1.1 in

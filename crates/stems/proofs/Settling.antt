@@ -1,12 +1,12 @@
 -- The stem pass over edges that are settled: a step keeps them so, and what the loop needs to do without the fallback.
+use Rattle.std.specs.Prelude.{None, Some}
 use mathlib.Core.Path.{◌≡◌, refl, subst}
 use mathlib.Core.Bool.{Bool, false, ◌&&◌}
 use mathlib.Core.List.{List}
 use Prim.Native.Nat.{ℕ, ◌+◌, ◌<◌, ◌-◌}
 use lib.IntN.{ℤ}
 use Rattle.signed.proofs.Choices.{either_way}
-use Rattle.axis.specs.declared.kinds.Link.{Link}
-use Rattle.axis.specs.declared.kinds.Link.TheVariants as Links
+use Rattle.axis.specs.Link.{Link}
 use Rattle.axis.specs.declared.edge.Edge.{Edge}
 use Rattle.axis.specs.declared.edge.Axis.{Axis}
 use Rattle.axis.specs.Edge.{edge_at}
@@ -53,8 +53,8 @@ carried-grown s i k plan =
 module _ (m : Mode) (xs : List ℤ) where
   link-grown : (s : State) (i : ℕ) (l : Link) → AllGrown s.axis (step_link m xs s i l).axis
   unfolding step_link
-  link-grown s i Links.None = all_same s.axis
-  link-grown s i (Links.To k) =
+  link-grown s i None = all_same s.axis
+  link-grown s i (Some k) =
       either_way (λ (t : State). AllGrown s.axis t.axis) (too_close m.group s.trail.last (edge_at s.axis i) (edge_at s.axis k)) _ _
       (all_same s.axis)
       (carried-grown s i k (plan_at m xs s i k))
@@ -83,5 +83,5 @@ module _ {fallback : Bool} {m : Mode} {xs : List ℤ} {n : ℕ} {anchor : Link} 
   }
 
   -- then the link of a visited edge has no zone
-  pub link-bare : (k : ℕ) → (edge_at s.axis i).flags.done ≡ false → (edge_at s.axis i).link ≡ Links.To k → BareWithout fallback (edge_at s.axis k)
+  pub link-bare : (k : ℕ) → (edge_at s.axis i).flags.done ≡ false → (edge_at s.axis i).link ≡ Some k → BareWithout fallback (edge_at s.axis k)
   link-bare k d l = record { bare = λ f. (g.without.settled f).bare i k q d l }

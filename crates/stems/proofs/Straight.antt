@@ -1,5 +1,6 @@
 -- A step, along one path by its plan, is a visit: the bound is `adjust_link` toward the previous edge, an edge placed by its link is `align_linked_edge`, and a
 -- normal CJK stem is `hint_normal_stem_cjk`, self-links included.
+use Rattle.std.specs.Prelude.{None, Some}
 use mathlib.Core.Path.{◌≡◌, refl, sym, ap, ◌∙◌}
 use mathlib.Core.Bool.{Bool, true, false, cond, ◌&&◌}
 use mathlib.Core.List.{List, [], ◌∷◌}
@@ -14,10 +15,8 @@ use Rattle.signed.proofs.Signed.{same, add-law, sub-law}
 use Rattle.fixed.specs.declared.width.WidthRule.{WidthRule}
 use Rattle.fixed.specs.declared.width.WidthRule.TheVariants.{Keep, Snap}
 use Rattle.fixed.specs.Width.{settled, snapped, lifted, fitted_width}
-use Rattle.axis.specs.declared.kinds.Link.{Link}
-use Rattle.axis.specs.declared.kinds.Link.TheVariants as Links
-use Rattle.axis.specs.declared.kinds.Blue.{Blue}
-use Rattle.axis.specs.declared.kinds.Blue.TheVariants as Blues
+use Rattle.axis.specs.Link.{Link}
+use Rattle.axis.specs.Link.{Blue}
 use Rattle.axis.specs.declared.kinds.Group.{Group}
 use Rattle.axis.specs.declared.kinds.Group.TheVariants.{Default, Cjk}
 use Rattle.axis.specs.declared.kinds.Mark.{Mark}
@@ -34,7 +33,6 @@ use Rattle.stems_latin.specs.Latin.{anchored_first, anchored_second}
 use Rattle.stems_cjk.specs.Cjk.{stem_at, stem_of, placed_stem, hinted_stem}
 use Rattle.zones.proofs.Straight.{put_same, keeps}
 use Rattle.stems.specs.declared.kinds.Mode.{Mode}
-use Rattle.stems.specs.declared.kinds.LastStem.TheVariants as LastStems
 use Rattle.stems.specs.declared.kinds.Trail.{Trail}
 use Rattle.stems.specs.declared.kinds.Plan.{Plan}
 use Rattle.stems.specs.Visit.{too_close, width_of}
@@ -78,14 +76,14 @@ one_store axis i e true true = refl
 one_store axis i e true false = put_same axis i
 one_store axis i e false y = put_same axis i
 
-far-held : (axis : Axis) (h i k : ℕ) (l : Link) → l ≡ Links.To k
+far-held : (axis : Axis) (h i k : ℕ) (l : Link) → l ≡ Some k
     → held_to axis h i h l ≡ cond (is_far (edge_at axis k).pos (edge_at axis h).pos) (put_edge axis i (placed (edge_at axis i) (edge_at axis h).pos Marks.Bound))
     axis
 unfolding held_to
 far-held axis h i k l e = rw e
 
 -- the edge that a plan bounds, linked to edge k
-bound-is-adjusted : (axis : Axis) (i k : ℕ) (plan : Plan) → plan.bounded ≡ true → (edge_at axis i).link ≡ Links.To k
+bound-is-adjusted : (axis : Axis) (i k : ℕ) (plan : Plan) → plan.bounded ≡ true → (edge_at axis i).link ≡ Some k
     → held_put plan i k axis ≡ adjusted axis i Prev
 unfolding held_edge adjusted bound_by neighbour lower_bound
 bound-is-adjusted axis zero k plan h e = rw h (put_same axis zero)
@@ -149,11 +147,11 @@ with_edges axis es = record { dim = axis.dim; major_dir = axis.major_dir; edges 
 
 -- the state with another axis, where edge i has become the anchor
 abbrev anchor_state : State → ℕ → Trail → Axis → State
-anchor_state s i t axis = record { axis = axis; count = s.count; anchor = Links.To i; trail = t }
+anchor_state s i t axis = record { axis = axis; count = s.count; anchor = Some i; trail = t }
 
 by-lower : (s : State) (i k : ℕ) (p w d : ℤ) (lower : Bool) → (i ≡ k → w ≡ pos 0)
     → carried_out s i k (cond lower (fixed_plan p (p +ℤ w) d) (fixed_plan (p +ℤ w) p d))
-    ≡ anchor_state s i (record { last = LastStems.At (cond lower (p +ℤ w) p); delta = d })
+    ≡ anchor_state s i (record { last = Some (cond lower (p +ℤ w) p); delta = d })
     (both_done i k (cond lower (placed_stem s.axis i k p w) (placed_stem s.axis k i p w)))
 unfolding carried_out second_edge held_edge anchor_after placed_stem
 by-lower s i k p w d true h = ap (anchor_state s i _) (put_same _ i ∙ ap (with_edges s.axis) (rising s.axis.edges i k p (p +ℤ w)))
@@ -204,13 +202,13 @@ module _ (m : Mode) (xs : List ℤ) (s : State) (i k : ℕ) where
     where
       by : (before : Bool)
           → carried_out s i k
-          (cond before (linked_plan m.rule xs e e2 (record { last = LastStems.At e.pos; delta = s.trail.delta }))
+          (cond before (linked_plan m.rule xs e e2 (record { last = Some e.pos; delta = s.trail.delta }))
           (normal_plan m xs e e2 s.anchor s.trail))
           ≡ cond before (back_stem m xs s i k) (normal_stem m s i k (stem_of m.dim m.stem_adjust m.rule xs e e2 s.trail.delta))
       by true = linked-is _
       by false = normal-is
 
-  module _ (h : e.link ≡ Links.To k) where
+  module _ (h : e.link ≡ Some k) where
     behind-is : carried_out s i k (behind_plan e2 (width_of m.rule xs e e2) s.trail)
         ≡ axis_state s s.trail (adjusted (fix_at s.axis i (e2.pos -ℤ width_of m.rule xs e e2) Marks.Adjusted) i Prev)
     unfolding carried_out second_edge anchor_after
@@ -255,8 +253,8 @@ module _ (m : Mode) (xs : List ℤ) (s : State) (i k : ℕ) where
     latin-is : (l : Link) → s.anchor ≡ l → carried_out s i k (latin_plan m.rule xs e e2 (edge_at s.axis (index_or i l)) l s.trail)
         ≡ latin_stem m xs s i k l
     unfolding latin_plan latin_stem
-    latin-is Links.None g = free-is
-    latin-is (Links.To a) g = anchored-is a
+    latin-is None g = free-is
+    latin-is (Some a) g = anchored-is a
 
     group_is : (g : Group) → carried_out s i k (group_plan g m xs e e2 (edge_at s.axis (index_or i s.anchor)) s.anchor (ltb k i) s.trail)
         ≡ group_stem g m xs s i k
@@ -267,14 +265,14 @@ module _ (m : Mode) (xs : List ℤ) (s : State) (i k : ℕ) where
     zone-is : (b : Blue) → carried_out s i k (zone_plan b m xs e e2 (edge_at s.axis (index_or i s.anchor)) s.anchor (ltb k i) s.trail)
         ≡ zone_stem b m xs s i k
     unfolding zone_plan zone_stem
-    zone-is Blues.None = group_is m.group
-    zone-is (Blues.Fitted z) = linked-is s.trail
+    zone-is None = group_is m.group
+    zone-is (Some z) = linked-is s.trail
 
 module _ (m : Mode) (xs : List ℤ) (s : State) (i : ℕ) where
   link-is : (l : Link) → (edge_at s.axis i).link ≡ l → step_link m xs s i l ≡ visit_link m xs s i l
   unfolding step_link visit_link
-  link-is Links.None h = refl
-  link-is (Links.To k) h =
+  link-is None h = refl
+  link-is (Some k) h =
       ap (cond (too_close m.group s.trail.last (edge_at s.axis i) (edge_at s.axis k)) (counted s)) (zone-is m xs s i k h (edge_at s.axis k).blue)
 
   step_is : step m xs s i ≡ visit m xs s i

@@ -1,5 +1,6 @@
 -- Request #102, the visit: with Snap a stem that has a width is placed at least a pixel wide, before the neighbour bound, in every branch, for every axis and
 -- every index.
+use Rattle.std.specs.Prelude.{None, Some}
 use mathlib.Core.Path.{◌≡◌, refl, sym, ap, subst, ◌∙◌}
 use mathlib.Core.List.{List, [], ◌∷◌}
 use mathlib.Core.Logic.{inl, inr}
@@ -12,10 +13,8 @@ use Rattle.signed.proofs.Choices.{cond-false, either_way}
 use Rattle.fixed.specs.declared.width.WidthRule.{WidthRule}
 use Rattle.fixed.specs.declared.width.WidthRule.TheVariants.{Snap}
 use Rattle.fixed.specs.Width.{fitted_width}
-use Rattle.axis.specs.declared.kinds.Link.{Link}
-use Rattle.axis.specs.declared.kinds.Link.TheVariants as Links
-use Rattle.axis.specs.declared.kinds.Blue.{Blue}
-use Rattle.axis.specs.declared.kinds.Blue.TheVariants as Blues
+use Rattle.axis.specs.Link.{Link}
+use Rattle.axis.specs.Link.{Blue}
 use Rattle.axis.specs.declared.kinds.Group.{Group}
 use Rattle.axis.specs.declared.kinds.Group.TheVariants.{Default, Cjk}
 use Rattle.axis.specs.declared.kinds.Mark.TheVariants.{Anchor}
@@ -118,12 +117,12 @@ module _ (m : Mode) (xs : List ℤ) (s : State) (i k : ℕ) (h : VisitedStem m x
 
   latin-shown : (l : Link) → Shown (latin_stem m xs s i k l)
   unfolding latin_stem
-  latin-shown (Links.To a) = record {
+  latin-shown (Some a) = record {
     before = beside_anchor m.rule xs s.axis i k a;
     visited = inr (record { anchor = a; beside = refl; bound = refl });
     apart = (ruled (λ (r : WidthRule). beside_anchor r xs s.axis i k a) (beside-seen xs s.axis i k own-place h.place h.has_width a)).apart;
   }
-  latin-shown Links.None =
+  latin-shown None =
       without-bound _
       (ruled (λ (r : WidthRule). first_stem r xs s.axis i k (free_pos m.rule xs (edge_at s.axis i) (edge_at s.axis k)))
       (first-seen xs s.axis i k own-place h.place h.has_width _))
@@ -148,8 +147,8 @@ module _ (m : Mode) (xs : List ℤ) (s : State) (i k : ℕ) (h : VisitedStem m x
 
   zone-shown : (b : Blue) → Shown (zone_stem b m xs s i k)
   unfolding zone_stem
-  zone-shown Blues.None = group-shown m.group
-  zone-shown (Blues.Fitted z) = without-bound _ by-link
+  zone-shown None = group-shown m.group
+  zone-shown (Some z) = without-bound _ by-link
 
   by-zone : visit m xs s i ≡ zone_stem (edge_at s.axis k).blue m xs s i k
   unfolding visit visit_link

@@ -1,4 +1,5 @@
 -- One step by the values that the code finds.
+use Rattle.std.specs.Prelude.{None, Some}
 use mathlib.Core.Path.{◌≡◌, sym, ap, ◌∙◌}
 use mathlib.Core.Bool.{Bool, true, false}
 use mathlib.Core.List.{List}
@@ -6,8 +7,7 @@ use Prim.Native.Nat.{ℕ, ◌-◌}
 use lib.Dec.{ltb}
 use lib.IntN.{ℤ}
 use Rattle.signed.proofs.Choices.{cond-true, cond-false}
-use Rattle.axis.specs.declared.kinds.Link.{Link}
-use Rattle.axis.specs.declared.kinds.Link.TheVariants as Links
+use Rattle.axis.specs.Link.{Link}
 use Rattle.axis.specs.declared.edge.Edge.{Edge}
 use Rattle.axis.specs.declared.edge.Axis.{Axis}
 use Rattle.axis.specs.Link.{index_or}
@@ -29,16 +29,16 @@ module _ (m : Mode) (xs : List ℤ) (s : State) (i : ℕ) where
   unfolding step
   by-link l h e = cond-false _ _ _ h ∙ ap (step_link m xs s i) e
 
-  pub step-none : (edge_at s.axis i).flags.done ≡ false → (edge_at s.axis i).link ≡ Links.None → step m xs s i ≡ counted s
+  pub step-none : (edge_at s.axis i).flags.done ≡ false → (edge_at s.axis i).link ≡ None → step m xs s i ≡ counted s
   unfolding step_link
-  step-none h e = by-link Links.None h e
+  step-none h e = by-link None h e
 
   abbrev close_at : ℕ → Bool
   close_at k = too_close m.group s.trail.last (edge_at s.axis i) (edge_at s.axis k)
 
-  pub step-close : (k : ℕ) → (edge_at s.axis i).flags.done ≡ false → (edge_at s.axis i).link ≡ Links.To k → close_at k ≡ true → step m xs s i ≡ counted s
+  pub step-close : (k : ℕ) → (edge_at s.axis i).flags.done ≡ false → (edge_at s.axis i).link ≡ Some k → close_at k ≡ true → step m xs s i ≡ counted s
   unfolding step_link
-  step-close k h e q = by-link (Links.To k) h e ∙ cond-true _ _ _ q
+  step-close k h e q = by-link (Some k) h e ∙ cond-true _ _ _ q
 
   -- the axis with two edges stored
   abbrev two_put : ℕ → Edge → Edge → Axis
@@ -49,7 +49,7 @@ module _ (m : Mode) (xs : List ℤ) (s : State) (i : ℕ) where
     pub base : ℕ
     pub prev : ℕ
     pub not_done : (edge_at s.axis i).flags.done ≡ false
-    pub link : (edge_at s.axis i).link ≡ Links.To k
+    pub link : (edge_at s.axis i).link ≡ Some k
     pub not_close : close_at k ≡ false
     pub base-is : base ≡ index_or i s.anchor
     pub plan-is : plan ≡ plan_of m xs (edge_at s.axis i) (edge_at s.axis k) (edge_at s.axis base) s.anchor (ltb k i) s.trail
@@ -85,7 +85,7 @@ module _ (m : Mode) (xs : List ℤ) (s : State) (i : ℕ) where
       → step m xs s i ≡ record { axis = put_edge (put_edge (put_edge s.axis i e) k g) i h; count = s.count; anchor = a; trail = plan.trail }
   unfolding step_link
   step-put k plan e g h a p =
-      by-link (Links.To k) p.not_done p.link
+      by-link (Some k) p.not_done p.link
       ∙ cond-false _ _ _ p.not_close
       ∙ ap (carried_out s i k) (sym (plan-at k p.base plan p.base-is p.plan-is))
       ∙ carried k plan _ a (three-puts k p.prev plan _ _ h (two-puts k plan e g p.first p.second) p.prev-is p.third) p.anchor

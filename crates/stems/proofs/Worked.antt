@@ -1,5 +1,6 @@
 -- Passes worked out by hand from document 01 and the Rust: what is counted, what becomes the anchor, what the neighbour bound does, and what each edge is
 -- marked with.
+use Rattle.std.specs.Prelude.{None, Some}
 use mathlib.Core.Path.{◌≡◌, refl}
 use mathlib.Core.Bool.{false}
 use mathlib.Core.List.{List, [], ◌∷◌}
@@ -10,11 +11,9 @@ use Rattle.fixed.specs.declared.width.WidthRule.{WidthRule}
 use Rattle.fixed.specs.declared.width.WidthRule.TheVariants.{Keep, Snap}
 use Rattle.fixed.specs.Pixel.{pix_floor, pix_round}
 use Rattle.fixed.specs.Width.{with_sign, settled, snapped, lifted, fitted_width}
-use Rattle.axis.specs.declared.kinds.Link.{Link}
-use Rattle.axis.specs.declared.kinds.Link.TheVariants as Links
+use Rattle.axis.specs.Link.{Link}
 use Rattle.axis.specs.declared.kinds.Direction.TheVariants as Directions
 use Rattle.axis.specs.declared.kinds.Dimension.TheVariants.{Vertical}
-use Rattle.axis.specs.declared.kinds.Blue.TheVariants as Blues
 use Rattle.axis.specs.declared.kinds.Group.{Group}
 use Rattle.axis.specs.declared.kinds.Group.TheVariants.{Default, Cjk}
 use Rattle.axis.specs.declared.kinds.Mark.{Mark}
@@ -39,12 +38,12 @@ use Rattle.stems_latin.specs.Latin.{
 }
 use Rattle.stems_cjk.specs.Cjk.{max_gap, gap_of, pixel_offset, narrow_delta, offsets_delta, start_of, clamped, delta_of, stem_at, stem_of, placed_stem, hinted_stem}
 use Rattle.stems.specs.Visit.{is_close, too_close, delta_after}
-use Rattle.stems.specs.declared.outcome.Stems.{Stems}
+use Rattle.stems.specs.Answer.{Stems}
 use Rattle.stems.specs.Stems.{beside_anchor, latin_stem, cjk_stem, group_stem, zone_stem, visit_link, visit, stems, stems_of, mode_of}
 
 -- an edge by its mark, opos, pos and link
 abbrev marked : Mark → ℕ → ℕ → Link → Edge
-marked m o p l = joined_to (placed (fresh_edge (pos 0) (pos o) Directions.None 0) (pos p) m) l Links.None
+marked m o p l = joined_to (placed (fresh_edge (pos 0) (pos o) Directions.None 0) (pos p) m) l None
 
 -- one that nothing has placed yet
 abbrev edge : ℕ → ℕ → Link → Edge
@@ -52,7 +51,7 @@ edge = marked Marks.Nothing
 
 -- an edge with a zone at its position
 abbrev zoned : Edge → Edge
-zoned e = changed e e.pos e.mark e.flags (Blues.Fitted e.pos) e.link e.serif e.last
+zoned e = changed e e.pos e.mark e.flags (Some e.pos) e.link e.serif e.last
 
 -- a vertical axis of these edges
 abbrev axis_of : List Edge → Axis
@@ -70,64 +69,64 @@ pub record Worked : Type 0 where
   -- an edge with no link is counted, one that is done is not, and both keep their marks; the first stem, from 10 to 74, goes to 0 and 64 and is the anchor, and
   -- the visit
   -- of its second edge ends with that edge adjusted
-  pub first-stem : pass_of Default Links.None
-      (marked Marks.Serif 5 5 Links.None ∷ finished (marked Marks.Blue 8 8 Links.None) ∷ edge 10 10 (Links.To 3) ∷ edge 74 74 (Links.To 2) ∷ [])
-      ≡ stems 1 (Links.To 2)
+  pub first-stem : pass_of Default None
+      (marked Marks.Serif 5 5 None ∷ finished (marked Marks.Blue 8 8 None) ∷ edge 10 10 (Some 3) ∷ edge 74 74 (Some 2) ∷ [])
+      ≡ stems 1 (Some 2)
       (axis_of
-      (marked Marks.Serif 5 5 Links.None ∷ finished (marked Marks.Blue 8 8 Links.None)
-      ∷ finished (marked Marks.Anchor 10 0 (Links.To 3)) ∷ finished (marked Marks.Adjusted 74 64 (Links.To 2)) ∷ []))
+      (marked Marks.Serif 5 5 None ∷ finished (marked Marks.Blue 8 8 None)
+      ∷ finished (marked Marks.Anchor 10 0 (Some 3)) ∷ finished (marked Marks.Adjusted 74 64 (Some 2)) ∷ []))
       0
   -- its second edge, linked to no edge, is placed by its link and not done, and counted when it is visited
-  pub second-edge : pass_of Default Links.None (edge 10 10 (Links.To 1) ∷ edge 74 74 Links.None ∷ [])
-      ≡ stems 1 (Links.To 0) (axis_of (finished (marked Marks.Anchor 10 0 (Links.To 1)) ∷ marked Marks.Linked 74 64 Links.None ∷ [])) 0
+  pub second-edge : pass_of Default None (edge 10 10 (Some 1) ∷ edge 74 74 None ∷ [])
+      ≡ stems 1 (Some 0) (axis_of (finished (marked Marks.Anchor 10 0 (Some 1)) ∷ marked Marks.Linked 74 64 None ∷ [])) 0
   -- a first edge that is linked to itself is placed as the anchor, then by its link
-  pub self_linked_first : pass_of Default Links.None (edge 100 100 (Links.To 0) ∷ [])
-      ≡ stems 0 (Links.To 0) (axis_of (finished (marked Marks.Linked 100 96 (Links.To 0)) ∷ [])) 0
+  pub self_linked_first : pass_of Default None (edge 100 100 (Some 0) ∷ [])
+      ≡ stems 0 (Some 0) (axis_of (finished (marked Marks.Linked 100 96 (Some 0)) ∷ [])) 0
   -- stems of 96 and more: beside an anchor at 0 one from 100 to 196 goes to 96 and 192, and both its edges are marked stem; as the first one it goes to 128 and
   -- 224
-  pub wide_stem : pass_of Default (Links.To 0) (finished (edge 0 0 Links.None) ∷ edge 100 100 (Links.To 2) ∷ edge 196 196 (Links.To 1) ∷ [])
-      ≡ stems 0 (Links.To 0) (axis_of (finished (edge 0 0 Links.None) ∷ finished (marked Marks.Stem 100 96 (Links.To 2))
-      ∷ finished (marked Marks.Stem 196 192 (Links.To 1)) ∷ [])) 0
-  pub wide-first : pass_of Default Links.None (edge 100 100 (Links.To 1) ∷ edge 196 196 (Links.To 0) ∷ [])
-      ≡ stems 0 (Links.To 0) (axis_of (finished (marked Marks.Anchor 100 128 (Links.To 1)) ∷ finished (marked Marks.Adjusted 196 224 (Links.To 0)) ∷ [])) 0
+  pub wide_stem : pass_of Default (Some 0) (finished (edge 0 0 None) ∷ edge 100 100 (Some 2) ∷ edge 196 196 (Some 1) ∷ [])
+      ≡ stems 0 (Some 0) (axis_of (finished (edge 0 0 None) ∷ finished (marked Marks.Stem 100 96 (Some 2))
+      ∷ finished (marked Marks.Stem 196 192 (Some 1)) ∷ [])) 0
+  pub wide-first : pass_of Default None (edge 100 100 (Some 1) ∷ edge 196 196 (Some 0) ∷ [])
+      ≡ stems 0 (Some 0) (axis_of (finished (marked Marks.Anchor 100 128 (Some 1)) ∷ finished (marked Marks.Adjusted 196 224 (Some 0)) ∷ [])) 0
   -- a stem from 130 to 190 whose first edge has passed the edge before it, at 300, more than 16 from the second, is held to that
-  pub bounded : pass_of Default (Links.To 0)
-      (finished (edge 0 0 Links.None) ∷ finished (edge 50 300 Links.None) ∷ edge 100 100 (Links.To 3) ∷ edge 160 160 (Links.To 2) ∷ [])
-      ≡ stems 0 (Links.To 0)
-      (axis_of (finished (edge 0 0 Links.None) ∷ finished (edge 50 300 Links.None) ∷ finished (marked Marks.Bound 100 300 (Links.To 3))
-      ∷ finished (marked Marks.Stem 160 190 (Links.To 2)) ∷ [])) 0
+  pub bounded : pass_of Default (Some 0)
+      (finished (edge 0 0 None) ∷ finished (edge 50 300 None) ∷ edge 100 100 (Some 3) ∷ edge 160 160 (Some 2) ∷ [])
+      ≡ stems 0 (Some 0)
+      (axis_of (finished (edge 0 0 None) ∷ finished (edge 50 300 None) ∷ finished (marked Marks.Bound 100 300 (Some 3))
+      ∷ finished (marked Marks.Stem 160 190 (Some 2)) ∷ [])) 0
   -- and so is one that is adjusted to its second edge, which is done: bound comes last
-  pub adjusted_bound : pass_of Default (Links.To 0)
-      (finished (edge 0 0 Links.None) ∷ finished (edge 50 300 Links.None) ∷ edge 100 100 (Links.To 3) ∷ finished (edge 160 160 (Links.To 2)) ∷ [])
-      ≡ stems 0 (Links.To 0)
-      (axis_of (finished (edge 0 0 Links.None) ∷ finished (edge 50 300 Links.None) ∷ finished (marked Marks.Bound 100 300 (Links.To 3))
-      ∷ finished (edge 160 160 (Links.To 2)) ∷ [])) 0
+  pub adjusted_bound : pass_of Default (Some 0)
+      (finished (edge 0 0 None) ∷ finished (edge 50 300 None) ∷ edge 100 100 (Some 3) ∷ finished (edge 160 160 (Some 2)) ∷ [])
+      ≡ stems 0 (Some 0)
+      (axis_of (finished (edge 0 0 None) ∷ finished (edge 50 300 None) ∷ finished (marked Marks.Bound 100 300 (Some 3))
+      ∷ finished (edge 160 160 (Some 2)) ∷ [])) 0
   -- an edge whose link is on a zone is placed by that, whatever the group
-  pub on-zone : pass_of Default Links.None (edge 100 100 (Links.To 1) ∷ zoned (finished (marked Marks.BlueAnchor 160 170 (Links.To 0))) ∷ [])
-      ≡ stems 0 Links.None (axis_of (finished (marked Marks.Linked 100 110 (Links.To 1)) ∷ zoned (finished (marked Marks.BlueAnchor 160 170 (Links.To 0)))
+  pub on-zone : pass_of Default None (edge 100 100 (Some 1) ∷ zoned (finished (marked Marks.BlueAnchor 160 170 (Some 0))) ∷ [])
+      ≡ stems 0 None (axis_of (finished (marked Marks.Linked 100 110 (Some 1)) ∷ zoned (finished (marked Marks.BlueAnchor 160 170 (Some 0)))
       ∷ [])) 0
   -- a CJK stem goes to 26 and 66; the next, whose first edge at 129 is less than 64 behind, is passed over, and both its edges are counted
-  pub too-close : pass_of Cjk Links.None (edge 40 40 (Links.To 1) ∷ edge 80 80 (Links.To 0) ∷ edge 129 129 (Links.To 3) ∷ edge 170 170 (Links.To 2) ∷ [])
-      ≡ stems 2 (Links.To 0) (axis_of (finished (marked Marks.Stem 40 26 (Links.To 1)) ∷ finished (marked Marks.Stem 80 66 (Links.To 0))
-      ∷ edge 129 129 (Links.To 3) ∷ edge 170 170 (Links.To 2) ∷ [])) 0
+  pub too-close : pass_of Cjk None (edge 40 40 (Some 1) ∷ edge 80 80 (Some 0) ∷ edge 129 129 (Some 3) ∷ edge 170 170 (Some 2) ∷ [])
+      ≡ stems 2 (Some 0) (axis_of (finished (marked Marks.Stem 40 26 (Some 1)) ∷ finished (marked Marks.Stem 80 66 (Some 0))
+      ∷ edge 129 129 (Some 3) ∷ edge 170 170 (Some 2) ∷ [])) 0
   -- so it goes where its second edge is done already
-  pub second_done : pass_of Cjk Links.None (edge 40 40 (Links.To 1) ∷ finished (marked Marks.Blue 80 80 (Links.To 0)) ∷ [])
-      ≡ stems 0 (Links.To 0) (axis_of (finished (marked Marks.Stem 40 26 (Links.To 1)) ∷ finished (marked Marks.Stem 80 66 (Links.To 0)) ∷ [])) 0
+  pub second_done : pass_of Cjk None (edge 40 40 (Some 1) ∷ finished (marked Marks.Blue 80 80 (Some 0)) ∷ [])
+      ≡ stems 0 (Some 0) (axis_of (finished (marked Marks.Stem 40 26 (Some 1)) ∷ finished (marked Marks.Stem 80 66 (Some 0)) ∷ [])) 0
   -- a CJK stem whose second edge, at 30, is in front goes by its link to 70
-  pub second_in_front : pass_of Cjk Links.None (finished (edge 40 30 Links.None) ∷ edge 80 80 (Links.To 0) ∷ [])
-      ≡ stems 0 Links.None (axis_of (finished (edge 40 30 Links.None) ∷ finished (marked Marks.Linked 80 70 (Links.To 0)) ∷ [])) 0
+  pub second_in_front : pass_of Cjk None (finished (edge 40 30 None) ∷ edge 80 80 (Some 0) ∷ [])
+      ≡ stems 0 None (axis_of (finished (edge 40 30 None) ∷ finished (marked Marks.Linked 80 70 (Some 0)) ∷ [])) 0
   -- request #112: edge 1, linked to itself, has width 0 by either rule, and goes from 100 to the centre chosen, 96
-  pub self_linked : pass_of Default (Links.To 0) (finished (edge 0 0 Links.None) ∷ edge 100 100 (Links.To 1) ∷ [])
-      ≡ stems 0 (Links.To 0) (axis_of (finished (edge 0 0 Links.None) ∷ finished (marked Marks.Stem 100 96 (Links.To 1)) ∷ [])) 0
-  pub self_linked_snap : pass_by Snap (pos 10 ∷ []) Default (Links.To 0) (finished (edge 0 0 Links.None) ∷ edge 100 100 (Links.To 1) ∷ [])
-      ≡ stems 0 (Links.To 0) (axis_of (finished (edge 0 0 Links.None) ∷ finished (marked Marks.Stem 100 96 (Links.To 1)) ∷ [])) 0
+  pub self_linked : pass_of Default (Some 0) (finished (edge 0 0 None) ∷ edge 100 100 (Some 1) ∷ [])
+      ≡ stems 0 (Some 0) (axis_of (finished (edge 0 0 None) ∷ finished (marked Marks.Stem 100 96 (Some 1)) ∷ [])) 0
+  pub self_linked_snap : pass_by Snap (pos 10 ∷ []) Default (Some 0) (finished (edge 0 0 None) ∷ edge 100 100 (Some 1) ∷ [])
+      ≡ stems 0 (Some 0) (axis_of (finished (edge 0 0 None) ∷ finished (marked Marks.Stem 100 96 (Some 1)) ∷ [])) 0
   -- an anchor that is the edge itself, at 110, and an odd width, 61: the stem's centre, 110 and half of 61, goes from 140 to 160
-  pub own_anchor : pass_of Default (Links.To 0) (edge 100 110 (Links.To 1) ∷ edge 161 200 (Links.To 0) ∷ [])
-      ≡ stems 0 (Links.To 0) (axis_of (finished (marked Marks.Stem 100 130 (Links.To 1)) ∷ finished (marked Marks.Stem 161 190 (Links.To 0)) ∷ [])) 0
+  pub own_anchor : pass_of Default (Some 0) (edge 100 110 (Some 1) ∷ edge 161 200 (Some 0) ∷ [])
+      ≡ stems 0 (Some 0) (axis_of (finished (marked Marks.Stem 100 130 (Some 1)) ∷ finished (marked Marks.Stem 161 190 (Some 0)) ∷ [])) 0
   -- request #102: with Snap a stem of 10 units, from 100 to 110, is drawn a pixel wide, about the centre chosen, 96
-  pub not_vanishing : pass_by Snap [] Default (Links.To 0) (finished (edge 0 0 Links.None) ∷ edge 100 100 (Links.To 2) ∷ edge 110 110 (Links.To 1) ∷ [])
-      ≡ stems 0 (Links.To 0) (axis_of (finished (edge 0 0 Links.None) ∷ finished (marked Marks.Stem 100 64 (Links.To 2))
-      ∷ finished (marked Marks.Stem 110 128 (Links.To 1)) ∷ [])) 0
+  pub not_vanishing : pass_by Snap [] Default (Some 0) (finished (edge 0 0 None) ∷ edge 100 100 (Some 2) ∷ edge 110 110 (Some 1) ∷ [])
+      ≡ stems 0 (Some 0) (axis_of (finished (edge 0 0 None) ∷ finished (marked Marks.Stem 100 64 (Some 2))
+      ∷ finished (marked Marks.Stem 110 128 (Some 1)) ∷ [])) 0
 
 pub worked : Worked
 unfolding stems_of visits visit visit_link too_close is_close zone_stem group_stem latin_stem beside_anchor cjk_stem delta_after linked_pos lower_bound has_passed

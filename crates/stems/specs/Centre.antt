@@ -1,7 +1,6 @@
 -- The words of request #112: a thin Latin stem visited beside an anchor, and how far the visit places it from the centre that the anchor's shift gives it.
+use Rattle.std.specs.Prelude.{None, Some}
 use Rattle.std.specs.Prelude.{◌≡◌, false, List, ℕ, ◌<◌, length, ℤ, pos, ◌+ℤ◌, ◌*ℤ◌, ◌<ℤ◌}
-use Rattle.axis.specs.declared.kinds.Link.TheVariants as Links
-use Rattle.axis.specs.declared.kinds.Blue.TheVariants as Blues
 use Rattle.axis.specs.declared.kinds.Group.TheVariants.{Default}
 use Rattle.axis.specs.declared.edge.Axis.{Axis}
 use Rattle.axis.specs.Edge.{edge_at}
@@ -34,12 +33,12 @@ before_bound m xs s i k a = beside_anchor m.rule xs s.axis i k a
 -- given: the default group, an anchor, edge i not done, its link k, which has a place in the table, neither done nor on a zone, and a fitted width below 96
 pub record ThinStem (m : Mode) (xs : List ℤ) (s : State) (i k a : ℕ) : Type 0 where
   pub group : m.group ≡ Default
-  pub anchor : s.anchor ≡ Links.To a
+  pub anchor : s.anchor ≡ Some a
   pub not_done : (edge_at s.axis i).flags.done ≡ false
-  pub link : (edge_at s.axis i).link ≡ Links.To k
+  pub link : (edge_at s.axis i).link ≡ Some k
   pub place : k < length s.axis.edges
   pub link_not_done : (edge_at s.axis k).flags.done ≡ false
-  pub no_zone : (edge_at s.axis k).blue ≡ Blues.None
+  pub no_zone : (edge_at s.axis k).blue ≡ None
   pub thin : stem_width m xs s i k <ℤ pos 96
 
 -- shown: the visit is the bound after what is before it, there the positions of both edges add up to twice the centre chosen, and that is chosen as `Chosen` says

@@ -7,3 +7,7 @@ pub mod StepsPass
 pub mod Handed
 pub mod Centre
 pub mod Thin
+-- what a call hands back, with its answer
+pub mod Answer
+-- the position of the last CJK stem, or its absence
+pub mod Last

@@ -1,12 +1,11 @@
 -- The plan of a visit: what it does, by what it finds, which are the visited edge e, the edge e2 that it is linked to, the anchor, and what earlier stems left.
 -- `crates/stems/specs/Stems.antt` defines the visit itself, and `steps-are` there shows that a plan carried out is one.
+use Rattle.std.specs.Prelude.{None, Some}
 use Rattle.std.specs.Prelude.{Bool, true, false, cond, ◌&&◌, List, ℕ, ltb, ℤ, pos, ◌+ℤ◌, ◌-ℤ◌}
 use Rattle.std.specs.Int.Signed.{lt_z}
 use Rattle.fixed.specs.declared.width.WidthRule.{WidthRule}
-use Rattle.axis.specs.declared.kinds.Link.{Link}
-use Rattle.axis.specs.declared.kinds.Link.TheVariants as Links
-use Rattle.axis.specs.declared.kinds.Blue.{Blue}
-use Rattle.axis.specs.declared.kinds.Blue.TheVariants as Blues
+use Rattle.axis.specs.Link.{Link}
+use Rattle.axis.specs.Link.{Blue}
 use Rattle.axis.specs.declared.kinds.Group.{Group}
 use Rattle.axis.specs.declared.kinds.Group.TheVariants.{Default, Cjk}
 use Rattle.axis.specs.declared.kinds.Mark.TheVariants as Marks
@@ -19,7 +18,6 @@ use Rattle.stems_cjk.specs.declared.stem.Stem.{Stem}
 use Rattle.stems_cjk.specs.Cjk.{stem_of}
 use Rattle.stems.specs.Visit.{original_len, width_of, start_beside, delta_after}
 use Rattle.stems.specs.declared.kinds.Mode.{Mode}
-use Rattle.stems.specs.declared.kinds.LastStem.TheVariants as LastStems
 use Rattle.stems.specs.declared.kinds.Trail.{Trail}
 use Rattle.stems.specs.declared.kinds.Second.{Second}
 use Rattle.stems.specs.declared.kinds.Second.TheVariants.{Stays, Placed, Fixed}
@@ -59,13 +57,13 @@ free_plan rule xs e e2 trail = record {
 
 -- a Latin stem, by the anchor, whose edge is a
 unfoldable pub latin_plan : WidthRule → List ℤ → Edge → Edge → Edge → Link → Trail → Plan
-latin_plan rule xs e e2 a Links.None trail = free_plan rule xs e e2 trail
-latin_plan rule xs e e2 a (Links.To k) trail = anchored_plan rule xs e e2 a trail
+latin_plan rule xs e e2 a None trail = free_plan rule xs e e2 trail
+latin_plan rule xs e e2 a (Some k) trail = anchored_plan rule xs e e2 a trail
 
 -- ---- CJK stems
 -- both edges are placed for good, the first is the anchor, and the second is where the last stem is
 abbrev pub fixed_plan : ℤ → ℤ → ℤ → Plan
-fixed_plan p q d = record { first = p; mark = Marks.Stem; second = Fixed q; bounded = false; anchors = true; trail = record { last = LastStems.At q; delta = d } }
+fixed_plan p q d = record { first = p; mark = Marks.Stem; second = Fixed q; bounded = false; anchors = true; trail = record { last = Some q; delta = d } }
 
 -- the edge of the smaller original position is the stem's lower one
 unfoldable pub stem_plan : Edge → Edge → Stem → ℤ → Plan
@@ -81,7 +79,7 @@ normal_plan m xs e e2 anchor trail =
 unfoldable pub cjk_plan : Mode → List ℤ → Edge → Edge → Link → Bool → Trail → Plan
 cjk_plan m xs e e2 anchor before trail =
     cond before
-    (linked_plan m.rule xs e e2 (record { last = LastStems.At e.pos; delta = trail.delta }))
+    (linked_plan m.rule xs e e2 (record { last = Some e.pos; delta = trail.delta }))
     (normal_plan m xs e e2 anchor trail)
 
 -- ---- the plan
@@ -92,8 +90,8 @@ group_plan Cjk m xs e e2 a anchor before trail = cjk_plan m xs e e2 anchor befor
 
 -- by the link's zone: where it has one, the edge is placed by the link, whatever the group
 unfoldable pub zone_plan : Blue → Mode → List ℤ → Edge → Edge → Edge → Link → Bool → Trail → Plan
-zone_plan Blues.None m xs e e2 a anchor before trail = group_plan m.group m xs e e2 a anchor before trail
-zone_plan (Blues.Fitted z) m xs e e2 a anchor before trail = linked_plan m.rule xs e e2 trail
+zone_plan None m xs e e2 a anchor before trail = group_plan m.group m xs e e2 a anchor before trail
+zone_plan (Some z) m xs e e2 a anchor before trail = linked_plan m.rule xs e e2 trail
 
 -- what the visit of e does
 abbrev pub plan_of : Mode → List ℤ → Edge → Edge → Edge → Link → Bool → Trail → Plan
@@ -120,4 +118,4 @@ held_edge plan i e prev link = cond (is_bounded plan i && is_over e prev link) (
 
 -- edge i becomes the anchor where the plan says so
 unfoldable pub anchor_after : Plan → Link → ℕ → Link
-anchor_after plan anchor i = cond plan.anchors (Links.To i) anchor
+anchor_after plan anchor i = cond plan.anchors (Some i) anchor

@@ -1,13 +1,12 @@
 -- The stem pass (document 01, module 5), as the Rust's `align_stem_edges` visits the edges.
+use Rattle.std.specs.Prelude.{None, Some}
 use Rattle.std.specs.Prelude.{◌≡◌, Bool, cond, List, [], ◌∷◌, ℕ, ◌+◌, ltb, ℤ, pos, ◌+ℤ◌, ◌-ℤ◌}
 use Rattle.std.specs.Int.Signed.{lt_z}
 use Rattle.refusals.specs.Refusal.{Test, ◌unless◌, refusal, answered, bad_parameter, bad_index}
 use Rattle.fixed.specs.declared.width.WidthRule.{WidthRule}
 use Rattle.fixed.specs.Width.{rule_holds}
-use Rattle.axis.specs.declared.kinds.Link.{Link}
-use Rattle.axis.specs.declared.kinds.Link.TheVariants as Links
-use Rattle.axis.specs.declared.kinds.Blue.{Blue}
-use Rattle.axis.specs.declared.kinds.Blue.TheVariants as Blues
+use Rattle.axis.specs.Link.{Link}
+use Rattle.axis.specs.Link.{Blue}
 use Rattle.axis.specs.declared.kinds.Group.{Group}
 use Rattle.axis.specs.declared.kinds.Group.TheVariants.{Default, Cjk}
 use Rattle.axis.specs.declared.kinds.Mark.{Mark}
@@ -24,10 +23,9 @@ use Rattle.stems_latin.specs.Latin.{anchored_first, anchored_second, free_first}
 use Rattle.stems_cjk.specs.declared.stem.Stem.{Stem}
 use Rattle.stems_cjk.specs.Cjk.{stem_of, hinted_stem}
 use Rattle.stems.specs.declared.kinds.Mode.{Mode}
-use Rattle.stems.specs.declared.kinds.LastStem.TheVariants as LastStems
 use Rattle.stems.specs.declared.kinds.Trail.{Trail}
 use Rattle.stems.specs.Visit.{too_close, original_len, width_of, start_beside, delta_after}
-use Rattle.stems.specs.declared.outcome.Stems.{Stems}
+use Rattle.stems.specs.Answer.{Stems}
 
 -- ---- what the visits come to
 -- the axis, how many edges were passed over, the anchor or its absence, and what CJK stems leave to the next one
@@ -76,11 +74,11 @@ first_stem rule xs axis i k p =
 
 -- by the anchor: beside one, edge i is then held to the previous edge, as `adjust_link` does; with none, edge i becomes the anchor
 unfoldable pub latin_stem : Mode → List ℤ → State → ℕ → ℕ → Link → State
-latin_stem m xs s i k (Links.To a) = record { axis = adjusted (beside_anchor m.rule xs s.axis i k a) i Prev; count = s.count; anchor = s.anchor; trail = s.trail }
-latin_stem m xs s i k Links.None = record {
+latin_stem m xs s i k (Some a) = record { axis = adjusted (beside_anchor m.rule xs s.axis i k a) i Prev; count = s.count; anchor = s.anchor; trail = s.trail }
+latin_stem m xs s i k None = record {
   axis = first_stem m.rule xs s.axis i k (free_pos m.rule xs (edge_at s.axis i) (edge_at s.axis k));
   count = s.count;
-  anchor = Links.To i;
+  anchor = Some i;
   trail = s.trail;
 }
 
@@ -91,7 +89,7 @@ back_stem m xs s i k = record {
   axis = fix_by_link m.rule xs s.axis i k;
   count = s.count;
   anchor = s.anchor;
-  trail = record { last = LastStems.At (edge_at s.axis i).pos; delta = s.trail.delta };
+  trail = record { last = Some (edge_at s.axis i).pos; delta = s.trail.delta };
 }
 
 -- where the second edge e2 of a stem goes
@@ -103,8 +101,8 @@ abbrev pub normal_stem : Mode → State → ℕ → ℕ → Stem → State
 normal_stem m s i k stem = record {
   axis = both_done i k (hinted_stem s.axis i k stem);
   count = s.count;
-  anchor = Links.To i;
-  trail = record { last = LastStems.At (second_pos (edge_at s.axis i) (edge_at s.axis k) stem); delta = delta_after m.dim s.anchor s.trail.delta stem.delta };
+  anchor = Some i;
+  trail = record { last = Some (second_pos (edge_at s.axis i) (edge_at s.axis k) stem); delta = delta_after m.dim s.anchor s.trail.delta stem.delta };
 }
 
 -- by their order in the table
@@ -122,13 +120,13 @@ group_stem Cjk m xs s i k = cjk_stem m xs s i k
 
 -- by the zone of edge k: where it has one, edge i is placed by it, whatever the group
 unfoldable pub zone_stem : Blue → Mode → List ℤ → State → ℕ → ℕ → State
-zone_stem Blues.None m xs s i k = group_stem m.group m xs s i k
-zone_stem (Blues.Fitted z) m xs s i k = record { axis = fix_by_link m.rule xs s.axis i k; count = s.count; anchor = s.anchor; trail = s.trail }
+zone_stem None m xs s i k = group_stem m.group m xs s i k
+zone_stem (Some z) m xs s i k = record { axis = fix_by_link m.rule xs s.axis i k; count = s.count; anchor = s.anchor; trail = s.trail }
 
 -- edge i by its link: with none it is passed over, and so it is where the stem is too close to the last one
 unfoldable pub visit_link : Mode → List ℤ → State → ℕ → Link → State
-visit_link m xs s i Links.None = counted s
-visit_link m xs s i (Links.To k) =
+visit_link m xs s i None = counted s
+visit_link m xs s i (Some k) =
     cond (too_close m.group s.trail.last (edge_at s.axis i) (edge_at s.axis k)) (counted s) (zone_stem (edge_at s.axis k).blue m xs s i k)
 
 -- an edge that is done is skipped, and not counted
@@ -146,7 +144,7 @@ outcome s = stems s.count s.anchor s.axis 0
 
 -- at the start nothing is counted, there is no last stem, and the delta is 0
 abbrev pub begun : Link → Axis → State
-begun anchor axis = record { axis = axis; count = 0; anchor = anchor; trail = record { last = LastStems.None; delta = pos 0 } }
+begun anchor axis = record { axis = axis; count = 0; anchor = anchor; trail = record { last = None; delta = pos 0 } }
 
 -- every edge visited
 unfoldable pub stems_of : Mode → List ℤ → Link → Axis → Stems
@@ -170,7 +168,7 @@ stems_tests axis ttb anchor rule xs =
 -- `align_stem_edges`: the refusal, count 0, no anchor and the axis as it came, or 0, the count, the anchor or its absence, and the axis
 unfoldable pub align_stem_edges : Axis → Group → Bool → Bool → Link → WidthRule → List ℤ → Stems
 align_stem_edges axis group adjust ttb anchor rule xs =
-    answered (refusal (stems_tests axis ttb anchor rule xs)) (stems 0 Links.None axis)
+    answered (refusal (stems_tests axis ttb anchor rule xs)) (stems 0 None axis)
     (stems_of (mode_of axis group adjust rule) xs anchor axis)
 
 -- what the call owes its caller: the answer, the count, the anchor and the axis

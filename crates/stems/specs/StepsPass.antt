@@ -1,7 +1,7 @@
 -- A visit along one path: a plan, and three stores that may change nothing. `steps-are` shows that steps are visits.
+use Rattle.std.specs.Prelude.{None, Some}
 use Rattle.std.specs.Prelude.{◌≡◌, Bool, false, cond, List, ℕ, ◌-◌, ltb, ℤ}
-use Rattle.axis.specs.declared.kinds.Link.{Link}
-use Rattle.axis.specs.declared.kinds.Link.TheVariants as Links
+use Rattle.axis.specs.Link.{Link}
 use Rattle.axis.specs.declared.edge.Axis.{Axis}
 use Rattle.axis.specs.Link.{index_or}
 use Rattle.axis.specs.Edge.{edge_at, put_edge, fixed_at}
@@ -37,8 +37,8 @@ carried_out s i k plan = record {
 
 -- edge i by its link
 unfoldable pub step_link : Mode → List ℤ → State → ℕ → Link → State
-step_link m xs s i Links.None = counted s
-step_link m xs s i (Links.To k) =
+step_link m xs s i None = counted s
+step_link m xs s i (Some k) =
     cond (too_close m.group s.trail.last (edge_at s.axis i) (edge_at s.axis k)) (counted s) (carried_out s i k (plan_at m xs s i k))
 
 -- the step of edge i

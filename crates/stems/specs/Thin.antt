@@ -1,7 +1,7 @@
 -- The words of request #102: a stem that is visited does not vanish.
+use Rattle.std.specs.Prelude.{Some}
 use Rattle.std.specs.Prelude.{◌≡◌, false, List, ◌⊎◌, ℕ, ◌<◌, length, ℤ}
 use Rattle.fixed.specs.declared.width.WidthRule.TheVariants.{Snap}
-use Rattle.axis.specs.declared.kinds.Link.TheVariants as Links
 use Rattle.axis.specs.declared.edge.Axis.{Axis}
 use Rattle.axis.specs.Edge.{edge_at}
 use Rattle.place.specs.declared.adjust.LinkDir.TheVariants.{Prev}
@@ -15,7 +15,7 @@ use Rattle.stems.specs.Stems.{State, beside_anchor}
 pub record VisitedStem (m : Mode) (xs : List ℤ) (s : State) (i k : ℕ) : Type 0 where
   pub rule : m.rule ≡ Snap
   pub not_done : (edge_at s.axis i).flags.done ≡ false
-  pub link : (edge_at s.axis i).link ≡ Links.To k
+  pub link : (edge_at s.axis i).link ≡ Some k
   pub place : k < length s.axis.edges
   pub not_close : too_close m.group s.trail.last (edge_at s.axis i) (edge_at s.axis k) ≡ false
   pub has_width : HasWidth xs (edge_at s.axis i).opos (edge_at s.axis k).opos

@@ -8,10 +8,10 @@ ghost use Rattle.stems_cjk.specs.Cjk.{most_width, most_cjk_start};
 ghost use Rattle.stems.specs.Visit.{delta_beside, delta_after};
 ghost use Rattle.stems.specs.Plan.{fixed_plan, stem_plan, cjk_plan};
 
-use super::kinds::{LastStem, Mode, Plan, Second, Trail};
+use super::kinds::{Mode, Plan, Second, Trail};
 use super::linked::linked_plan;
 use axis::edge::Edge;
-use axis::kinds::{Dimension, Link, Mark};
+use axis::kinds::{Dimension, Mark};
 use stems_cjk::stem::{Stem, stem_of};
 
 // Both edges are placed for good; the first is the anchor, the second the last stem's position.
@@ -19,7 +19,7 @@ fn fixed_plan(first: i32, second: i32, delta: i32) -> Plan
     ensures { result ≡ fixed_plan first second delta }
 {
     let trail = Trail {
-        last: LastStem::At(second),
+        last: Some(second),
         delta,
     };
     Plan {
@@ -33,17 +33,17 @@ fn fixed_plan(first: i32, second: i32, delta: i32) -> Plan
 }
 
 // The delta of a stem is passed on where there was no anchor.
-fn delta_beside(anchor: Link, passed: i32, delta: i32) -> i32
+fn delta_beside(anchor: Option<u16>, passed: i32, delta: i32) -> i32
     ensures { result ≡ delta_beside anchor passed delta }
 {
     match anchor {
-        Link::None => delta,
-        Link::To(k) => passed,
+        None => delta,
+        Some(k) => passed,
     }
 }
 
 // And on horizontal axes alone.
-fn delta_after(dim: Dimension, anchor: Link, passed: i32, delta: i32) -> i32
+fn delta_after(dim: Dimension, anchor: Option<u16>, passed: i32, delta: i32) -> i32
     ensures { result ≡ delta_after dim anchor passed delta }
 {
     match dim {
@@ -71,7 +71,7 @@ pub fn cjk_plan(
     standards: &[i32],
     edge: Edge,
     edge2: Edge,
-    anchor: Link,
+    anchor: Option<u16>,
     is_before: bool,
     trail: Trail,
 ) -> Plan
@@ -81,7 +81,7 @@ pub fn cjk_plan(
 {
     if is_before {
         let last = Trail {
-            last: LastStem::At(edge.pos),
+            last: Some(edge.pos),
             delta: trail.delta,
         };
         return linked_plan(mode, standards, edge, edge2, last);

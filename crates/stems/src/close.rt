@@ -4,16 +4,16 @@ ghost use Rattle.place.specs.Steps.{InReach};
 ghost use Rattle.stems.specs.Visit.{is_close, too_close};
 ghost use Rattle.stems.specs.Steps.{LastWithin};
 
-use super::kinds::{LastStem, Mode, Trail};
+use super::kinds::{Mode, Trail};
 use axis::edge::Edge;
 use axis::kinds::Group;
 
 // Whether an edge of a stem is less than 64 behind the last one.
-fn is_close(last: LastStem, edge: Edge, edge2: Edge) -> bool
+fn is_close(last: Option<i32>, edge: Edge, edge2: Edge) -> bool
     requires { LastWithin last × InReach edge × InReach edge2 }
     ensures { result ≡ is_close last edge edge2 }
 {
-    let LastStem::At(pos) = last else {
+    let Some(pos) = last else {
         return false;
     };
     let end = pos + 64;

@@ -11,17 +11,10 @@ pub struct Mode {
     pub rule: WidthRule,
 }
 
-// The position of the last CJK stem, or its absence.
-#[derive(Clone, Copy)]
-pub enum LastStem {
-    None,
-    At(i32),
-}
-
-// What CJK stems leave to the next one: the last one's position and the delta that is passed on.
+// What CJK stems leave to the next one: the last one's position, where there is one, and the delta that is passed on.
 #[derive(Clone, Copy)]
 pub struct Trail {
-    pub last: LastStem,
+    pub last: Option<i32>,
     pub delta: i32,
 }
 

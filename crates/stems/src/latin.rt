@@ -9,7 +9,7 @@ ghost use Rattle.stems.specs.Plan.{behind_plan, centred_plan, anchored_plan, fre
 
 use super::kinds::{Mode, Plan, Second, Trail};
 use axis::edge::Edge;
-use axis::kinds::{Link, Mark};
+use axis::kinds::Mark;
 use fixed::width::{WidthRule, stem_width};
 use stems_latin::anchored::{anchored_first, anchored_second};
 use stems_latin::first::free_first;
@@ -121,7 +121,7 @@ pub fn latin_plan(
     edge: Edge,
     edge2: Edge,
     base: Edge,
-    anchor: Link,
+    anchor: Option<u16>,
     trail: Trail,
 ) -> Plan
     requires standards_value { rule_holds mode.rule standards.now ≡ true }
@@ -129,7 +129,7 @@ pub fn latin_plan(
     ensures { result ≡ latin_plan mode.rule standards.now edge edge2 base anchor trail }
 {
     match anchor {
-        Link::None => free_plan(mode, standards, edge, edge2, trail),
-        Link::To(k) => anchored_plan(mode, standards, edge, edge2, base, trail),
+        None => free_plan(mode, standards, edge, edge2, trail),
+        Some(k) => anchored_plan(mode, standards, edge, edge2, base, trail),
     }
 }

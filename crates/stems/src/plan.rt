@@ -13,7 +13,7 @@ use super::kinds::{Mode, Plan, Trail};
 use super::latin::latin_plan;
 use super::linked::linked_plan;
 use axis::edge::{Edge, has_blue};
-use axis::kinds::{Group, Link};
+use axis::kinds::Group;
 
 // A stem by its group.
 fn group_plan(
@@ -22,7 +22,7 @@ fn group_plan(
     edge: Edge,
     edge2: Edge,
     base: Edge,
-    anchor: Link,
+    anchor: Option<u16>,
     is_before: bool,
     trail: Trail,
 ) -> Plan
@@ -54,7 +54,7 @@ pub fn plan_for(
     edge: Edge,
     edge2: Edge,
     base: Edge,
-    anchor: Link,
+    anchor: Option<u16>,
     is_before: bool,
     trail: Trail,
     fallback: bool,

@@ -9,7 +9,7 @@ ghost use Rattle.stems.specs.Steps.{most_place};
 
 use super::kinds::{Plan, Second};
 use axis::edge::{Edge, fix_at, with_pos};
-use axis::kinds::{Link, Mark};
+use axis::kinds::Mark;
 use place::adjust::{LinkDir, has_passed, is_far};
 
 // The first edge of a stem.
@@ -78,12 +78,12 @@ pub fn hold(plan: Plan, i: usize, edge: Edge, prev: Edge, link: Edge) -> Edge
 }
 
 // The anchor, which the first edge of a stem may become.
-pub fn anchor_after(plan: Plan, anchor: Link, i: usize) -> Link
+pub fn anchor_after(plan: Plan, anchor: Option<u16>, i: usize) -> Option<u16>
     requires { i < most_edges }
     ensures { result ≡ anchor_after plan anchor i }
 {
     if plan.anchors {
-        return Link::To(i as u16);
+        return Some(i as u16);
     }
     anchor
 }

@@ -19,7 +19,7 @@ use Rattle.place.specs.Placing.{both_below}
 use Rattle.stems_cjk.specs.declared.stem.Stem.{Stem}
 use Rattle.stems_cjk.specs.Cjk.{stem_of, hinted_stem}
 use Rattle.stems_cjk.proofs.Alike.{stem-same, hinted-alike}
-use Rattle.stems_cjk.specs.declared.outcome.StemCjk.{StemCjk}
+use Rattle.stems_cjk.specs.Answer.{StemCjk}
 use Rattle.stems_cjk.specs.Hint.{hinted, stem_tests, hint_normal_stem_cjk, without_marks}
 
 module _ (adjust : Bool) (rule : WidthRule) (xs : List ℤ) (i j : ℕ) (d : ℤ) where

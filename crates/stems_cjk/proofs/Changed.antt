@@ -18,7 +18,7 @@ use Rattle.axis.specs.Changes.{position, wherever, OnlyAxis, Changes}
 use Rattle.axis.proofs.Only.{or-true, placed-only, named, same-axis, also-put, call-changes}
 use Rattle.stems_cjk.specs.declared.stem.Stem.{Stem}
 use Rattle.stems_cjk.specs.Cjk.{stem_of, placed_at, placed_stem, hinted_stem}
-use Rattle.stems_cjk.specs.declared.outcome.StemCjk.{StemCjk}
+use Rattle.stems_cjk.specs.Answer.{StemCjk}
 use Rattle.stems_cjk.specs.Hint.{hinted, stem_tests, hint_normal_stem_cjk, HintsNormalStemCjk, stem_marks}
 
 module _ (axis : Axis) (i j : ℕ) where

@@ -13,7 +13,7 @@ use Rattle.axis.specs.Handed.{EdgesAccepted}
 use Rattle.axis.specs.Limits.{most_passed}
 use Rattle.axis.specs.Refusals.{within}
 use Rattle.place.specs.Placing.{both_below}
-use Rattle.stems_cjk.specs.declared.outcome.StemCjk.{StemCjk}
+use Rattle.stems_cjk.specs.Answer.{StemCjk}
 use Rattle.stems_cjk.specs.Hint.{stem_tests, hinted, hint_normal_stem_cjk}
 
 pub accepts : (axis : Axis) (adjust : Bool) (rule : WidthRule) (xs : List ℤ) (i j : ℕ) (d : ℤ) → EdgesAccepted axis → rule_holds rule xs ≡ true

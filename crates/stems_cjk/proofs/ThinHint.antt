@@ -16,7 +16,7 @@ use Rattle.place.specs.Thin.{PixelApart, Differ}
 use Rattle.stems_cjk.specs.declared.stem.Stem.{Stem}
 use Rattle.stems_cjk.specs.Cjk.{stem_of, hinted_stem}
 use Rattle.stems_cjk.proofs.Thin.{hinted-seen}
-use Rattle.stems_cjk.specs.declared.outcome.StemCjk.{StemCjk}
+use Rattle.stems_cjk.specs.Answer.{StemCjk}
 use Rattle.stems_cjk.specs.Hint.{hinted, stem_tests, hint_normal_stem_cjk, HintsNormalStemCjk}
 
 module _ (axis : Axis) (adjust : Bool) (xs : List ℤ) (i j : ℕ) (d : ℤ) where

@@ -9,7 +9,6 @@ use Rattle.refusals.specs.Refusal.{refusal}
 use Rattle.fixed.specs.declared.width.WidthRule.TheVariants.{Keep}
 use Rattle.fixed.specs.Pixel.{pix_floor}
 use Rattle.fixed.specs.Width.{fitted_width, rule_holds}
-use Rattle.axis.specs.declared.kinds.Link.TheVariants.{None}
 use Rattle.axis.specs.declared.kinds.Direction.TheVariants as Directions
 use Rattle.axis.specs.declared.kinds.Dimension.TheVariants.{Vertical}
 use Rattle.axis.specs.declared.kinds.Mark.{Mark}

@@ -12,7 +12,7 @@ use Rattle.axis.specs.Mark.{unmarked_axis}
 use Rattle.axis.specs.Refusals.{within, edges_short, edges_indexed, edges_in_range}
 use Rattle.place.specs.Placing.{both_below}
 use Rattle.stems_cjk.specs.Cjk.{stem_of, hinted_stem}
-use Rattle.stems_cjk.specs.declared.outcome.StemCjk.{StemCjk}
+use Rattle.stems_cjk.specs.Answer.{StemCjk}
 
 -- an answer, a delta and an axis
 abbrev pub hinted : Axis → ℤ → ℕ → StemCjk

@@ -1,33 +1,35 @@
 // The call.
 ghost use Rattle.std.specs.Prelude.{◌≡◌};
+ghost use Rattle.refusals.specs.Outcome.{answer_of};
 ghost use Rattle.refusals.specs.Refusal.{refusal};
 ghost use Rattle.stems.specs.Stems.{stems_tests, AlignsStemEdges};
+ghost use Rattle.stems.specs.Answer.{outcome_of};
 
 use super::pass::align_stems;
 use axis::accept::{edges_indices, edges_numbers, few_edges, link_holds};
 use axis::edge::Axis;
-use axis::kinds::{Group, Link};
+use axis::kinds::Group;
 use fixed::width::{WidthRule, rule_holds};
-use refusals::order::{BAD_INDEX, BAD_PARAMETER, OUT_OF_RANGE, RETIRED, TOO_LONG, or_refused};
+use refusals::order::{Refusal, require};
 use stems::kinds::Mode;
 use stems::outcome::Stems;
 
-// The refusal of the call, or 0.
+// The refusal of the call, if there is one.
 fn stems_refusal(
     axis: Axis,
     top_to_bottom: bool,
-    anchor: Link,
+    anchor: Option<u16>,
     rule: WidthRule,
     standards: &[i32],
-) -> u8
-    ensures { result ≡ refusal (stems_tests axis top_to_bottom anchor rule standards.now) }
+) -> Result<(), Refusal>
+    ensures { answer_of result ≡ refusal (stems_tests axis top_to_bottom anchor rule standards.now) }
 {
-    let answer = or_refused(0, few_edges(axis.len), TOO_LONG);
-    let answer = or_refused(answer, !top_to_bottom, RETIRED);
-    let answer = or_refused(answer, rule_holds(rule, standards), BAD_PARAMETER);
-    let answer = or_refused(answer, edges_indices(axis), BAD_INDEX);
-    let answer = or_refused(answer, link_holds(anchor, axis.len), BAD_INDEX);
-    or_refused(answer, edges_numbers(axis), OUT_OF_RANGE)
+    require(few_edges(axis.len), Refusal::TooLong)?;
+    require(!top_to_bottom, Refusal::Retired)?;
+    require(rule_holds(rule, standards), Refusal::BadParameter)?;
+    require(edges_indices(axis), Refusal::BadIndex)?;
+    require(link_holds(anchor, axis.len), Refusal::BadIndex)?;
+    require(edges_numbers(axis), Refusal::OutOfRange)
 }
 
 // Aligns all stem edges, from bottom to top, and hands back how many edges it passed over, and the anchor. Top to bottom can be asked for only to be refused: it is
@@ -37,21 +39,13 @@ pub fn align_stem_edges(
     group: Group,
     stem_adjust: bool,
     top_to_bottom: bool,
-    anchor: Link,
+    anchor: Option<u16>,
     rule: WidthRule,
     standards: &[i32],
-) -> Stems
-    ensures { AlignsStemEdges axis group stem_adjust top_to_bottom anchor rule standards.now result }
+) -> Result<Stems, Refusal>
+    ensures { AlignsStemEdges axis group stem_adjust top_to_bottom anchor rule standards.now (outcome_of axis result) }
 {
-    let answer = stems_refusal(axis, top_to_bottom, anchor, rule, standards);
-    if 0 < answer {
-        return Stems {
-            answer,
-            count: 0,
-            anchor: Link::None,
-            axis,
-        };
-    }
+    stems_refusal(axis, top_to_bottom, anchor, rule, standards)?;
     let dim = axis.dim;
     let mode = Mode {
         dim,
@@ -59,5 +53,5 @@ pub fn align_stem_edges(
         stem_adjust,
         rule,
     };
-    align_stems(axis, mode, standards, anchor, true)
+    Ok(align_stems(axis, mode, standards, anchor, true))
 }

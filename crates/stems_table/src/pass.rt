@@ -5,29 +5,34 @@ ghost use Rattle.axis.specs.Accepted.{Below, AxisWithin};
 ghost use Rattle.fixed.specs.Width.{rule_holds};
 ghost use Rattle.stems.specs.Stems.{stems_of};
 ghost use Rattle.stems.specs.StepsPass.{SettledWithout};
+ghost use Rattle.stems.specs.Answer.{passed_of};
 
 use axis::edge::Axis;
-use axis::kinds::Link;
-use axis::link::index_or;
 use stems::close::too_close;
-use stems::kinds::{LastStem, Mode, Trail};
+use stems::kinds::{Mode, Trail};
 use stems::outcome::Stems;
 use stems::plan::plan_for;
 use stems::store::{anchor_after, before, first_edge, hold, second_edge};
 
 // Aligns all stems that are not done. An edge with no link, and a CJK stem too close to the last one, is counted and passed over. The fallback, for an edge whose link has a
 // zone, can be left out where there is no such edge.
-pub fn align_stems(axis: Axis, mode: Mode, standards: &[i32], start: Link, fallback: bool) -> Stems
+pub fn align_stems(
+    axis: Axis,
+    mode: Mode,
+    standards: &[i32],
+    start: Option<u16>,
+    fallback: bool,
+) -> Stems
     requires standards_value { rule_holds mode.rule standards.now ≡ true }
     requires axis_within { AxisWithin most_pos axis × Below axis.len start × SettledWithout fallback axis.len axis }
-    ensures { result ≡ stems_of mode standards.now start axis }
+    ensures { passed_of result ≡ stems_of mode standards.now start axis }
 {
     let n = axis.len;
     let mut aligned = axis;
     let mut serif_count: usize = 0;
     let mut anchor = start;
     let mut trail = Trail {
-        last: LastStem::None,
+        last: None,
         delta: 0,
     };
     for i in 0..n {
@@ -36,7 +41,7 @@ pub fn align_stems(axis: Axis, mode: Mode, standards: &[i32], start: Link, fallb
             continue;
         }
         let link = edge.link;
-        let Link::To(k) = link else {
+        let Some(k) = link else {
             serif_count += 1; // no stem
             continue;
         };
@@ -46,7 +51,7 @@ pub fn align_stems(axis: Axis, mode: Mode, standards: &[i32], start: Link, fallb
             serif_count += 1; // dealt with behind the pass, with the serifs
             continue;
         }
-        let base_ix = index_or(anchor, i);
+        let base_ix = anchor.map_or(i, usize::from);
         let base = aligned.edges[base_ix];
         let is_before = edge2_ix < i;
         let plan = plan_for(
@@ -60,7 +65,6 @@ pub fn align_stems(axis: Axis, mode: Mode, standards: &[i32], start: Link, fallb
         trail = plan.trail;
     }
     Stems {
-        answer: 0,
         count: serif_count,
         anchor,
         axis: aligned,

@@ -1,27 +1,31 @@
 -- The stem pass, by what the test of its edges tells.
+use Rattle.std.specs.Prelude.{None, Result, Ok, Err}
+use Rattle.std.specs.Result.{result_and}
 use mathlib.Core.Path.{◌≡◌, refl, sym, ap, ◌∙◌}
 use mathlib.Core.Bool.{Bool, true, ◌&&◌}
-use mathlib.Core.List.{List, [], ◌∷◌}
+use mathlib.Core.List.{List, [], ◌∷◌, ◌++◌}
 use Prim.Native.Nat.{ℕ, ◌<◌, ◌≤◌}
 use native.Mathlib.Omega.{arith}
 use lib.Dec.{leb}
 use lib.ListN.{length}
 use lib.IntN.{ℤ, pos}
 use Rattle.refusals.specs.Refusal.{Test, ◌unless◌, bad_parameter, refusal}
-use Rattle.refusals.proofs.Tests.{Tested, all_held}
+use Rattle.refusals.specs.declared.order.Refusal.{Refusal}
+use Rattle.refusals.specs.Outcome.{number_of, answer_of, Required}
+use Rattle.refusals.proofs.Tests.{Tested, all_held, answered-no, own_first}
+use Rattle.refusals.proofs.Outcomes.{number-above, then-last}
 use Rattle.fixed.specs.declared.width.WidthRule.{WidthRule}
 use Rattle.fixed.specs.Width.{rule_holds}
 use Rattle.axis.specs.declared.kinds.Dimension.{Dimension}
 use Rattle.axis.specs.declared.kinds.Group.{Group}
-use Rattle.axis.specs.declared.kinds.Link.{Link}
-use Rattle.axis.specs.declared.kinds.Link.TheVariants as Links
+use Rattle.axis.specs.Link.{Link}
 use Rattle.axis.specs.declared.edge.Axis.{Axis}
 use Rattle.axis.specs.Limits.{most_edges, most_pos}
 use Rattle.axis.specs.Accepted.{Below, AxisWithin}
 use Rattle.axis.specs.Refusals.{link_holds, edges_indices, edges_numbers, bottom_to_top}
 use Rattle.axis.proofs.Acceptance.{link-below}
 use Rattle.stems.specs.declared.kinds.Mode.{Mode}
-use Rattle.stems.specs.declared.outcome.Stems.{Stems}
+use Rattle.stems.specs.Answer.{Stems}
 use Rattle.stems.specs.Stems.{stems, stems_of, mode_of, stems_tests, align_stem_edges}
 use Rattle.words.specs.Field.{choice_of, dimension_of, group_of, rule_of, link_word}
 use Rattle.words.specs.Edge.{axis_run, flat_axis, edges_in, edges_over}
@@ -52,6 +56,15 @@ passed_words ws d {m} {xs} {start} {p} {w1} {now} {s} {c} {f} w l b same x y = �
 
     anchor : f ≡ link_word s.anchor
     anchor = y ∙ ap (λ (k : Link). link_word k) (b.anchor d) ∙ ap (λ (r : Stems). link_word r.anchor) same
+
+-- ---- one test more
+-- what the library's `and` hands on: the refusal so far, or that of the test behind it
+pub and-answer : {ts : List Test} {g h : Bool} {r : Refusal} (a q : Result (Unit {0}) Refusal) {o : Result (Unit {0}) Refusal} → Tested (answer_of a) ts
+    → Required g r q → g ≡ h → o ≡ result_and a q → answer_of o ≡ refusal (ts ++ (number_of r unless h ∷ []))
+and-answer (Ok x) q t p e s = ap answer_of s ∙ then-last t p e
+and-answer {ts} {h = h} {r = r} (Err f) q t p e s =
+    ap answer_of s ∙ answered-no (number_of f) (refusal ts) (λ (k : ℕ). k) (refusal (number_of r unless h ∷ [])) t.refused (number-above f)
+    ∙ sym (own_first ts (number_of r unless h ∷ []) t.numbers)
 
 -- ---- the call
 -- the tests of the order and of the rule
@@ -112,7 +125,7 @@ module _ (ws : List ℤ) (dim group adjust ttb anchor rule : ℤ) (xs : List ℤ
   unfolding align_stem_edges stems_of
   stems-refused h =
       call-refused ws (choices dim group adjust && both_in choice ttb rule) _ _ true stems-is (λ (x : Stems). x.answer) (λ (x : Stems). stems_words ws x)
-      (stems_tests A (choice_of ttb) (named_anchor anchor) (rule_of rule) xs) (stems 0 Links.None A) result (λ k. refl) refl stems-same h
+      (stems_tests A (choice_of ttb) (named_anchor anchor) (rule_of rule) xs) (stems 0 None A) result (λ k. refl) refl stems-same h
 
   pub stems-done : r ≤ 0 → {d : Dimension} {k : Group} {t : Bool} {p : Passed} {now : List ℤ} {c f : ℤ} → d ≡ dimension_of dim → k ≡ group_of group
       → t ≡ choice_of adjust
@@ -121,7 +134,7 @@ module _ (ws : List ℤ) (dim group adjust ttb anchor rule : ℤ) (xs : List ℤ
   unfolding align_stem_edges stems_of flat_axis axis_run
   stems-done h {d} {k} {t} {p} {now} {c} {f} q u v b x y =
       call-done ws (choices dim group adjust && both_in choice ttb rule) _ _ true stems-is (λ (x : Stems). x.answer) (λ (x : Stems). stems_words ws x)
-      (stems_tests A (choice_of ttb) (named_anchor anchor) (rule_of rule) xs) (stems 0 Links.None A) result (λ k. refl) refl stems-same h
+      (stems_tests A (choice_of ttb) (named_anchor anchor) (rule_of rule) xs) (stems 0 None A) result (λ k. refl) refl stems-same h
       (passed_words ws (dimension_of dim) (stems-ready h).words.0 refl b same x y)
     where
       same : stems_of (record { dim = d; group = k; stem_adjust = t; rule = width }) xs start A ≡ result

@@ -1,4 +1,5 @@
 -- The pass: what is left of the visits gives the whole.
+use Rattle.std.specs.Prelude.{None}
 use mathlib.Core.Path.{◌≡◌, refl, sym, ap, subst, ◌∙◌}
 use mathlib.Core.Bool.{Bool}
 use mathlib.Core.List.{List}
@@ -7,7 +8,7 @@ use native.Mathlib.Omega.{arith}
 use lib.IntN.{ℤ, pos}
 use Rattle.axis.specs.declared.kinds.Dimension.{Dimension}
 use Rattle.axis.specs.declared.kinds.Dimension.TheVariants.{Horizontal}
-use Rattle.axis.specs.declared.kinds.Link.{Link}
+use Rattle.axis.specs.Link.{Link}
 use Rattle.axis.specs.declared.edge.Axis.{Axis}
 use Rattle.axis.specs.Limits.{most_edges, most_pos}
 use Rattle.axis.specs.Visits.{visits}
@@ -16,7 +17,6 @@ use Rattle.zones.specs.Settled.{Settled}
 use Rattle.zones.proofs.Kept.{within_more}
 use Rattle.words.specs.Edge.{axis_run, flat_axis, edges_in}
 use Rattle.stems.specs.declared.kinds.Mode.{Mode}
-use Rattle.stems.specs.declared.kinds.LastStem.TheVariants as LastStems
 use Rattle.stems.specs.Handed.{most_fitted}
 use Rattle.stems.specs.Stems.{State, begun, visit, stems_of}
 use Rattle.stems.specs.StepsPass.{step, SettledWithout}
@@ -33,7 +33,7 @@ use Rattle.stems_words.specs.Stems.{state_of, ReadyVisit, StemsPassed}
 
 -- what the visits start from
 abbrev pub nothing_yet : Link → Progress
-nothing_yet start = record { count = 0; anchor = start; trail = record { last = LastStems.None; delta = pos 0 } }
+nothing_yet start = record { count = 0; anchor = start; trail = record { last = None; delta = pos 0 } }
 
 -- what holds before the visit of edge i of n: the state is sound, and, without the fallback, the edges are settled
 pub record VisitSound (fallback : Bool) (n i : ℕ) (axis : Axis) (p : Progress) : Type 0 where

@@ -1,4 +1,5 @@
 -- The visit of an edge, by what the code has read and stored.
+use Rattle.std.specs.Prelude.{None, Some}
 use mathlib.Core.Path.{◌≡◌, refl, sym, ap, subst, ◌∙◌}
 use mathlib.Core.Bool.{Bool, true, false}
 use mathlib.Core.List.{List}
@@ -8,8 +9,7 @@ use lib.Dec.{ltb}
 use lib.IntN.{ℤ}
 use Rattle.axis.specs.declared.kinds.Dimension.{Dimension}
 use Rattle.axis.specs.declared.kinds.Dimension.TheVariants.{Horizontal}
-use Rattle.axis.specs.declared.kinds.Link.{Link}
-use Rattle.axis.specs.declared.kinds.Link.TheVariants as Links
+use Rattle.axis.specs.Link.{Link}
 use Rattle.axis.specs.declared.edge.Edge.{Edge}
 use Rattle.axis.specs.declared.edge.Axis.{Axis}
 use Rattle.axis.specs.Link.{index_or}
@@ -82,7 +82,7 @@ module _ {fallback : Bool} (m : Mode) (xs ws : List ℤ) (p : Progress) (i : ℕ
   visited-done q = record { whole = s.whole; long = refl; state = λ (d : Dimension). step-done m xs (state_of (axis_in ws d) p) i (done_at q d) }
 
   -- it has no link
-  pub visited-none : {r : Progress} → edge.flags.done ≡ false → edge.link ≡ Links.None → r ≡ one_more p → Visited state_of (step m xs) i p r ws ws
+  pub visited-none : {r : Progress} → edge.flags.done ≡ false → edge.link ≡ None → r ≡ one_more p → Visited state_of (step m xs) i p r ws ws
   visited-none q l h =
       record {
         whole = s.whole;
@@ -91,7 +91,7 @@ module _ {fallback : Bool} (m : Mode) (xs ws : List ℤ) (p : Progress) (i : ℕ
             ∙ ap (state_of (axis_in ws d)) (sym h);
       }
 
-  module _ (k : ℕ) (q : edge.flags.done ≡ false) (l : edge.link ≡ Links.To k) where
+  module _ (k : ℕ) (q : edge.flags.done ≡ false) (l : edge.link ≡ Some k) where
     -- its link is an edge
     pub link-below : k < edges_in ws
     link-below = link-in most_fitted (edges_in ws) i k (state_of (axis_in ws Horizontal) p) (sound ws p i Horizontal s) s.below (link_at l Horizontal)

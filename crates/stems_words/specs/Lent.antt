@@ -2,7 +2,7 @@
 -- are lent for the count of the edges passed over and for the anchor found.
 use Rattle.std.specs.Prelude.{◌&&◌, List, ℕ, ℤ, pos}
 use Rattle.axis.specs.declared.kinds.Direction.TheVariants as Directions
-use Rattle.stems.specs.declared.outcome.Stems.{Stems}
+use Rattle.stems.specs.Answer.{Stems}
 use Rattle.stems.specs.Stems.{align_stem_edges}
 use Rattle.words.specs.Field.{choice_of, dimension_of, group_of, rule_of, link_word}
 use Rattle.words.specs.Edge.{flat_axis, edges_over}

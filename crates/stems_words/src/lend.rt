@@ -1,10 +1,11 @@
 // The stem pass over lent edges: the edges are tested and aligned where their words stand.
+ghost use Rattle.refusals.specs.Outcome.{answer_of};
 ghost use Rattle.stems_words.specs.Lent.{StemsLent};
 
 use super::pass::stems_in;
 use axis::accept::link_holds;
 use fixed::width::rule_holds;
-use refusals::order::{BAD_PARAMETER, RETIRED, or_refused};
+use refusals::order::{Refusal, require};
 use stems::kinds::Mode;
 use words::edge::EDGE_WORDS;
 use words::field::{choice_of, dimension_of, group_of, link_word, rule_of};
@@ -26,9 +27,9 @@ pub fn lend_stems(
     standards: &[i32],
     count: &mut i32,
     found: &mut i32,
-) -> u8
+) -> Result<(), Refusal>
     ensures { StemsLent edges.old dim group stem_adjust top_to_bottom anchor rule standards.now count.old found.old
-        result (edges.new, (count.new, found.new)) }
+        (answer_of result) (edges.new, (count.new, found.new)) }
 {
     let others = both(
         are_choices(dim, group, stem_adjust),
@@ -37,12 +38,9 @@ pub fn lend_stems(
     let width = rule_of(rule);
     let start = named_anchor(anchor);
     let named = link_holds(start, edges.len() / EDGE_WORDS);
-    let order = or_refused(0, !choice_of(top_to_bottom), RETIRED);
-    let own = or_refused(order, rule_holds(width, standards), BAD_PARAMETER);
-    let answer = edges_test(edges, others, own, named, true);
-    if 0 < answer {
-        return answer;
-    }
+    let order = require(!choice_of(top_to_bottom), Refusal::Retired);
+    let own = order.and(require(rule_holds(width, standards), Refusal::BadParameter));
+    edges_test(edges, others, own, named, true)?;
     let mode = Mode {
         dim: dimension_of(dim),
         group: group_of(group),
@@ -53,5 +51,5 @@ pub fn lend_stems(
     let last = passed.anchor;
     *count = count_word(passed.count);
     *found = link_word(last);
-    0
+    Ok(())
 }

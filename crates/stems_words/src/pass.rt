@@ -10,15 +10,14 @@ ghost use Rattle.words_edge.specs.Whole.{Whole};
 ghost use Rattle.stems_words.specs.Stems.{StemsPassed};
 
 use super::visit::{Progress, visit_in};
-use axis::kinds::Link;
-use stems::kinds::{LastStem, Mode, Trail};
+use stems::kinds::{Mode, Trail};
 use words::edge::EDGE_WORDS;
 
 // The count of edges passed over, and the anchor or its absence.
 #[derive(Clone, Copy)]
 pub struct Passed {
     pub count: usize,
-    pub anchor: Link,
+    pub anchor: Option<u16>,
 }
 
 // Aligns all stems that are not done. The fallback, for an edge whose link has a zone, can be left out where there is no such edge.
@@ -26,7 +25,7 @@ pub fn stems_in(
     words: &mut [i32],
     mode: Mode,
     standards: &[i32],
-    start: Link,
+    start: Option<u16>,
     fallback: bool,
 ) -> Passed
     requires standards_value { rule_holds mode.rule standards.now ≡ true }
@@ -38,7 +37,7 @@ pub fn stems_in(
         count: 0,
         anchor: start,
         trail: Trail {
-            last: LastStem::None,
+            last: None,
             delta: 0,
         },
     };

@@ -7,8 +7,6 @@ ghost use Rattle.words_edge.specs.Pass.{Visited};
 ghost use Rattle.stems_words.specs.Stems.{one_more, state_of, ReadyVisit};
 
 use super::store::{hold_in, second_in};
-use axis::kinds::Link;
-use axis::link::index_or;
 use stems::close::too_close;
 use stems::kinds::{Mode, Trail};
 use stems::plan::plan_for;
@@ -19,7 +17,7 @@ use words_edge::edge::{put_fixed, read_edge};
 #[derive(Clone, Copy)]
 pub struct Progress {
     pub count: usize,
-    pub anchor: Link,
+    pub anchor: Option<u16>,
     pub trail: Trail,
 }
 
@@ -56,7 +54,7 @@ pub fn visit_in(
         return past;
     }
     let link = edge.link;
-    let Link::To(k) = link else {
+    let Some(k) = link else {
         return one_more(past); // no stem
     };
     let edge2_ix = k as usize;
@@ -66,7 +64,7 @@ pub fn visit_in(
         return one_more(past); // dealt with behind the pass, with the serifs
     }
     let anchor = past.anchor;
-    let base = read_edge(words, index_or(anchor, i));
+    let base = read_edge(words, anchor.map_or(i, usize::from));
     let is_before = edge2_ix < i;
     let plan = plan_for(
         mode, standards, edge, edge2, base, anchor, is_before, trail, fallback,

@@ -6,3 +6,5 @@ pub mod Places
 pub mod Order
 pub mod Determined
 pub mod Worked
+-- what an outcome's variant tells of its answer
+pub mod Told

@@ -8,7 +8,7 @@ ghost use Rattle.strong.specs.Strong.{moved_with, between, current_after, mark_a
 
 use axis::accept::is_inside;
 use axis::limits::{LEAST_POS, MOST_POS};
-use fixed::point::{Quotient, fixed_div, fixed_mul};
+use fixed::point::{fixed_div, fixed_mul};
 
 // What becomes of a point: it stays, it comes to a position, or the call is refused for it.
 #[derive(Clone, Copy)]
@@ -70,7 +70,7 @@ pub fn between(u: i32, f1: i32, p1: i32, f2: i32, p2: i32) -> Place
     ensures { result ≡ between u f1 p1 f2 p2 }
 {
     let quotient = fixed_div(p2 - p1, f2 - f1);
-    let Quotient::Of(scale) = quotient else {
+    let Some(scale) = quotient else {
         return Place::Beyond;
     };
     Place::At(p1 + fixed_mul(u - f1, scale))

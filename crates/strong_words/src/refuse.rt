@@ -1,5 +1,6 @@
 // What is refused: lists of an outline by their lengths and by their coordinates, and points.
 ghost use Rattle.std.specs.Prelude.{◌≡◌, ◌&&◌};
+ghost use Rattle.refusals.specs.Outcome.{answer_of};
 ghost use Rattle.refusals.specs.Refusal.{refusal};
 ghost use Rattle.weak_contour.specs.Limits.{most_coordinate};
 ghost use Rattle.weak.specs.Weak.{coordinates_hold};
@@ -8,34 +9,34 @@ ghost use Rattle.strong.specs.Strong.{list_tests, all_placed};
 ghost use Rattle.strong_words.specs.Strong.{Placeable};
 
 use super::place::strong_at;
-use refusals::order::{TOO_LONG, or_refused};
+use refusals::order::{Refusal, require};
 use strong::place::is_placed;
 use weak::accept::range_refusal;
 use weak::limits::{MOST_COORDINATE, MOST_POINTS};
 
-// The refusal by the lengths, or 0.
+// The refusal by the lengths, if there is one.
 pub fn list_refusal(
     fonts: &[i16],
     originals: &[i32],
     currents: &[i32],
     touched: &[u8],
     weak: &[u8],
-) -> u8
-    ensures { result ≡ refusal (list_tests fonts.now originals.now currents.now touched.now weak.now) }
+) -> Result<(), Refusal>
+    ensures { answer_of result ≡ refusal (list_tests fonts.now originals.now currents.now touched.now weak.now) }
 {
     let n = fonts.len();
-    let answer = or_refused(0, n <= MOST_POINTS, TOO_LONG);
-    let answer = or_refused(answer, originals.len() == n, TOO_LONG);
-    let answer = or_refused(answer, currents.len() == n, TOO_LONG);
-    let answer = or_refused(answer, touched.len() == n, TOO_LONG);
-    or_refused(answer, weak.len() == n, TOO_LONG)
+    require(n <= MOST_POINTS, Refusal::TooLong)?;
+    require(originals.len() == n, Refusal::TooLong)?;
+    require(currents.len() == n, Refusal::TooLong)?;
+    require(touched.len() == n, Refusal::TooLong)?;
+    require(weak.len() == n, Refusal::TooLong)
 }
 
 // Whether originals and currents are within the limit of coordinates.
 pub fn coordinates_hold(originals: &[i32], currents: &[i32]) -> bool
     ensures { result ≡ (coordinates_hold most_coordinate originals.now && coordinates_hold most_coordinate currents.now) }
 {
-    range_refusal(originals, currents, MOST_COORDINATE) == 0
+    range_refusal(originals, currents, MOST_COORDINATE).is_ok()
 }
 
 // Whether no point is refused.

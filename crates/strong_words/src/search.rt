@@ -41,6 +41,7 @@ fn by_halving(words: &[i32], u: i32) -> usize
 {
     let mut low: usize = 0;
     let mut high = words.len() / EDGE_WORDS;
+    // a while: the step depends on the element that is met
     while low < high {
         let mid = (low + high) / 2;
         let fpos = read_fpos(words, mid);

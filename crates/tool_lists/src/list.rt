@@ -41,10 +41,8 @@ pub fn nth_list(words: &[i32], k: usize) -> &[i32]
     ensures { length result.now ≤ most_numbers }
 {
     let mut at = 1;
-    let mut i = 0;
-    while i < k {
+    for _ in 0..k {
         at += 1 + least(count_at(words, at), MOST_NUMBERS);
-        i += 1;
     }
     list_at(words, at)
 }

@@ -9,10 +9,8 @@ use words::word::{count_at, count_word};
 pub fn read_bytes(numbers: &[i32], bytes: &mut [u8])
     requires { length numbers.now ≤ length bytes.old }
 {
-    let mut i = 0;
-    while i < numbers.len() {
+    for i in 0..numbers.len() {
         bytes[i] = (count_at(numbers, i) % 256) as u8;
-        i += 1;
     }
 }
 
@@ -20,10 +18,8 @@ pub fn read_bytes(numbers: &[i32], bytes: &mut [u8])
 pub fn read_indices(numbers: &[i32], indices: &mut [u16])
     requires { length numbers.now ≤ length indices.old }
 {
-    let mut i = 0;
-    while i < numbers.len() {
+    for i in 0..numbers.len() {
         indices[i] = index_at(numbers, i);
-        i += 1;
     }
 }
 
@@ -31,11 +27,8 @@ pub fn read_indices(numbers: &[i32], indices: &mut [u16])
 pub fn read_shorts(numbers: &[i32], shorts: &mut [i16])
     requires { length numbers.now ≤ length shorts.old }
 {
-    let mut i = 0;
-    while i < numbers.len() {
-        let short = short_at(numbers, i);
-        shorts[i] = short;
-        i += 1;
+    for i in 0..numbers.len() {
+        shorts[i] = short_at(numbers, i);
     }
 }
 
@@ -53,10 +46,8 @@ pub fn put_bytes(out: &mut [i32], at: usize, bytes: &[u8]) -> usize
     if out.len() - next < bytes.len() {
         return 0;
     }
-    let mut i = 0;
-    while i < bytes.len() {
-        out[next + i] = byte_word(bytes[i]);
-        i += 1;
+    for (i, byte) in bytes.iter().enumerate() {
+        out[next + i] = byte_word(*byte);
     }
     next + bytes.len()
 }
@@ -75,10 +66,8 @@ pub fn put_indices(out: &mut [i32], at: usize, indices: &[u16]) -> usize
     if out.len() - next < indices.len() {
         return 0;
     }
-    let mut i = 0;
-    while i < indices.len() {
-        out[next + i] = index_word(indices[i]);
-        i += 1;
+    for (i, index) in indices.iter().enumerate() {
+        out[next + i] = index_word(*index);
     }
     next + indices.len()
 }

@@ -39,14 +39,23 @@ fn give(edges: &mut [i32], count: &mut i32, axis: Axis) {
 
 // Links segments: the major direction, units per em and the scale.
 pub fn ask_link(segments: &mut [i32], rest: &[i32]) -> u8 {
+    let given = segments_from(segments);
     let linked = link_segments_cjk(
-        segments_from(segments),
+        given,
         direction_of(word_at(rest, 0)),
         word_at(rest, 1),
         word_at(rest, 2),
     );
-    write_segments(segments, linked.segments);
-    linked.answer
+    match linked {
+        Ok(linked) => {
+            write_segments(segments, linked);
+            0
+        }
+        Err(refusal) => {
+            write_segments(segments, given);
+            u8::from(refusal)
+        }
+    }
 }
 
 // Builds edges: the old table, dimension, major direction, group, order, scale and thresholds.
@@ -62,24 +71,43 @@ pub fn ask_build(segments: &mut [i32], rest: &[i32], edges: &mut [i32], count: &
         length: word_at(behind, 6),
         width: word_at(behind, 7),
     };
+    let given = segments_from(segments);
     let built = compute_edges(
-        segments_from(segments),
+        given,
         old,
         group_of(word_at(behind, 2)),
         choice_of(word_at(behind, 3)),
         word_at(behind, 4),
         thresholds,
     );
-    give(edges, count, built.axis);
-    write_segments(segments, built.segments);
-    built.answer
+    match built {
+        Ok(built) => {
+            give(edges, count, built.axis);
+            write_segments(segments, built.segments);
+            0
+        }
+        Err(refusal) => {
+            give(edges, count, old);
+            write_segments(segments, given);
+            u8::from(refusal)
+        }
+    }
 }
 
 // Turns edges over.
 pub fn ask_turn(segments: &mut [i32], rest: &[i32], edges: &mut [i32], count: &mut i32) -> u8 {
     let axis = counted_axis(rest, Dimension::Horizontal, Direction::None);
-    let turned = turn_over(axis, segments_from(segments));
-    give(edges, count, turned.axis);
-    write_segments(segments, turned.segments);
-    turned.answer
+    let given = segments_from(segments);
+    match turn_over(axis, given) {
+        Ok(turned) => {
+            give(edges, count, turned.axis);
+            write_segments(segments, turned.segments);
+            0
+        }
+        Err(refusal) => {
+            give(edges, count, axis);
+            write_segments(segments, given);
+            u8::from(refusal)
+        }
+    }
 }

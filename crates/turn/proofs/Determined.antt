@@ -9,7 +9,7 @@ use Rattle.axis.specs.declared.segment.Segments.{Segments}
 use Rattle.axis.specs.Edge.{edge_at}
 use Rattle.axis.specs.Handed.{TypedAxis, Typed}
 use Rattle.axis.specs.Ring.{members, Sound}
-use Rattle.turn.specs.declared.turn.Turned.{Turned}
+use Rattle.turn.specs.Answer.{Turned}
 use Rattle.turn.specs.Turning.{turned_index, turned_axis, turned_segments, turning_tests, beside, turn_over, TurnsOver}
 use Rattle.turn.proofs.Calls.{Taken, taken, not-refused}
 use Rattle.turn.proofs.Rings as Rings

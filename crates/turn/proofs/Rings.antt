@@ -1,4 +1,5 @@
 -- A ring of a table that is turned over: the same segments in the same order, and sound where it was.
+use Rattle.std.specs.Prelude.{Some}
 use mathlib.Core.Path.{◌≡◌, refl, sym, ap, subst, ◌∙◌}
 use mathlib.Core.Bool.{Bool, cond}
 use mathlib.Core.Logic.{⊎_elim}
@@ -7,7 +8,6 @@ use native.Mathlib.Omega.{arith}
 use Rattle.signed.proofs.Signed.{lt-or-le}
 use Rattle.axis.specs.declared.edge.Edge.{Edge}
 use Rattle.axis.specs.declared.edge.Axis.{Axis}
-use Rattle.axis.specs.declared.kinds.Link.TheVariants as Links
 use Rattle.axis.specs.declared.segment.Segment.{Segment}
 use Rattle.axis.specs.declared.segment.Segments.{Segments}
 use Rattle.axis.specs.Edge.{edge_at}
@@ -58,13 +58,13 @@ module _ (axis : Axis) (t : Segments) (w : TypedAxis axis) (v : Typed t) (a : Ta
   led-same i = ap (index_or t.len) (next-same i)
 
   -- ---- sound rings
-  edge-was : (k i : ℕ) → k < m → i < t.len → (segment_at table i).edge ≡ Links.To (turned_index m k) → (segment_at t i).edge ≡ Links.To k
+  edge-was : (k i : ℕ) → k < m → i < t.len → (segment_at table i).edge ≡ Some (turned_index m k) → (segment_at t i).edge ≡ Some k
   edge-was k i h l e =
       sym (link-twice m (segment_at t i).edge (edge-below axis t w v a i l))
       ∙ ap (turned_link m) (sym (ap (λ (s : Segment). s.edge) (turned-segment-at m t (segments_whole axis t w v a) i l)) ∙ e)
-      ∙ ap Links.To (index-twice m k h)
+      ∙ ap Some (index-twice m k h)
 
-  edge-is : (k i : ℕ) → i < t.len → (segment_at t i).edge ≡ Links.To k → (segment_at table i).edge ≡ Links.To (turned_index m k)
+  edge-is : (k i : ℕ) → i < t.len → (segment_at t i).edge ≡ Some k → (segment_at table i).edge ≡ Some (turned_index m k)
   edge-is k i l e = ap (λ (s : Segment). s.edge) (turned-segment-at m t (segments_whole axis t w v a) i l) ∙ ap (turned_link m) e
 
   of-same : (k i : ℕ) → k < m → i < t.len → is_of table (turned_index m k) i ≡ is_of t k i

@@ -1,4 +1,5 @@
 -- What is turned over is accepted again, and turned over again it is what it was.
+use Rattle.std.specs.Prelude.{None, Some}
 use mathlib.Core.Path.{◌≡◌, refl, ap, ◌∙◌}
 use mathlib.Core.Bool.{true}
 use mathlib.Core.Logic.{⊎_elim}
@@ -9,8 +10,7 @@ use lib.ListN.{length}
 use lib.Seq.{ext_get_or}
 use Rattle.signed.proofs.Signed.{lt-or-le}
 use Rattle.axis.specs.declared.edge.Axis.{Axis}
-use Rattle.axis.specs.declared.kinds.Link.{Link}
-use Rattle.axis.specs.declared.kinds.Link.TheVariants as Links
+use Rattle.axis.specs.Link.{Link}
 use Rattle.axis.specs.declared.segment.Segments.{Segments}
 use Rattle.axis.specs.Accepted.{Below, AxisWithin, SegmentsWithin}
 use Rattle.axis.specs.Edge.{empty_edge, edge_at}
@@ -31,13 +31,13 @@ pub index-twice : (m k : ℕ) → k < m → turned_index m (turned_index m k) �
 index-twice m k h = omega arith
 
 pub link-twice : (m : ℕ) (l : Link) → Below m l → turned_link m (turned_link m l) ≡ l
-link-twice m Links.None b = refl
-link-twice m (Links.To k) b = ap Links.To (index-twice m k (b.at k refl))
+link-twice m None b = refl
+link-twice m (Some k) b = ap Some (index-twice m k (b.at k refl))
 
 link-turned : (m : ℕ) (l : Link) → Below m l → link_holds m (turned_link m l) ≡ true
 unfolding link_holds
-link-turned m Links.None b = refl
-link-turned m (Links.To k) b = lt-ltb (turned_index m k) m (let h = b.at k refl in omega arith)
+link-turned m None b = refl
+link-turned m (Some k) b = lt-ltb (turned_index m k) m (let h = b.at k refl in omega arith)
 
 pub turned-below : (m : ℕ) (l : Link) → Below m l → Below m (turned_link m l)
 turned-below m l b = link-below m (turned_link m l) (link-turned m l b)

@@ -1,4 +1,5 @@
 -- Tables turned over by hand.
+use Rattle.std.specs.Prelude.{None, Some}
 use mathlib.Core.Path.{◌≡◌, refl}
 use mathlib.Core.List.{List, [], ◌∷◌}
 use Prim.Native.Nat.{ℕ}
@@ -8,8 +9,7 @@ use Rattle.refusals.specs.Refusal.{refusal}
 use Rattle.axis.specs.declared.edge.Edge.{Edge}
 use Rattle.axis.specs.declared.kinds.Dimension.TheVariants as Dimensions
 use Rattle.axis.specs.declared.kinds.Direction.TheVariants as Directions
-use Rattle.axis.specs.declared.kinds.Link.{Link}
-use Rattle.axis.specs.declared.kinds.Link.TheVariants.{None, To}
+use Rattle.axis.specs.Link.{Link}
 use Rattle.axis.specs.declared.kinds.Mark.{Mark}
 use Rattle.axis.specs.declared.kinds.Mark.TheVariants.{Blue, Stem}
 use Rattle.axis.specs.declared.segment.Segment.{Segment}
@@ -45,29 +45,29 @@ segment k i = record {
   first = 0;
   last = 0;
   edge = k;
-  next = To i;
+  next = Some i;
 }
 
 -- three edges change places, their links and serifs with them; the place behind them stays
 three :
-    turned_edges 3 (edge 1 0 (To 1) None ∷ edge 2 1 (To 0) None ∷ edge 3 2 None (To 0) ∷ edge 9 0 (To 0) None ∷ [])
-    ≡ edge 3 2 None (To 2) ∷ edge 2 1 (To 2) None ∷ edge 1 0 (To 1) None ∷ edge 9 0 (To 0) None ∷ []
+    turned_edges 3 (edge 1 0 (Some 1) None ∷ edge 2 1 (Some 0) None ∷ edge 3 2 None (Some 0) ∷ edge 9 0 (Some 0) None ∷ [])
+    ≡ edge 3 2 None (Some 2) ∷ edge 2 1 (Some 2) None ∷ edge 1 0 (Some 1) None ∷ edge 9 0 (Some 0) None ∷ []
 three = refl
 
 -- marks go with their edges
-marked : turned_edges 2 (by Stem (edge 1 0 (To 1) None) ∷ by Blue (edge 2 1 (To 0) None) ∷ [])
-    ≡ by Blue (edge 2 1 (To 1) None) ∷ by Stem (edge 1 0 (To 0) None) ∷ []
+marked : turned_edges 2 (by Stem (edge 1 0 (Some 1) None) ∷ by Blue (edge 2 1 (Some 0) None) ∷ [])
+    ≡ by Blue (edge 2 1 (Some 1) None) ∷ by Stem (edge 1 0 (Some 0) None) ∷ []
 marked = refl
 
 -- no edge, nothing to change; one edge stays where it is
-none : turned_edges 0 (edge 9 0 (To 0) None ∷ []) ≡ edge 9 0 (To 0) None ∷ []
+none : turned_edges 0 (edge 9 0 (Some 0) None ∷ []) ≡ edge 9 0 (Some 0) None ∷ []
 none = refl
 
-one : turned_edges 1 (edge 1 0 (To 0) None ∷ []) ≡ edge 1 0 (To 0) None ∷ []
+one : turned_edges 1 (edge 1 0 (Some 0) None ∷ []) ≡ edge 1 0 (Some 0) None ∷ []
 one = refl
 
 -- a segment's edge is renumbered, its next is not
-renumbered : turned_segment 3 (segment (To 0) 1) ≡ segment (To 2) 1
+renumbered : turned_segment 3 (segment (Some 0) 1) ≡ segment (Some 2) 1
 renumbered = refl
 
 edgeless : turned_segment 3 (segment None 1) ≡ segment None 1
@@ -80,10 +80,10 @@ answer es ss =
     (record { segments = ss; len = length ss }))
 
 abbrev two : List Edge
-two = edge 1 0 (To 1) None ∷ edge 2 1 (To 0) None ∷ []
+two = edge 1 0 (Some 1) None ∷ edge 2 1 (Some 0) None ∷ []
 
 abbrev both : List Segment
-both = segment (To 0) 0 ∷ segment (To 1) 1 ∷ []
+both = segment (Some 0) 0 ∷ segment (Some 1) 1 ∷ []
 
 taken : answer two both ≡ 0
 unfolding refusal link_holds blue_holds every edge_indices edge_numbers edges_indices edges_numbers segment_indices segment_next segment_numbers segments_indices
@@ -91,11 +91,11 @@ unfolding refusal link_holds blue_holds every edge_indices edge_numbers edges_in
 taken = refl
 
 -- an edge index that is not below the edge count, and a next, a first and a last that are not below the segment count
-edge-beyond : answer two (segment (To 2) 0 ∷ segment (To 1) 1 ∷ []) ≡ 3
+edge-beyond : answer two (segment (Some 2) 0 ∷ segment (Some 1) 1 ∷ []) ≡ 3
 unfolding refusal link_holds every segment_indices segment_next segments_indices segments_nexts segment_edge segments_edges
 edge-beyond = refl
 
-next-beyond : answer two (segment (To 0) 0 ∷ segment (To 1) 2 ∷ []) ≡ 3
+next-beyond : answer two (segment (Some 0) 0 ∷ segment (Some 1) 2 ∷ []) ≡ 3
 unfolding refusal link_holds every segment_indices segment_next segments_indices segments_nexts
 next-beyond = refl
 

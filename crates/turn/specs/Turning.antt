@@ -1,16 +1,16 @@
 -- Request #114's converter: a table of edges that was saved in the other order is turned over.
+use Rattle.std.specs.Prelude.{None, Some}
 use Rattle.std.specs.Prelude.{◌≡◌, List, [], ◌∷◌, ◌++◌, map, reverse, ℕ, ◌-◌, take, drop}
 use Rattle.refusals.specs.Refusal.{Test, refusal, answered}
 use Rattle.axis.specs.declared.edge.Edge.{Edge}
 use Rattle.axis.specs.declared.edge.Axis.{Axis}
-use Rattle.axis.specs.declared.kinds.Link.{Link}
-use Rattle.axis.specs.declared.kinds.Link.TheVariants as Links
+use Rattle.axis.specs.Link.{Link}
 use Rattle.axis.specs.declared.segment.Segment.{Segment}
 use Rattle.axis.specs.declared.segment.Segments.{Segments}
 use Rattle.axis.specs.Edge.{joined_to}
 use Rattle.axis.specs.Mark.{unmarked_axis}
 use Rattle.axis.specs.Refusals.{edges_in_range, segments_in_range}
-use Rattle.turn.specs.declared.turn.Turned.{Turned}
+use Rattle.turn.specs.Answer.{Turned}
 use Rattle.turn.specs.Indices.{index_tests}
 
 -- ---- indices
@@ -20,8 +20,8 @@ turned_index m k = m - 1 - k
 
 -- the index of an edge, where there is one
 abbrev pub turned_link : ℕ → Link → Link
-turned_link m Links.None = Links.None
-turned_link m (Links.To k) = Links.To (turned_index m k)
+turned_link m None = None
+turned_link m (Some k) = Some (turned_index m k)
 
 -- ---- edges and segments
 -- one of m edges: link and serif are renumbered, everything else is as it was

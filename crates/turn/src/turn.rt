@@ -1,10 +1,12 @@
 // An axis turned over: its edges in the other order.
 ghost use Rattle.std.specs.Prelude.{◌≡◌, true, ◌≤◌};
+ghost use Rattle.refusals.specs.Outcome.{answer_of};
 ghost use Rattle.refusals.specs.Refusal.{refusal};
 ghost use Rattle.axis.specs.Limits.{most_edges, most_segments};
 ghost use Rattle.axis.specs.Refusals.{link_holds, edge_indices, edges_indices, segment_edge};
 ghost use Rattle.turn.specs.Indices.{segments_edges};
 ghost use Rattle.turn.specs.Turning.{turned_link, turned_edge, turned_segment, turned_axis, turned_segments, turning_tests, TurnsOver};
+ghost use Rattle.turn.specs.Answer.{turned_of};
 
 use super::accept::{edges_segments, segments_edges};
 use axis::accept::{
@@ -12,26 +14,24 @@ use axis::accept::{
     segments_numbers,
 };
 use axis::edge::{Axis, Edge};
-use axis::kinds::Link;
 use axis::segment::{Segment, Segments};
-use refusals::order::{BAD_INDEX, OUT_OF_RANGE, TOO_LONG, or_refused};
+use refusals::order::{Refusal, require};
 
-// The answer, 0 or document 01's number of the refusal, the axis and the segments.
+// An axis that is turned over, and its segments.
 #[derive(Clone, Copy)]
 pub struct Turned {
-    pub answer: u8,
     pub axis: Axis,
     pub segments: Segments,
 }
 
 // The index of an edge, where there is one, renumbered.
-pub fn turned_link(link: Link, count: usize) -> Link
+pub fn turned_link(link: Option<u16>, count: usize) -> Option<u16>
     requires { (count ≤ most_edges) × (link_holds count link ≡ true) }
     ensures { result ≡ turned_link count link }
 {
     match link {
-        Link::None => Link::None,
-        Link::To(k) => Link::To((count - 1 - k as usize) as u16),
+        None => None,
+        Some(k) => Some((count - 1 - k as usize) as u16),
     }
 }
 
@@ -89,36 +89,28 @@ fn turn_segments(segments: Segments, count: usize) -> Segments
     turned
 }
 
-// The refusal of the call, or 0.
-fn turning_refusal(axis: Axis, segments: Segments) -> u8
-    ensures { result ≡ refusal (turning_tests axis segments) }
+// The refusal of the call, if there is one.
+fn turning_refusal(axis: Axis, segments: Segments) -> Result<(), Refusal>
+    ensures { answer_of result ≡ refusal (turning_tests axis segments) }
 {
-    let answer = or_refused(0, few_segments(segments.len), TOO_LONG);
-    let answer = or_refused(answer, few_edges(axis.len), TOO_LONG);
-    let answer = or_refused(answer, segments_indices(segments), BAD_INDEX);
-    let answer = or_refused(answer, segments_nexts(segments), BAD_INDEX);
-    let answer = or_refused(answer, segments_edges(segments, axis.len), BAD_INDEX);
-    let answer = or_refused(answer, edges_indices(axis), BAD_INDEX);
-    let answer = or_refused(answer, edges_segments(axis, segments.len), BAD_INDEX);
-    let answer = or_refused(answer, segments_numbers(segments), OUT_OF_RANGE);
-    or_refused(answer, edges_numbers(axis), OUT_OF_RANGE)
+    require(few_segments(segments.len), Refusal::TooLong)?;
+    require(few_edges(axis.len), Refusal::TooLong)?;
+    require(segments_indices(segments), Refusal::BadIndex)?;
+    require(segments_nexts(segments), Refusal::BadIndex)?;
+    require(segments_edges(segments, axis.len), Refusal::BadIndex)?;
+    require(edges_indices(axis), Refusal::BadIndex)?;
+    require(edges_segments(axis, segments.len), Refusal::BadIndex)?;
+    require(segments_numbers(segments), Refusal::OutOfRange)?;
+    require(edges_numbers(axis), Refusal::OutOfRange)
 }
 
-// Turns an axis over: its edges in the other order, with the indices that lead to them renumbered. A refusal, 1, 3 or 4, hands everything back as it was.
-pub fn turn_over(axis: Axis, segments: Segments) -> Turned
-    ensures { TurnsOver axis segments result }
+// Turns an axis over: its edges in the other order, with the indices that lead to them renumbered. The refusals are 1, 3 and 4.
+pub fn turn_over(axis: Axis, segments: Segments) -> Result<Turned, Refusal>
+    ensures { TurnsOver axis segments (turned_of axis segments result) }
 {
-    let answer = turning_refusal(axis, segments);
-    if 0 < answer {
-        return Turned {
-            answer,
-            axis,
-            segments,
-        };
-    }
-    Turned {
-        answer: 0,
+    turning_refusal(axis, segments)?;
+    Ok(Turned {
         axis: turn_edges(axis),
         segments: turn_segments(segments, axis.len),
-    }
+    })
 }

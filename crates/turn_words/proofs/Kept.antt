@@ -11,12 +11,12 @@ use lib.ListN.{length, set}
 use lib.IntN.{ℤ}
 use Rattle.axis.specs.declared.edge.Edge.{Edge}
 use Rattle.axis.specs.declared.edge.Axis.{Axis}
-use Rattle.axis.specs.declared.kinds.Link.{Link}
+use Rattle.axis.specs.Link.{Link}
 use Rattle.axis.specs.declared.segment.Segment.{Segment}
 use Rattle.axis.specs.declared.segment.Segments.{Segments}
 use Rattle.axis.specs.Edge.{edge_at, joined_to}
 use Rattle.axis.specs.Segment.{segment_at}
-use Rattle.turn.specs.declared.turn.Turned.{Turned}
+use Rattle.turn.specs.Answer.{Turned}
 use Rattle.turn.specs.Turning.{turned_index, turned_link, turned_segment, turned_axis, turned_segments, beside}
 use Rattle.turn.proofs.Calls.{Taken, taken}
 use Rattle.turn.proofs.Determined.{when-accepted, accepted}

@@ -13,7 +13,7 @@ use Rattle.axis.specs.declared.edge.Axis.{Axis}
 use Rattle.axis.specs.declared.segment.Segments.{Segments}
 use Rattle.axis.specs.Limits.{most_edges, most_segments}
 use Rattle.axis.specs.Refusals.{edges_indices}
-use Rattle.turn.specs.declared.turn.Turned.{Turned}
+use Rattle.turn.specs.Answer.{Turned}
 use Rattle.turn.specs.Indices.{segments_edges}
 use Rattle.turn.specs.Turning.{turned_axis, turned_segments, turning_tests, beside, turn_over}
 use Rattle.turn.proofs.Calls.{Taken, took}

@@ -1,4 +1,5 @@
 -- Segments and edges turned over where their words stand.
+use Rattle.std.specs.Prelude.{Some}
 use mathlib.Core.Path.{◌≡◌, refl, sym, ap, ◌∙◌}
 use mathlib.Core.Bool.{true}
 use mathlib.Core.List.{List}
@@ -9,8 +10,7 @@ use lib.IntN.{ℤ, pos}
 use Rattle.axis.specs.declared.edge.Edge.{Edge}
 use Rattle.axis.specs.declared.edge.Axis.{Axis}
 use Rattle.axis.specs.declared.kinds.Dimension.TheVariants as Dimensions
-use Rattle.axis.specs.declared.kinds.Link.{Link}
-use Rattle.axis.specs.declared.kinds.Link.TheVariants as Links
+use Rattle.axis.specs.Link.{Link}
 use Rattle.axis.specs.declared.segment.Segment.{Segment}
 use Rattle.axis.specs.declared.segment.Segments.{Segments}
 use Rattle.axis.specs.Accepted.{Below}
@@ -52,7 +52,7 @@ edge_of ws i h = ap (λ (s : Segment). s.edge) (segment-held ws i h) ∙ edge-fr
 -- an edge renumbered is an edge
 pub turned-in : (m : ℕ) (edge turned : Link) → m ≤ most_edges → link_holds m edge ≡ true → turned ≡ turned_link m edge → Below most_edges turned
 turned-in m edge turned few t q =
-    record { at = λ (k : ℕ) (e : turned ≡ Links.To k). omega (arith, (turned-below m edge (link-below m edge t)).at k (sym q ∙ e)) }
+    record { at = λ (k : ℕ) (e : turned ≡ Some k). omega (arith, (turned-below m edge (link-below m edge t)).at k (sym q ∙ e)) }
 
 module _ (m : ℕ) (ws₀ : List ℤ) (w : Whole ws₀) where
   abbrev T : Segments

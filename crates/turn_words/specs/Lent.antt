@@ -2,7 +2,7 @@
 use Rattle.std.specs.Prelude.{◌≡◌, ◌&&◌, false, List, [], ◌∷◌, ℕ, ◌%◌, ◌<◌, eqb, leb, length, ℤ}
 use Rattle.refusals.specs.Refusal.{Test}
 use Rattle.axis.specs.Limits.{most_edges, most_segments}
-use Rattle.turn.specs.declared.turn.Turned.{Turned}
+use Rattle.turn.specs.Answer.{Turned}
 use Rattle.turn.specs.Turning.{turned_index, turn_over}
 use Rattle.words.specs.Word.{word_at}
 use Rattle.words.specs.Edge.{edge_size, link_place, serif_place, word_of_edge, edges_in, edges_over}

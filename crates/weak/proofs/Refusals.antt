@@ -14,6 +14,11 @@ use lib.IntN.{ℤ, pos, nat_abs, ◌-ℤ◌}
 use lib.Signed.{lt_z, le_z, ◌≤ℤ◌}
 use Rattle.signed.proofs.Signed.{nat_abs-is, one-zero, sub-law, signed}
 use Rattle.signed.proofs.Choices.{cond-true, cond-false}
+use Rattle.std.specs.Prelude.{Result, Ok, Err}
+use Rattle.std.specs.Result.{IsErrAnd}
+use Rattle.refusals.specs.declared.order.Refusal.{Refusal}
+use Rattle.refusals.specs.Outcome.{answer_of}
+use Rattle.refusals.proofs.Outcomes.{number-above}
 use Rattle.refusals.specs.Refusal.{Test, ◌unless◌, refusal, bad_index, out_of_range, steep}
 use Rattle.refusals.proofs.Tests.{and_first, and_second, all_hold, no-refusal}
 use Rattle.weak_contour.specs.Limits.{most_points, most_coordinate}
@@ -281,3 +286,9 @@ module _ (o c : List ℤ) (t es : List ℕ) where
       by : (h : Bool) → gentle o c t es ≡ h → b ≡ not h → refusal (steep unless gentle o c t es ∷ []) ≡ cond b steep 0
       by true q e = test-last steep (gentle o c t es) true q ∙ rw e
       by false q e = test-last steep (gentle o c t es) false q ∙ rw e
+
+-- ---- the exit of a `?`
+-- what it hands on has a number above 0
+pub exit-above : {T : Type 0} (e : Refusal) (o : Result T Refusal) → IsErrAnd o (λ (y : Refusal). y ≡ e) → 0 < answer_of o
+exit-above e (Ok x) h = absurd h
+exit-above e (Err y) h = number-above y

@@ -1,5 +1,6 @@
 // Which outlines are refused: the tests that weak points and the path share, and those of weak points.
 ghost use Rattle.std.specs.Prelude.{◌≡◌, true, pos, nat_abs, ◌≤ℤ◌};
+ghost use Rattle.refusals.specs.Outcome.{answer_of};
 ghost use Rattle.refusals.specs.Refusal.{refusal};
 ghost use Rattle.weak_contour.specs.Limits.{most_coordinate};
 ghost use Rattle.weak.specs.Weak.{ends_hold, coordinates_hold, list_tests, range_tests, outline_tests, number_tests, weak_tests};
@@ -8,7 +9,7 @@ ghost use Rattle.weak.specs.Steps.{all_near};
 use super::limits::{MOST_COORDINATE, MOST_NEAR, MOST_POINTS};
 use super::reach::{coordinates_hold, is_calm, reach_of};
 use super::steep::too_steep;
-use refusals::order::{BAD_INDEX, OUT_OF_RANGE, TOO_LONG, TOO_STEEP};
+use refusals::order::Refusal;
 
 // A contour end as an index.
 pub fn wide(x: u16) -> usize
@@ -22,9 +23,8 @@ pub fn ends_hold(ends: &[u16], count: usize) -> bool
     ensures { result ≡ ends_hold 0 count ends.now }
 {
     let mut start: usize = 0;
-    let mut k: usize = 0;
-    while k < ends.len() {
-        let end = wide(ends[k]);
+    for x in ends {
+        let end = wide(*x);
         if end < start {
             return false;
         }
@@ -32,59 +32,60 @@ pub fn ends_hold(ends: &[u16], count: usize) -> bool
             return false;
         }
         start = end + 1;
-        k += 1;
     }
     true
 }
 
-// The refusal of an outline by its lists and contour ends, or 0.
-pub fn list_refusal(originals: &[i32], currents: &[i32], touched: &[u8], ends: &[u16]) -> u8
-    ensures { result ≡ refusal (list_tests originals.now currents.now touched.now ends.now) }
+// The refusal of an outline by its lists and contour ends, if any.
+pub fn list_refusal(
+    originals: &[i32],
+    currents: &[i32],
+    touched: &[u8],
+    ends: &[u16],
+) -> Result<(), Refusal>
+    ensures { answer_of result ≡ refusal (list_tests originals.now currents.now touched.now ends.now) }
 {
     if MOST_POINTS < originals.len() {
-        return TOO_LONG;
+        return Err(Refusal::TooLong);
     }
     if currents.len() != originals.len() {
-        return TOO_LONG;
+        return Err(Refusal::TooLong);
     }
     if touched.len() != originals.len() {
-        return TOO_LONG;
+        return Err(Refusal::TooLong);
     }
     if !ends_hold(ends, originals.len()) {
-        return BAD_INDEX;
+        return Err(Refusal::BadIndex);
     }
-    0
+    Ok(())
 }
 
-// The refusal by its coordinates, two a point, each at most `most` either way, or 0.
-pub fn range_refusal(originals: &[i32], currents: &[i32], most: i32) -> u8
+// The refusal by its coordinates, two a point, each at most `most` either way, if any.
+pub fn range_refusal(originals: &[i32], currents: &[i32], most: i32) -> Result<(), Refusal>
     requires { pos 0 ≤ℤ most }
-    ensures { result ≡ refusal (range_tests (nat_abs most) originals.now currents.now) }
+    ensures { answer_of result ≡ refusal (range_tests (nat_abs most) originals.now currents.now) }
 {
     if !coordinates_hold(originals, most) {
-        return OUT_OF_RANGE;
+        return Err(Refusal::OutOfRange);
     }
     if !coordinates_hold(currents, most) {
-        return OUT_OF_RANGE;
+        return Err(Refusal::OutOfRange);
     }
-    0
+    Ok(())
 }
 
-// The refusal by both in this order, or 0: the first test that fails ends the tests, since each goes over a whole list.
+// The refusal by both in this order, if any: the first test that fails ends the tests, since each goes over a whole list.
 pub fn outline_refusal(
     originals: &[i32],
     currents: &[i32],
     touched: &[u8],
     ends: &[u16],
     most: i32,
-) -> u8
+) -> Result<(), Refusal>
     requires { pos 0 ≤ℤ most }
-    ensures { result ≡ refusal (outline_tests (nat_abs most) originals.now currents.now touched.now ends.now) }
+    ensures { answer_of result ≡ refusal (outline_tests (nat_abs most) originals.now currents.now touched.now ends.now) }
 {
-    let answer = list_refusal(originals, currents, touched, ends);
-    if 0 < answer {
-        return answer;
-    }
+    list_refusal(originals, currents, touched, ends)?;
     range_refusal(originals, currents, most)
 }
 
@@ -98,48 +99,60 @@ pub fn all_near(originals: &[i32], currents: &[i32]) -> bool
     coordinates_hold(currents, MOST_NEAR)
 }
 
-// The refusal of an outline that its lists and contour ends pass, by the coordinates of weak points and by a point that is too steep, or 0. Where no two currents are
+// The refusal of an outline that its lists and contour ends pass, by the coordinates of weak points and by a point that is too steep, if any. Where no two currents are
 // far apart no contour is walked.
-pub fn number_refusal(originals: &[i32], currents: &[i32], touched: &[u8], ends: &[u16]) -> u8
+pub fn number_refusal(
+    originals: &[i32],
+    currents: &[i32],
+    touched: &[u8],
+    ends: &[u16],
+) -> Result<(), Refusal>
     requires { refusal (list_tests originals.now currents.now touched.now ends.now) ≡ 0 }
-    ensures { result ≡ refusal (number_tests originals.now currents.now touched.now ends.now) }
+    ensures { answer_of result ≡ refusal (number_tests originals.now currents.now touched.now ends.now) }
 {
     if !coordinates_hold(originals, MOST_COORDINATE) {
-        return OUT_OF_RANGE;
+        return Err(Refusal::OutOfRange);
     }
     if !coordinates_hold(currents, MOST_COORDINATE) {
-        return OUT_OF_RANGE;
+        return Err(Refusal::OutOfRange);
     }
     if is_calm(reach_of(currents)) {
-        return 0;
+        return Ok(());
     }
     if too_steep(originals, currents, touched, ends) {
-        return TOO_STEEP;
+        return Err(Refusal::TooSteep);
     }
-    0
+    Ok(())
 }
 
-// The refusal of weak points by their currents and by a point that is too steep, where lists, contour ends and originals are passed, or 0: an ordinary outline's currents are near 0.
-pub fn currents_refusal(originals: &[i32], currents: &[i32], touched: &[u8], ends: &[u16]) -> u8
+// The refusal of weak points by their currents and by a point that is too steep, where lists, contour ends and originals are passed, if any: an ordinary outline's currents are near 0.
+pub fn currents_refusal(
+    originals: &[i32],
+    currents: &[i32],
+    touched: &[u8],
+    ends: &[u16],
+) -> Result<(), Refusal>
     requires { (refusal (list_tests originals.now currents.now touched.now ends.now) ≡ 0) × (coordinates_hold most_coordinate originals.now ≡ true) }
-    ensures { result ≡ refusal (weak_tests originals.now currents.now touched.now ends.now) }
+    ensures { answer_of result ≡ refusal (weak_tests originals.now currents.now touched.now ends.now) }
 {
     if coordinates_hold(currents, MOST_NEAR) {
-        return 0;
+        return Ok(());
     }
     number_refusal(originals, currents, touched, ends)
 }
 
-// The refusal of weak points, or 0.
-pub fn weak_refusal(originals: &[i32], currents: &[i32], touched: &[u8], ends: &[u16]) -> u8
-    ensures { result ≡ refusal (weak_tests originals.now currents.now touched.now ends.now) }
+// The refusal of weak points, if any.
+pub fn weak_refusal(
+    originals: &[i32],
+    currents: &[i32],
+    touched: &[u8],
+    ends: &[u16],
+) -> Result<(), Refusal>
+    ensures { answer_of result ≡ refusal (weak_tests originals.now currents.now touched.now ends.now) }
 {
-    let answer = list_refusal(originals, currents, touched, ends);
-    if 0 < answer {
-        return answer;
-    }
+    list_refusal(originals, currents, touched, ends)?;
     if !coordinates_hold(originals, MOST_COORDINATE) {
-        return OUT_OF_RANGE;
+        return Err(Refusal::OutOfRange);
     }
     currents_refusal(originals, currents, touched, ends)
 }

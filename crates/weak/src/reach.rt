@@ -31,11 +31,9 @@ pub fn coordinates_hold(list: &[i32], most: i32) -> bool
     ensures { result ≡ coordinates_hold (nat_abs most) list.now }
 {
     let mut all = true;
-    let mut i: usize = 0;
-    while i < list.len() {
-        let holds = coordinate_holds(list[i], most);
+    for x in list {
+        let holds = coordinate_holds(*x, most);
         all = all & holds;
-        i += 1;
     }
     all
 }
@@ -66,12 +64,9 @@ pub fn reach_of(list: &[i32]) -> Reach
 {
     let mut least: i32 = 0;
     let mut most: i32 = 0;
-    let mut i: usize = 0;
-    while i < list.len() {
-        let x = list[i];
-        least = lesser(least, x);
-        most = greater(most, x);
-        i += 1;
+    for x in list {
+        least = lesser(least, *x);
+        most = greater(most, *x);
     }
     Reach { least, most }
 }

@@ -12,9 +12,8 @@ pub fn too_steep(originals: &[i32], currents: &[i32], touched: &[u8], ends: &[u1
     ensures { result ≡ not (gentle originals.now currents.now touched.now ends.now) }
 {
     let mut start: usize = 0;
-    let mut k: usize = 0;
-    while k < ends.len() {
-        let end = wide(ends[k]) + 1;
+    for x in ends {
+        let end = wide(*x) + 1;
         if contour_steep(
             &originals[start..end],
             &currents[start..end],
@@ -23,7 +22,6 @@ pub fn too_steep(originals: &[i32], currents: &[i32], touched: &[u8], ends: &[u1
             return true;
         }
         start = end;
-        k += 1;
     }
     false
 }

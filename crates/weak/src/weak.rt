@@ -1,10 +1,12 @@
 // The public call (the Rust's `align_weak_points`, for one axis).
 ghost use Rattle.std.specs.Prelude.{◌≡◌};
+ghost use Rattle.refusals.specs.Outcome.{answer_of};
 ghost use Rattle.refusals.specs.Refusal.{refusal};
 ghost use Rattle.weak.specs.Weak.{weak_tests, Outcome};
 ghost use Rattle.weak.specs.Steps.{Accepted, GentleAll, AllDone};
 
 use super::accept::{weak_refusal, wide};
+use refusals::order::Refusal;
 use weak_contour::contour::align_contour;
 
 // Aligns each contour on its own stretch of the lists.
@@ -14,46 +16,42 @@ fn align_contours(originals: &[i32], currents: &mut [i32], touched: &[u8], ends:
     ensures { AllDone originals.now currents.old touched.now ends.now currents.new }
 {
     let mut start: usize = 0;
-    let mut k: usize = 0;
-    while k < ends.len() {
-        let end = wide(ends[k]) + 1;
+    for x in ends {
+        let end = wide(*x) + 1;
         align_contour(
             &originals[start..end],
             &mut currents[start..end],
             &touched[start..end],
         );
         start = end;
-        k += 1;
     }
 }
 
-// Aligns the weak points of an outline where the answer of its tests is 0, and hands that answer on.
+// Aligns the weak points of an outline where its tests refuse nothing, and hands their refusal on.
 pub fn align_unrefused(
     originals: &[i32],
     currents: &mut [i32],
     touched: &[u8],
     ends: &[u16],
-    answer: u8,
-) -> u8
-    requires { answer ≡ refusal (weak_tests originals.now currents.old touched.now ends.now) }
-    ensures { Outcome originals.now currents.old touched.now ends.now result currents.new }
+    tested: Result<(), Refusal>,
+) -> Result<(), Refusal>
+    requires { answer_of tested ≡ refusal (weak_tests originals.now currents.old touched.now ends.now) }
+    ensures { Outcome originals.now currents.old touched.now ends.now (answer_of result) currents.new }
 {
-    if 0 < answer {
-        return answer;
-    }
+    tested?;
     align_contours(originals, currents, touched, ends);
-    0
+    Ok(())
 }
 
-// Aligns the weak points of one axis. The answer is 0, or document 01's number of the refusal, 1, 3, 4 or 8, which writes nothing.
+// Aligns the weak points of one axis. The refusals are 1, 3, 4 and 8, which write nothing.
 pub fn align_weak_points(
     originals: &[i32],
     currents: &mut [i32],
     touched: &[u8],
     ends: &[u16],
-) -> u8
-    ensures { Outcome originals.now currents.old touched.now ends.now result currents.new }
+) -> Result<(), Refusal>
+    ensures { Outcome originals.now currents.old touched.now ends.now (answer_of result) currents.new }
 {
-    let answer = weak_refusal(originals, currents, touched, ends);
-    align_unrefused(originals, currents, touched, ends, answer)
+    let tested = weak_refusal(originals, currents, touched, ends);
+    align_unrefused(originals, currents, touched, ends, tested)
 }

@@ -1,8 +1,10 @@
 // The public call: outlines that stand one behind another in shared lists, each aligned by `align_weak_points` on its own parts of them.
+ghost use Rattle.refusals.specs.Outcome.{answer_of};
 ghost use Rattle.weak_catalogue.specs.Catalogue.{Catalogued};
 ghost use Rattle.weak_catalogue.specs.Steps.{AddsUp, EachDone};
 
 use super::counts::catalogue_refusal;
+use refusals::order::{Refusal, answer_of};
 use weak::accept::wide;
 use weak::weak::align_weak_points;
 
@@ -22,25 +24,23 @@ fn align_outlines(
 {
     let mut point: usize = 0;
     let mut contour: usize = 0;
-    let mut j: usize = 0;
-    while j < answers.len() {
+    for j in 0..answers.len() {
         let point_end = point + wide(point_counts[j]);
         let contour_end = contour + wide(contour_counts[j]);
-        let answer = align_weak_points(
+        let aligned = align_weak_points(
             &originals[point..point_end],
             &mut currents[point..point_end],
             &touched[point..point_end],
             &ends[contour..contour_end],
         );
-        answers[j] = answer;
+        answers[j] = answer_of(aligned);
         point = point_end;
         contour = contour_end;
-        j += 1;
     }
 }
 
-// Aligns the weak points of every outline of a catalogue. The answer is 1, and nothing is written, where the counts do not add up to the lists or the lists of counts
-// and of answers differ in length; else 0, and each outline has its own answer, 0, 1, 3 or 4, and currents as if it had been called alone.
+// Aligns the weak points of every outline of a catalogue. The refusal is 1, which writes nothing, where the counts do not add up to the lists or the lists of counts
+// and of answers differ in length; else each outline has its own answer, 0, 1, 3, 4 or 8, and currents as if it had been called alone.
 pub fn align_catalogue(
     originals: &[i32],
     currents: &mut [i32],
@@ -49,11 +49,11 @@ pub fn align_catalogue(
     point_counts: &[u16],
     contour_counts: &[u16],
     answers: &mut [u8],
-) -> u8
+) -> Result<(), Refusal>
     ensures { Catalogued originals.now currents.old touched.now ends.now point_counts.now contour_counts.now
-        answers.old result currents.new answers.new }
+        answers.old (answer_of result) currents.new answers.new }
 {
-    let answer = catalogue_refusal(
+    catalogue_refusal(
         originals,
         currents,
         touched,
@@ -61,10 +61,7 @@ pub fn align_catalogue(
         point_counts,
         contour_counts,
         answers,
-    );
-    if 0 < answer {
-        return answer;
-    }
+    )?;
     align_outlines(
         originals,
         currents,
@@ -74,5 +71,5 @@ pub fn align_catalogue(
         contour_counts,
         answers,
     );
-    0
+    Ok(())
 }

@@ -1,9 +1,10 @@
 // Which catalogues are refused as a whole: those whose counts do not add up to their lists.
 ghost use Rattle.std.specs.Prelude.{◌≡◌, eqb};
+ghost use Rattle.refusals.specs.Outcome.{answer_of};
 ghost use Rattle.refusals.specs.Refusal.{refusal};
 ghost use Rattle.weak_catalogue.specs.Catalogue.{total, catalogue_tests};
 
-use refusals::order::{TOO_LONG, or_refused};
+use refusals::order::{Refusal, require};
 use weak::accept::wide;
 
 // Whether counts add up to a length: each is taken from what remains of it, so that no sum can wrap.
@@ -11,19 +12,17 @@ fn adds_up(length: usize, counts: &[u16]) -> bool
     ensures { result ≡ eqb length (total counts.now) }
 {
     let mut left = length;
-    let mut j: usize = 0;
-    while j < counts.len() {
-        let count = wide(counts[j]);
+    for x in counts {
+        let count = wide(*x);
         if left < count {
             return false;
         }
         left = left - count;
-        j += 1;
     }
     left == 0
 }
 
-// The refusal of a whole catalogue, or 0, from the lengths of its lists of points, of its contour ends and of its answers: the point counts are read once.
+// The refusal of a whole catalogue, if any, from the lengths of its lists of points, of its contour ends and of its answers: the point counts are read once.
 pub fn catalogue_refusal(
     originals: &[i32],
     currents: &[i32],
@@ -32,16 +31,16 @@ pub fn catalogue_refusal(
     point_counts: &[u16],
     contour_counts: &[u16],
     answers: &[u8],
-) -> u8
-    ensures { result ≡ refusal (catalogue_tests originals.now currents.now touched.now ends.now
+) -> Result<(), Refusal>
+    ensures { answer_of result ≡ refusal (catalogue_tests originals.now currents.now touched.now ends.now
         point_counts.now contour_counts.now answers.now) }
 {
     let outlines = answers.len();
     let points = originals.len();
-    let answer = or_refused(0, point_counts.len() == outlines, TOO_LONG);
-    let answer = or_refused(answer, contour_counts.len() == outlines, TOO_LONG);
-    let answer = or_refused(answer, currents.len() == points, TOO_LONG);
-    let answer = or_refused(answer, touched.len() == points, TOO_LONG);
-    let answer = or_refused(answer, adds_up(points, point_counts), TOO_LONG);
-    or_refused(answer, adds_up(ends.len(), contour_counts), TOO_LONG)
+    require(point_counts.len() == outlines, Refusal::TooLong)?;
+    require(contour_counts.len() == outlines, Refusal::TooLong)?;
+    require(currents.len() == points, Refusal::TooLong)?;
+    require(touched.len() == points, Refusal::TooLong)?;
+    require(adds_up(points, point_counts), Refusal::TooLong)?;
+    require(adds_up(ends.len(), contour_counts), Refusal::TooLong)
 }

@@ -10,14 +10,12 @@ pub fn next_touched(touched: &[u8], from: usize) -> usize
     requires { from ≤ length touched.now }
     ensures { Next touched.now from result }
 {
-    let mut i = from;
-    while i < touched.len() {
+    for i in from..touched.len() {
         if touched[i] != 0 {
             return i;
         }
-        i += 1;
     }
-    i
+    touched.len()
 }
 
 // Interpolates the points from `from` up to `to`, where there are any: most touched points are neighbours, which this passes without a call.
@@ -50,6 +48,7 @@ fn align_gaps(originals: &[i32], currents: &mut [i32], touched: &[u8], first: us
     let n = touched.len();
     let mut last = first;
     let mut next = next_touched(touched, last + 1);
+    // a while: each step goes on to the next touched point
     while next < n {
         interpolate_some(originals, currents, last + 1, next, last, next);
         last = next;

@@ -6,7 +6,7 @@ ghost use Rattle.weak_contour.specs.Limits.{most_delta};
 ghost use Rattle.weak_contour.specs.Contour.{at, refs, interpolated, between_at, shifted_at, steep_between};
 ghost use Rattle.weak_contour.specs.Steps.{Coordinate, Coordinates, Wrote, slope, Ordered, span_of, SpanHolds, spanned_at, moved_by, GentleSpan, GentleRefs};
 
-use fixed::point::{Quotient, fixed_div, fixed_mul};
+use fixed::point::{fixed_div, fixed_mul};
 
 // The originals v1, v2 and the currents u1, u2 of two references, and the scale from the originals to the currents.
 #[derive(Clone, Copy)]
@@ -30,7 +30,7 @@ fn slope_of(v1: i32, u1: i32, v2: i32, u2: i32) -> i32
         return 0;
     }
     let quotient = fixed_div(u2 - u1, v2 - v1);
-    let Quotient::Of(scale) = quotient else {
+    let Some(scale) = quotient else {
         return 0;
     };
     scale
@@ -75,11 +75,9 @@ fn fill(originals: &[i32], currents: &mut [i32], from: usize, to: usize, span: S
     requires coordinates { Coordinates originals.now × SpanHolds span × GentleSpan originals.now span from to }
     ensures { Wrote (spanned_at originals.now span) from to currents.old currents.new }
 {
-    let mut i = from;
-    while i < to {
+    for i in from..to {
         let u = place(originals[i], span);
         currents[i] = u;
-        i += 1;
     }
 }
 
@@ -124,11 +122,9 @@ fn move_by(originals: &[i32], currents: &mut [i32], from: usize, to: usize, delt
     requires coordinates { Coordinates originals.now × Between most_delta most_delta delta }
     ensures { Wrote (moved_by originals.now delta) from to currents.old currents.new }
 {
-    let mut i = from;
-    while i < to {
+    for i in from..to {
         let v = originals[i];
         currents[i] = v + delta;
-        i += 1;
     }
 }
 

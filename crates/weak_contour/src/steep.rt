@@ -37,12 +37,10 @@ fn some_between(originals: &[i32], from: usize, to: usize, v1: i32, v2: i32) -> 
     requires { (from ≤ to) × (to ≤ length originals.now) }
     ensures { Tells (between_originals originals.now v1 v2) from to result }
 {
-    let mut i = from;
-    while i < to {
+    for i in from..to {
         if is_between(originals[i], v1, v2) {
             return true;
         }
-        i += 1;
     }
     false
 }
@@ -99,6 +97,7 @@ pub fn contour_steep(originals: &[i32], currents: &[i32], touched: &[u8]) -> boo
     }
     let mut last = first;
     let mut next = next_touched(touched, last + 1);
+    // a while: each step goes on to the next touched point
     while next < n {
         if stretch_steep(originals, currents, last + 1, next, last, next) {
             return true;

@@ -70,14 +70,12 @@ pub fn refit(originals: &[i32], currents: &mut [i32], touched: &[u8], ends: &[u1
     ensures { DragDone originals.now currents.old touched.now ends.now p currents.new }
 {
     let mut start: usize = 0;
-    let mut k: usize = 0;
-    while k < ends.len() {
-        let end = wide(ends[k]) + 1;
+    for x in ends {
+        let end = wide(*x) + 1;
         if p < end {
             refit_contour(originals, currents, touched, start, end, p);
             return;
         }
         start = end;
-        k += 1;
     }
 }

@@ -40,17 +40,13 @@ pub fn align_listed(
     ensures { AllDone originals.now currents.old touched.now ends.now currents.new }
 {
     let mut start: usize = 0;
-    let mut k: usize = 0;
-    while k < ends.len() {
-        let end = wide(ends[k]) + 1;
-        if !show_two(before, behind, start, end) {
+    for x in ends {
+        let end = wide(*x) + 1;
+        if show_two(before, behind, start, end) {
+            align_round(originals, currents, touched, before, behind, start, end);
+        } else {
             align_lone(originals, currents, touched, start, end);
-            start = end;
-            k += 1;
-            continue;
         }
-        align_round(originals, currents, touched, before, behind, start, end);
         start = end;
-        k += 1;
     }
 }

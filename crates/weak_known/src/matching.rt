@@ -17,14 +17,12 @@ pub fn lists_match(touched: &[u8], ends: &[u16], before: &[u16], behind: &[u16])
 {
     let n = touched.len();
     let mut s: usize = 0;
-    let mut k: usize = 0;
-    while k < ends.len() {
-        let e = wide(ends[k]) + 1;
+    for x in ends {
+        let e = wide(*x) + 1;
         if !contour_same(touched, before, behind, s, e) {
             return false;
         }
         s = e;
-        k += 1;
     }
     let x = plain_same(touched, before, s, n, NO_CONTOUR);
     let y = plain_same(touched, behind, s, n, NO_CONTOUR);

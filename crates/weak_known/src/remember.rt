@@ -19,12 +19,10 @@ pub fn remember(touched: &[u8], ends: &[u16], before: &mut [u16], behind: &mut [
 {
     let n = touched.len();
     let mut s: usize = 0;
-    let mut k: usize = 0;
-    while k < ends.len() {
-        let e = wide(ends[k]) + 1;
+    for x in ends {
+        let e = wide(*x) + 1;
         contour_write(touched, before, behind, s, e);
         s = e;
-        k += 1;
     }
     plain_write(touched, before, s, n, NO_CONTOUR);
     plain_write(touched, behind, s, n, NO_CONTOUR);

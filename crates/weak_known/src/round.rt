@@ -37,6 +37,7 @@ pub fn align_round(
     ensures { Wrote (weak_at originals.now currents.old touched.now (contour s e)) s e currents.old currents.new }
 {
     let mut i = s;
+    // a while: each step goes on behind a stretch
     while i < e {
         let p = wide(before[i]);
         if p == TOUCHED_INDEX {

@@ -12,12 +12,10 @@ pub fn plain_same(touched: &[u8], list: &[u16], s: usize, e: usize, v: u16) -> b
     ensures { result ≡ same_as list.now (plain_at touched.now v) s (e - s) }
 {
     let mut ok = true;
-    let mut i = s;
-    while i < e {
+    for i in s..e {
         let x = number(touched[i], v);
         let here = same(list[i], x);
         ok = ok & here;
-        i += 1;
     }
     ok
 }
@@ -48,13 +46,11 @@ fn eight_same(touched: &[u8], before: &[u16], behind: &[u16], a: usize) -> bool
     ensures { result ≡ all_from (fits_at touched.now before.now behind.now) a 8 }
 {
     let mut ok = true;
-    let mut k: usize = 0;
-    while k < 8 {
+    for k in 0..8 {
         let j = a + k;
         let i = j + 1;
         let here = pair_same(touched[i], before[j], before[i], behind[j], behind[i], j, i);
         ok = ok & here;
-        k += 1;
     }
     ok
 }
@@ -64,13 +60,11 @@ fn few_same(touched: &[u8], before: &[u16], behind: &[u16], s: usize, e: usize) 
     requires { (s < e) × (e ≤ length touched.now) × (e ≤ length before.now) × (e ≤ length behind.now) × (e ≤ most_points) }
     ensures { result ≡ all_from (fits_at touched.now before.now behind.now) s (e - suc s) }
 {
-    let mut i = s + 1;
-    while i < e {
+    for i in s + 1..e {
         let j = i - 1;
         if !pair_same(touched[i], before[j], before[i], behind[j], behind[i], j, i) {
             return false;
         }
-        i += 1;
     }
     true
 }
@@ -86,11 +80,9 @@ pub fn pairs_same(touched: &[u8], before: &[u16], behind: &[u16], s: usize, e: u
     }
     let last = e - 9;
     let mut ok = true;
-    let mut i = s;
-    while i < last {
+    for i in (s..last).step_by(8) {
         let here = eight_same(touched, before, behind, i);
         ok = ok & here;
-        i += 8;
     }
     let rest = eight_same(touched, before, behind, last);
     ok & rest
@@ -118,11 +110,9 @@ pub fn lone_same(touched: &[u8], before: &[u16], behind: &[u16], s: usize, e: us
     ensures { result ≡ ltb (sum_from (weight_at touched.now before.now behind.now) s (e - s)) 2 }
 {
     let mut sum: u16 = 0;
-    let mut i = s;
-    while i < e {
+    for i in s..e {
         let w = weigh(touched[i], before[i], behind[i]);
         sum = sum + w;
-        i += 1;
     }
     sum < 2
 }

@@ -8,12 +8,10 @@ pub fn first_touched(touched: &[u8], s: usize, e: usize) -> usize
     requires { (s ≤ e) × (e ≤ length touched.now) }
     ensures { result ≡ found_or e (first_touched touched.now s (e - s)) }
 {
-    let mut i = s;
-    while i < e {
+    for i in s..e {
         if touched[i] != 0 {
             return i;
         }
-        i += 1;
     }
     e
 }
@@ -23,13 +21,10 @@ pub fn last_touched(touched: &[u8], s: usize, e: usize) -> usize
     requires { (s ≤ e) × (e ≤ length touched.now) }
     ensures { result ≡ found_or e (last_touched touched.now s (e - s)) }
 {
-    let mut i = e;
-    while s < i {
-        let j = i - 1;
-        if touched[j] != 0 {
-            return j;
+    for i in (s..e).rev() {
+        if touched[i] != 0 {
+            return i;
         }
-        i = j;
     }
     e
 }

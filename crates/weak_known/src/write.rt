@@ -9,11 +9,9 @@ pub fn plain_write(touched: &[u8], list: &mut [u16], s: usize, e: usize, v: u16)
     requires { (s ≤ e) × (e ≤ length touched.now) × (e ≤ length list.old) }
     ensures { Put (plain_at touched.now v) s e list.old list.new }
 {
-    let mut i = s;
-    while i < e {
+    for i in s..e {
         let x = number(touched[i], v);
         list[i] = x;
-        i += 1;
     }
 }
 
@@ -23,12 +21,10 @@ pub fn prior_write(touched: &[u8], list: &mut [u16], s: usize, e: usize, last: u
     ensures { Put (prior_at touched.now s last) s e list.old list.new }
 {
     let mut held = last;
-    let mut i = s;
-    while i < e {
+    for i in s..e {
         let x = number(touched[i], held);
         list[i] = x;
         held = handed(touched[i], i, held);
-        i += 1;
     }
 }
 
@@ -38,12 +34,9 @@ pub fn later_write(touched: &[u8], list: &mut [u16], s: usize, e: usize, first: 
     ensures { Put (later_at touched.now e first) s e list.old list.new }
 {
     let mut held = first;
-    let mut i = e;
-    while s < i {
-        let j = i - 1;
-        let x = number(touched[j], held);
-        list[j] = x;
-        held = handed(touched[j], j, held);
-        i = j;
+    for i in (s..e).rev() {
+        let x = number(touched[i], held);
+        list[i] = x;
+        held = handed(touched[i], i, held);
     }
 }

@@ -1,4 +1,5 @@
 -- What the code's tests of a word show of the field that it is.
+use Rattle.std.specs.Prelude.{None, Some}
 use mathlib.Core.Path.{◌≡◌, refl, ap}
 use mathlib.Core.Bool.{and-false}
 use Prim.Native.Nat.{ℕ, zero, suc, ◌+◌, ◌^◌, ◌≤◌, ◌<◌}
@@ -12,7 +13,6 @@ use mir.Val.{to_z, of_z, hbits, SFits}
 use Rattle.signed.specs.Parts.{up, dn}
 use Rattle.signed.proofs.Signed.{to-le-true, to-le-false, is, got, bits_of}
 use Rattle.axis.specs.declared.kinds.Direction.TheVariants as Directions
-use Rattle.axis.specs.declared.kinds.Link.TheVariants as Links
 use Rattle.words.specs.Field.{short_of, index_of, link_of, choice_of, direction_of}
 
 -- a number as the machine keeps it
@@ -33,12 +33,12 @@ unfolding short_of
 short-is w l h = rw (to-le-true (negsuc 32767) w (omega arith), to-le-true w (pos 32767) (omega arith))
 
 -- ---- indices
-pub link-none : (w : ℤ) → up w < dn w → Links.None ≡ link_of w
+pub link-none : (w : ℤ) → up w < dn w → None ≡ link_of w
 unfolding link_of
 link-none (pos n) h = absurd (omega arith)
 link-none (negsuc n) h = refl
 
-pub link-to : (w : ℤ) → dn w ≤ up w → Links.To (index_of w) ≡ link_of w
+pub link-to : (w : ℤ) → dn w ≤ up w → Some (index_of w) ≡ link_of w
 unfolding link_of
 link-to (pos n) h = refl
 link-to (negsuc n) h = absurd (omega arith)

@@ -1,16 +1,15 @@
 -- Reading the words of an edge gives it back.
+use Rattle.std.specs.Prelude.{None, Some}
 use mathlib.Core.Path.{◌≡◌, refl, sym, ap}
 use mathlib.Core.Bool.{Bool, true, false}
 use Prim.Native.Nat.{ℕ, ◌<◌}
 use native.Mathlib.Nat.{mod-eq_of_lt}
 use lib.IntN.{ℤ, pos}
 use Rattle.axis.specs.declared.flags.Flags.{Flags}
-use Rattle.axis.specs.declared.kinds.Blue.{Blue}
-use Rattle.axis.specs.declared.kinds.Blue.TheVariants as Blues
+use Rattle.axis.specs.Link.{Blue}
 use Rattle.axis.specs.declared.kinds.Direction.{Direction}
 use Rattle.axis.specs.declared.kinds.Direction.TheVariants as Directions
-use Rattle.axis.specs.declared.kinds.Link.{Link}
-use Rattle.axis.specs.declared.kinds.Link.TheVariants as Links
+use Rattle.axis.specs.Link.{Link}
 use Rattle.axis.specs.declared.kinds.Mark.{Mark}
 use Rattle.axis.specs.declared.kinds.Mark.TheVariants as Marks
 use Rattle.axis.specs.declared.edge.Edge.{Edge}
@@ -44,8 +43,8 @@ index_back k h = mod-eq_of_lt h
 
 pub link-back : (l : Link) → Below 65536 l → link_of (link_word l) ≡ l
 unfolding link_of
-link-back Links.None h = refl
-link-back (Links.To k) h = ap Links.To (index_back k (h.at k refl))
+link-back None h = refl
+link-back (Some k) h = ap Some (index_back k (h.at k refl))
 
 pub direction-back : (d : Direction) → direction_of (direction_word d) ≡ d
 unfolding direction_of
@@ -73,8 +72,8 @@ mark-back Marks.RemainingAnchor = refl
 
 pub blue-back : (b : Blue) → blue_of (present_word b) (fitted_word b) ≡ b
 unfolding blue_of choice_of
-blue-back Blues.None = refl
-blue-back (Blues.Fitted z) = refl
+blue-back None = refl
+blue-back (Some z) = refl
 
 pub flags-back : (f : Flags) → flags_of (flags_word f) ≡ f
 unfolding flags_of flags_word

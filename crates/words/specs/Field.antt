@@ -1,20 +1,19 @@
 -- The fields of records as words, and back. In a job every word is within its field's values, so what another word reads as is what is simplest.
+use Rattle.std.specs.Prelude.{None, Some}
 use Rattle.std.specs.Prelude.{Bool, cond, List, [], ◌∷◌, ℕ, ◌+◌, ◌/◌, ◌%◌, eqb, get_or, ℤ, pos, negsuc}
 use Rattle.signed.specs.Parts.{up}
 use Rattle.signed.specs.Equality.{eq_z}
 use Rattle.axis.specs.Refusals.{inside}
 use Rattle.axis.specs.Mark.{mark_number}
 use Rattle.axis.specs.declared.flags.Flags.{Flags}
-use Rattle.axis.specs.declared.kinds.Blue.{Blue}
-use Rattle.axis.specs.declared.kinds.Blue.TheVariants as Blues
+use Rattle.axis.specs.Link.{Blue}
 use Rattle.axis.specs.declared.kinds.Dimension.{Dimension}
 use Rattle.axis.specs.declared.kinds.Dimension.TheVariants as Dimensions
 use Rattle.axis.specs.declared.kinds.Direction.{Direction}
 use Rattle.axis.specs.declared.kinds.Direction.TheVariants as Directions
 use Rattle.axis.specs.declared.kinds.Group.{Group}
 use Rattle.axis.specs.declared.kinds.Group.TheVariants as Groups
-use Rattle.axis.specs.declared.kinds.Link.{Link}
-use Rattle.axis.specs.declared.kinds.Link.TheVariants as Links
+use Rattle.axis.specs.Link.{Link}
 use Rattle.axis.specs.declared.kinds.Mark.{Mark}
 use Rattle.axis.specs.declared.kinds.Mark.TheVariants as Marks
 use Rattle.fixed.specs.declared.width.WidthRule.{WidthRule}
@@ -31,8 +30,8 @@ index_of w = up w % 65536
 
 -- an index or none
 unfoldable pub link_of : ℤ → Link
-link_of (pos n) = Links.To (index_of (pos n))
-link_of (negsuc n) = Links.None
+link_of (pos n) = Some (index_of (pos n))
+link_of (negsuc n) = None
 
 -- a choice
 unfoldable pub choice_of : ℤ → Bool
@@ -68,7 +67,7 @@ rule_of w = cond (choice_of w) Snap Keep
 
 -- a blue by two words, whether it is there and its fitted position
 unfoldable pub blue_of : ℤ → ℤ → Blue
-blue_of present fitted = cond (choice_of present) (Blues.Fitted fitted) Blues.None
+blue_of present fitted = cond (choice_of present) (Some fitted) None
 
 -- flags: round 1, serif 2, done 4, neutral 8
 abbrev pub odd_of : ℕ → Bool
@@ -79,8 +78,8 @@ flags_of w = record { round = odd_of (up w); serif = odd_of (up w / 2); done = o
 
 -- ---- a field as a word; a number is its own
 abbrev pub link_word : Link → ℤ
-link_word Links.None = negsuc 0
-link_word (Links.To k) = pos k
+link_word None = negsuc 0
+link_word (Some k) = pos k
 
 abbrev pub direction_word : Direction → ℤ
 direction_word Directions.None = pos 0
@@ -94,12 +93,12 @@ mark_word m = pos (mark_number m)
 
 -- whether there is a blue, and its fitted position, 0 where there is none
 abbrev pub present_word : Blue → ℤ
-present_word Blues.None = pos 0
-present_word (Blues.Fitted z) = pos 1
+present_word None = pos 0
+present_word (Some z) = pos 1
 
 abbrev pub fitted_word : Blue → ℤ
-fitted_word Blues.None = pos 0
-fitted_word (Blues.Fitted z) = z
+fitted_word None = pos 0
+fitted_word (Some z) = z
 
 -- a weight where a flag is set
 abbrev pub weight_of : Bool → ℕ → ℕ

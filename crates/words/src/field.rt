@@ -6,7 +6,7 @@ ghost use Rattle.words.specs.Field.{link_word, direction_word, mark_word, presen
 
 use super::word::{size_of, word_at};
 use axis::flags::Flags;
-use axis::kinds::{Blue, Dimension, Direction, Group, Link, Mark};
+use axis::kinds::{Dimension, Direction, Group, Mark};
 use fixed::width::WidthRule;
 
 // The marks, by their words.
@@ -61,17 +61,17 @@ pub fn index_at(words: &[i32], i: usize) -> u16
 }
 
 // An index or none.
-pub fn link_of(word: i32) -> Link
+pub fn link_of(word: i32) -> Option<u16>
     ensures { result ≡ link_of word }
 {
     if word < 0 {
-        return Link::None;
+        return None;
     }
-    Link::To(index_of(word))
+    Some(index_of(word))
 }
 
 // The index or none at a place.
-pub fn link_at(words: &[i32], i: usize) -> Link
+pub fn link_at(words: &[i32], i: usize) -> Option<u16>
     ensures { result ≡ link_of (word_at words.now i) }
 {
     link_of(word_at(words, i))
@@ -159,17 +159,17 @@ pub fn rule_of(word: i32) -> WidthRule
 }
 
 // A blue by two words, whether it is there and its fitted position.
-pub fn blue_of(present: i32, fitted: i32) -> Blue
+pub fn blue_of(present: i32, fitted: i32) -> Option<i32>
     ensures { result ≡ blue_of present fitted }
 {
     if choice_of(present) {
-        return Blue::Fitted(fitted);
+        return Some(fitted);
     }
-    Blue::None
+    None
 }
 
 // The blue at a place.
-pub fn blue_at(words: &[i32], i: usize) -> Blue
+pub fn blue_at(words: &[i32], i: usize) -> Option<i32>
     requires { i ≤ 262144 }
     ensures { result ≡ blue_of (word_at words.now i) (word_at words.now (i + 1)) }
 {
@@ -218,12 +218,12 @@ pub fn index_word(index: u16) -> i32
 }
 
 // An index or none as a word.
-pub fn link_word(link: Link) -> i32
+pub fn link_word(link: Option<u16>) -> i32
     ensures { result ≡ link_word link }
 {
     match link {
-        Link::None => -1,
-        Link::To(index) => index_word(index),
+        None => -1,
+        Some(index) => index_word(index),
     }
 }
 
@@ -262,22 +262,22 @@ pub fn mark_word(mark: Mark) -> i32
 }
 
 // Whether there is a blue, as a word.
-pub fn present_word(blue: Blue) -> i32
+pub fn present_word(blue: Option<i32>) -> i32
     ensures { result ≡ present_word blue }
 {
     match blue {
-        Blue::None => 0,
-        Blue::Fitted(_) => 1,
+        None => 0,
+        Some(_) => 1,
     }
 }
 
 // The fitted position of a blue as a word, and 0 where there is none.
-pub fn fitted_word(blue: Blue) -> i32
+pub fn fitted_word(blue: Option<i32>) -> i32
     ensures { result ≡ fitted_word blue }
 {
     match blue {
-        Blue::None => 0,
-        Blue::Fitted(fitted) => fitted,
+        None => 0,
+        Some(fitted) => fitted,
     }
 }
 

@@ -50,10 +50,5 @@ pub fn write_words(out: &mut [i32], at: usize, words: &[i32])
     requires { at + length words.now ≤ length out.old }
     ensures { out.new ≡ written out.old at words.now }
 {
-    let mut i = 0;
-    while i < words.len() {
-        let word = words[i];
-        out[at + i] = word;
-        i += 1;
-    }
+    out[at..at + words.len()].copy_from_slice(words);
 }

@@ -1,4 +1,5 @@
 -- Words that pass the tests of their fields, one after the other, are those of a record, and records in a row those of a list.
+use Rattle.std.specs.Prelude.{Some}
 use mathlib.Core.Path.{◌≡◌, refl, ap, ◌∙◌}
 use mathlib.Core.Bool.{Bool, true, false, ◌&&◌}
 use mathlib.Core.List.{List, [], ◌∷◌}
@@ -17,7 +18,6 @@ use Rattle.refusals.proofs.Tests.{and_first, and_second}
 use Rattle.axis.specs.Refusals.{inside, link_holds}
 use Rattle.words.specs.Word.{word_at}
 use Rattle.words.specs.Field.{link_of}
-use Rattle.words_shape.specs.declared.field.Place.TheVariants.{At}
 use Rattle.words_shape.specs.declared.field.Range.{Range}
 use Rattle.words_shape.specs.declared.element.Element.{Element}
 use Rattle.words_shape.specs.Shape as Shape
@@ -60,30 +60,30 @@ link-holds n (negsuc m) few h = refl
 
 -- ---- a record, and records
 pub fields-make : (rs : List Range) (ws : List ℤ) (at : ℕ) → at + length rs ≤ length ws
-    → ((k : ℕ) → k < length rs → Shape.is_in (get_or rs k Shape.no_range) (word_at ws (at + k)) ≡ true) → Shape.fields rs ws at ≡ At (at + length rs)
+    → ((k : ℕ) → k < length rs → Shape.is_in (get_or rs k Shape.no_range) (word_at ws (at + k)) ≡ true) → Shape.fields rs ws at ≡ Some (at + length rs)
 unfolding Shape.fields Shape.and_then Shape.field
-fields-make [] ws at room h = let q : at ≡ at + 0 = omega arith in ap At q
+fields-make [] ws at room h = let q : at ≡ at + 0 = omega arith in ap Some q
 fields-make (r ∷ rs) ws at room h =
     let a : ltb at (length ws) ≡ true = lt-ltb at (length ws) (omega arith) in
     let q : at + 0 ≡ at = omega arith in
     let b : Shape.is_in r (word_at ws at) ≡ true = rw q at (h 0 (omega arith)) in
     let n : at + 1 + length rs ≡ at + suc (length rs) = omega arith in
-    rw (a, b) (fields-make rs ws (at + 1) (omega arith) (λ k l. let m : at + 1 + k ≡ at + suc k = omega arith in rw m (h (suc k) (omega arith))) ∙ ap At n)
+    rw (a, b) (fields-make rs ws (at + 1) (omega arith) (λ k l. let m : at + 1 + k ≡ at + suc k = omega arith in rw m (h (suc k) (omega arith))) ∙ ap Some n)
 
 -- a run of elements of k words each
 pub elements-make :
-    (e : Element) (k : ℕ) (ws : List ℤ) (n at : ℕ) → ((i : ℕ) → i < n → Shape.element e ws (at + k * i) ≡ At (at + k * i + k))
-    → Shape.elements n e ws at ≡ At (at + k * n)
+    (e : Element) (k : ℕ) (ws : List ℤ) (n at : ℕ) → ((i : ℕ) → i < n → Shape.element e ws (at + k * i) ≡ Some (at + k * i + k))
+    → Shape.elements n e ws at ≡ Some (at + k * n)
 unfolding Shape.elements Shape.and_then
-elements-make e k ws zero at h = let q : at ≡ at + k * 0 = omega arith in ap At q
+elements-make e k ws zero at h = let q : at ≡ at + k * 0 = omega arith in ap Some q
 elements-make e k ws (suc n) at h =
     let q : at + k * 0 ≡ at = omega arith in
-    let f : Shape.element e ws at ≡ At (at + k) = rw q at (h 0 (omega arith)) in
+    let f : Shape.element e ws at ≡ Some (at + k) = rw q at (h 0 (omega arith)) in
     let m : at + k + k * n ≡ at + k * suc n = omega arith in
-    rw f (elements-make e k ws n (at + k) (λ i l. let z : at + k + k * i ≡ at + k * suc i = omega arith in rw z (h (suc i) (omega arith))) ∙ ap At m)
+    rw f (elements-make e k ws n (at + k) (λ i l. let z : at + k + k * i ≡ at + k * suc i = omega arith in rw z (h (suc i) (omega arith))) ∙ ap Some m)
 
 -- and no more
-pub run-make : (e : Element) (k : ℕ) (ws : List ℤ) (n : ℕ) → length ws ≡ k * n → ((i : ℕ) → i < n → Shape.element e ws (k * i) ≡ At (k * i + k))
+pub run-make : (e : Element) (k : ℕ) (ws : List ℤ) (n : ℕ) → length ws ≡ k * n → ((i : ℕ) → i < n → Shape.element e ws (k * i) ≡ Some (k * i + k))
     → Shape.is_run n e ws ≡ true
 unfolding Shape.is_run
 run-make e k ws n l h =

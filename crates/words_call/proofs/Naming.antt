@@ -1,4 +1,5 @@
 -- Words that name an edge: what the code's tests show of them, and which edge they name.
+use Rattle.std.specs.Prelude.{None, Some}
 use mathlib.Core.Path.{◌≡◌, refl, ap}
 use Prim.Native.Nat.{ℕ, ◌≤◌, ◌<◌, min}
 use native.Mathlib.Omega.{arith}
@@ -6,7 +7,6 @@ use lib.IntN.{ℤ, pos, negsuc}
 use Rattle.signed.specs.Parts.{up, dn}
 use Rattle.signed.proofs.Signed.{eq_z-yes, eq_z-no}
 use Rattle.axis.specs.Limits.{most_edges}
-use Rattle.axis.specs.declared.kinds.Link.TheVariants as Links
 use Rattle.words_call.specs.Lent.{named_edge, named_anchor}
 
 -- ---- as the code reads them
@@ -20,11 +20,11 @@ unfolding named_edge
 names-one (pos n) h = refl
 names-one (negsuc n) h = absurd (omega arith)
 
-pub anchor-none : (w : ℤ) → w ≡ negsuc 0 → Links.None ≡ named_anchor w
+pub anchor-none : (w : ℤ) → w ≡ negsuc 0 → None ≡ named_anchor w
 unfolding named_anchor
 anchor-none w e = rw (eq_z-yes w (negsuc 0) e)
 
-pub anchor-named : (w : ℤ) → (w ≡ negsuc 0 → ⊥) → Links.To (named_edge w) ≡ named_anchor w
+pub anchor-named : (w : ℤ) → (w ≡ negsuc 0 → ⊥) → Some (named_edge w) ≡ named_anchor w
 unfolding named_anchor
 anchor-named w h = rw (eq_z-no w (negsuc 0) h)
 

@@ -1,12 +1,12 @@
 -- What a call over lent words answers, and what everything lent holds afterwards.
+use Rattle.std.specs.Prelude.{None, Some}
 use Rattle.std.specs.Prelude.{◌≡◌, Bool, cond, ◌&&◌, List, [], ◌∷◌, ℕ, ◌%◌, min, eqb, leb, length, ℤ, pos, negsuc}
 use Rattle.refusals.specs.Refusal.{Test, ◌unless◌, too_long, refusal, answered}
 use Rattle.axis.specs.Limits.{most_edges, most_segments}
 use Rattle.axis.specs.declared.edge.Axis.{Axis}
 use Rattle.axis.specs.declared.kinds.Dimension.TheVariants as Dimensions
 use Rattle.axis.specs.declared.kinds.Direction.TheVariants as Directions
-use Rattle.axis.specs.declared.kinds.Link.{Link}
-use Rattle.axis.specs.declared.kinds.Link.TheVariants as Links
+use Rattle.axis.specs.Link.{Link}
 use Rattle.signed.specs.Equality.{eq_z}
 use Rattle.words.specs.Edge.{edge_size, edges_in, flat_axis}
 use Rattle.words.specs.Segment.{segment_size, segments_in}
@@ -56,7 +56,7 @@ named_edge (negsuc n) = most_edges
 
 -- none where the word is -1, and else the edge that it names
 unfoldable pub named_anchor : ℤ → Link
-named_anchor w = cond (eq_z w (negsuc 0)) Links.None (Links.To (named_edge w))
+named_anchor w = cond (eq_z w (negsuc 0)) None (Some (named_edge w))
 
 -- ---- lent edges
 -- their axis, for a call that reads neither its dimension nor its major direction

@@ -4,9 +4,6 @@ ghost use Rattle.words_call.specs.Lent.{both_in, choices};
 
 use words_shape::field::{CHOICE, Range, is_in};
 
-// The answer to a length that is not of whole records, and to words that are not those of their fields.
-pub const NOT_WORDS: u8 = 255;
-
 // Whether both hold.
 pub fn both(a: bool, b: bool) -> bool
     ensures { result ≡ (a && b) }

@@ -3,7 +3,6 @@ ghost use Rattle.std.specs.Prelude.{◌≡◌};
 ghost use Rattle.words_call.specs.Lent.{named_edge, named_anchor};
 
 use axis::accept::least;
-use axis::kinds::Link;
 use axis::limits::MOST_EDGES;
 use words::word::size_of;
 
@@ -18,11 +17,11 @@ pub fn named_edge(word: i32) -> usize
 }
 
 // None where the word is -1, and else the edge that it names.
-pub fn named_anchor(word: i32) -> Link
+pub fn named_anchor(word: i32) -> Option<u16>
     ensures { result ≡ named_anchor word }
 {
     if word == -1 {
-        return Link::None;
+        return None;
     }
-    Link::To(named_edge(word) as u16)
+    Some(named_edge(word) as u16)
 }

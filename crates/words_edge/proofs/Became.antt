@@ -1,4 +1,5 @@
 -- What the words of edges become by the stores of a call.
+use Rattle.std.specs.Prelude.{None}
 use mathlib.Core.Path.{◌≡◌, sym, ap, subst, ◌∙◌}
 use mathlib.Core.List.{List}
 use Prim.Native.Nat.{ℕ, ◌*◌, ◌<◌}
@@ -6,9 +7,8 @@ use native.Mathlib.Omega.{arith}
 use lib.ListN.{length, set}
 use lib.IntN.{ℤ, pos}
 use Rattle.axis.specs.declared.flags.Flags.{Flags}
-use Rattle.axis.specs.declared.kinds.Blue.TheVariants as Blues
 use Rattle.axis.specs.declared.kinds.Dimension.{Dimension}
-use Rattle.axis.specs.declared.kinds.Link.{Link}
+use Rattle.axis.specs.Link.{Link}
 use Rattle.axis.specs.declared.kinds.Mark.{Mark}
 use Rattle.axis.specs.declared.edge.Edge.{Edge}
 use Rattle.axis.specs.declared.edge.Axis.{Axis}
@@ -84,12 +84,12 @@ serif-law ws ws' i v l w h b r e =
 pub unzone-law : (ws w1 w2 : List ℤ) (i : ℕ) → Whole ws → i < edges_in ws → w1 ≡ set ws (word_of_edge i fitted_place) (pos 0)
     → w2 ≡ set w1 (word_of_edge i blue_place) (pos 0) → Became (unzoning i) ws w2
 unzone-law ws w1 w2 i w h q r =
-    became edge_table (λ (x : Edge). zoned x Blues.None) i w h (wrote-again edge_table a (wrote_as (ap (λ (x : Edge). zoned x Blues.None) a.read) b))
+    became edge_table (λ (x : Edge). zoned x None) i w h (wrote-again edge_table a (wrote_as (ap (λ (x : Edge). zoned x None) a.read) b))
   where
     a : Wrote ws w1 i (zoned (held ws i) (blue_of (word_at ws (word_of_edge i blue_place)) (pos 0)))
     a = Writes.as_written q (fitted-wrote ws i w h)
 
-    b : Wrote w1 w2 i (zoned (held w1 i) Blues.None)
+    b : Wrote w1 w2 i (zoned (held w1 i) None)
     b =
         Writes.as_written r (present-wrote w1 i a.whole (Of.still-below edge_layout ws w1 i a.long h) (word_at ws (word_of_edge i blue_place))
         (ap (λ (x : Edge). x.blue) a.read))

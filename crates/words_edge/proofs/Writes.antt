@@ -1,4 +1,5 @@
 -- One word of an edge written, or all of them, where the words stand, is that edge changed in the axis that they are read as.
+use Rattle.std.specs.Prelude.{None, Some}
 use mathlib.Core.Path.{◌≡◌, refl, sym, ap, ◌∙◌}
 use mathlib.Core.Bool.{Bool, true, false, cond}
 use mathlib.Core.List.{List}
@@ -7,9 +8,8 @@ use native.Mathlib.Omega.{arith}
 use lib.ListN.{set}
 use lib.IntN.{ℤ, pos}
 use Rattle.axis.specs.declared.flags.Flags.{Flags}
-use Rattle.axis.specs.declared.kinds.Blue.{Blue}
-use Rattle.axis.specs.declared.kinds.Blue.TheVariants as Blues
-use Rattle.axis.specs.declared.kinds.Link.{Link}
+use Rattle.axis.specs.Link.{Blue}
+use Rattle.axis.specs.Link.{Link}
 use Rattle.axis.specs.declared.kinds.Mark.{Mark}
 use Rattle.axis.specs.declared.edge.Edge.{Edge}
 use Rattle.axis.specs.Accepted.{Below}
@@ -96,7 +96,7 @@ present-kept : (p v : ℤ) → present_word (blue_of p (pos 0)) ≡ present_word
 unfolding blue_of
 present-kept p v = by (choice_of p)
   where
-    by : (t : Bool) → present_word (cond t (Blues.Fitted (pos 0)) Blues.None) ≡ present_word (cond t (Blues.Fitted v) Blues.None)
+    by : (t : Bool) → present_word (cond t (Some (pos 0)) None) ≡ present_word (cond t (Some v) None)
     by true = refl
     by false = refl
 
@@ -104,11 +104,11 @@ fitted-zero : (p : ℤ) → fitted_word (blue_of p (pos 0)) ≡ pos 0
 unfolding blue_of
 fitted-zero p = by (choice_of p)
   where
-    by : (t : Bool) → fitted_word (cond t (Blues.Fitted (pos 0)) Blues.None) ≡ pos 0
+    by : (t : Bool) → fitted_word (cond t (Some (pos 0)) None) ≡ pos 0
     by true = refl
     by false = refl
 
-none_is : (v : ℤ) → blue_of (pos 0) v ≡ Blues.None
+none_is : (v : ℤ) → blue_of (pos 0) v ≡ None
 unfolding blue_of choice_of
 none_is v = refl
 
@@ -118,7 +118,7 @@ fitted-words : (e : Edge) (b : Blue) (v : ℤ) → present_word b ≡ present_wo
 unfolding edge_words
 fitted-words e b v p q = rw (p, q)
 
-none-words : (e : Edge) → fitted_word e.blue ≡ pos 0 → edge_words (zoned e Blues.None) ≡ set (edge_words e) blue_place (pos 0)
+none-words : (e : Edge) → fitted_word e.blue ≡ pos 0 → edge_words (zoned e None) ≡ set (edge_words e) blue_place (pos 0)
 unfolding edge_words
 none-words e p = rw p
 
@@ -135,7 +135,7 @@ module _ (ws : List ℤ) (i : ℕ) (w : Whole ws) (h : i < edges_in ws) where
       (fitted-zero present))
 
   -- that it has one, where its position is 0 already
-  pub present-wrote : (p : ℤ) → before.blue ≡ blue_of p (pos 0) → Wrote ws (set ws (word_of_edge i blue_place) (pos 0)) i (zoned before Blues.None)
+  pub present-wrote : (p : ℤ) → before.blue ≡ blue_of p (pos 0) → Wrote ws (set ws (word_of_edge i blue_place) (pos 0)) i (zoned before None)
   present-wrote p q =
       one-wrote ws i w h blue_place (pos 0) _ (omega arith) (λ n. zoned (back ws i w h n) (none_is (word_at ws (word_of_edge i fitted_place)) n))
       (none-words before (ap (λ (b : Blue). fitted_word b) q ∙ fitted-zero p))

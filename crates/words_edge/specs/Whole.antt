@@ -1,14 +1,13 @@
 -- Lists of words that are the words of their edges, and what they become where an edge is written.
+use Rattle.std.specs.Prelude.{None}
 use Rattle.std.specs.Prelude.{List, ℕ, ℤ, pos}
 use Rattle.axis.specs.declared.edge.Edge.{Edge}
 use Rattle.axis.specs.declared.edge.Axis.{Axis}
 use Rattle.axis.specs.declared.flags.Flags.{Flags}
-use Rattle.axis.specs.declared.kinds.Blue.{Blue}
-use Rattle.axis.specs.declared.kinds.Blue.TheVariants as Blues
+use Rattle.axis.specs.Link.{Blue}
 use Rattle.axis.specs.declared.kinds.Dimension.{Dimension}
 use Rattle.axis.specs.declared.kinds.Direction.TheVariants as Directions
-use Rattle.axis.specs.declared.kinds.Link.{Link}
-use Rattle.axis.specs.declared.kinds.Link.TheVariants as Links
+use Rattle.axis.specs.Link.{Link}
 use Rattle.axis.specs.declared.kinds.Mark.{Mark}
 use Rattle.axis.specs.declared.kinds.Mark.TheVariants as Marks
 use Rattle.axis.specs.Edge.{edge_at, put_edge, changed, placed, flagged, fixed_at, joined_to}
@@ -43,7 +42,7 @@ abbrev pub zoned : Edge → Blue → Edge
 zoned e b = changed e e.pos e.mark e.flags b e.link e.serif e.last
 
 abbrev pub unzoning : ℕ → Axis → Axis
-unzoning i axis = put_edge axis i (zoned (edge_at axis i) Blues.None)
+unzoning i axis = put_edge axis i (zoned (edge_at axis i) None)
 
 -- with this link, and with this serif
 abbrev pub linking : ℕ → Link → Axis → Axis
@@ -67,7 +66,7 @@ reduced e = record {
   dir = Directions.None;
   blue = e.blue;
   link = e.link;
-  serif = Links.None;
+  serif = None;
   first = 0;
   last = 0;
   mark = Marks.Nothing;

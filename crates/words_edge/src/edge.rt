@@ -11,7 +11,7 @@ ghost use Rattle.words_edge.specs.Whole.{Whole, reduced, Became, placing, flaggi
 
 use axis::edge::Edge;
 use axis::flags::Flags;
-use axis::kinds::{Direction, Link, Mark};
+use axis::kinds::{Direction, Mark};
 use words::edge::{
     BLUE_PLACE, EDGE_WORDS, FITTED_PLACE, FLAGS_PLACE, LINK_PLACE, MARK_PLACE, OPOS_PLACE,
     POS_PLACE, SERIF_PLACE,
@@ -36,7 +36,7 @@ pub fn read_edge(words: &[i32], i: usize) -> Edge
             read_word(words, at + FITTED_PLACE),
         ),
         link: link_of(read_word(words, at + LINK_PLACE)),
-        serif: Link::None,
+        serif: None,
         first: 0,
         last: 0,
         mark: Mark::Nothing,
@@ -105,7 +105,7 @@ pub fn put_no_zone(words: &mut [i32], i: usize)
 }
 
 // Links an edge to what `link` names.
-pub fn put_link(words: &mut [i32], i: usize, link: Link)
+pub fn put_link(words: &mut [i32], i: usize, link: Option<u16>)
     requires { Whole words.old × (i < edges_in words.old) × Below most_edges link }
     ensures { Became (linking i link) words.old words.new }
 {
@@ -113,7 +113,7 @@ pub fn put_link(words: &mut [i32], i: usize, link: Link)
 }
 
 // Makes an edge a serif of what `serif` names.
-pub fn put_serif(words: &mut [i32], i: usize, serif: Link)
+pub fn put_serif(words: &mut [i32], i: usize, serif: Option<u16>)
     requires { Whole words.old × (i < edges_in words.old) × Below most_edges serif }
     ensures { Became (serifing i serif) words.old words.new }
 {

@@ -1,20 +1,36 @@
 -- The answer to lent edges that pass the one loop.
-use mathlib.Core.Path.{◌≡◌, sym, ◌∙◌}
+use mathlib.Core.Path.{◌≡◌, refl, sym, ◌∙◌}
 use mathlib.Core.Bool.{Bool, true, ◌&&◌}
 use mathlib.Core.List.{List}
 use Prim.Native.Nat.{ℕ, ◌%◌}
 use native.Mathlib.Omega.{arith}
-use borrow.Author.Tests.{eqb-true, eq-eqb}
+use borrow.Author.Tests.{eqb-true, eq-eqb, ne_eqb}
 use lib.Dec.{eqb}
 use lib.ListN.{length}
 use lib.IntN.{ℤ}
-use Rattle.refusals.proofs.Tests.{and_first, and_second}
+use Rattle.std.specs.Prelude.{Result, Ok, Err}
+use Rattle.std.specs.Result.{is_ok}
+use Rattle.refusals.specs.declared.order.Refusal.{Refusal}
+use Rattle.refusals.specs.Refusal.{refusal, or_refused}
+use Rattle.refusals.specs.Outcome.{number_of, answer_of, Required}
+use Rattle.refusals.proofs.Outcomes.{number-above, then-last}
+use Rattle.refusals.proofs.Tests.{none-tested, and_first, and_second}
 use Rattle.words.specs.Edge.{edge_size}
 use Rattle.words_call.specs.Lent.{refused_or, edges_front, edges_of}
 use Rattle.words_call.proofs.Holding.{and_both}
 use Rattle.words_call.proofs.Tested.{front-tested}
 use Rattle.words_call.proofs.Whole.{edges_long}
 use Rattle.words_edge_test.specs.Held.{Held, tested}
+
+-- a call's own outcome is no refusal where its answer is 0
+pub none-own : (own : Result (Unit {0}) Refusal) → is_ok own ≡ eqb (answer_of own) 0
+none-own (Ok x) = refl
+none-own (Err r) = sym (ne_eqb (number_of r) 0 (λ e. let h = number-above r in omega arith))
+
+-- and that of one test is its refusal, or 0
+pub own-required : {g h : Bool} {r : Refusal} {o : Result (Unit {0}) Refusal} → Required g r o → g ≡ h → answer_of o ≡ or_refused 0 h (number_of r)
+unfolding refusal or_refused
+own-required q e = then-last none-tested q e
 
 pub held-tested : (ws : List ℤ) (others : Bool) (own : ℕ) (named passed : Bool) → Held ws → (rest : Bool)
     → rest ≡ ((others && eqb own 0) && (named && passed)) → rest ≡ true

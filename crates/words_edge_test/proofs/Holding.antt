@@ -1,4 +1,5 @@
 -- Words that pass the one loop are those of edges, and every call accepts them.
+use Rattle.std.specs.Prelude.{None, Some}
 use mathlib.Core.Path.{◌≡◌, refl, sym, ap, ◌∙◌}
 use mathlib.Core.Bool.{Bool, true, false, cond, ◌||◌}
 use mathlib.Core.List.{List}
@@ -13,7 +14,6 @@ use mir.Val.{SFits, of_z}
 use Rattle.signed.specs.Equality.{eq_z}
 use Rattle.signed.proofs.Signed.{eq_z-true, bits_of}
 use Rattle.axis.specs.declared.edge.Edge.{Edge}
-use Rattle.axis.specs.declared.kinds.Blue.TheVariants as Blues
 use Rattle.axis.specs.Limits.{most_edges, most_units}
 use Rattle.axis.specs.Refusals.{within, every_edge, blue_holds, edge_indices, edge_numbers, edges_indices, edges_numbers}
 use Rattle.axis.proofs.Accepting.{every_holds}
@@ -21,8 +21,7 @@ use Rattle.words.specs.Word.{word_at}
 use Rattle.words.specs.Field.{choice_of, blue_of}
 use Rattle.words.specs.Edge.{edge_size, edge_from, edges_in}
 use Rattle.words.specs.Record.{edge_layout}
-use Rattle.words_shape.specs.declared.field.Place.{Place}
-use Rattle.words_shape.specs.declared.field.Place.TheVariants.{Nowhere, At}
+use Rattle.words_shape.specs.Place.{Place}
 use Rattle.words_shape.specs.declared.element.Record.TheVariants as Records
 use Rattle.words_shape.specs.declared.element.Element.TheVariants as Elements
 use Rattle.words_shape.specs.Shape as Shape
@@ -55,7 +54,7 @@ zone-holds : (p v : ℤ) → zone_test p v ≡ true → blue_holds (blue_of p v)
 unfolding blue_of blue_holds
 zone-holds p v h = by (choice_of p) h
   where
-    by : (t : Bool) → cond t (within most_units v) (eq_z v (pos 0)) ≡ true → blue_holds (cond t (Blues.Fitted v) Blues.None) ≡ true
+    by : (t : Bool) → cond t (within most_units v) (eq_z v (pos 0)) ≡ true → blue_holds (cond t (Some v) None) ≡ true
     by true h = h
     by false h = refl
 
@@ -95,12 +94,12 @@ module _ (ws : List ℤ) (at n : ℕ) (few : n ≤ most_edges) (room : at + edge
   words-hold (suc (suc (suc (suc (suc (suc (suc (suc (suc (suc (suc zero))))))))))) l = b.w11
   words-hold (suc (suc (suc (suc (suc (suc (suc (suc (suc (suc (suc (suc k)))))))))))) l = absurd (omega arith)
 
-  edge-make : Shape.edge ws at ≡ At (at + edge_size)
+  edge-make : Shape.edge ws at ≡ Some (at + edge_size)
   unfolding Shape.edge Shape.and_then Shape.blue_shown
   edge-make =
-      ap (λ (p : Place). Shape.and_then p (λ next. cond (Shape.blue_shown ws at) (At next) Nowhere))
+      ap (λ (p : Place). Shape.and_then p (λ next. cond (Shape.blue_shown ws at) (Some next) None))
       (fields-make (Shape.ranges_of Records.Edge) ws at room words-hold)
-      ∙ ap (λ (t : Bool). cond t (At (at + edge_size)) Nowhere) (zone-shape (word_at ws (at + 5)) (word_at ws (at + 6)) b.w6)
+      ∙ ap (λ (t : Bool). cond t (Some (at + edge_size)) None) (zone-shape (word_at ws (at + 5)) (word_at ws (at + 6)) b.w6)
 
   indices-make : edge_indices n (edge_from ws at) ≡ true
   unfolding edge_indices edge_from

@@ -1,4 +1,5 @@
 -- What the words of segments become by the stores of a call.
+use Rattle.std.specs.Prelude.{None, Some}
 use mathlib.Core.Path.{◌≡◌, sym, ap, ◌∙◌}
 use mathlib.Core.List.{List}
 use Prim.Native.Nat.{ℕ, ◌*◌, ◌<◌}
@@ -6,8 +7,7 @@ use native.Mathlib.Omega.{arith}
 use lib.ListN.{set}
 use lib.Seq.{set-set}
 use lib.IntN.{ℤ, pos}
-use Rattle.axis.specs.declared.kinds.Link.{Link}
-use Rattle.axis.specs.declared.kinds.Link.TheVariants as Links
+use Rattle.axis.specs.Link.{Link}
 use Rattle.axis.specs.declared.segment.Segment.{Segment}
 use Rattle.axis.specs.declared.segment.Segments.{Segments}
 use Rattle.axis.specs.Accepted.{Below}
@@ -68,11 +68,11 @@ pub join-law : (ws w1 w2 w3 : List ℤ) (i : ℕ) (score len a b c : ℤ) (ix : 
     → w1 ≡ set ws (word_of_segment i score_place) a → a ≡ score
     → w2 ≡ set w1 (word_of_segment i len_place) b → b ≡ len → w3 ≡ set w2 (word_of_segment i link_place) c → c ≡ pos ix → Became (joining i score len ix) ws w3
 join-law ws w1 w2 w3 i score len a b c ix w h l p p' q q' r r' =
-    became segment_table (λ (s : Segment). relinked s score len (Links.To ix) s.serif) i w h
+    became segment_table (λ (s : Segment). relinked s score len (Some ix) s.serif) i w h
     (wrote-again segment_table one
     (wrote-again segment_table two
-    (wrote_as (ap (λ (x : Segment). relinked x x.score x.len (Links.To ix) x.serif) two.read
-    ∙ ap (λ (x : Segment). relinked x x.score len (Links.To ix) x.serif) one.read) three)))
+    (wrote_as (ap (λ (x : Segment). relinked x x.score x.len (Some ix) x.serif) two.read
+    ∙ ap (λ (x : Segment). relinked x x.score len (Some ix) x.serif) one.read) three)))
   where
     one : Wrote ws w1 i (relinked (held ws i) score (held ws i).len (held ws i).link (held ws i).serif)
     one = as-set (word_of_segment i score_place) p p' (score-wrote ws i w h score)
@@ -83,24 +83,24 @@ join-law ws w1 w2 w3 i score len a b c ix w h l p p' q q' r r' =
     two : Wrote w1 w2 i (relinked (held w1 i) (held w1 i).score len (held w1 i).link (held w1 i).serif)
     two = as-set (word_of_segment i len_place) q q' (len-wrote w1 i one.whole below1 len)
 
-    three : Wrote w2 w3 i (relinked (held w2 i) (held w2 i).score (held w2 i).len (Links.To ix) (held w2 i).serif)
+    three : Wrote w2 w3 i (relinked (held w2 i) (held w2 i).score (held w2 i).len (Some ix) (held w2 i).serif)
     three =
         as-set (word_of_segment i link_place) r r'
-        (link-wrote w2 i two.whole (still-below segment_layout w1 w2 i two.long below1) (Links.To ix) (below-to 65536 ix l))
+        (link-wrote w2 i two.whole (still-below segment_layout w1 w2 i two.long below1) (Some ix) (below-to 65536 ix l))
 
 -- its link taken
-unlink-wrote : (ws ws' : List ℤ) (i : ℕ) → Whole ws → i < segments_in ws → ws' ≡ set ws (word_of_segment i link_place) (link_word Links.None)
+unlink-wrote : (ws ws' : List ℤ) (i : ℕ) → Whole ws → i < segments_in ws → ws' ≡ set ws (word_of_segment i link_place) (link_word None)
     → Wrote ws ws' i (unlinked (held ws i))
-unlink-wrote ws ws' i w h e = as_written e (link-wrote ws i w h Links.None (below_none 65536))
+unlink-wrote ws ws' i w h e = as_written e (link-wrote ws i w h None (below_none 65536))
 
-pub unlink-law : (ws ws' : List ℤ) (i : ℕ) (z : ℤ) → Whole ws → i < segments_in ws → ws' ≡ set ws (word_of_segment i link_place) z → z ≡ link_word Links.None
+pub unlink-law : (ws ws' : List ℤ) (i : ℕ) (z : ℤ) → Whole ws → i < segments_in ws → ws' ≡ set ws (word_of_segment i link_place) z → z ≡ link_word None
     → Became (unlink i) ws ws'
 unfolding unlink
 unlink-law ws ws' i z w h e q = became segment_table unlinked i w h (unlink-wrote ws ws' i w h (e ∙ ap (λ (x : ℤ). set ws (word_of_segment i link_place) x) q))
 
 -- behind that, its serif
 pub serif-law : (ws w1 w2 : List ℤ) (i : ℕ) (a b : ℤ) (serif : Link) → Whole ws → i < segments_in ws → Below most_segments serif
-    → w1 ≡ set ws (word_of_segment i link_place) a → a ≡ link_word Links.None
+    → w1 ≡ set ws (word_of_segment i link_place) a → a ≡ link_word None
     → w2 ≡ set w1 (word_of_segment i serif_place) b → b ≡ link_word serif → Became (loosing i serif) ws w2
 serif-law ws w1 w2 i a b serif w h l p p' q q' =
     became segment_table (λ (s : Segment). serif_of s serif) i w h
@@ -113,7 +113,7 @@ serif-law ws w1 w2 i a b serif w h l p p' q q' =
     two =
         as-set (word_of_segment i serif_place) q q'
         (serif-wrote w1 i one.whole (still-below segment_layout ws w1 i one.long h) serif
-        (record { at = λ (k : ℕ) (e : serif ≡ Links.To k). omega (arith, l.at k e) }))
+        (record { at = λ (k : ℕ) (e : serif ≡ Some k). omega (arith, l.at k e) }))
 
 -- its edge
 pub edge-law : (ws ws' : List ℤ) (i : ℕ) (z : ℤ) (edge : Link) → Whole ws → i < segments_in ws → Below most_edges edge
@@ -121,7 +121,7 @@ pub edge-law : (ws ws' : List ℤ) (i : ℕ) (z : ℤ) (edge : Link) → Whole w
     → Became (leading i edge) ws ws'
 edge-law ws ws' i z edge w h l e q =
     became segment_table (λ (s : Segment). ringed s edge s.next) i w h
-    (as-set (word_of_segment i edge_place) e q (edge-wrote ws i w h edge (record { at = λ (k : ℕ) (r : edge ≡ Links.To k). omega (arith, l.at k r) })))
+    (as-set (word_of_segment i edge_place) e q (edge-wrote ws i w h edge (record { at = λ (k : ℕ) (r : edge ≡ Some k). omega (arith, l.at k r) })))
 
 -- its next
 next-written : (ws ws' : List ℤ) (i : ℕ) (z : ℤ) (next : Link) → Whole ws → i < segments_in ws → Below 65536 next → ws' ≡ set ws (word_of_segment i next_place) z

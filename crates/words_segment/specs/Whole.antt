@@ -1,7 +1,7 @@
 -- Lists of words that are the words of their segments, and what they become where a segment is written.
+use Rattle.std.specs.Prelude.{None, Some}
 use Rattle.std.specs.Prelude.{List, ℕ, ℤ, pos}
-use Rattle.axis.specs.declared.kinds.Link.{Link}
-use Rattle.axis.specs.declared.kinds.Link.TheVariants as Links
+use Rattle.axis.specs.Link.{Link}
 use Rattle.axis.specs.declared.segment.Segment.{Segment}
 use Rattle.axis.specs.declared.segment.Segments.{Segments}
 use Rattle.axis.specs.Flags.{normal}
@@ -25,7 +25,7 @@ Became = BecameOf segment_layout table_in
 
 -- segment i linked to another one by a stem of a score and a length; and without its link, a serif of what `serif` names
 abbrev pub joining : ℕ → ℤ → ℤ → ℕ → Segments → Segments
-joining i score len ix t = put_segment t i (relinked (segment_at t i) score len (Links.To ix) (segment_at t i).serif)
+joining i score len ix t = put_segment t i (relinked (segment_at t i) score len (Some ix) (segment_at t i).serif)
 
 abbrev pub loosing : ℕ → Link → Segments → Segments
 loosing i serif t = put_segment t i (serif_of (segment_at t i) serif)
@@ -54,6 +54,6 @@ reduced s = record {
   serif = s.serif;
   first = 0;
   last = 0;
-  edge = Links.None;
-  next = Links.None;
+  edge = None;
+  next = None;
 }

@@ -13,7 +13,6 @@ ghost use Rattle.words.specs.Segment.{segment_size, word_of_segment, segments_in
 ghost use Rattle.words_segment.specs.Whole.{Whole, reduced, Became, joining, loosing, leading, ringing};
 
 use axis::flags::NORMAL;
-use axis::kinds::Link;
 use axis::segment::Segment;
 use words::field::{direction_at, index_word, link_word};
 use words::segment::{
@@ -32,16 +31,16 @@ fn read_short(words: &[i32], at: usize) -> i16
 }
 
 // A word that is an index or none.
-fn read_link(words: &[i32], at: usize) -> Link
+fn read_link(words: &[i32], at: usize) -> Option<u16>
     requires { (at < length words.now) × (up (word_at words.now at) < 65536) }
     ensures { result ≡ link_of (word_at words.now at) }
 {
     let word = words[at];
     if word < 0 {
-        return Link::None;
+        return None;
     }
     let index = size_of(word) as u16;
-    Link::To(index)
+    Some(index)
 }
 
 // Whether the direction of a segment has this word.
@@ -72,8 +71,8 @@ pub fn read_segment(words: &[i32], i: usize) -> Segment
         serif: read_link(words, at + SERIF_PLACE),
         first: 0,
         last: 0,
-        edge: Link::None,
-        next: Link::None,
+        edge: None,
+        next: None,
     }
 }
 
@@ -104,7 +103,7 @@ pub fn put_no_link(words: &mut [i32], i: usize)
 }
 
 // Takes the link of a segment, and makes it a serif of what `serif` names.
-pub fn put_serif(words: &mut [i32], i: usize, serif: Link)
+pub fn put_serif(words: &mut [i32], i: usize, serif: Option<u16>)
     requires { Whole words.old × (i < segments_in words.old) × Below most_segments serif }
     ensures { Became (loosing i serif) words.old words.new }
 {
@@ -113,7 +112,7 @@ pub fn put_serif(words: &mut [i32], i: usize, serif: Link)
 }
 
 // Gives a segment the edge that `edge` names.
-pub fn put_edge(words: &mut [i32], i: usize, edge: Link)
+pub fn put_edge(words: &mut [i32], i: usize, edge: Option<u16>)
     requires { Whole words.old × (i < segments_in words.old) × Below most_edges edge }
     ensures { Became (leading i edge) words.old words.new }
 {
@@ -121,7 +120,7 @@ pub fn put_edge(words: &mut [i32], i: usize, edge: Link)
 }
 
 // Gives a segment the edge that `edge` names, and the next that `next` names.
-pub fn put_ring(words: &mut [i32], i: usize, edge: Link, next: Link)
+pub fn put_ring(words: &mut [i32], i: usize, edge: Option<u16>, next: Option<u16>)
     requires { Whole words.old × (i < segments_in words.old) × Below most_edges edge × Below 65536 next }
     ensures { Became (ringing i edge next) words.old words.new }
 {

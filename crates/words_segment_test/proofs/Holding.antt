@@ -1,4 +1,5 @@
 -- Words that pass the one loop are those of segments, and a call accepts them.
+use Rattle.std.specs.Prelude.{Some}
 use mathlib.Core.Path.{◌≡◌, refl, sym, ap, subst, ◌∙◌}
 use mathlib.Core.Bool.{Bool, true, false}
 use mathlib.Core.List.{List}
@@ -14,7 +15,6 @@ use Rattle.axis.proofs.Accepting.{every_holds}
 use Rattle.words.specs.Word.{word_at}
 use Rattle.words.specs.Segment.{segment_size, segment_from, segments_in, flat_segments}
 use Rattle.words.specs.Record.{segment_layout}
-use Rattle.words_shape.specs.declared.field.Place.TheVariants.{At}
 use Rattle.words_shape.specs.declared.field.Range.{Range}
 use Rattle.words_shape.specs.declared.element.Record.TheVariants as Records
 use Rattle.words_shape.specs.declared.element.Element.TheVariants as Elements
@@ -70,7 +70,7 @@ module _ (ws : List ℤ) (at n : ℕ) (nexts : Bool) (few : n ≤ 65536) (room :
   words-hold (suc (suc (suc (suc (suc (suc (suc (suc (suc (suc (suc (suc (suc (suc zero)))))))))))))) l = next-word n nexts (word_at ws (at + 14)) few b.w14
   words-hold (suc (suc (suc (suc (suc (suc (suc (suc (suc (suc (suc (suc (suc (suc (suc k))))))))))))))) l = absurd (omega arith)
 
-  segment-make : Shape.element Elements.Segment ws at ≡ At (at + segment_size)
+  segment-make : Shape.element Elements.Segment ws at ≡ Some (at + segment_size)
   unfolding Shape.element
   segment-make = fields-make (Shape.ranges_of Records.Segment) ws at room words-hold
 

@@ -1,50 +1,53 @@
 // The answer to lent segments beside a call's own tests: 0 by the one loop, or else the exact refusal.
 ghost use Rattle.std.specs.Prelude.{◌≡◌};
+ghost use Rattle.refusals.specs.Outcome.{answer_of};
 ghost use Rattle.words.specs.Segment.{flat_segments};
 ghost use Rattle.words_call.specs.Lent.{refused_or, segments_front};
 ghost use Rattle.words_segment_test.specs.Held.{tested};
 
 use super::exact::{indexed_hold, numbers_hold};
 use super::hold::segments_hold;
-use refusals::order::{BAD_INDEX, OUT_OF_RANGE};
+use refusals::order::Refusal;
 use words_call::segments::segments_refusal;
 use words_call::shown::both;
 
 // The refusal of segments in front of a call and by its tests: the first that fails, in its order.
-fn exact_refusal(words: &[i32], room: bool, others: bool, own: u8, nexts: bool, passed: bool) -> u8
-    ensures { result ≡ refused_or (segments_front words.now room others) (tested (flat_segments words.now) own nexts passed) }
+fn exact_refusal(
+    words: &[i32],
+    room: bool,
+    others: bool,
+    own: Result<(), Refusal>,
+    nexts: bool,
+    passed: bool,
+) -> Result<(), Refusal>
+    ensures { (answer_of result) ≡ refused_or (segments_front words.now room others) (tested (flat_segments words.now) (answer_of own) nexts passed) }
 {
-    let front = segments_refusal(words, room, others);
-    if 0 < front {
-        return front;
-    }
-    if 0 < own {
-        return own;
-    }
+    segments_refusal(words, room, others)?;
+    own?;
     if !indexed_hold(words, nexts) {
-        return BAD_INDEX;
+        return Err(Refusal::BadIndex);
     }
     if both(numbers_hold(words), passed) {
-        return 0;
+        return Ok(());
     }
-    OUT_OF_RANGE
+    Err(Refusal::OutOfRange)
 }
 
-// The answer to lent segments: whether the call's room for edges has its length, and its other words are those of their fields, the refusal by its parameters or 0, whether it tests
+// The answer to lent segments: whether the call's room for edges has its length, and its other words are those of their fields, the refusal by its parameters if there is one, whether it tests
 // the next of each segment, and whether the numbers that it passes are accepted.
 pub fn segments_test(
     words: &[i32],
     room: bool,
     others: bool,
-    own: u8,
+    own: Result<(), Refusal>,
     nexts: bool,
     passed: bool,
-) -> u8
-    ensures { result ≡ refused_or (segments_front words.now room others) (tested (flat_segments words.now) own nexts passed) }
+) -> Result<(), Refusal>
+    ensures { (answer_of result) ≡ refused_or (segments_front words.now room others) (tested (flat_segments words.now) (answer_of own) nexts passed) }
 {
-    let rest = both(both(room, others), both(own == 0, passed));
+    let rest = both(both(room, others), both(own.is_ok(), passed));
     if both(rest, segments_hold(words, nexts)) {
-        return 0;
+        return Ok(());
     }
     exact_refusal(words, room, others, own, nexts, passed)
 }

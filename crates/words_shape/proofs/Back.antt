@@ -1,4 +1,5 @@
 -- Words that are those of their fields are given back: what is read from them is written as they were.
+use Rattle.std.specs.Prelude.{None, Some}
 use mathlib.Core.Path.{◌≡◌, refl, sym, ap, ◌∙◌}
 use mathlib.Core.Bool.{Bool, true, false, cond, ◌&&◌, ◌||◌}
 use mathlib.Core.List.{List, [], ◌∷◌, append-nil}
@@ -32,8 +33,7 @@ use Rattle.words.specs.Word.{word_at, firsts}
 use Rattle.words.specs.Edge.{edge_size, word_of_edge, edges_in, edge_from, edge_words}
 use Rattle.words.specs.Segment.{segment_size, word_of_segment, segments_in, segment_from, segment_words}
 use Rattle.words.proofs.Places.{firsts_at}
-use Rattle.words_shape.specs.declared.field.Place.{Place}
-use Rattle.words_shape.specs.declared.field.Place.TheVariants.{Nowhere, At}
+use Rattle.words_shape.specs.Place.{Place}
 use Rattle.words_shape.specs.declared.field.Range.{Range}
 use Rattle.words_shape.specs.declared.element.Record.TheVariants as Records
 use Rattle.words_shape.specs.declared.element.Element.TheVariants as Elements
@@ -156,11 +156,11 @@ record There (r : Range) (ws : List ℤ) (at n : ℕ) : Type 0 where
   next : n ≡ at + 1
   in_values : is_in r (word_at ws at) ≡ true
 
-field-there : (r : Range) (ws : List ℤ) (at n : ℕ) → field r ws at ≡ At n → There r ws at n
+field-there : (r : Range) (ws : List ℤ) (at n : ℕ) → field r ws at ≡ Some n → There r ws at n
 unfolding field
 field-there r ws at n e = by (ltb at (length ws)) (is_in r (word_at ws at)) refl e
   where
-    by : (t v : Bool) → v ≡ is_in r (word_at ws at) → cond (t && v) (At (at + 1)) Nowhere ≡ At n → There r ws at n
+    by : (t v : Bool) → v ≡ is_in r (word_at ws at) → cond (t && v) (Some (at + 1)) None ≡ Some n → There r ws at n
     by true true q e = record { next = cc; in_values = sym q }
     by true false q e = absurd (let z : ◌≡◌ {A = ℕ} 0 1 = cc in omega arith)
     by false v q e = absurd (let z : ◌≡◌ {A = ℕ} 0 1 = cc in omega arith)
@@ -169,7 +169,7 @@ field-there r ws at n e = by (ltb at (length ws)) (is_in r (word_at ws at)) refl
 abbrev AllIn : List Range → List ℤ → ℕ → Type 0
 AllIn rs ws at = (k : ℕ) → k < length rs → is_in (get_or rs k no_range) (word_at ws (at + k)) ≡ true
 
-fields_in : (rs : List Range) (ws : List ℤ) (at n : ℕ) → fields rs ws at ≡ At n → AllIn rs ws at
+fields_in : (rs : List Range) (ws : List ℤ) (at n : ℕ) → fields rs ws at ≡ Some n → AllIn rs ws at
 unfolding fields and_then
 fields_in [] ws at n e k h = absurd (omega arith)
 fields_in (r ∷ rs) ws at n e k h = by (field r ws at) refl e (λ m f. fields_in rs ws m n f) k h
@@ -181,9 +181,9 @@ fields_in (r ∷ rs) ws at n e k h = by (field r ws at) refl e (λ m f. fields_i
     all m zero t again h = let q : at + 0 ≡ at = omega arith in rw q t.in_values
     all m (suc k) t again h = later m k t again h
 
-    by : (p : Place) → field r ws at ≡ p → and_then p (fields rs ws) ≡ At n → ((m : ℕ) → fields rs ws m ≡ At n → AllIn rs ws m) → AllIn (r ∷ rs) ws at
-    by Nowhere f e again k h = absurd (let z : ◌≡◌ {A = ℕ} 0 1 = cc in omega arith)
-    by (At m) f e again k h = all m k (field-there r ws at m f) (again m e) h
+    by : (p : Place) → field r ws at ≡ p → and_then p (fields rs ws) ≡ Some n → ((m : ℕ) → fields rs ws m ≡ Some n → AllIn rs ws m) → AllIn (r ∷ rs) ws at
+    by None f e again k h = absurd (let z : ◌≡◌ {A = ℕ} 0 1 = cc in omega arith)
+    by (Some m) f e again k h = all m k (field-there r ws at m f) (again m e) h
 
 -- the words of an edge that is there are those that it is written as
 edge_same : (ws : List ℤ) (at n : ℕ) → EdgeThere ws at n → edge_words (edge_from ws at) ≡ firsts (λ (j : ℕ). word_at ws (at + j)) edge_size
@@ -206,7 +206,7 @@ edge_same ws at n t =
     )
 
 -- and those of a segment
-segment-same : (ws : List ℤ) (at n : ℕ) → fields (ranges_of Records.Segment) ws at ≡ At n
+segment-same : (ws : List ℤ) (at n : ℕ) → fields (ranges_of Records.Segment) ws at ≡ Some n
     → segment_words (segment_from ws at) ≡ firsts (λ (j : ℕ). word_at ws (at + j)) segment_size
 unfolding segment_words segment_from firsts
 segment-same ws at n t =
@@ -236,11 +236,11 @@ among ws at n j h =
     ap (λ (l : List ℤ). word_at l j) (sym (append-nil (firsts (λ (k : ℕ). word_at ws (at + k)) n))) ∙ firsts_at (λ (k : ℕ). word_at ws (at + k)) n j [] (pos 0) h
 
 -- how long an edge is, and a segment
-pub edge-place : (ws : List ℤ) (at n : ℕ) → element Elements.Edge ws at ≡ At n → n ≡ at + edge_size
+pub edge-place : (ws : List ℤ) (at n : ℕ) → element Elements.Edge ws at ≡ Some n → n ≡ at + edge_size
 unfolding element
 edge-place ws at n e = (edge-there ws at n e).behind
 
-pub segment-place : (ws : List ℤ) (at n : ℕ) → element Elements.Segment ws at ≡ At n → n ≡ at + segment_size
+pub segment-place : (ws : List ℤ) (at n : ℕ) → element Elements.Segment ws at ≡ Some n → n ≡ at + segment_size
 unfolding element
 segment-place ws at n e = fields-place (ranges_of Records.Segment) ws at n e
 

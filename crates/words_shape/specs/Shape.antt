@@ -1,12 +1,11 @@
 -- Which words are those of fields, records and runs of records. A reading starts at a place of the list and ends at the place behind what it read, or nowhere.
-use Rattle.std.specs.Prelude.{Bool, false, cond, ◌&&◌, ◌||◌, List, [], ◌∷◌, ℕ, zero, suc, ◌+◌, ltb, eqb, length, get_or, ℤ, pos, negsuc}
+use Rattle.std.specs.Prelude.{Bool, false, cond, ◌&&◌, ◌||◌, List, [], ◌∷◌, ℕ, zero, suc, ◌+◌, ltb, eqb, length, get_or, ℤ, pos, negsuc, None, Some}
 use Rattle.std.specs.Int.Signed.{le_z}
 use Rattle.signed.specs.Equality.{eq_z}
 use Rattle.words.specs.Word.{word_at}
 use Rattle.words.specs.Edge.{blue_place, fitted_place, edges_in}
 use Rattle.words.specs.Segment.{segments_in}
-use Rattle.words_shape.specs.declared.field.Place.{Place}
-use Rattle.words_shape.specs.declared.field.Place.TheVariants.{Nowhere, At}
+use Rattle.words_shape.specs.Place.{Place}
 use Rattle.words_shape.specs.declared.field.Range.{Range}
 use Rattle.words_shape.specs.declared.element.Record.{Record}
 use Rattle.words_shape.specs.declared.element.Record.TheVariants as Records
@@ -16,13 +15,13 @@ use Rattle.words_shape.specs.declared.element.Element.TheVariants.{Number, Segme
 -- ---- readings in a row
 -- nowhere stays nowhere; from a place the next reading goes on
 unfoldable pub and_then : Place → (ℕ → Place) → Place
-and_then Nowhere next = Nowhere
-and_then (At n) next = next n
+and_then None next = None
+and_then (Some n) next = next n
 
 -- a place that is there, and where
 abbrev pub is_at : ℕ → Place → Bool
-is_at n Nowhere = false
-is_at n (At m) = eqb m n
+is_at n None = false
+is_at n (Some m) = eqb m n
 
 -- ---- fields of one word
 -- a word within a field's values
@@ -31,11 +30,11 @@ is_in r w = le_z r.low w && le_z w r.high
 
 -- the place behind a word that is there and within its field's values
 unfoldable pub field : Range → List ℤ → ℕ → Place
-field r ws at = cond (ltb at (length ws) && is_in r (get_or ws at (pos 0))) (At (at + 1)) Nowhere
+field r ws at = cond (ltb at (length ws) && is_in r (get_or ws at (pos 0))) (Some (at + 1)) None
 
 -- the place behind one field after the other
 unfoldable pub fields : List Range → List ℤ → ℕ → Place
-fields [] ws at = At at
+fields [] ws at = Some at
 fields (r ∷ rs) ws at = and_then (field r ws at) (fields rs ws)
 
 -- ---- the values of the fields
@@ -97,7 +96,7 @@ blue_shown ws at = eq_z (word_at ws (at + blue_place)) (pos 1) || eq_z (word_at 
 
 -- the place behind an edge
 unfoldable pub edge : List ℤ → ℕ → Place
-edge ws at = and_then (fields (ranges_of Records.Edge) ws at) (λ next. cond (blue_shown ws at) (At next) Nowhere)
+edge ws at = and_then (fields (ranges_of Records.Edge) ws at) (λ next. cond (blue_shown ws at) (Some next) None)
 
 -- ---- runs of elements
 -- the place behind an element
@@ -108,7 +107,7 @@ element Edge ws at = edge ws at
 
 -- the place behind n elements
 unfoldable pub elements : ℕ → Element → List ℤ → ℕ → Place
-elements zero e ws at = At at
+elements zero e ws at = Some at
 elements (suc n) e ws at = and_then (element e ws at) (elements n e ws)
 
 -- ---- lists without a count

@@ -2,9 +2,7 @@
 ghost use Rattle.std.specs.Prelude.{◌≡◌, ◌<◌, length, get_or};
 ghost use Rattle.words_shape.specs.Shape.{no_range, fields, ranges_of, edge, element, elements, is_run, edges_shown, segments_shown};
 
-use super::field::{
-    CHOICE, DIRECTION, FLAGS, INDEX, LINK, MARK, Place, Range, SHORT, WORD, skip_field,
-};
+use super::field::{CHOICE, DIRECTION, FLAGS, INDEX, LINK, MARK, Range, SHORT, WORD, skip_field};
 use words::edge::{BLUE_PLACE, EDGE_WORDS, FITTED_PLACE};
 use words::segment::SEGMENT_WORDS;
 use words::word::word_at;
@@ -137,40 +135,35 @@ fn range_of(kind: Record, i: usize) -> Range
 }
 
 // The place behind the fields of a record.
-fn skip_record(words: &[i32], at: usize, kind: Record) -> Place
+fn skip_record(words: &[i32], at: usize, kind: Record) -> Option<usize>
     ensures { result ≡ fields (ranges_of kind) words.now at }
 {
     let n = size(kind);
     let mut here = at;
-    let mut i = 0;
-    while i < n {
-        let Place::At(next) = skip_field(words, here, range_of(kind, i)) else {
-            return Place::Nowhere;
-        };
-        here = next;
-        i += 1;
+    for i in 0..n {
+        here = skip_field(words, here, range_of(kind, i))?;
     }
-    Place::At(here)
+    Some(here)
 }
 
 // The place behind an edge, whose fitted position is 0 where it has no blue.
-fn skip_edge(words: &[i32], at: usize) -> Place
+fn skip_edge(words: &[i32], at: usize) -> Option<usize>
     ensures { result ≡ edge words.now at }
 {
-    let Place::At(next) = skip_record(words, at, Record::Edge) else {
-        return Place::Nowhere;
+    let Some(next) = skip_record(words, at, Record::Edge) else {
+        return None;
     };
     if word_at(words, at + BLUE_PLACE) == 1 {
-        return Place::At(next);
+        return Some(next);
     }
     if word_at(words, at + FITTED_PLACE) == 0 {
-        return Place::At(next);
+        return Some(next);
     }
-    Place::Nowhere
+    None
 }
 
 // The place behind an element of a list.
-fn skip_element(words: &[i32], at: usize, kind: Element) -> Place
+fn skip_element(words: &[i32], at: usize, kind: Element) -> Option<usize>
     ensures { result ≡ element kind words.now at }
 {
     match kind {
@@ -181,26 +174,21 @@ fn skip_element(words: &[i32], at: usize, kind: Element) -> Place
 }
 
 // The place behind n elements of a list.
-pub fn skip_elements(words: &[i32], at: usize, kind: Element, n: usize) -> Place
+pub fn skip_elements(words: &[i32], at: usize, kind: Element, n: usize) -> Option<usize>
     ensures { result ≡ elements n kind words.now at }
 {
     let mut here = at;
-    let mut i = 0;
-    while i < n {
-        let Place::At(next) = skip_element(words, here, kind) else {
-            return Place::Nowhere;
-        };
-        here = next;
-        i += 1;
+    for i in 0..n {
+        here = skip_element(words, here, kind)?;
     }
-    Place::At(here)
+    Some(here)
 }
 
 // Whether a list is n elements and no more.
 fn is_run(words: &[i32], kind: Element, n: usize) -> bool
     ensures { result ≡ is_run n kind words.now }
 {
-    let Place::At(end) = skip_elements(words, 0, kind, n) else {
+    let Some(end) = skip_elements(words, 0, kind, n) else {
         return false;
     };
     end == words.len()

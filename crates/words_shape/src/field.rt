@@ -3,13 +3,6 @@ ghost use Rattle.std.specs.Prelude.{◌≡◌, ◌<◌, length};
 ghost use Rattle.words.specs.Word.{word_at};
 ghost use Rattle.words_shape.specs.Shape.{is_in, field};
 
-// A place in a word list, or nowhere, where the words are not those that are read.
-#[derive(Clone, Copy)]
-pub enum Place {
-    Nowhere,
-    At(usize),
-}
-
 // The values of a field of one word.
 #[derive(Clone, Copy)]
 pub struct Range {
@@ -70,14 +63,14 @@ pub fn in_at(words: &[i32], at: usize, range: Range) -> bool
 }
 
 // The place behind a field.
-pub fn skip_field(words: &[i32], at: usize, range: Range) -> Place
+pub fn skip_field(words: &[i32], at: usize, range: Range) -> Option<usize>
     ensures { result ≡ field range words.now at }
 {
     if words.len() <= at {
-        return Place::Nowhere;
+        return None;
     }
     if in_at(words, at, range) {
-        return Place::At(at + 1);
+        return Some(at + 1);
     }
-    Place::Nowhere
+    None
 }

@@ -1,5 +1,6 @@
 // The tests of lent segments and edges, of which it is known whether they hold: where they do, none is made.
 ghost use Rattle.std.specs.Prelude.{◌≡◌, true, ◌&&◌};
+ghost use Rattle.refusals.specs.Outcome.{answer_of};
 ghost use Rattle.refusals.specs.Refusal.{refusal};
 ghost use Rattle.axis.specs.Refusals.{edges_numbers, segments_numbers};
 ghost use Rattle.turn.specs.Indices.{index_tests};
@@ -8,6 +9,7 @@ ghost use Rattle.words_shape.specs.Shape.{edges_shown, segments_shown};
 ghost use Rattle.words_call.specs.Lent.{edges_of};
 ghost use Rattle.words_tables_test.specs.Held.{Held};
 
+use refusals::order::Refusal;
 use turn_words::test::index_refusal;
 use words_call::shown::both;
 use words_edge_test::exact as of_edges;
@@ -26,13 +28,13 @@ pub fn tables_shown(segments: &[i32], edges: &[i32], held: bool) -> bool
     both(shown, is_edges(edges))
 }
 
-// The refusal by lengths and indices, or 0.
-pub fn tables_indexed(segments: &[i32], edges: &[i32], held: bool) -> u8
+// The refusal by lengths and indices, if there is one.
+pub fn tables_indexed(segments: &[i32], edges: &[i32], held: bool) -> Result<(), Refusal>
     requires { held ≡ true → Held segments.now edges.now }
-    ensures { result ≡ refusal (index_tests (edges_of edges.now) (flat_segments segments.now)) }
+    ensures { answer_of result ≡ refusal (index_tests (edges_of edges.now) (flat_segments segments.now)) }
 {
     if held {
-        return 0;
+        return Ok(());
     }
     index_refusal(segments, edges)
 }

@@ -1,14 +1,13 @@
 -- Axes that are alike but for their marks are visited alike (request #105).
+use Rattle.std.specs.Prelude.{None, Some}
 use mathlib.Core.Path.{◌≡◌, refl, ap, subst}
 use mathlib.Core.Bool.{◌&&◌}
 use mathlib.Core.List.{List}
 use Prim.Native.Nat.{ℕ}
 use lib.IntN.{ℤ}
 use Rattle.fixed.specs.declared.width.WidthRule.{WidthRule}
-use Rattle.axis.specs.declared.kinds.Link.{Link}
-use Rattle.axis.specs.declared.kinds.Link.TheVariants as Links
-use Rattle.axis.specs.declared.kinds.Blue.{Blue}
-use Rattle.axis.specs.declared.kinds.Blue.TheVariants as Blues
+use Rattle.axis.specs.Link.{Link}
+use Rattle.axis.specs.Link.{Blue}
 use Rattle.axis.specs.declared.edge.Edge.{Edge}
 use Rattle.axis.specs.declared.edge.Axis.{Axis}
 use Rattle.axis.specs.Edge.{edge_at, put_edge, has_blue}
@@ -50,28 +49,28 @@ blue-same s t i h = ap (λ (e : Edge). e.blue) (at-alike s.axis t.axis i h.axis)
 
 alone : (s t : State) (i : ℕ) (x : Blue) → AlikeState s t → AlikeState (visit_alone s i x) (visit_alone t i x)
 unfolding visit_alone
-alone s t i Blues.None h = h
-alone s t i (Blues.Fitted z) h = record { axis = zoned s.axis t.axis h.axis _ _ i z; anchor = ap (λ (l : Link). anchor_first l i) h.anchor }
+alone s t i None h = h
+alone s t i (Some z) h = record { axis = zoned s.axis t.axis h.axis _ _ i z; anchor = ap (λ (l : Link). anchor_first l i) h.anchor }
 
 module _ (rule : WidthRule) (xs : List ℤ) where
   pair : (s t : State) (i k : ℕ) (x y : Blue) → AlikeState s t → AlikeState (visit_pair rule xs s i k x y) (visit_pair rule xs t i k x y)
   unfolding visit_pair
-  pair s t i k (Blues.Fitted z) y h = record {
+  pair s t i k (Some z) y h = record {
     axis = linked _ _ (zoned s.axis t.axis h.axis _ _ i z) rule xs i k;
     anchor = ap (λ (l : Link). anchor_first l i) h.anchor;
   }
-  pair s t i k Blues.None (Blues.Fitted z) h = record {
+  pair s t i k None (Some z) h = record {
     axis = linked _ _ (zoned s.axis t.axis h.axis _ _ k z) rule xs k i;
     anchor = ap (λ (l : Link). anchor_first l i) h.anchor;
   }
-  pair s t i k Blues.None Blues.None h = h
+  pair s t i k None None h = h
 
   by-link : (s t : State) (i : ℕ) (l : Link) → AlikeState s t → AlikeState (visit_link rule xs s i l) (visit_link rule xs t i l)
   unfolding visit_link
-  by-link s t i Links.None h =
+  by-link s t i None h =
       subst (λ (x : Blue). AlikeState (visit_alone s i (edge_at s.axis i).blue) (visit_alone t i x)) (blue-same s t i h)
       (alone s t i (edge_at s.axis i).blue h)
-  by-link s t i (Links.To k) h =
+  by-link s t i (Some k) h =
       let u : State = record { axis = skipped s.axis i k; anchor = s.anchor } in
       let v : State = record { axis = skipped t.axis i k; anchor = t.anchor } in
       let g : AlikeState u v = record { axis = skip s.axis t.axis h.axis i k; anchor = h.anchor } in

@@ -1,4 +1,5 @@
 -- Request #105: positions are as without marks.
+use Rattle.std.specs.Prelude.{None}
 use mathlib.Core.Path.{◌≡◌, ◌∙◌}
 use mathlib.Core.Bool.{Bool, true, false, cond}
 use mathlib.Core.List.{List, [], ◌∷◌}
@@ -8,7 +9,6 @@ use lib.IntN.{ℤ}
 use Rattle.refusals.specs.Refusal.{◌unless◌, too_long, bad_parameter, bad_index, out_of_range, refusal}
 use Rattle.fixed.specs.declared.width.WidthRule.{WidthRule}
 use Rattle.fixed.specs.Width.{rule_holds}
-use Rattle.axis.specs.declared.kinds.Link.TheVariants as Links
 use Rattle.axis.specs.declared.kinds.Group.{Group}
 use Rattle.axis.specs.declared.edge.Axis.{Axis}
 use Rattle.axis.specs.Limits.{most_edges}
@@ -29,19 +29,19 @@ module _ (rule : WidthRule) (xs : List ℤ) (a b : Axis) (alike : AlikeAxis a b)
       ∷ [])
 
   -- the work, with blues or without
-  work : (t : Bool) → unmarked_anchored (cond t (blues_of rule xs a) (anchored a Links.None 0))
-      ≡ unmarked_anchored (cond t (blues_of rule xs b) (anchored b Links.None 0))
+  work : (t : Bool) → unmarked_anchored (cond t (blues_of rule xs a) (anchored a None 0))
+      ≡ unmarked_anchored (cond t (blues_of rule xs b) (anchored b None 0))
   work true = blues-alike rule xs a b alike
-  work false = λ i. anchored (alike.same i) Links.None 0
+  work false = λ i. anchored (alike.same i) None 0
 
   same_outcome : (group : Group) → unmarked_anchored (align_edges_to_blues a group rule xs) ≡ unmarked_anchored (align_edges_to_blues b group rule xs)
   unfolding align_edges_to_blues
   same_outcome group =
       let t = has_blues group a.dim in
-      answered-alike unmarked_anchored (refusal (blues_tests a rule xs)) (refusal (blues_tests b rule xs)) (anchored a Links.None) (anchored b Links.None) _ _
+      answered-alike unmarked_anchored (refusal (blues_tests a rule xs)) (refusal (blues_tests b rule xs)) (anchored a None) (anchored b None) _ _
       same-refusal
-      (λ (n : ℕ). λ i. anchored (alike.same i) Links.None n)
-      (work t ∙ (λ i. unmarked_anchored (cond (has_blues group (alike.same i).dim) (blues_of rule xs b) (anchored b Links.None 0))))
+      (λ (n : ℕ). λ i. anchored (alike.same i) None n)
+      (work t ∙ (λ i. unmarked_anchored (cond (has_blues group (alike.same i).dim) (blues_of rule xs b) (anchored b None 0))))
 
 pub align-edges-to-blues : (group : Group) (rule : WidthRule) (xs : List ℤ) → Blind (λ (axis : Axis). align_edges_to_blues axis group rule xs) unmarked_anchored
 align-edges-to-blues group rule xs = blind _ unmarked_anchored (λ (a b : Axis) (h : AlikeAxis a b). same_outcome rule xs a b h group)

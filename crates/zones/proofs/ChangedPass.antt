@@ -1,4 +1,5 @@
 -- The pass changes position, done, neutral and zone of edges below the count, and nothing else; what it places is marked as a blue anchor, blue or linked.
+use Rattle.std.specs.Prelude.{None, Some}
 use mathlib.Core.Path.{◌≡◌, refl, sym, subst}
 use mathlib.Core.Bool.{Bool, true, false, cond, ◌&&◌}
 use mathlib.Core.List.{List}
@@ -9,10 +10,8 @@ use lib.Dec.{ltb}
 use lib.IntN.{ℤ}
 use Rattle.signed.proofs.Choices.{either_way}
 use Rattle.fixed.specs.declared.width.WidthRule.{WidthRule}
-use Rattle.axis.specs.declared.kinds.Link.{Link}
-use Rattle.axis.specs.declared.kinds.Link.TheVariants as Links
-use Rattle.axis.specs.declared.kinds.Blue.{Blue}
-use Rattle.axis.specs.declared.kinds.Blue.TheVariants as Blues
+use Rattle.axis.specs.Link.{Link}
+use Rattle.axis.specs.Link.{Blue}
 use Rattle.axis.specs.declared.kinds.Mark.{Mark}
 use Rattle.axis.specs.declared.kinds.Mark.TheVariants.{Linked}
 use Rattle.axis.specs.declared.edge.Edge.{Edge}
@@ -30,11 +29,11 @@ use Rattle.zones.specs.Pass.{blues_marks, blues_of}
 -- a zone gives one of the marks
 zone-among : (anchor : Link) → among blues_marks (zone_mark anchor) ≡ true
 unfolding among zone_mark
-zone-among Links.None = refl
-zone-among (Links.To k) = refl
+zone-among None = refl
+zone-among (Some k) = refl
 
 -- an edge on its zone has one, or was done already
-on-zone : (anchor : Link) (e : Edge) (z : ℤ) → e.blue ≡ Blues.Fitted z → Only (zone blues_marks) e (zoned_edge anchor e z)
+on-zone : (anchor : Link) (e : Edge) (z : ℤ) → e.blue ≡ Some z → Only (zone blues_marks) e (zoned_edge anchor e z)
 on-zone anchor e z b = by e.flags.done refl
   where
     by : (t : Bool) → e.flags.done ≡ t → Only (zone blues_marks) e (fixed_at e z (cond t e.mark (zone_mark anchor)))
@@ -59,7 +58,7 @@ module _ (rule : WidthRule) (xs : List ℤ) (old : Axis) (m : ℕ) (within : Axi
   unzone : (axis : Axis) (i : ℕ) → i < old.len → Kept axis → Kept (put_edge axis i (unzoned (edge_at axis i)))
   unzone axis i q h = put axis i _ q h (without-zone blues_marks (edge_at axis i))
 
-  fix : (axis : Axis) (a : Link) (i : ℕ) (z : ℤ) → (edge_at axis i).blue ≡ Blues.Fitted z → i < old.len → Kept axis → Kept (on_zone axis a i z)
+  fix : (axis : Axis) (a : Link) (i : ℕ) (z : ℤ) → (edge_at axis i).blue ≡ Some z → i < old.len → Kept axis → Kept (on_zone axis a i z)
   fix axis a i z b q h = put axis i _ q h (on-zone a (edge_at axis i) z b)
 
   skip : (axis : Axis) (i k : ℕ) → i < old.len → k < old.len → Kept axis → Kept (skipped axis i k)
@@ -79,20 +78,20 @@ module _ (rule : WidthRule) (xs : List ℤ) (old : Axis) (m : ℕ) (within : Axi
 
   alone : (s : State) (i : ℕ) (b : Blue) → (edge_at s.axis i).blue ≡ b → i < old.len → KeptBy s → KeptBy (visit_alone s i b)
   unfolding visit_alone
-  alone s i Blues.None e q h = h
-  alone s i (Blues.Fitted z) e q h = fix s.axis s.anchor i z e q h
+  alone s i None e q h = h
+  alone s i (Some z) e q h = fix s.axis s.anchor i z e q h
 
   pair : (s : State) (i k : ℕ) (x y : Blue) → (edge_at s.axis i).blue ≡ x → (edge_at s.axis k).blue ≡ y → i < old.len → k < old.len → KeptBy s
       → KeptBy (visit_pair rule xs s i k x y)
   unfolding visit_pair
-  pair s i k (Blues.Fitted z) y e f p q h = link (on_zone s.axis s.anchor i z) i k q (fix s.axis s.anchor i z e p h)
-  pair s i k Blues.None (Blues.Fitted z) e f p q h = link (on_zone s.axis s.anchor k z) k i p (fix s.axis s.anchor k z f q h)
-  pair s i k Blues.None Blues.None e f p q h = h
+  pair s i k (Some z) y e f p q h = link (on_zone s.axis s.anchor i z) i k q (fix s.axis s.anchor i z e p h)
+  pair s i k None (Some z) e f p q h = link (on_zone s.axis s.anchor k z) k i p (fix s.axis s.anchor k z f q h)
+  pair s i k None None e f p q h = h
 
   by-link : (s : State) (i : ℕ) (l : Link) → Below old.len l → i < old.len → KeptBy s → KeptBy (visit_link rule xs s i l)
   unfolding visit_link
-  by-link s i Links.None b q h = alone s i (edge_at s.axis i).blue refl q h
-  by-link s i (Links.To k) b q h =
+  by-link s i None b q h = alone s i (edge_at s.axis i).blue refl q h
+  by-link s i (Some k) b q h =
       let a = skipped s.axis i k in
       let l = b.at k refl in
       pair (record { axis = a; anchor = s.anchor }) i k (edge_at a i).blue (edge_at a k).blue refl refl q l (skip s.axis i k q l h)
@@ -105,7 +104,7 @@ module _ (rule : WidthRule) (xs : List ℤ) (old : Axis) (m : ℕ) (within : Axi
 
   pub blues-only : OnlyAxis (wherever (λ (i : ℕ). ltb i old.len) (zone blues_marks)) old (blues_of rule xs old).axis
   unfolding blues_of
-  blues-only = visits-keep KeptBy (visit rule xs) old.len one old.len 0 (record { axis = old; anchor = Links.None }) (omega arith) (same-axis _ old)
+  blues-only = visits-keep KeptBy (visit rule xs) old.len one old.len 0 (record { axis = old; anchor = None }) (omega arith) (same-axis _ old)
 
 -- it answers 0
 pub blues-done : (rule : WidthRule) (xs : List ℤ) (axis : Axis) → (blues_of rule xs axis).answer ≡ 0

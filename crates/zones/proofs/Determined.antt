@@ -5,7 +5,7 @@ use lib.IntN.{ℤ}
 use Rattle.fixed.specs.declared.width.WidthRule.{WidthRule}
 use Rattle.axis.specs.declared.kinds.Group.{Group}
 use Rattle.axis.specs.declared.edge.Axis.{Axis}
-use Rattle.zones.specs.declared.anchored.Anchored.{Anchored}
+use Rattle.zones.specs.Answer.{Anchored}
 use Rattle.zones.specs.Call.{AlignsEdgesToBlues}
 
 pub determined : (axis : Axis) (group : Group) (rule : WidthRule) (xs : List ℤ) {r s : Anchored}

@@ -1,4 +1,5 @@
 -- What each store of a visit keeps: an axis within m stays within m, and within a fitted width more once a linked edge is aligned.
+use Rattle.std.specs.Prelude.{None, Some, MatchOption}
 use mathlib.Core.Path.{◌≡◌, refl, sym, subst, ◌∙◌}
 use mathlib.Core.Bool.{Bool, cond}
 use mathlib.Core.List.{List}
@@ -10,10 +11,8 @@ use Rattle.signed.proofs.Signed.{add-law}
 use Rattle.signed.proofs.Choices.{either_way, at_set}
 use Rattle.fixed.specs.declared.width.WidthRule.{WidthRule}
 use Rattle.fixed.specs.Width.{fitted_width}
-use Rattle.axis.specs.declared.kinds.Link.{Link}
-use Rattle.axis.specs.declared.kinds.Link.TheVariants as Links
-use Rattle.axis.specs.declared.kinds.Blue.{Blue}
-use Rattle.axis.specs.declared.kinds.Blue.TheVariants as Blues
+use Rattle.axis.specs.Link.{Link}
+use Rattle.axis.specs.Link.{Blue}
 use Rattle.axis.specs.declared.edge.Edge.{Edge}
 use Rattle.axis.specs.declared.edge.Axis.{Axis}
 use Rattle.axis.specs.Link.{index_or}
@@ -48,8 +47,13 @@ reach-at m n j axis h e q w = let f = edge-at m n j axis h e q in let p = f.pos 
 
 -- ---- places
 or-below : (n i : ℕ) (l : Link) → Below n l → i < n → index_or i l < n
-or-below n i Links.None h q = q
-or-below n i (Links.To k) h q = h.at k refl
+or-below n i None h q = q
+or-below n i (Some k) h q = h.at k refl
+
+-- what the library's `map_or` reads of a link, or i where there is none
+pub read-or : (l : Link) (i r : ℕ) → MatchOption l (r ≡ i) (λ (k : ℕ). r ≡ k) → r ≡ index_or i l
+read-or None i r h = h
+read-or (Some k) i r h = h
 
 -- the link of edge i, or i, is an edge
 pub link-in : (m n i k : ℕ) (axis : Axis) → AxisWithin m axis → axis.len ≡ n → i < n → k ≡ index_or i (edge_at axis i).link → k < n
@@ -59,8 +63,8 @@ pub choice-in : (n i k r : ℕ) (t : Bool) → i < n → k < n → r ≡ cond t 
 choice-in n i k r t h g e = subst (λ (x : ℕ). x < n) (sym e) (either_way (λ (x : ℕ). x < n) t i k h g)
 
 -- ---- zones
-pub no_zone : InZone Blues.None
-no_zone = record { at = λ (z : ℤ) (e : Blues.None ≡ Blues.Fitted z). absurd (let n : ◌≡◌ {A = ℕ} 0 1 = cc in omega arith) }
+pub no_zone : InZone None
+no_zone = record { at = λ (z : ℤ) (e : None ≡ Some z). absurd (let n : ◌≡◌ {A = ℕ} 0 1 = cc in omega arith) }
 
 thinned-within : (m n : ℕ) (skip : Bool) (e : Edge) → EdgeWithin m n e → EdgeWithin m n (thinned skip e)
 unfolding thinned
@@ -68,8 +72,8 @@ thinned-within m n skip e h = either_way (EdgeWithin m n) skip _ e (record { opo
 
 zone-in : (x y : Blue) → InZone x → InZone y → InZone (zone_of x y)
 unfolding zone_of
-zone-in Blues.None y h g = g
-zone-in (Blues.Fitted z) y h g = h
+zone-in None y h g = g
+zone-in (Some z) y h g = h
 
 linked-within : (m n : ℕ) (rule : WidthRule) (xs : List ℤ) (base stem : Edge) → EdgeWithin m n base → EdgeWithin m n stem
     → EdgeWithin (m + most_width) n (linked_or_zoned rule xs base stem)
@@ -94,7 +98,7 @@ thin-put m n i axis skip e h q k g =
     put-within m i axis e h (subst (EdgeWithin m axis.len) (sym g) (thinned-within m axis.len skip (edge_at axis i) (h.edge i (omega arith))))
 
 pub zone-at : (m n i k : ℕ) (axis : Axis) (x : Blue) (z : ℤ) → AxisWithin m axis → axis.len ≡ n → i < n → k < n
-    → x ≡ zone_of (edge_at axis i).blue (edge_at axis k).blue → x ≡ Blues.Fitted z → Between most_units most_units z
+    → x ≡ zone_of (edge_at axis i).blue (edge_at axis k).blue → x ≡ Some z → Between most_units most_units z
 zone-at m n i k axis x z h e hi hk q g =
     (zone-in (edge_at axis i).blue (edge_at axis k).blue (edge-at m n i axis h e hi).blue (edge-at m n k axis h e hk).blue).at z (sym q ∙ g)
 

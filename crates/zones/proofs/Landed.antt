@@ -1,5 +1,6 @@
 -- A visit leaves every edge where it was, or puts it on a zone, or a fitted width from an edge that it has just put there: so positions do not grow with the
 -- visits.
+use Rattle.std.specs.Prelude.{None, Some}
 use mathlib.Core.Path.{◌≡◌, refl, ap}
 use mathlib.Core.Bool.{◌&&◌}
 use mathlib.Core.List.{List, [], ◌∷◌}
@@ -13,10 +14,8 @@ use Rattle.signed.proofs.Signed.{add-law}
 use Rattle.signed.proofs.Choices.{either_way}
 use Rattle.fixed.specs.declared.width.WidthRule.{WidthRule}
 use Rattle.fixed.specs.Width.{fitted_width}
-use Rattle.axis.specs.declared.kinds.Blue.{Blue}
-use Rattle.axis.specs.declared.kinds.Blue.TheVariants as Blues
-use Rattle.axis.specs.declared.kinds.Link.{Link}
-use Rattle.axis.specs.declared.kinds.Link.TheVariants as Links
+use Rattle.axis.specs.Link.{Blue}
+use Rattle.axis.specs.Link.{Link}
 use Rattle.axis.specs.declared.edge.Axis.{Axis}
 use Rattle.axis.specs.declared.edge.Edge.{Edge}
 use Rattle.axis.specs.Accepted.{Below, InZone, AxisWithin}
@@ -130,25 +129,25 @@ module _ (old : Axis) where
   -- ---- one visit
   alone : (s : State) (i : ℕ) (x : Blue) → i < old.len → InZone x → AxisLanded old s.axis → AxisLanded old (visit_alone s i x).axis
   unfolding visit_alone
-  alone s i Blues.None q b h = h
-  alone s i (Blues.Fitted z) q b h = zone i s.axis s.anchor z q (b.at z refl) h
+  alone s i None q b h = h
+  alone s i (Some z) q b h = zone i s.axis s.anchor z q (b.at z refl) h
 
   module _ (rule : WidthRule) (xs : List ℤ) where
     pair : (s : State) (i k : ℕ) (x y : Blue) → i < old.len → k < old.len → InZone x → InZone y → AxisLanded old s.axis
         → AxisLanded old (visit_pair rule xs s i k x y).axis
     unfolding visit_pair
-    pair s i k (Blues.Fitted z) y q p b c h =
+    pair s i k (Some z) y q p b c h =
         let w = b.at z refl in
         aligned rule xs i k (on_zone s.axis s.anchor i z) q p (on-zone i s.axis s.anchor z w) (zone i s.axis s.anchor z q w h)
-    pair s i k Blues.None (Blues.Fitted z) q p b c h =
+    pair s i k None (Some z) q p b c h =
         let w = c.at z refl in
         aligned rule xs k i (on_zone s.axis s.anchor k z) p q (on-zone k s.axis s.anchor z w) (zone k s.axis s.anchor z p w h)
-    pair s i k Blues.None Blues.None q p b c h = h
+    pair s i k None None q p b c h = h
 
     by-link : (s : State) (i : ℕ) (l : Link) → i < old.len → Below old.len l → AxisLanded old s.axis → AxisLanded old (visit_link rule xs s i l).axis
     unfolding visit_link
-    by-link s i Links.None q b h = alone s i (edge_at s.axis i).blue q (h.edge i q).blue h
-    by-link s i (Links.To k) q b h =
+    by-link s i None q b h = alone s i (edge_at s.axis i).blue q (h.edge i q).blue h
+    by-link s i (Some k) q b h =
         let p = b.at k refl in
         let g = skip i k s.axis q p h in
         pair (record { axis = skipped s.axis i k; anchor = s.anchor }) i k _ _ q p (g.edge i q).blue (g.edge k p).blue g

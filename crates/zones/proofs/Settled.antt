@@ -1,4 +1,5 @@
 -- Request #108: after the pass over blue zones an edge that is not done has no link to an edge with a zone.
+use Rattle.std.specs.Prelude.{None, Some}
 use mathlib.Core.Path.{◌≡◌, refl, sym, ap, subst, ◌∙◌}
 use mathlib.Core.Bool.{Bool, true, false, cond, ◌&&◌}
 use mathlib.Core.List.{List, [], ◌∷◌}
@@ -10,10 +11,8 @@ use lib.ListN.{get_or, set}
 use Rattle.signed.proofs.Signed.{lt-or-le}
 use Rattle.signed.proofs.Choices.{either_way}
 use Rattle.fixed.specs.declared.width.WidthRule.{WidthRule}
-use Rattle.axis.specs.declared.kinds.Link.{Link}
-use Rattle.axis.specs.declared.kinds.Link.TheVariants as Links
-use Rattle.axis.specs.declared.kinds.Blue.{Blue}
-use Rattle.axis.specs.declared.kinds.Blue.TheVariants as Blues
+use Rattle.axis.specs.Link.{Link}
+use Rattle.axis.specs.Link.{Blue}
 use Rattle.axis.specs.declared.edge.Edge.{Edge}
 use Rattle.axis.specs.declared.edge.Axis.{Axis}
 use Rattle.axis.specs.Edge.{empty_edge, edge_at, put_edge, has_blue}
@@ -26,7 +25,7 @@ use Rattle.zones.proofs.Landed.{set_own}
 -- an edge that is done stays so, one without a zone gets none, and its link stays
 pub record Grown (old new : Edge) : Type 0 where
   pub done : old.flags.done ≡ true → new.flags.done ≡ true
-  pub bare : old.blue ≡ Blues.None → new.blue ≡ Blues.None
+  pub bare : old.blue ≡ None → new.blue ≡ None
   pub link : new.link ≡ old.link
 
 -- so it is for every edge
@@ -93,19 +92,19 @@ module _ (rule : WidthRule) (xs : List ℤ) where
 
   pair-grown : (s : State) (i k : ℕ) (x y : Blue) → AllGrown s.axis (visit_pair rule xs s i k x y).axis
   unfolding visit_pair
-  pair-grown s i k (Blues.Fitted z) y = all_then _ _ _ (on-zone s.axis s.anchor i z) (aligned (on_zone s.axis s.anchor i z) i k)
-  pair-grown s i k Blues.None (Blues.Fitted z) = all_then _ _ _ (on-zone s.axis s.anchor k z) (aligned (on_zone s.axis s.anchor k z) k i)
-  pair-grown s i k Blues.None Blues.None = all_same s.axis
+  pair-grown s i k (Some z) y = all_then _ _ _ (on-zone s.axis s.anchor i z) (aligned (on_zone s.axis s.anchor i z) i k)
+  pair-grown s i k None (Some z) = all_then _ _ _ (on-zone s.axis s.anchor k z) (aligned (on_zone s.axis s.anchor k z) k i)
+  pair-grown s i k None None = all_same s.axis
 
   alone-grown : (s : State) (i : ℕ) (x : Blue) → AllGrown s.axis (visit_alone s i x).axis
   unfolding visit_alone
-  alone-grown s i Blues.None = all_same s.axis
-  alone-grown s i (Blues.Fitted z) = on-zone s.axis s.anchor i z
+  alone-grown s i None = all_same s.axis
+  alone-grown s i (Some z) = on-zone s.axis s.anchor i z
 
   link-grown : (s : State) (i : ℕ) (l : Link) → AllGrown s.axis (visit_link rule xs s i l).axis
   unfolding visit_link
-  link-grown s i Links.None = alone-grown s i (edge_at s.axis i).blue
-  link-grown s i (Links.To k) =
+  link-grown s i None = alone-grown s i (edge_at s.axis i).blue
+  link-grown s i (Some k) =
       let u : State = record { axis = skipped s.axis i k; anchor = s.anchor } in
       all_then _ _ _ (skip s.axis i k) (pair-grown u i k (edge_at u.axis i).blue (edge_at u.axis k).blue)
 
@@ -118,7 +117,7 @@ module _ (rule : WidthRule) (xs : List ℤ) where
   -- ---- the visited edge
   -- it is done, or has no link
   abbrev Closed : Edge → Type 0
-  Closed e = (k : ℕ) → e.flags.done ≡ false → e.link ≡ Links.To k → ⊥
+  Closed e = (k : ℕ) → e.flags.done ≡ false → e.link ≡ Some k → ⊥
 
   done-closed : (e : Edge) → e.flags.done ≡ true → Closed e
   done-closed e h k d l = let z : ◌≡◌ {A = ℕ} 0 1 = cc in omega arith
@@ -134,47 +133,47 @@ module _ (rule : WidthRule) (xs : List ℤ) where
 
   -- behind its visit, or its link has no zone
   pair-closed : (s : State) (i k : ℕ) (x y : Blue) → (edge_at s.axis i).blue ≡ x → (edge_at s.axis k).blue ≡ y
-      → Closed (edge_at (visit_pair rule xs s i k x y).axis i) ⊎ ((edge_at (visit_pair rule xs s i k x y).axis k).blue ≡ Blues.None)
+      → Closed (edge_at (visit_pair rule xs s i k x y).axis i) ⊎ ((edge_at (visit_pair rule xs s i k x y).axis k).blue ≡ None)
   unfolding visit_pair link_aligned has_blue
-  pair-closed s i k (Blues.Fitted z) y e f =
+  pair-closed s i k (Some z) y e f =
       let u = on_zone s.axis s.anchor i z in
       inl (grown-closed _ _ ((aligned u i k).edge i) (put-closed s.axis i _ refl))
-  pair-closed s i k Blues.None (Blues.Fitted z) e f =
+  pair-closed s i k None (Some z) e f =
       let u = on_zone s.axis s.anchor k z in
-      let b : (edge_at u i).blue ≡ Blues.None = ((on-zone s.axis s.anchor k z).edge i).bare e in
+      let b : (edge_at u i).blue ≡ None = ((on-zone s.axis s.anchor k z).edge i).bare e in
       inl (rw b (put-closed u i _ refl))
-  pair-closed s i k Blues.None Blues.None e f = inr f
+  pair-closed s i k None None e f = inr f
 
   -- the link of an edge, by two equations
-  same_index : (l : Link) (j k : ℕ) → l ≡ Links.To j → l ≡ Links.To k → j ≡ k
+  same_index : (l : Link) (j k : ℕ) → l ≡ Some j → l ≡ Some k → j ≡ k
   same_index l j k p q = cc
 
-  no_index : (l : Link) (k : ℕ) → l ≡ Links.None → l ≡ Links.To k → ⊥
+  no_index : (l : Link) (k : ℕ) → l ≡ None → l ≡ Some k → ⊥
   no_index l k p q = let z : ◌≡◌ {A = ℕ} 0 1 = cc in omega arith
 
-  either : (after : Axis) (i j k : ℕ) → Closed (edge_at after i) ⊎ ((edge_at after j).blue ≡ Blues.None) → (edge_at after i).flags.done ≡ false
-      → (edge_at after i).link ≡ Links.To k
-      → (edge_at after i).link ≡ Links.To j → (edge_at after k).blue ≡ Blues.None
+  either : (after : Axis) (i j k : ℕ) → Closed (edge_at after i) ⊎ ((edge_at after j).blue ≡ None) → (edge_at after i).flags.done ≡ false
+      → (edge_at after i).link ≡ Some k
+      → (edge_at after i).link ≡ Some j → (edge_at after k).blue ≡ None
   either after i j k (inl c) d q e = absurd (c k d q)
   either after i j k (inr b) d q e = ap (λ (n : ℕ). (edge_at after n).blue) (same_index _ k j q e) ∙ b
 
   link-settled : (s : State) (i : ℕ) (l : Link) (k : ℕ) → (edge_at s.axis i).link ≡ l → (edge_at (visit_link rule xs s i l).axis i).flags.done ≡ false
-      → (edge_at (visit_link rule xs s i l).axis i).link ≡ Links.To k → (edge_at (visit_link rule xs s i l).axis k).blue ≡ Blues.None
+      → (edge_at (visit_link rule xs s i l).axis i).link ≡ Some k → (edge_at (visit_link rule xs s i l).axis k).blue ≡ None
   unfolding visit_link
-  link-settled s i Links.None k e d q = absurd (no_index _ k (((link-grown s i Links.None).edge i).link ∙ e) q)
-  link-settled s i (Links.To j) k e d q =
+  link-settled s i None k e d q = absurd (no_index _ k (((link-grown s i None).edge i).link ∙ e) q)
+  link-settled s i (Some j) k e d q =
       let u : State = record { axis = skipped s.axis i j; anchor = s.anchor } in
-      either (visit_link rule xs s i (Links.To j)).axis i j k (pair-closed u i j (edge_at u.axis i).blue (edge_at u.axis j).blue refl refl) d q
-      (((link-grown s i (Links.To j)).edge i).link ∙ e)
+      either (visit_link rule xs s i (Some j)).axis i j k (pair-closed u i j (edge_at u.axis i).blue (edge_at u.axis j).blue refl refl) d q
+      (((link-grown s i (Some j)).edge i).link ∙ e)
 
-  visit-settled : (s : State) (i k : ℕ) → (edge_at (visit rule xs s i).axis i).flags.done ≡ false → (edge_at (visit rule xs s i).axis i).link ≡ Links.To k
-      → (edge_at (visit rule xs s i).axis k).blue ≡ Blues.None
+  visit-settled : (s : State) (i k : ℕ) → (edge_at (visit rule xs s i).axis i).flags.done ≡ false → (edge_at (visit rule xs s i).axis i).link ≡ Some k
+      → (edge_at (visit rule xs s i).axis k).blue ≡ None
   unfolding visit
   visit-settled s i k = by (edge_at s.axis i).flags.done refl
     where
       by : (t : Bool) → (edge_at s.axis i).flags.done ≡ t → (edge_at (cond t s (visit_link rule xs s i (edge_at s.axis i).link)).axis i).flags.done ≡ false
-          → (edge_at (cond t s (visit_link rule xs s i (edge_at s.axis i).link)).axis i).link ≡ Links.To k
-          → (edge_at (cond t s (visit_link rule xs s i (edge_at s.axis i).link)).axis k).blue ≡ Blues.None
+          → (edge_at (cond t s (visit_link rule xs s i (edge_at s.axis i).link)).axis i).link ≡ Some k
+          → (edge_at (cond t s (visit_link rule xs s i (edge_at s.axis i).link)).axis k).blue ≡ None
       by true e d q = absurd (done-closed (edge_at s.axis i) e k d q)
       by false e d q = link-settled s i (edge_at s.axis i).link k refl d q
 
@@ -184,8 +183,8 @@ module _ (rule : WidthRule) (xs : List ℤ) where
   one_more s i h = record { bare = λ j k q d l. at j k q (lt-or-le j i) d l }
     where
       at : (j k : ℕ) → j < i + 1 → (j < i) ⊎ (i ≤ j) → (edge_at (visit rule xs s i).axis j).flags.done ≡ false
-          → (edge_at (visit rule xs s i).axis j).link ≡ Links.To k
-          → (edge_at (visit rule xs s i).axis k).blue ≡ Blues.None
+          → (edge_at (visit rule xs s i).axis j).link ≡ Some k
+          → (edge_at (visit rule xs s i).axis k).blue ≡ None
       at j k r (inl q) d l = (grown-settled i s.axis _ (visit-grown s i) h).bare j k q d l
       at j k r (inr q) d l =
           let e : j ≡ i = omega arith in

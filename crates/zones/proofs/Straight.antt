@@ -1,4 +1,5 @@
 -- A step of the pass, along one path, is a visit.
+use Rattle.std.specs.Prelude.{None, Some}
 use mathlib.Core.Path.{◌≡◌, refl, ap, ◌∙◌}
 use mathlib.Core.Bool.{Bool, true, false, not, cond, ◌&&◌}
 use mathlib.Core.List.{List, [], ◌∷◌}
@@ -7,10 +8,8 @@ use lib.IntN.{ℤ}
 use lib.ListN.{get_or, set}
 use lib.Seq.{set-get_or}
 use Rattle.fixed.specs.declared.width.WidthRule.{WidthRule}
-use Rattle.axis.specs.declared.kinds.Link.{Link}
-use Rattle.axis.specs.declared.kinds.Link.TheVariants as Links
-use Rattle.axis.specs.declared.kinds.Blue.{Blue}
-use Rattle.axis.specs.declared.kinds.Blue.TheVariants as Blues
+use Rattle.axis.specs.Link.{Link}
+use Rattle.axis.specs.Link.{Blue}
 use Rattle.axis.specs.declared.edge.Edge.{Edge}
 use Rattle.axis.specs.declared.edge.Axis.{Axis}
 use Rattle.axis.specs.Link.{is_linked, index_or}
@@ -87,32 +86,32 @@ module _ (rule : WidthRule) (xs : List ℤ) where
 
     zone-pair : (k : ℕ) (x y : Blue) → (edge_at axis i).blue ≡ x → by_zone rule xs axis a i k (zone_of x y) ≡ visit_pair rule xs s i k x y
     unfolding by_zone zone_of visit_pair has_blue
-    zone-pair k (Blues.Fitted z) y h =
+    zone-pair k (Some z) y h =
         ap (λ (p : Bool). record { axis = link_at rule xs (on_zone axis a (cond p i k) z) (cond p i k) (cond p k i); anchor = anchor_first a i }) (ap has_blue h)
         ∙ ap (λ (u : Axis). record { axis = u; anchor = anchor_first a i }) (link-same (on_zone axis a i z) i k)
-    zone-pair k Blues.None (Blues.Fitted z) h =
+    zone-pair k None (Some z) h =
         ap (λ (p : Bool). record { axis = link_at rule xs (on_zone axis a (cond p i k) z) (cond p i k) (cond p k i); anchor = anchor_first a i }) (ap has_blue h)
         ∙ ap (λ (u : Axis). record { axis = u; anchor = anchor_first a i }) (link-same (on_zone axis a k z) k i)
-    zone-pair k Blues.None Blues.None h = refl
+    zone-pair k None None h = refl
 
-    aligned-own : (z : ℤ) → (edge_at axis i).blue ≡ Blues.Fitted z → link_aligned rule xs (on_zone axis a i z) i i ≡ on_zone axis a i z
+    aligned-own : (z : ℤ) → (edge_at axis i).blue ≡ Some z → link_aligned rule xs (on_zone axis a i z) i i ≡ on_zone axis a i z
     unfolding link_aligned has_blue
-    aligned-own z h = let g : (edge_at (on_zone axis a i z) i).blue ≡ Blues.Fitted z = zone-keeps axis a i i z ∙ h in rw g
+    aligned-own z h = let g : (edge_at (on_zone axis a i z) i).blue ≡ Some z = zone-keeps axis a i i z ∙ h in rw g
 
     pair-alone : (x : Blue) → (edge_at axis i).blue ≡ x → visit_pair rule xs s i i x x ≡ visit_alone s i x
     unfolding visit_pair visit_alone
-    pair-alone Blues.None h = refl
-    pair-alone (Blues.Fitted z) h = ap (λ (u : Axis). record { axis = u; anchor = anchor_first a i }) (aligned-own z h)
+    pair-alone None h = refl
+    pair-alone (Some z) h = ap (λ (u : Axis). record { axis = u; anchor = anchor_first a i }) (aligned-own z h)
 
   module _ (axis : Axis) (a : Link) (i : ℕ) where
     by-link : (l : Link) → (edge_at axis i).link ≡ l → step_by rule xs (record { axis = axis; anchor = a }) i (index_or i l)
         ≡ visit_link rule xs (record { axis = axis; anchor = a }) i l
     unfolding visit_link
-    by-link Links.None h =
+    by-link None h =
         ap (λ (u : Axis). by_zone rule xs u a i i (zone_of (edge_at u i).blue (edge_at u i).blue)) (thin-alone axis i (ap is_linked h))
         ∙ zone-pair axis a i i (edge_at axis i).blue (edge_at axis i).blue refl
         ∙ pair-alone axis a i (edge_at axis i).blue refl
-    by-link (Links.To k) h =
+    by-link (Some k) h =
         ap (λ (u : Axis). by_zone rule xs u a i k (zone_of (edge_at u i).blue (edge_at u k).blue)) (thin-skipped axis i k (ap is_linked h))
         ∙ zone-pair (skipped axis i k) a i k _ _ refl
 

@@ -1,4 +1,5 @@
 -- One visit by the values that its steps find.
+use Rattle.std.specs.Prelude.{None, Some}
 use mathlib.Core.Path.{◌≡◌, sym, ap, ◌∙◌}
 use mathlib.Core.Bool.{Bool, true, false, cond}
 use mathlib.Core.List.{List}
@@ -6,9 +7,8 @@ use Prim.Native.Nat.{ℕ}
 use lib.IntN.{ℤ}
 use Rattle.signed.proofs.Choices.{cond-true, cond-false}
 use Rattle.fixed.specs.declared.width.WidthRule.{WidthRule}
-use Rattle.axis.specs.declared.kinds.Link.{Link}
-use Rattle.axis.specs.declared.kinds.Blue.{Blue}
-use Rattle.axis.specs.declared.kinds.Blue.TheVariants as Blues
+use Rattle.axis.specs.Link.{Link}
+use Rattle.axis.specs.Link.{Blue}
 use Rattle.axis.specs.declared.edge.Edge.{Edge}
 use Rattle.axis.specs.declared.edge.Axis.{Axis}
 use Rattle.axis.specs.Link.{index_or}
@@ -55,11 +55,11 @@ module _ (rule : WidthRule) (xs : List ℤ) (axis : Axis) (a : Link) (i : ℕ) w
       ∙ by-zone k (put_edge (put_edge axis i e) k g) (thin_both axis i k) x
       (thin_is k e g h.own h.other h.own_is h.other-is h.first h.second) h.zone
 
-  zone-none : (u : Axis) (k : ℕ) (x : Blue) → x ≡ Blues.None → by_zone rule xs u a i k x ≡ record { axis = u; anchor = a }
+  zone-none : (u : Axis) (k : ℕ) (x : Blue) → x ≡ None → by_zone rule xs u a i k x ≡ record { axis = u; anchor = a }
   unfolding by_zone
   zone-none u k x e = rw e
 
-  pub step-none : (k : ℕ) (e g : Edge) (x : Blue) → Thin k e g x → x ≡ Blues.None
+  pub step-none : (k : ℕ) (e g : Edge) (x : Blue) → Thin k e g x → x ≡ None
       → step rule xs s i ≡ record { axis = put_edge (put_edge axis i e) k g; anchor = a }
   step-none k e g x h q = step-thin k e g x h ∙ zone-none _ k x q
 
@@ -82,7 +82,7 @@ module _ (rule : WidthRule) (xs : List ℤ) (axis : Axis) (a : Link) (i : ℕ) w
   abbrev put_state : Axis → ℕ → ℕ → ℤ → State
   put_state u one two z = record { axis = link_at rule xs (on_zone u a one z) one two; anchor = anchor_first a i }
 
-  zone-some : (u : Axis) (k : ℕ) (x : Blue) (z : ℤ) (on : Bool) (one two : ℕ) → x ≡ Blues.Fitted z → on ≡ has_blue (edge_at u i).blue
+  zone-some : (u : Axis) (k : ℕ) (x : Blue) (z : ℤ) (on : Bool) (one two : ℕ) → x ≡ Some z → on ≡ has_blue (edge_at u i).blue
       → one ≡ cond on i k → two ≡ cond on k i → by_zone rule xs u a i k x ≡ put_state u one two z
   unfolding by_zone
   zone-some u k x z on one two e h1 h2 h3 =
@@ -90,7 +90,7 @@ module _ (rule : WidthRule) (xs : List ℤ) (axis : Axis) (a : Link) (i : ℕ) w
       let t : two ≡ cond (has_blue (edge_at u i).blue) k i = h3 ∙ ap (λ (t : Bool). cond t k i) h1 in
       rw (e, o, t)
 
-  pub step-zone : (k : ℕ) (e g : Edge) (x : Blue) (z : ℤ) (one two : ℕ) (e' g' : Edge) (a' : Link) → Thin k e g x → x ≡ Blues.Fitted z
+  pub step-zone : (k : ℕ) (e g : Edge) (x : Blue) (z : ℤ) (one two : ℕ) (e' g' : Edge) (a' : Link) → Thin k e g x → x ≡ Some z
       → Put (put_edge (put_edge axis i e) k g) k one two z e' g' a'
       → step rule xs s i ≡ record { axis = put_edge (put_edge (put_edge (put_edge axis i e) k g) one e') two g'; anchor = a' }
   step-zone k e g x z one two e' g' a' h q p =

@@ -1,12 +1,12 @@
 -- The turns of the pass: what holds before each visit, and that a visit keeps it.
+use Rattle.std.specs.Prelude.{None}
 use mathlib.Core.Path.{◌≡◌}
 use mathlib.Core.List.{List}
 use Prim.Native.Nat.{ℕ, ◌+◌, ◌*◌, ◌-◌, ◌≤◌, ◌<◌}
 use native.Mathlib.Omega.{arith}
 use lib.IntN.{ℤ}
 use Rattle.fixed.specs.declared.width.WidthRule.{WidthRule}
-use Rattle.axis.specs.declared.kinds.Link.{Link}
-use Rattle.axis.specs.declared.kinds.Link.TheVariants as Links
+use Rattle.axis.specs.Link.{Link}
 use Rattle.axis.specs.declared.edge.Axis.{Axis}
 use Rattle.axis.specs.Limits.{most_edges, most_pos}
 use Rattle.axis.specs.Accepted.{AxisWithin}
@@ -27,7 +27,7 @@ pub record Going (rule : WidthRule) (xs : List ℤ) (n i : ℕ) (axis₀ axis : 
   pub few : n ≤ most_edges
   pub count : axis.len ≡ n
   pub within : AxisWithin (grown i) axis
-  pub left : visits (step rule xs) (n - i) i (state_of axis anchor) ≡ visits (step rule xs) n 0 (state_of axis₀ Links.None)
+  pub left : visits (step rule xs) (n - i) i (state_of axis anchor) ≡ visits (step rule xs) n 0 (state_of axis₀ None)
 
 -- a visit that came to an axis within a fitted width more
 pub goes_on : {rule : WidthRule} {xs : List ℤ} {n i : ℕ} {axis₀ axis axis' : Axis} {anchor anchor' : Link}

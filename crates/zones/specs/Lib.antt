@@ -5,3 +5,5 @@ pub mod Landed
 pub mod Settled
 pub mod Pass
 pub mod Call
+-- what a call hands back, with its answer
+pub mod Answer

@@ -1,15 +1,15 @@
 -- Every edge visited, and the anchor that the visits found.
+use Rattle.std.specs.Prelude.{None}
 use Rattle.std.specs.Prelude.{List, [], ◌∷◌, ℕ, ℤ}
 use Rattle.fixed.specs.declared.width.WidthRule.{WidthRule}
-use Rattle.axis.specs.declared.kinds.Link.{Link}
-use Rattle.axis.specs.declared.kinds.Link.TheVariants as Links
+use Rattle.axis.specs.Link.{Link}
 use Rattle.axis.specs.declared.kinds.Mark.{Mark}
 use Rattle.axis.specs.declared.kinds.Mark.TheVariants as Marks
 use Rattle.axis.specs.declared.edge.Axis.{Axis}
 use Rattle.axis.specs.Mark.{unmarked_axis}
 use Rattle.axis.specs.Visits.{visits}
 use Rattle.zones.specs.Zones.{State, visit}
-use Rattle.zones.specs.declared.anchored.Anchored.{Anchored}
+use Rattle.zones.specs.Answer.{Anchored}
 
 -- an answer, an anchor and an axis
 abbrev pub anchored : Axis → Link → ℕ → Anchored
@@ -25,7 +25,7 @@ state_of axis anchor = record { axis = axis; anchor = anchor }
 
 -- every edge visited, with no anchor at the start
 unfoldable pub blues_of : WidthRule → List ℤ → Axis → Anchored
-blues_of rule xs axis = outcome (visits (visit rule xs) axis.len 0 (state_of axis Links.None))
+blues_of rule xs axis = outcome (visits (visit rule xs) axis.len 0 (state_of axis None))
 
 -- an outcome without the marks of its edges
 abbrev pub unmarked_anchored : Anchored → Anchored

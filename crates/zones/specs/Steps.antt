@@ -1,9 +1,9 @@
 -- What the steps of the pass promise each other: a visit along one path, with the edge itself where it has no link. `steps-are` shows that steps are visits.
+use Rattle.std.specs.Prelude.{None, Some}
 use Rattle.std.specs.Prelude.{Bool, not, cond, ◌&&◌, List, ℕ, ℤ}
 use Rattle.fixed.specs.declared.width.WidthRule.{WidthRule}
-use Rattle.axis.specs.declared.kinds.Link.{Link}
-use Rattle.axis.specs.declared.kinds.Blue.{Blue}
-use Rattle.axis.specs.declared.kinds.Blue.TheVariants as Blues
+use Rattle.axis.specs.Link.{Link}
+use Rattle.axis.specs.Link.{Blue}
 use Rattle.axis.specs.declared.edge.Edge.{Edge}
 use Rattle.axis.specs.declared.edge.Axis.{Axis}
 use Rattle.axis.specs.Link.{is_linked, index_or}
@@ -28,8 +28,8 @@ loses_own e f = both_zoned e f && (not f.flags.neutral && e.flags.neutral)
 
 -- the edge's own zone, or else the link's
 unfoldable pub zone_of : Blue → Blue → Blue
-zone_of Blues.None y = y
-zone_of (Blues.Fitted x) y = Blues.Fitted x
+zone_of None y = y
+zone_of (Some x) y = Some x
 
 -- the stem edge, aligned to the base edge and done where it has no zone
 unfoldable pub linked_or_zoned : WidthRule → List ℤ → Edge → Edge → Edge
@@ -49,8 +49,8 @@ link_at rule xs axis one two = put_edge axis two (linked_or_zoned rule xs (edge_
 
 -- edge i is put on the zone, or its link k where only that has one
 unfoldable pub by_zone : WidthRule → List ℤ → Axis → Link → ℕ → ℕ → Blue → State
-by_zone rule xs axis a i k Blues.None = record { axis = axis; anchor = a }
-by_zone rule xs axis a i k (Blues.Fitted z) = record {
+by_zone rule xs axis a i k None = record { axis = axis; anchor = a }
+by_zone rule xs axis a i k (Some z) = record {
   axis = link_at rule xs (on_zone axis a (cond (has_blue (edge_at axis i).blue) i k) z) (cond (has_blue (edge_at axis i).blue) i k) (cond (has_blue (edge_at axis i).blue) k i);
   anchor = anchor_first a i;
 }

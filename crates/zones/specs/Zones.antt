@@ -1,11 +1,10 @@
 -- Edges put on their blue zones (document 01, module 5), as the Rust's `align_edges_to_blues` visits them; `zones_table` has the pass, `zones_table` the call.
+use Rattle.std.specs.Prelude.{None, Some}
 use Rattle.std.specs.Prelude.{Bool, true, false, cond, ◌&&◌, List, ℕ, ℤ}
 use Rattle.fixed.specs.declared.width.WidthRule.{WidthRule}
 use Rattle.axis.specs.declared.flags.Flags.{Flags}
-use Rattle.axis.specs.declared.kinds.Link.{Link}
-use Rattle.axis.specs.declared.kinds.Link.TheVariants as Links
-use Rattle.axis.specs.declared.kinds.Blue.{Blue}
-use Rattle.axis.specs.declared.kinds.Blue.TheVariants as Blues
+use Rattle.axis.specs.Link.{Link}
+use Rattle.axis.specs.Link.{Blue}
 use Rattle.axis.specs.declared.kinds.Mark.{Mark}
 use Rattle.axis.specs.declared.kinds.Mark.TheVariants as Marks
 use Rattle.axis.specs.declared.edge.Edge.{Edge}
@@ -20,7 +19,7 @@ not_neutral f = record { round = f.round; serif = f.serif; done = f.done; neutra
 
 -- the edge without its zone, and no longer neutral
 abbrev pub unzoned : Edge → Edge
-unzoned e = changed e e.pos e.mark (not_neutral e.flags) Blues.None e.link e.serif e.last
+unzoned e = changed e e.pos e.mark (not_neutral e.flags) None e.link e.serif e.last
 
 -- where edge i and its link k both have a zone, one that is neutral is skipped: the link's, or else the edge's own
 unfoldable pub skipped : Axis → ℕ → ℕ → Axis
@@ -33,8 +32,8 @@ skipped axis i k =
 
 -- what a zone gives an edge its position as: the first one that a pass finds, while it has no anchor, is the blue anchor
 unfoldable pub zone_mark : Link → Mark
-zone_mark Links.None = Marks.BlueAnchor
-zone_mark (Links.To k) = Marks.Blue
+zone_mark None = Marks.BlueAnchor
+zone_mark (Some k) = Marks.Blue
 
 -- the edge at the zone's fitted position, done; one that was done already keeps its mark
 abbrev pub zoned_edge : Link → Edge → ℤ → Edge
@@ -57,19 +56,19 @@ pub record State : Type 0 where
 
 -- the anchor is the first edge whose visit found a zone, even where its linked edge took it
 unfoldable pub anchor_first : Link → ℕ → Link
-anchor_first Links.None i = Links.To i
-anchor_first (Links.To k) i = Links.To k
+anchor_first None i = Some i
+anchor_first (Some k) i = Some k
 
 -- an edge without link goes to its zone, where it has one
 unfoldable pub visit_alone : State → ℕ → Blue → State
-visit_alone s i Blues.None = s
-visit_alone s i (Blues.Fitted z) = record { axis = on_zone s.axis s.anchor i z; anchor = anchor_first s.anchor i }
+visit_alone s i None = s
+visit_alone s i (Some z) = record { axis = on_zone s.axis s.anchor i z; anchor = anchor_first s.anchor i }
 
 -- edge i, linked to edge k, by the zones of the two: it goes to its own, or else the link goes to the link's, and the other is aligned behind it
 unfoldable pub visit_pair : WidthRule → List ℤ → State → ℕ → ℕ → Blue → Blue → State
-visit_pair rule xs s i k (Blues.Fitted z) y = record { axis = link_aligned rule xs (on_zone s.axis s.anchor i z) i k; anchor = anchor_first s.anchor i }
-visit_pair rule xs s i k Blues.None (Blues.Fitted z) = record { axis = link_aligned rule xs (on_zone s.axis s.anchor k z) k i; anchor = anchor_first s.anchor i }
-visit_pair rule xs s i k Blues.None Blues.None = s
+visit_pair rule xs s i k (Some z) y = record { axis = link_aligned rule xs (on_zone s.axis s.anchor i z) i k; anchor = anchor_first s.anchor i }
+visit_pair rule xs s i k None (Some z) = record { axis = link_aligned rule xs (on_zone s.axis s.anchor k z) k i; anchor = anchor_first s.anchor i }
+visit_pair rule xs s i k None None = s
 
 -- the same, by the zones that the two have in the state
 abbrev pub then_pair : WidthRule → List ℤ → State → ℕ → ℕ → State
@@ -77,8 +76,8 @@ then_pair rule xs s i k = visit_pair rule xs s i k (edge_at s.axis i).blue (edge
 
 -- edge i by its link: with one, a neutral zone is skipped first
 unfoldable pub visit_link : WidthRule → List ℤ → State → ℕ → Link → State
-visit_link rule xs s i Links.None = visit_alone s i (edge_at s.axis i).blue
-visit_link rule xs s i (Links.To k) = then_pair rule xs (record { axis = skipped s.axis i k; anchor = s.anchor }) i k
+visit_link rule xs s i None = visit_alone s i (edge_at s.axis i).blue
+visit_link rule xs s i (Some k) = then_pair rule xs (record { axis = skipped s.axis i k; anchor = s.anchor }) i k
 
 -- an edge that is done is passed over
 unfoldable pub visit : WidthRule → List ℤ → State → ℕ → State

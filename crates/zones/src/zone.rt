@@ -7,8 +7,7 @@ ghost use Rattle.zones.specs.Zones.{unzoned, zone_mark, zoned_edge, anchor_first
 ghost use Rattle.zones.specs.Steps.{both_zoned, loses_own, loses_link, thinned, zone_of, linked_or_zoned};
 
 use axis::edge::{Edge, fix_at, has_blue, with_done_flag};
-use axis::kinds::{Blue, Link, Mark};
-use axis::link::is_linked;
+use axis::kinds::Mark;
 use fixed::width::WidthRule;
 use place::place::linked_edge;
 
@@ -20,7 +19,7 @@ fn unzone(edge: Edge) -> Edge
     flags.neutral = false;
     Edge {
         flags,
-        blue: Blue::None,
+        blue: None,
         ..edge
     }
 }
@@ -40,7 +39,7 @@ fn both_zoned(edge: Edge, edge2: Edge) -> bool
     ensures { result ≡ both_zoned edge edge2 }
 {
     let link = edge.link;
-    if is_linked(link) {
+    if link.is_some() {
         if has_blue(edge) {
             return has_blue(edge2);
         }
@@ -72,13 +71,13 @@ pub fn loses_own(edge: Edge, edge2: Edge) -> bool
 }
 
 // The edge's own zone, or else its link's.
-pub fn zone_of(edge: Edge, edge2: Edge) -> Blue
+pub fn zone_of(edge: Edge, edge2: Edge) -> Option<i32>
     ensures { result ≡ zone_of edge.blue edge2.blue }
 {
     let blue = edge.blue;
     match blue {
-        Blue::None => edge2.blue,
-        Blue::Fitted(z) => Blue::Fitted(z),
+        None => edge2.blue,
+        Some(z) => Some(z),
     }
 }
 
@@ -93,17 +92,17 @@ pub fn choose(first: bool, a: usize, b: usize) -> usize
 }
 
 // What a zone gives an edge its position as: the first one that the pass finds is the blue anchor.
-fn zone_mark(anchor: Link) -> Mark
+fn zone_mark(anchor: Option<u16>) -> Mark
     ensures { result ≡ zone_mark anchor }
 {
     match anchor {
-        Link::None => Mark::BlueAnchor,
-        Link::To(k) => Mark::Blue,
+        None => Mark::BlueAnchor,
+        Some(k) => Mark::Blue,
     }
 }
 
 // The edge on its zone, done; one that was done already keeps its mark.
-pub fn put_on_zone(anchor: Link, edge: Edge, fitted: i32) -> Edge
+pub fn put_on_zone(anchor: Option<u16>, edge: Edge, fitted: i32) -> Edge
     ensures { result ≡ zoned_edge anchor edge fitted }
 {
     if edge.flags.done {
@@ -126,12 +125,12 @@ pub fn align_stem(rule: WidthRule, standards: &[i32], base: Edge, stem: Edge) ->
 }
 
 // The anchor, which the first edge whose visit found a zone becomes.
-pub fn anchor_first(anchor: Link, edge: usize) -> Link
+pub fn anchor_first(anchor: Option<u16>, edge: usize) -> Option<u16>
     requires { edge < most_edges }
     ensures { result ≡ anchor_first anchor edge }
 {
     match anchor {
-        Link::None => Link::To(edge as u16),
-        Link::To(k) => Link::To(k),
+        None => Some(edge as u16),
+        Some(k) => Some(k),
     }
 }

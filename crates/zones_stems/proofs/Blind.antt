@@ -1,4 +1,5 @@
 -- Request #105, the joined call: its answer, its count, its anchor and its positions are as without marks.
+use Rattle.std.specs.Prelude.{None}
 use mathlib.Core.Path.{◌≡◌, ap, ◌∙◌}
 use mathlib.Core.Bool.{Bool, not, ◌||◌}
 use mathlib.Core.List.{List, [], ◌∷◌}
@@ -8,14 +9,13 @@ use lib.IntN.{ℤ}
 use Rattle.refusals.specs.Refusal.{◌unless◌, too_long, bad_parameter, bad_index, out_of_range, retired, refusal}
 use Rattle.fixed.specs.declared.width.WidthRule.{WidthRule}
 use Rattle.fixed.specs.Width.{rule_holds}
-use Rattle.axis.specs.declared.kinds.Link.TheVariants as Links
 use Rattle.axis.specs.declared.kinds.Group.{Group}
 use Rattle.axis.specs.declared.edge.Axis.{Axis}
 use Rattle.axis.specs.Limits.{most_edges}
 use Rattle.axis.specs.Mark.{Blind}
 use Rattle.axis.specs.Refusals.{every, is_bare}
 use Rattle.axis.proofs.Alike.{AlikeAxis, alike_len, at-alike, indices-alike, numbers-alike, answered-alike, blind}
-use Rattle.zones.specs.declared.anchored.Anchored.{Anchored}
+use Rattle.zones.specs.Answer.{Anchored}
 use Rattle.zones.specs.Call.{has_blues, align_edges_to_blues}
 use Rattle.zones.proofs.Blind.{align-edges-to-blues}
 use Rattle.stems.specs.Stems.{stems, align_stem_edges, without_marks}
@@ -52,8 +52,8 @@ module _ (group : Group) (adjust ttb : Bool) (rule : WidthRule) (xs : List ℤ) 
     same : without_marks (align_blues_and_stems a group adjust ttb rule xs) ≡ without_marks (align_blues_and_stems b group adjust ttb rule xs)
     unfolding align_blues_and_stems
     same =
-        answered-alike without_marks _ _ (stems 0 Links.None a) (stems 0 Links.None b) _ _ refused-same
-        (λ (n : ℕ). λ k. stems 0 Links.None (h.same k) n)
+        answered-alike without_marks _ _ (stems 0 None a) (stems 0 None b) _ _ refused-same
+        (λ (n : ℕ). λ k. stems 0 None (h.same k) n)
         row_same
 
   pub joined-unread : Blind (λ (axis : Axis). align_blues_and_stems axis group adjust ttb rule xs) without_marks

@@ -1,6 +1,7 @@
 -- What the call changes: position, done, neutral and zone of edges below the count, and nothing else; a refusal nothing. What it places has a mark of either
 -- pass, and an edge
 -- without such a mark from it has the position that it had, but for one that was done already and is put on its zone.
+use Rattle.std.specs.Prelude.{None}
 use mathlib.Core.Path.{◌≡◌, refl, sym, subst}
 use mathlib.Core.Bool.{Bool}
 use mathlib.Core.List.{List}
@@ -11,17 +12,16 @@ use lib.IntN.{ℤ}
 use Rattle.refusals.specs.Refusal.{refusal, answered}
 use Rattle.refusals.proofs.Tests.{all_hold}
 use Rattle.fixed.specs.declared.width.WidthRule.{WidthRule}
-use Rattle.axis.specs.declared.kinds.Link.TheVariants as Links
 use Rattle.axis.specs.declared.kinds.Group.{Group}
 use Rattle.axis.specs.declared.edge.Edge.{Edge}
 use Rattle.axis.specs.declared.edge.Axis.{Axis}
 use Rattle.axis.specs.Changes.{place, zone, Only, wherever, OnlyAxis, Changes}
 use Rattle.axis.proofs.Only.{place-zone, first_marks, last-marks, more-marks, same-axis, then-axis, wider-axis}
-use Rattle.zones.specs.declared.anchored.Anchored.{Anchored}
+use Rattle.zones.specs.Answer.{Anchored}
 use Rattle.zones.specs.Pass.{blues_marks}
 use Rattle.zones.specs.Call.{align_edges_to_blues}
 use Rattle.zones.proofs.Changed as BluesChanged
-use Rattle.stems.specs.declared.outcome.Stems.{Stems}
+use Rattle.stems.specs.Answer.{Stems}
 use Rattle.stems.specs.Stems.{stems, stems_marks}
 use Rattle.stems.proofs.Changed as StemsChanged
 use Rattle.zones_stems.specs.Joined.{joined_marks, joined_tests, then_stems, align_blues_and_stems, AlignsBluesAndStems}
@@ -55,8 +55,8 @@ module _ (axis : Axis) (group : Group) (adjust ttb : Bool) (rule : WidthRule) (x
       (wider-axis (λ (i : ℕ). ltb i zoned.axis.len) (place stems_marks) (zone joined_marks) stems-wider zoned.axis row.axis stems))
 
   -- ---- the call
-  by-refusal : (k : ℕ) → (k ≡ 0 → row.answer ≡ 0) → Changes Small (answered k (stems 0 Links.None axis) row).answer axis
-      (answered k (stems 0 Links.None axis) row).axis
+  by-refusal : (k : ℕ) → (k ≡ 0 → row.answer ≡ 0) → Changes Small (answered k (stems 0 None axis) row).answer axis
+      (answered k (stems 0 None axis) row).axis
   by-refusal zero f = record { refused = λ h. absurd (omega (arith, f refl)); only = row_small }
   by-refusal (suc k) f = record { refused = λ h. refl; only = same-axis _ axis }
 

@@ -6,7 +6,7 @@ use lib.IntN.{ℤ}
 use Rattle.fixed.specs.declared.width.WidthRule.{WidthRule}
 use Rattle.axis.specs.declared.kinds.Group.{Group}
 use Rattle.axis.specs.declared.edge.Axis.{Axis}
-use Rattle.stems.specs.declared.outcome.Stems.{Stems}
+use Rattle.stems.specs.Answer.{Stems}
 use Rattle.zones_stems.specs.Joined.{AlignsBluesAndStems}
 
 -- two outcomes that the promise allows are the same

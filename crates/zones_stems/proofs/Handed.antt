@@ -1,4 +1,5 @@
 -- What the call hands on: its positions are within `most_fitted`; and which edges it accepts.
+use Rattle.std.specs.Prelude.{None}
 use mathlib.Core.Path.{◌≡◌, refl, sym, ap, subst, ◌∙◌}
 use mathlib.Core.Bool.{Bool, true, not}
 use mathlib.Core.List.{List}
@@ -10,13 +11,12 @@ use Rattle.refusals.proofs.Tests.{AllHold, no-refusal}
 use Rattle.fixed.specs.declared.width.WidthRule.{WidthRule}
 use Rattle.fixed.specs.Width.{rule_holds}
 use Rattle.axis.specs.declared.kinds.Group.{Group}
-use Rattle.axis.specs.declared.kinds.Link.TheVariants as Links
 use Rattle.axis.specs.declared.edge.Axis.{Axis}
 use Rattle.axis.specs.Accepted.{AxisWithin}
 use Rattle.axis.specs.Handed.{EdgesAccepted}
 use Rattle.axis.specs.Limits.{most_edges}
 use Rattle.zones.specs.Call.{align_edges_to_blues}
-use Rattle.stems.specs.declared.outcome.Stems.{Stems}
+use Rattle.stems.specs.Answer.{Stems}
 use Rattle.stems.specs.Handed.{most_fitted}
 use Rattle.stems.specs.Stems.{stems}
 use Rattle.stems.proofs.Handed as StemsHanded
@@ -46,6 +46,6 @@ module _ (axis : Axis) (group : Group) (adjust ttb : Bool) (rule : WidthRule) (x
   unfolding align_blues_and_stems
   call-counts = by (refusal (joined_tests axis group ttb rule xs))
     where
-      by : (k : ℕ) → (answered k (stems 0 Links.None axis) (then_stems group adjust ttb rule xs (align_edges_to_blues axis group rule xs))).count ≤ most_edges
+      by : (k : ℕ) → (answered k (stems 0 None axis) (then_stems group adjust ttb rule xs (align_edges_to_blues axis group rule xs))).count ≤ most_edges
       by zero = let r = align_edges_to_blues axis group rule xs in StemsKept.call-counts r.axis group adjust ttb r.anchor rule xs
       by (suc k) = omega arith

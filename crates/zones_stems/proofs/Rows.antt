@@ -1,4 +1,5 @@
 -- The call is the two calls in a row: what is computed where it is accepted, and by what it is refused.
+use Rattle.std.specs.Prelude.{None}
 use mathlib.Core.Path.{◌≡◌, refl, sym, ap, subst, ◌∙◌}
 use mathlib.Core.Bool.{Bool, true, false, not, cond}
 use mathlib.Core.List.{List, [], ◌∷◌}
@@ -9,7 +10,6 @@ use Rattle.refusals.proofs.Answers.{none-refused, worked}
 use Rattle.refusals.proofs.Tests.{AllHold, all_hold, no-refusal}
 use Rattle.fixed.specs.declared.width.WidthRule.{WidthRule}
 use Rattle.fixed.specs.Width.{rule_holds}
-use Rattle.axis.specs.declared.kinds.Link.TheVariants as Links
 use Rattle.axis.specs.declared.kinds.Group.{Group}
 use Rattle.axis.specs.declared.kinds.Dimension.{Dimension}
 use Rattle.axis.specs.declared.edge.Axis.{Axis}
@@ -18,12 +18,12 @@ use Rattle.axis.specs.Handed.{EdgesAccepted}
 use Rattle.axis.specs.Limits.{most_pos}
 use Rattle.axis.specs.Refusals.{link_holds, edges_short, bottom_to_top}
 use Rattle.axis.proofs.Accepting.{link-holds, edges-within}
-use Rattle.zones.specs.declared.anchored.Anchored.{Anchored}
+use Rattle.zones.specs.Answer.{Anchored}
 use Rattle.zones.specs.Pass.{anchored, blues_of}
 use Rattle.zones.proofs.ChangedPass.{blues-only}
 use Rattle.zones.specs.Call.{has_blues, blues_where, blues_tests, align_edges_to_blues}
 use Rattle.zones.proofs.Handed as BluesHanded
-use Rattle.stems.specs.declared.outcome.Stems.{Stems}
+use Rattle.stems.specs.Answer.{Stems}
 use Rattle.stems.specs.Stems.{stems, stems_of, mode_of, stems_tests, align_stem_edges}
 use Rattle.stems.proofs.Handed as StemsHanded
 use Rattle.zones_stems.specs.Joined.{zones_hold, joined_tests, then_stems, align_blues_and_stems}
@@ -65,14 +65,14 @@ module _ (axis : Axis) (group : Group) (adjust ttb : Bool) (rule : WidthRule) (x
   same-dim : zoned.axis.dim ≡ axis.dim
   same-dim = go (has_blues group axis.dim)
     where
-      go : (t : Bool) → (cond t (blues_of rule xs axis) (anchored axis Links.None 0)).axis.dim ≡ axis.dim
+      go : (t : Bool) → (cond t (blues_of rule xs axis) (anchored axis None 0)).axis.dim ≡ axis.dim
       go true = (blues-only rule xs axis most_pos (edges-within axis edges)).dim
       go false = refl
 
   pub same_len : zoned.axis.len ≡ axis.len
   same_len = go (has_blues group axis.dim)
     where
-      go : (t : Bool) → (cond t (blues_of rule xs axis) (anchored axis Links.None 0)).axis.len ≡ axis.len
+      go : (t : Bool) → (cond t (blues_of rule xs axis) (anchored axis None 0)).axis.len ≡ axis.len
       go true = (blues-only rule xs axis most_pos (edges-within axis edges)).len
       go false = refl
 
@@ -95,19 +95,19 @@ module _ (axis : Axis) (group : Group) (adjust ttb : Bool) (rule : WidthRule) (x
       → align_blues_and_stems axis group adjust ttb rule xs ≡ then_stems group adjust ttb rule xs (align_edges_to_blues axis group rule xs)
   unfolding align_blues_and_stems
   accepted-row e =
-      worked (stems 0 Links.None axis) (then_stems group adjust ttb rule xs (align_edges_to_blues axis group rule xs))
+      worked (stems 0 None axis) (then_stems group adjust ttb rule xs (align_edges_to_blues axis group rule xs))
       (refusal (joined_tests axis group ttb rule xs)) e
 
   -- so that it is its refusal, or the stem pass behind the blue zones
   pub passes : align_blues_and_stems axis group adjust ttb rule xs
-      ≡ answered (refusal (joined_tests axis group ttb rule xs)) (stems 0 Links.None axis)
+      ≡ answered (refusal (joined_tests axis group ttb rule xs)) (stems 0 None axis)
       (stems_of (mode_of axis group adjust rule) xs (blues_where axis group rule xs).anchor (blues_where axis group rule xs).axis)
   unfolding align_blues_and_stems
   passes = by (refusal (joined_tests axis group ttb rule xs)) refl
     where
       by : (k : ℕ) → refusal (joined_tests axis group ttb rule xs) ≡ k
-          → answered k (stems 0 Links.None axis) (then_stems group adjust ttb rule xs (align_edges_to_blues axis group rule xs))
-          ≡ answered k (stems 0 Links.None axis) (stems_of (mode_of axis group adjust rule) xs (blues_where axis group rule xs).anchor
+          → answered k (stems 0 None axis) (then_stems group adjust ttb rule xs (align_edges_to_blues axis group rule xs))
+          ≡ answered k (stems 0 None axis) (stems_of (mode_of axis group adjust rule) xs (blues_where axis group rule xs).anchor
           (blues_where axis group rule xs).axis)
       by zero e = sym (in_a_row axis group adjust ttb rule xs (all_hold (joined_tests axis group ttb rule xs) refl e))
       by (suc k) e = refl
@@ -116,14 +116,14 @@ module _ (axis : Axis) (group : Group) (adjust ttb : Bool) (rule : WidthRule) (x
   pub unrefused : (align_blues_and_stems axis group adjust ttb rule xs).answer ≡ 0 → refusal (joined_tests axis group ttb rule xs) ≡ 0
   unfolding align_blues_and_stems
   unrefused e =
-      none-refused (stems 0 Links.None axis) (then_stems group adjust ttb rule xs (align_edges_to_blues axis group rule xs)) (λ (r : Stems). r.answer)
+      none-refused (stems 0 None axis) (then_stems group adjust ttb rule xs (align_edges_to_blues axis group rule xs)) (λ (r : Stems). r.answer)
       (λ (k : ℕ). refl)
       (refusal (joined_tests axis group ttb rule xs)) e
 
 -- ---- refusals
 -- where no zone stands in the way it is refused as the stem call without an anchor is
 pub refused-as-stems : (axis : Axis) (group : Group) (ttb : Bool) (rule : WidthRule) (xs : List ℤ) → zones_hold group axis ≡ true
-    → refusal (joined_tests axis group ttb rule xs) ≡ refusal (stems_tests axis ttb Links.None rule xs)
+    → refusal (joined_tests axis group ttb rule xs) ≡ refusal (stems_tests axis ttb None rule xs)
 unfolding refusal link_holds
 refused-as-stems axis group ttb rule xs h = rw h
 

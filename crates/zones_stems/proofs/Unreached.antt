@@ -1,4 +1,5 @@
 -- Request #108: the stem pass behind the one over blue zones never finds an edge whose link has a zone.
+use Rattle.std.specs.Prelude.{None, Some}
 use mathlib.Core.Path.{◌≡◌, refl, sym, subst}
 use mathlib.Core.Bool.{Bool, true, false, cond, ◌||◌}
 use mathlib.Core.List.{List}
@@ -9,10 +10,8 @@ use lib.IntN.{ℤ}
 use Rattle.refusals.specs.Refusal.{refusal}
 use Rattle.refusals.proofs.Tests.{AllHold, all_hold}
 use Rattle.fixed.specs.declared.width.WidthRule.{WidthRule}
-use Rattle.axis.specs.declared.kinds.Link.{Link}
-use Rattle.axis.specs.declared.kinds.Link.TheVariants as Links
-use Rattle.axis.specs.declared.kinds.Blue.{Blue}
-use Rattle.axis.specs.declared.kinds.Blue.TheVariants as Blues
+use Rattle.axis.specs.Link.{Link}
+use Rattle.axis.specs.Link.{Blue}
 use Rattle.axis.specs.declared.kinds.Group.{Group}
 use Rattle.axis.specs.declared.edge.Axis.{Axis}
 use Rattle.axis.specs.Accepted.{AxisWithin}
@@ -38,10 +37,10 @@ use Rattle.zones_stems.proofs.Rows.{edges, same_len}
 
 -- ---- behind the blue zones
 -- an edge without a zone has none
-bare-is : (b : Blue) → has_blue b ≡ false → b ≡ Blues.None
+bare-is : (b : Blue) → has_blue b ≡ false → b ≡ None
 unfolding has_blue
-bare-is Blues.None h = refl
-bare-is (Blues.Fitted z) h = absurd (clash (has_blue (Blues.Fitted z)) h refl)
+bare-is None h = refl
+bare-is (Some z) h = absurd (clash (has_blue (Some z)) h refl)
 
 module _ (axis : Axis) (within : AxisWithin most_pos axis) where
   -- where no edge has a zone, none has a link with one
@@ -54,9 +53,9 @@ module _ (axis : Axis) (within : AxisWithin most_pos axis) where
 
   -- by the zones of the group
   module _ (group : Group) (rule : WidthRule) (xs : List ℤ) where
-    by-group : (t : Bool) → (t || every_edge is_bare axis) ≡ true → Settled axis.len (cond t (blues_of rule xs axis) (anchored axis Links.None 0)).axis
+    by-group : (t : Bool) → (t || every_edge is_bare axis) ≡ true → Settled axis.len (cond t (blues_of rule xs axis) (anchored axis None 0)).axis
     unfolding blues_of
-    by-group true h = pass-settled rule xs axis.len (record { axis = axis; anchor = Links.None })
+    by-group true h = pass-settled rule xs axis.len (record { axis = axis; anchor = None })
     by-group false h = none-settled h
 
     pub where-settled : zones_hold group axis ≡ true → Settled axis.len (blues_where axis group rule xs).axis

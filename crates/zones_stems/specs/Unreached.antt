@@ -1,6 +1,6 @@
 -- The words of request #108: in the joined call the stem pass never finds an edge whose link has a zone.
 use Rattle.std.specs.Prelude.{List, ℕ, ◌≤◌, ℤ}
-use Rattle.axis.specs.declared.kinds.Link.{Link}
+use Rattle.axis.specs.Link.{Link}
 use Rattle.axis.specs.declared.edge.Axis.{Axis}
 use Rattle.axis.specs.Visits.{visits}
 use Rattle.zones.specs.Settled.{Settled}

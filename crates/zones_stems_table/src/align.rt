@@ -1,13 +1,15 @@
 // The call.
 ghost use Rattle.std.specs.Prelude.{◌≡◌};
+ghost use Rattle.refusals.specs.Outcome.{answer_of};
 ghost use Rattle.refusals.specs.Refusal.{refusal};
 ghost use Rattle.zones_stems.specs.Joined.{zones_hold, joined_tests, AlignsBluesAndStems};
+ghost use Rattle.stems.specs.Answer.{outcome_of};
 
 use axis::accept::{EdgeTest, edges_indices, edges_numbers, every_edge, few_edges};
 use axis::edge::Axis;
-use axis::kinds::{Group, Link};
+use axis::kinds::Group;
 use fixed::width::{WidthRule, rule_holds};
-use refusals::order::{BAD_INDEX, BAD_PARAMETER, OUT_OF_RANGE, RETIRED, TOO_LONG, or_refused};
+use refusals::order::{Refusal, require};
 use stems::kinds::Mode;
 use stems::outcome::Stems;
 use stems_table::pass::align_stems;
@@ -25,22 +27,22 @@ fn zones_hold(axis: Axis, group: Group) -> bool
     every_edge(axis, EdgeTest::Bare)
 }
 
-// The refusal of the call, or 0.
+// The refusal of the call, if there is one.
 fn joined_refusal(
     axis: Axis,
     group: Group,
     top_to_bottom: bool,
     rule: WidthRule,
     standards: &[i32],
-) -> u8
-    ensures { result ≡ refusal (joined_tests axis group top_to_bottom rule standards.now) }
+) -> Result<(), Refusal>
+    ensures { answer_of result ≡ refusal (joined_tests axis group top_to_bottom rule standards.now) }
 {
-    let answer = or_refused(0, few_edges(axis.len), TOO_LONG);
-    let answer = or_refused(answer, !top_to_bottom, RETIRED);
-    let answer = or_refused(answer, rule_holds(rule, standards), BAD_PARAMETER);
-    let answer = or_refused(answer, zones_hold(axis, group), BAD_PARAMETER);
-    let answer = or_refused(answer, edges_indices(axis), BAD_INDEX);
-    or_refused(answer, edges_numbers(axis), OUT_OF_RANGE)
+    require(few_edges(axis.len), Refusal::TooLong)?;
+    require(!top_to_bottom, Refusal::Retired)?;
+    require(rule_holds(rule, standards), Refusal::BadParameter)?;
+    require(zones_hold(axis, group), Refusal::BadParameter)?;
+    require(edges_indices(axis), Refusal::BadIndex)?;
+    require(edges_numbers(axis), Refusal::OutOfRange)
 }
 
 // Aligns edges to their blue zones, then all stems beside the anchor that these left, and hands back how many edges the stems passed over, and the anchor behind them.
@@ -51,18 +53,10 @@ pub fn align_blues_and_stems(
     top_to_bottom: bool,
     rule: WidthRule,
     standards: &[i32],
-) -> Stems
-    ensures { AlignsBluesAndStems axis group stem_adjust top_to_bottom rule standards.now result }
+) -> Result<Stems, Refusal>
+    ensures { AlignsBluesAndStems axis group stem_adjust top_to_bottom rule standards.now (outcome_of axis result) }
 {
-    let answer = joined_refusal(axis, group, top_to_bottom, rule, standards);
-    if 0 < answer {
-        return Stems {
-            answer,
-            count: 0,
-            anchor: Link::None,
-            axis,
-        };
-    }
+    joined_refusal(axis, group, top_to_bottom, rule, standards)?;
     let zoned = align_where_zoned(axis, group, rule, standards);
     let dim = axis.dim;
     let mode = Mode {
@@ -72,5 +66,5 @@ pub fn align_blues_and_stems(
         rule,
     };
     let anchor = zoned.anchor;
-    align_stems(zoned.axis, mode, standards, anchor, false)
+    Ok(align_stems(zoned.axis, mode, standards, anchor, false))
 }

@@ -1,4 +1,5 @@
 -- Blue zones and then stems, by what the test of the edges tells.
+use Rattle.std.specs.Prelude.{None}
 use mathlib.Core.Path.{◌≡◌, refl, sym, ap, subst, ◌∙◌}
 use mathlib.Core.Bool.{Bool, true, false, ◌&&◌}
 use mathlib.Core.List.{List, [], ◌∷◌}
@@ -12,15 +13,14 @@ use Rattle.fixed.specs.declared.width.WidthRule.{WidthRule}
 use Rattle.fixed.specs.Width.{rule_holds}
 use Rattle.axis.specs.declared.kinds.Dimension.{Dimension}
 use Rattle.axis.specs.declared.kinds.Group.{Group}
-use Rattle.axis.specs.declared.kinds.Link.{Link}
-use Rattle.axis.specs.declared.kinds.Link.TheVariants as Links
+use Rattle.axis.specs.Link.{Link}
 use Rattle.axis.specs.declared.edge.Axis.{Axis}
 use Rattle.axis.specs.Limits.{most_edges, most_pos}
 use Rattle.axis.specs.Accepted.{Below, AxisWithin}
 use Rattle.axis.specs.Refusals.{edges_indices, edges_numbers, bottom_to_top}
-use Rattle.zones.specs.declared.anchored.Anchored.{Anchored}
+use Rattle.zones.specs.Answer.{Anchored}
 use Rattle.zones.specs.Call.{blues_where}
-use Rattle.stems.specs.declared.outcome.Stems.{Stems}
+use Rattle.stems.specs.Answer.{Stems}
 use Rattle.stems.specs.Stems.{stems, stems_of, mode_of}
 use Rattle.stems.specs.StepsPass.{SettledWithout}
 use Rattle.zones_stems.specs.Joined.{zones_hold, joined_tests, align_blues_and_stems}
@@ -93,7 +93,7 @@ module _ (ws : List ℤ) (dim group adjust ttb rule : ℤ) (xs : List ℤ) {d : 
   result = stems_of (mode_of A g (choice_of adjust) width) xs zoned.anchor zoned.axis
 
   abbrev call : Stems
-  call = answered (refusal tests) (stems 0 Links.None A) result
+  call = answered (refusal tests) (stems 0 None A) result
 
   call-is : call ≡ joined_aligned ws dim group adjust ttb rule xs
   call-is =
@@ -112,7 +112,7 @@ module _ (ws : List ℤ) (dim group adjust ttb rule : ℤ) (xs : List ℤ) {d : 
     unfolding stems_of
     joined-refused h =
         lent-as
-        (call-refused ws t.others t.own true true t.answer (λ (x : Stems). x.answer) (λ (x : Stems). stems_words ws x) tests (stems 0 Links.None A)
+        (call-refused ws t.others t.own true true t.answer (λ (x : Stems). x.answer) (λ (x : Stems). stems_words ws x) tests (stems 0 None A)
         result (λ k. refl) refl joined_same h)
 
     pub joined-done : r ≤ 0 → {start : Link} {w1 now : List ℤ} {a : Bool} {p : Passed} {c f : ℤ} → ZonedWhere d g width xs start ws w1 → a ≡ choice_of adjust
@@ -121,7 +121,7 @@ module _ (ws : List ℤ) (dim group adjust ttb rule : ℤ) (xs : List ℤ) {d : 
     unfolding stems_of flat_axis axis_run
     joined-done h {start} {w1} {now} {a} {p} {c} {f} z v b x y =
         lent-as
-        (call-done ws t.others t.own true true t.answer (λ (x : Stems). x.answer) (λ (x : Stems). stems_words ws x) tests (stems 0 Links.None A)
+        (call-done ws t.others t.own true true t.answer (λ (x : Stems). x.answer) (λ (x : Stems). stems_words ws x) tests (stems 0 None A)
         result (λ k. refl) refl joined_same h
         (passed_words ws d (blues-ready h).1.0 z.long b same x y))
       where

@@ -8,12 +8,12 @@ use Rattle.fixed.specs.declared.width.WidthRule.{WidthRule}
 use Rattle.fixed.specs.Width.{rule_holds}
 use Rattle.axis.specs.declared.kinds.Dimension.{Dimension}
 use Rattle.axis.specs.declared.kinds.Group.{Group}
-use Rattle.axis.specs.declared.kinds.Link.{Link}
+use Rattle.axis.specs.Link.{Link}
 use Rattle.axis.specs.Limits.{most_pos}
 use Rattle.axis.specs.Accepted.{Below, AxisWithin}
 use Rattle.axis.proofs.Accepting.{edges-within}
 use Rattle.zones.specs.Settled.{Settled}
-use Rattle.zones.specs.declared.anchored.Anchored.{Anchored}
+use Rattle.zones.specs.Answer.{Anchored}
 use Rattle.stems.specs.StepsPass.{SettledWithout}
 use Rattle.zones_stems.specs.Joined.{joined_tests}
 use Rattle.zones_stems.proofs.Rows.{edges, zoned-edges, zoned-anchor}

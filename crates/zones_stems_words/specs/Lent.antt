@@ -2,7 +2,7 @@
 -- the count of the edges passed over and for the anchor found.
 use Rattle.std.specs.Prelude.{◌&&◌, List, ℕ, ℤ}
 use Rattle.axis.specs.declared.kinds.Direction.TheVariants as Directions
-use Rattle.stems.specs.declared.outcome.Stems.{Stems}
+use Rattle.stems.specs.Answer.{Stems}
 use Rattle.zones_stems.specs.Joined.{align_blues_and_stems}
 use Rattle.words.specs.Field.{choice_of, dimension_of, group_of, rule_of}
 use Rattle.words.specs.Edge.{flat_axis}

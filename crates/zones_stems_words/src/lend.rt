@@ -1,9 +1,10 @@
 // Blue zones and then stems over lent edges: the edges are tested and aligned where their words stand.
+ghost use Rattle.refusals.specs.Outcome.{answer_of};
 ghost use Rattle.zones_stems_words.specs.Lent.{JoinedLent};
 
 use super::test::zones_hold;
 use fixed::width::rule_holds;
-use refusals::order::{BAD_PARAMETER, RETIRED, or_refused};
+use refusals::order::{Refusal, require};
 use stems::kinds::Mode;
 use stems_words::pass::stems_in;
 use words::field::{choice_of, dimension_of, group_of, link_word, rule_of};
@@ -24,9 +25,9 @@ pub fn lend_joined(
     standards: &[i32],
     count: &mut i32,
     found: &mut i32,
-) -> u8
+) -> Result<(), Refusal>
     ensures { JoinedLent edges.old dim group stem_adjust top_to_bottom rule standards.now count.old found.old
-        result (edges.new, (count.new, found.new)) }
+        (answer_of result) (edges.new, (count.new, found.new)) }
 {
     let others = both(
         are_choices(dim, group, stem_adjust),
@@ -35,13 +36,10 @@ pub fn lend_joined(
     let axis = dimension_of(dim);
     let script = group_of(group);
     let width = rule_of(rule);
-    let order = or_refused(0, !choice_of(top_to_bottom), RETIRED);
-    let right = or_refused(order, rule_holds(width, standards), BAD_PARAMETER);
-    let own = or_refused(right, zones_hold(edges, axis, script), BAD_PARAMETER);
-    let answer = edges_test(edges, others, own, true, true);
-    if 0 < answer {
-        return answer;
-    }
+    let order = require(!choice_of(top_to_bottom), Refusal::Retired);
+    let right = order.and(require(rule_holds(width, standards), Refusal::BadParameter));
+    let own = right.and(require(zones_hold(edges, axis, script), Refusal::BadParameter));
+    edges_test(edges, others, own, true, true)?;
     let start = where_zoned_in(edges, axis, script, width, standards);
     let mode = Mode {
         dim: axis,
@@ -53,5 +51,5 @@ pub fn lend_joined(
     let last = passed.anchor;
     *count = count_word(passed.count);
     *found = link_word(last);
-    0
+    Ok(())
 }

@@ -4,10 +4,9 @@ ghost use Rattle.axis.specs.Limits.{most_pos};
 ghost use Rattle.axis.specs.Accepted.{AxisWithin};
 ghost use Rattle.fixed.specs.Width.{rule_holds};
 ghost use Rattle.zones.specs.Pass.{blues_of};
+ghost use Rattle.zones.specs.Answer.{passed_of};
 
 use axis::edge::{Axis, has_blue};
-use axis::kinds::{Blue, Link};
-use axis::link::index_or;
 use fixed::width::WidthRule;
 use zones::anchored::Anchored;
 use zones::zone::{
@@ -18,18 +17,18 @@ use zones::zone::{
 pub fn align_to_zones(axis: Axis, rule: WidthRule, standards: &[i32]) -> Anchored
     requires standards_value { rule_holds rule standards.now ≡ true }
     requires axis_within { AxisWithin most_pos axis }
-    ensures { result ≡ blues_of rule standards.now axis }
+    ensures { passed_of result ≡ blues_of rule standards.now axis }
 {
     let n = axis.len;
     let mut aligned = axis;
-    let mut anchor = Link::None;
+    let mut anchor = None;
     for i in 0..n {
         let edge = aligned.edges[i];
         if edge.flags.done {
             continue;
         }
         let link = edge.link;
-        let k = index_or(link, i);
+        let k = link.map_or(i, usize::from);
         let edge2 = aligned.edges[k];
         let own = loses_own(edge, edge2);
         let other = loses_link(edge, edge2);
@@ -37,7 +36,7 @@ pub fn align_to_zones(axis: Axis, rule: WidthRule, standards: &[i32]) -> Anchore
         aligned.edges[k] = thin(other, aligned.edges[k]);
         let visited = aligned.edges[i];
         let zone = zone_of(visited, aligned.edges[k]);
-        let Blue::Fitted(fitted) = zone else {
+        let Some(fitted) = zone else {
             continue;
         };
         let on = has_blue(visited);
@@ -48,7 +47,6 @@ pub fn align_to_zones(axis: Axis, rule: WidthRule, standards: &[i32]) -> Anchore
         anchor = anchor_first(anchor, i);
     }
     Anchored {
-        answer: 0,
         anchor,
         axis: aligned,
     }

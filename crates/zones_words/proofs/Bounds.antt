@@ -1,4 +1,5 @@
 -- How far a step moves edges: by a fitted width at most.
+use Rattle.std.specs.Prelude.{None, Some}
 use mathlib.Core.Path.{◌≡◌, refl}
 use mathlib.Core.Bool.{Bool, true, false, cond}
 use mathlib.Core.List.{List}
@@ -7,9 +8,8 @@ use native.Mathlib.Omega.{arith}
 use lib.IntN.{ℤ}
 use Rattle.signed.specs.Range.{Between}
 use Rattle.fixed.specs.declared.width.WidthRule.{WidthRule}
-use Rattle.axis.specs.declared.kinds.Link.{Link}
-use Rattle.axis.specs.declared.kinds.Blue.{Blue}
-use Rattle.axis.specs.declared.kinds.Blue.TheVariants as Blues
+use Rattle.axis.specs.Link.{Link}
+use Rattle.axis.specs.Link.{Blue}
 use Rattle.axis.specs.declared.edge.Axis.{Axis}
 use Rattle.axis.specs.Link.{index_or}
 use Rattle.axis.specs.Edge.{edge_at, has_blue}
@@ -35,8 +35,8 @@ module _ (rule : WidthRule) (xs : List ℤ) (m n i : ℕ) (axis : Axis) (a : Lin
   by-zone-within : (k : ℕ) (u : Axis) (x : Blue) → AxisWithin m u → u.len ≡ n → k < n → x ≡ zone_of (edge_at u i).blue (edge_at u k).blue
       → AxisWithin (m + most_width) (by_zone rule xs u a i k x).axis
   unfolding by_zone
-  by-zone-within k u Blues.None g l hk q = within_more m (m + most_width) u (omega arith) g
-  by-zone-within k u (Blues.Fitted z) g l hk q =
+  by-zone-within k u None g l hk q = within_more m (m + most_width) u (omega arith) g
+  by-zone-within k u (Some z) g l hk q =
       let t = has_blue (edge_at u i).blue in
       let h1 = choice-in n i k (cond t i k) t hi hk refl in
       let h2 = choice-in n k i (cond t k i) t hk hi refl in

@@ -1,4 +1,5 @@
 -- Blue zones, by what the test of the edges tells.
+use Rattle.std.specs.Prelude.{None}
 use mathlib.Core.Path.{◌≡◌, refl, sym, ap, subst, ◌∙◌}
 use mathlib.Core.Bool.{Bool, true}
 use mathlib.Core.List.{List}
@@ -12,13 +13,12 @@ use Rattle.fixed.specs.declared.width.WidthRule.{WidthRule}
 use Rattle.fixed.specs.Width.{rule_holds}
 use Rattle.axis.specs.declared.kinds.Dimension.{Dimension}
 use Rattle.axis.specs.declared.kinds.Group.{Group}
-use Rattle.axis.specs.declared.kinds.Link.{Link}
-use Rattle.axis.specs.declared.kinds.Link.TheVariants as Links
+use Rattle.axis.specs.Link.{Link}
 use Rattle.axis.specs.declared.edge.Axis.{Axis}
 use Rattle.axis.specs.Limits.{most_edges, most_pos}
 use Rattle.axis.specs.Accepted.{AxisWithin}
 use Rattle.axis.specs.Refusals.{edges_indices, edges_numbers}
-use Rattle.zones.specs.declared.anchored.Anchored.{Anchored}
+use Rattle.zones.specs.Answer.{Anchored}
 use Rattle.zones.specs.Pass.{anchored}
 use Rattle.zones.specs.Call.{has_blues, blues_where, blues_tests, align_edges_to_blues}
 use Rattle.zones.proofs.Changed.{accepted}
@@ -71,7 +71,7 @@ module _ (ws : List ℤ) (dim group rule : ℤ) (xs : List ℤ) (anchor-old : �
   unfolding align_edges_to_blues
   zones-refused h =
       call-refused ws (choices dim group rule) _ _ _ zones-is (λ (x : Anchored). x.answer) (λ (x : Anchored). zones_words ws x)
-      (blues_tests Z (rule_of rule) xs) (anchored Z Links.None) aligned
+      (blues_tests Z (rule_of rule) xs) (anchored Z None) aligned
       (λ k. refl) none-refused zones-same h
 
   pub zones-done : r ≤ 0 → {d : Dimension} {g : Group} {l : Link} {y : ℤ} {now : List ℤ} → d ≡ dimension_of dim → g ≡ group_of group → y ≡ link_word l
@@ -82,5 +82,5 @@ module _ (ws : List ℤ) (dim group rule : ℤ) (xs : List ℤ) (anchor-old : �
       let a = zoned-as p q w z in
       let words = axis-over ws now (dimension_of dim) (zones-ready h).1.0 a.whole a.long (ap (λ (x : Anchored). x.axis) a.pass) in
       call-done ws (choices dim group rule) _ _ _ zones-is (λ (x : Anchored). x.answer) (λ (x : Anchored). zones_words ws x) (blues_tests Z (rule_of rule) xs)
-      (anchored Z Links.None) aligned
+      (anchored Z None) aligned
       (λ k. refl) none-refused zones-same h (λ k. (words k, (u ∙ ap (λ (x : Anchored). link_word x.anchor) a.pass) k))

@@ -1,4 +1,5 @@
 -- The pass, and where it is done.
+use Rattle.std.specs.Prelude.{None}
 use mathlib.Core.Path.{◌≡◌, refl, sym, ap, subst, ◌∙◌}
 use mathlib.Core.Bool.{Bool, true, false, cond}
 use mathlib.Core.List.{List}
@@ -8,8 +9,7 @@ use lib.IntN.{ℤ}
 use Rattle.fixed.specs.declared.width.WidthRule.{WidthRule}
 use Rattle.axis.specs.declared.kinds.Dimension.{Dimension}
 use Rattle.axis.specs.declared.kinds.Group.{Group}
-use Rattle.axis.specs.declared.kinds.Link.{Link}
-use Rattle.axis.specs.declared.kinds.Link.TheVariants as Links
+use Rattle.axis.specs.Link.{Link}
 use Rattle.axis.specs.declared.edge.Axis.{Axis}
 use Rattle.axis.specs.Limits.{most_pos}
 use Rattle.axis.specs.Accepted.{AxisWithin}
@@ -36,9 +36,9 @@ Reached i axis anchor = AxisWithin (grown i) axis
 
 module _ (rule : WidthRule) (xs : List ℤ) where
   abbrev pub Zoning : ℕ → List ℤ → List ℤ → Link → ℕ → Type 0
-  Zoning n ws₀ ws anchor i = Passing state_of (step rule xs) Reached n ws₀ Links.None ws anchor i
+  Zoning n ws₀ ws anchor i = Passing state_of (step rule xs) Reached n ws₀ None ws anchor i
 
-  pub zoning-starts : {n : ℕ} {ws : List ℤ} → Whole ws → n ≡ edges_in ws → AxisWithin most_pos (edges_of ws) → Zoning n ws ws Links.None 0
+  pub zoning-starts : {n : ℕ} {ws : List ℤ} → Whole ws → n ≡ edges_in ws → AxisWithin most_pos (edges_of ws) → Zoning n ws ws None 0
   zoning-starts w e h = pass-starts state_of (step rule xs) Reached w e h
 
   module _ {n : ℕ} {ws₀ ws : List ℤ} {anchor : Link} {i : ℕ} (p : Zoning n ws₀ ws anchor i) where
@@ -59,7 +59,7 @@ module _ (rule : WidthRule) (xs : List ℤ) where
       long = p.long;
       pass =
           λ (d : Dimension). ap outcome (pass-ends state_of (step rule xs) Reached p h d
-          ∙ steps-are rule xs (axis_in ws₀ d).len 0 (state_of (axis_in ws₀ d) Links.None));
+          ∙ steps-are rule xs (axis_in ws₀ d).len 0 (state_of (axis_in ws₀ d) None));
     }
 
 -- ---- where the group has zones
@@ -76,12 +76,12 @@ module _ (dim : Dimension) (group : Group) (rule : WidthRule) (xs ws : List ℤ)
   where-zoned q z = record {
     whole = z.whole;
     long = z.long;
-    pass = z.pass dim ∙ ap (λ (x : Bool). cond x (blues_of rule xs (axis_in ws dim)) (anchored (axis_in ws dim) Links.None 0)) (sym (tested q));
+    pass = z.pass dim ∙ ap (λ (x : Bool). cond x (blues_of rule xs (axis_in ws dim)) (anchored (axis_in ws dim) None 0)) (sym (tested q));
   }
 
-  pub where-none : t ≡ false → Whole ws → ZonedWhere dim group rule xs Links.None ws ws
+  pub where-none : t ≡ false → Whole ws → ZonedWhere dim group rule xs None ws ws
   where-none q w = record {
     whole = w;
     long = refl;
-    pass = ap (λ (x : Bool). cond x (blues_of rule xs (axis_in ws dim)) (anchored (axis_in ws dim) Links.None 0)) (sym (tested q));
+    pass = ap (λ (x : Bool). cond x (blues_of rule xs (axis_in ws dim)) (anchored (axis_in ws dim) None 0)) (sym (tested q));
   }

@@ -1,4 +1,5 @@
 -- The stores of a visit, by what the code has read of the edges.
+use Rattle.std.specs.Prelude.{None}
 use mathlib.Core.Path.{◌≡◌, refl, sym, ap, ◌∙◌}
 use mathlib.Core.Bool.{Bool, true, false, cond}
 use mathlib.Core.List.{List}
@@ -6,9 +7,8 @@ use Prim.Native.Nat.{ℕ, ◌<◌}
 use lib.IntN.{ℤ}
 use Rattle.fixed.specs.declared.width.WidthRule.{WidthRule}
 use Rattle.axis.specs.declared.flags.Flags.{Flags}
-use Rattle.axis.specs.declared.kinds.Blue.TheVariants as Blues
 use Rattle.axis.specs.declared.kinds.Dimension.{Dimension}
-use Rattle.axis.specs.declared.kinds.Link.{Link}
+use Rattle.axis.specs.Link.{Link}
 use Rattle.axis.specs.declared.kinds.Mark.{Mark}
 use Rattle.axis.specs.declared.kinds.Mark.TheVariants.{Linked}
 use Rattle.axis.specs.declared.edge.Edge.{Edge}
@@ -36,8 +36,8 @@ thin-law ws w1 w2 i t fl w h e q a b = became-as both (became-then a b)
     both : (d : Dimension) → unzoning i (flagging i (not_neutral fl) (axis_in ws d)) ≡ thinning i t (axis_in ws d)
     both d =
         let A = axis_in ws d in
-        put-again (λ (x : Edge). zoned x Blues.None) ws d i (flagged (edge_at A i) (not_neutral fl)) w h
-        ∙ ap (λ (f : Flags). put_edge A i (zoned (flagged (edge_at A i) (not_neutral f)) Blues.None)) (q ∙ sym (flags-in ws d i w h))
+        put-again (λ (x : Edge). zoned x None) ws d i (flagged (edge_at A i) (not_neutral fl)) w h
+        ∙ ap (λ (f : Flags). put_edge A i (zoned (flagged (edge_at A i) (not_neutral f)) None)) (q ∙ sym (flags-in ws d i w h))
         ∙ ap (λ (x : Bool). thinning i x A) (sym e)
 
 pub thin-none : (ws : List ℤ) (i : ℕ) (t : Bool) → Whole ws → t ≡ false → Became (thinning i t) ws ws

@@ -1,4 +1,5 @@
 -- The visit of an edge, by what the code has read.
+use Rattle.std.specs.Prelude.{None, Some}
 use mathlib.Core.Path.{◌≡◌, refl, sym, ap, subst, ◌∙◌}
 use mathlib.Core.Bool.{Bool, true, false, cond}
 use mathlib.Core.List.{List}
@@ -7,9 +8,8 @@ use native.Mathlib.Omega.{arith}
 use lib.IntN.{ℤ}
 use Rattle.signed.specs.Range.{Between}
 use Rattle.fixed.specs.declared.width.WidthRule.{WidthRule}
-use Rattle.axis.specs.declared.kinds.Link.{Link}
-use Rattle.axis.specs.declared.kinds.Blue.{Blue}
-use Rattle.axis.specs.declared.kinds.Blue.TheVariants as Blues
+use Rattle.axis.specs.Link.{Link}
+use Rattle.axis.specs.Link.{Blue}
 use Rattle.axis.specs.declared.kinds.Dimension.{Dimension}
 use Rattle.axis.specs.declared.edge.Edge.{Edge}
 use Rattle.axis.specs.declared.edge.Axis.{Axis}
@@ -66,7 +66,7 @@ pub record Found (ws w1 : List ℤ) (i k : ℕ) (visited : Edge) (x : Blue) : Ty
 -- and where that is one, which edge goes to it and which behind that
 pub record Chosen (i k : ℕ) (visited : Edge) (x : Blue) (one two : ℕ) (z : ℤ) : Type 0 where
   pub on : Bool
-  pub fitted : x ≡ Blues.Fitted z
+  pub fitted : x ≡ Some z
   pub on_is : on ≡ has_blue visited.blue
   pub one_is : one ≡ cond on i k
   pub two_is : two ≡ cond on k i
@@ -96,7 +96,7 @@ module _ {ws w1 : List ℤ} {i k : ℕ} {visited : Edge} {x : Blue} (f : Found w
         ∙ ap (by_zone rule xs (axis_in w1 d) anchor i k) (sym (zone-is d))
 
     -- none is left
-    pub visited-none : x ≡ Blues.None → Visited state_of (step rule xs) i anchor anchor ws w1
+    pub visited-none : x ≡ None → Visited state_of (step rule xs) i anchor anchor ws w1
     unfolding by_zone
     visited-none n =
         record { whole = f.skip.whole; long = f.skip.long; state = λ (d : Dimension). to-zone d ∙ ap (by_zone rule xs (axis_in w1 d) anchor i k) n }

@@ -1,7 +1,7 @@
 -- The steps of the pass over blue zones, as what they make of an axis, and the pass.
 use Rattle.std.specs.Prelude.{◌≡◌, Bool, List, ℕ, ℤ, length}
 use Rattle.fixed.specs.declared.width.WidthRule.{WidthRule}
-use Rattle.axis.specs.declared.kinds.Link.{Link}
+use Rattle.axis.specs.Link.{Link}
 use Rattle.axis.specs.declared.kinds.Group.{Group}
 use Rattle.axis.specs.declared.kinds.Dimension.{Dimension}
 use Rattle.axis.specs.declared.edge.Axis.{Axis}

@@ -1,7 +1,7 @@
 -- Blue zones over lent edges, the dimension, the group and the width rule with its standards; a place is lent for the anchor.
 use Rattle.std.specs.Prelude.{List, ℕ, ℤ}
 use Rattle.axis.specs.declared.kinds.Direction.TheVariants as Directions
-use Rattle.zones.specs.declared.anchored.Anchored.{Anchored}
+use Rattle.zones.specs.Answer.{Anchored}
 use Rattle.zones.specs.Call.{align_edges_to_blues}
 use Rattle.words.specs.Field.{dimension_of, group_of, rule_of, link_word}
 use Rattle.words.specs.Edge.{flat_axis, edges_over}

@@ -9,7 +9,7 @@ ghost use Rattle.words_edge.specs.Whole.{Whole, Became};
 ghost use Rattle.zones_words.specs.Blues.{thinning, skipping, zoning, linking};
 
 use axis::edge::{Edge, has_blue};
-use axis::kinds::{Link, Mark};
+use axis::kinds::Mark;
 use fixed::width::WidthRule;
 use place::place::linked_edge;
 use words_edge::edge::{put_fixed, put_flags, put_no_zone, read_edge, read_flags, read_mark};
@@ -42,7 +42,7 @@ pub fn skip_in(words: &mut [i32], i: usize, k: usize)
 }
 
 // Puts an edge on its zone, done; one that was done already keeps its mark.
-pub fn zone_in(words: &mut [i32], anchor: Link, i: usize, fitted: i32)
+pub fn zone_in(words: &mut [i32], anchor: Option<u16>, i: usize, fitted: i32)
     requires { Whole words.old × (i < edges_in words.old) }
     ensures { Became (zoning anchor i fitted) words.old words.new }
 {

@@ -12,8 +12,6 @@ ghost use Rattle.words_edge.specs.Pass.{Visited};
 
 use super::store::{skip_in, stem_in, zone_in};
 use axis::edge::has_blue;
-use axis::kinds::{Blue, Link};
-use axis::link::index_or;
 use fixed::width::WidthRule;
 use words_edge::edge::read_edge;
 use zones::zone::{anchor_first, choose, zone_of};
@@ -23,9 +21,9 @@ pub fn visit_in(
     words: &mut [i32],
     rule: WidthRule,
     standards: &[i32],
-    anchor: Link,
+    anchor: Option<u16>,
     i: usize,
-) -> Link
+) -> Option<u16>
     requires standards_value { rule_holds rule standards.now ≡ true }
     requires whole { Whole words.old × (i < edges_in words.old) × AxisWithin most_reach (edges_of words.old) }
     ensures { Visited state_of (step rule standards.now) i anchor result words.old words.new }
@@ -35,12 +33,12 @@ pub fn visit_in(
         return anchor;
     }
     let link = edge.link;
-    let k = index_or(link, i);
+    let k = link.map_or(i, usize::from);
     skip_in(words, i, k);
     let visited = read_edge(words, i);
     let edge2 = read_edge(words, k);
     let zone = zone_of(visited, edge2);
-    let Blue::Fitted(fitted) = zone else {
+    let Some(fitted) = zone else {
         return anchor;
     };
     let on = has_blue(visited);

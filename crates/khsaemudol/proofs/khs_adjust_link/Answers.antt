@@ -1,7 +1,6 @@
 -- `khsaemudol::khs_adjust_link` meets its contract.
-use borrow.Author.Rules.{rules}
 use Rattle.signed.proofs.Signed.{is}
 use Rattle.khsaemudol.proofs.khs_adjust_link.Goals as goal
 
 pub returns : goal.returns
-returns c = let s = c in rw (is s.ranges.edge, is s.ranges.dir, is s.ranges.top_to_bottom) at c.lend_adjust.ensures
+returns c = rw c.answer_of.ensures (rw (is c.ranges.edge, is c.ranges.dir, is c.ranges.top_to_bottom) at c.lend_adjust.ensures)

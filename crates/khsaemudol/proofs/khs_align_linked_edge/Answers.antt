@@ -1,7 +1,6 @@
 -- `khsaemudol::khs_align_linked_edge` meets its contract.
-use borrow.Author.Rules.{rules}
 use Rattle.signed.proofs.Signed.{is}
 use Rattle.khsaemudol.proofs.khs_align_linked_edge.Goals as goal
 
 pub returns : goal.returns
-returns c = let s = c in rw (is s.ranges.rule, is s.ranges.base, is s.ranges.stem) at c.lend_linked_edge.ensures
+returns c = rw c.answer_of.ensures (rw (is c.ranges.rule, is c.ranges.base, is c.ranges.stem) at c.lend_linked_edge.ensures)

@@ -1,18 +1,15 @@
 -- `khsaemudol::khs_compute_edges` meets its contract.
-use borrow.Author.Rules.{rules}
 use Rattle.signed.proofs.Signed.{is}
 use Rattle.khsaemudol.proofs.khs_compute_edges.Goals as goal
 
 pub returns : goal.returns
-returns c =
-    let s = c in
-    simp (
-      is s.ranges.dim,
-      is s.ranges.major_dir,
-      is s.ranges.group,
-      is s.ranges.top_to_bottom,
-      is s.ranges.scale,
-      is s.ranges.distance,
-      is s.ranges.length,
-      is s.ranges.width,
-    ) at c.lend_building.ensures
+returns c = rw c.answer_of.ensures (simp (
+  is c.ranges.dim,
+  is c.ranges.major_dir,
+  is c.ranges.group,
+  is c.ranges.top_to_bottom,
+  is c.ranges.scale,
+  is c.ranges.distance,
+  is c.ranges.length,
+  is c.ranges.width,
+) at c.lend_building.ensures)

@@ -1,7 +1,6 @@
 -- `shown_walk::cross_outline` meets its contract. The invariant: the lines of the contours that are left are left to add.
 use mathlib.Core.Bool.{true}
 use mathlib.Core.Path.{◌≡◌}
-use Prim.Native.Nat.{◌-◌, ◌≤◌}
 use lib.ListN.{length, drop}
 use Rattle.weak.specs.Weak.{ends_hold}
 use Rattle.path_trip.specs.Path.{points}
@@ -10,9 +9,6 @@ use Rattle.shown_lines.specs.Lines.{field_half}
 use Rattle.shown_lines.proofs.Winding.{Owing}
 use Rattle.shown_walk.proofs.cross_outline.Given as goal
 
-abbrev pub invariant-loop-c : goal.invariant-loop-c
-invariant-loop-c l = (l.c ≤ length l.ends) × (ends_hold l.a (length l.xs) (drop l.c l.ends) ≡ true) × Owing l.left l.y l.initial.changes (lines_of field_half l.magnify (points l.xs l.ys l.marks) 0 l.ends) l.changes
-    (lines_of field_half l.magnify (points l.xs l.ys l.marks) l.a (drop l.c l.ends))
-
-abbrev pub decreases-loop-c : goal.decreases-loop-c
-decreases-loop-c l = length l.ends - l.c
+abbrev pub invariant-loop-end : goal.invariant-loop-end
+invariant-loop-end l = (ends_hold l.a (length l.xs) (drop l.end-index l.ends) ≡ true) × Owing l.left l.y l.initial.changes (lines_of field_half l.magnify (points l.xs l.ys l.marks) 0 l.ends) l.changes
+    (lines_of field_half l.magnify (points l.xs l.ys l.marks) l.a (drop l.end-index l.ends))

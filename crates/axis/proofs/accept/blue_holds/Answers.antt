@@ -1,4 +1,5 @@
 -- `axis::accept::blue_holds` meets its contract.
+use Rattle.std.specs.Prelude.{None, Some}
 use mathlib.Core.Path.{ap, ◌∙◌}
 use mir.Syntax.{w32}
 use Rattle.signed.proofs.Signed.{is, got}
@@ -11,8 +12,8 @@ pub returns-in-None : goal.returns-in-None
 unfolding blue_holds
 returns-in-None c = rw c.in-None.is
 
-pub returns-in-Fitted : goal.returns-in-Fitted
+pub returns-in-Some : goal.returns-in-Some
 unfolding blue_holds
-returns-in-Fitted c =
-    rw c.in-Fitted.is (c.is_inside.ensures
-    ∙ ap (within most_units) (is (got w32 c.in-Fitted.z c.in-Fitted.known_told-1-own.given.0.1)))
+returns-in-Some c =
+    rw c.in-Some.is (c.is_inside.ensures
+    ∙ ap (within most_units) (is (got w32 c.in-Some.z c.in-Some.known_told-1-own.given.0.1)))

@@ -1,4 +1,5 @@
 -- `build_join::ring::stems_of` meets its contract: each turn fills in one.
+use Rattle.std.specs.Prelude.{Some}
 use borrow.Author.Rules.{rules}
 use borrow.Author.Tests.{not-true, not-false}
 use native.Mathlib.Omega.{arith}
@@ -43,13 +44,13 @@ offset_bounds-segments-at c = omega arith
 
 pub bounds-segments-at : goal.bounds-segments-at
 bounds-segments-at c =
-    let inside : c.in-To.ix < most_segments =
-    lt_of_lt_of_le ((c.requires.segment _ c.loop-i-test.true).link.at _ c.in-To.is) c.requires.few in
+    let inside : c.in-Some.ix < most_segments =
+    lt_of_lt_of_le ((c.requires.segment _ c.loop-i-test.true).link.at _ c.in-Some.is) c.requires.few in
     inside
 
 pub overflow_cast-stems : goal.overflow_cast-stems
 overflow_cast-stems c =
-    cast-16 (segment_at c.args.segments c.in-To.ix).pos c.struct_told-1.given.1.1.0.1
+    cast-16 (segment_at c.args.segments c.in-Some.ix).pos c.struct_told-1.given.1.1.0.1
 
 pub offset_bounds-stems-i : goal.offset_bounds-stems-i
 offset_bounds-stems-i c = omega arith
@@ -65,11 +66,11 @@ loop-i-smaller c = omega arith
 
 pub loop-i-preserved : goal.loop-i-preserved
 loop-i-preserved c =
-    let at = (segment_at c.args.segments c.in-To.ix).pos in
+    let at = (segment_at c.args.segments c.in-Some.ix).pos in
     let p = c.struct_told-1.given.1.1.0.1 in (
       omega arith,
       c.loop-i.invariant.1,
-      rw (back-16 at p) (filled_more _ _ _ (omega arith) c.loop-i.invariant.2 _ at c.in-To.is refl (got w16 at p)),
+      rw (back-16 at p) (filled_more _ _ _ (omega arith) c.loop-i.invariant.2 _ at c.in-Some.is refl (got w16 at p)),
     )
 
 pub returns : goal.returns

@@ -1,11 +1,11 @@
 -- `build_join::rules::is_passed_over` meets its contract: its tests stand in their order.
-use borrow.Author.Rules.{rules}
-use borrow.Author.Tests.{not-true, not-false}
-use mathlib.Core.Path.{◌≡◌, sym, ◌∙◌}
-use mathlib.Core.Bool.{false}
+use mathlib.Core.Path.{◌≡◌, sym, ap, ◌∙◌}
+use mathlib.Core.Bool.{false, not}
 use lib.Signed.{lt_z}
+use Rattle.axis.proofs.Equal.{same-directions}
 use mir.Syntax.{w32}
 use Rattle.build_join.proofs.Passing as P
+use Rattle.build_join.proofs.Passing.{linked-some}
 use Rattle.signed.proofs.Reading.{back, cast-16, back-16, short-lt, lt-short, short}
 use Rattle.build_join.proofs.rules.is_passed_over.Goals as goal
 
@@ -32,8 +32,8 @@ returns-then-rules-segment c =
     P.too_wide g.rules g.segment long (lt-short g.segment.delta g.rules.width c.struct_told-3-1.given.1.1.1.0.1
     c.struct_told-4-1.given.1.1.1.1.1.1.0.1 c.if-rules-segment.true)
 
-pub returns-then-same : goal.returns-then-same
-returns-then-same c =
+pub returns-then-eq : goal.returns-then-eq
+returns-then-eq c =
     let long : lt_z c.args.segment.height c.args.rules.length ≡ false =
     let g = c.args in
     short-lt g.segment.height g.rules.length c.struct_told-1.given.1.1.1.1.1.1.0.1 c.struct_told-2-1.given.1.1.1.1.1.0.1
@@ -42,10 +42,10 @@ returns-then-same c =
     let g = c.args in
     lt-short g.segment.delta g.rules.width c.struct_told-3-1.given.1.1.1.0.1 c.struct_told-4-1.given.1.1.1.1.1.1.0.1
     c.if-rules-segment.false in
-    P.no-direction _ _ long narrow (sym c.same.ensures ∙ c.if-same.true)
+    P.no-direction _ _ long narrow (sym (same-directions _ _) ∙ sym c.eq.ensures ∙ c.if-eq.true)
 
-pub returns-then-not-is_linked : goal.returns-then-not-is_linked
-returns-then-not-is_linked c =
+pub returns-then-is_none : goal.returns-then-is_none
+returns-then-is_none c =
     let long : lt_z c.args.segment.height c.args.rules.length ≡ false =
     let g = c.args in
     short-lt g.segment.height g.rules.length c.struct_told-1.given.1.1.1.1.1.1.0.1 c.struct_told-2-1.given.1.1.1.1.1.0.1
@@ -54,8 +54,8 @@ returns-then-not-is_linked c =
     let g = c.args in
     lt-short g.segment.delta g.rules.width c.struct_told-3-1.given.1.1.1.0.1 c.struct_told-4-1.given.1.1.1.1.1.1.0.1
     c.if-rules-segment.false in
-    P.no_serif _ _ long narrow (sym c.same.ensures ∙ c.if-same.false)
-    (sym c.is_linked.ensures ∙ c.if-not-is_linked.true)
+    P.no_serif _ _ long narrow (sym (same-directions _ _) ∙ sym c.eq.ensures ∙ c.if-eq.false)
+    (linked-some _ ∙ c.is_none.ensures ∙ ap not c.if-is_none.true)
 
 pub is_short_serif-requires : goal.is_short_serif-requires
 is_short_serif-requires c =
@@ -78,8 +78,8 @@ returns c =
     lt-short g.segment.delta g.rules.width c.struct_told-3-1.given.1.1.1.0.1 c.struct_told-4-1.given.1.1.1.1.1.1.0.1
     c.if-rules-segment.false in
     let g = c.args in
-    P.a-serif _ _ long narrow (sym c.same.ensures ∙ c.if-same.false)
-    (sym c.is_linked.ensures ∙ c.if-not-is_linked.false) _
+    P.a-serif _ _ long narrow (sym (same-directions _ _) ∙ sym c.eq.ensures ∙ c.if-eq.false)
+    (linked-some _ ∙ c.is_none.ensures ∙ ap not c.if-is_none.false) _
     (rw (
       back-16 g.segment.height c.struct_told-1.given.1.1.1.1.1.1.0.1,
       back w32 g.rules.length

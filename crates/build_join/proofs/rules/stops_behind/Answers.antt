@@ -1,8 +1,8 @@
 -- `build_join::rules::stops_behind` meets its contract: by the two orders of positions.
-use borrow.Author.Rules.{rules}
-use mathlib.Core.Path.{◌≡◌}
+use mathlib.Core.Path.{◌≡◌, ◌∙◌}
 use mathlib.Core.Bool.{false}
 use lib.Signed.{lt_z}
+use Rattle.axis.proofs.Equal.{same-directions}
 use mir.Syntax.{w16}
 use Rattle.build_join.specs.Joining as J
 use Rattle.signed.proofs.Reading.{lt-was}
@@ -31,4 +31,4 @@ returns c =
     lt-was w16 g.prev.fpos g.edge.fpos c.struct_told-1.given.0.1 c.struct_told-2-1.given.0.1 c.if-prev-edge.false in
     let g = c.args in
     rw (not-before, lt-was w16 g.edge.fpos g.prev.fpos c.struct_told-3-1.given.0.1 c.struct_told-4-1.given.0.1 c.if-edge-prev.false)
-    c.same.ensures
+    (c.eq.ensures ∙ same-directions _ _)

@@ -1,9 +1,8 @@
 -- `build_join_words::read::is_left_out` meets its contract.
-use mathlib.Core.Path.{◌≡◌, refl, sym, ap, ◌∙◌}
+use mathlib.Core.Path.{sym, ap, ◌∙◌}
 use mathlib.Core.Bool.{Bool, not, ◌&&◌}
 use mir.Syntax.{w32}
-use borrow.Author.Rules.{rules}
-use borrow.Author.Tests.{not-true, not-false}
+use Rattle.axis.proofs.Equal.{other-directions}
 use Rattle.axis.specs.declared.kinds.Direction.{Direction}
 use Rattle.axis.specs.declared.kinds.Direction.TheVariants as Directions
 use Rattle.axis.specs.Direction.{same}
@@ -21,10 +20,9 @@ returns-then-not-second c =
 pub returns : goal.returns
 unfolding segment_from
 returns c =
-    let d = c in
-    let w = d in
-    let e = w in
-    let a = e.args in
-    ap not (c.same.ensures ∙ ap (λ (x : Direction). same x Directions.None)
-    (d.direction_of-dir.ensures ∙ ap direction_of (kept w32 w.read_word.result w.read_word.type_inv ∙ w.read_word.ensures)))
-    ∙ ap (λ (b : Bool). b && not (same (segment_in a.words.now a.i).dir Directions.None)) (sym e.if-not-second.false)
+    let a = c.args in
+    let w = c.read_word in
+    c.ne.ensures ∙ other-directions _ _
+    ∙ ap (λ (x : Direction). not (same x Directions.None))
+    (c.direction_of-dir.ensures ∙ ap direction_of (kept w32 w.result w.type_inv ∙ w.ensures))
+    ∙ ap (λ (b : Bool). b && not (same (segment_in a.words.now a.i).dir Directions.None)) (sym c.if-not-second.false)

@@ -1,9 +1,8 @@
 -- `build_join_words::read::read_edge` meets its contract.
+use Rattle.std.specs.Prelude.{None}
 use mathlib.Core.Path.{ap, ◌∙◌}
 use lib.IntN.{pos}
 use mir.Syntax.{w16, w32}
-use Rattle.axis.specs.declared.kinds.Blue.TheVariants as Blues
-use Rattle.axis.specs.declared.kinds.Link.TheVariants as Links
 use Rattle.axis.specs.declared.kinds.Mark.TheVariants as Marks
 use Rattle.axis.specs.Flags.{normal}
 use Rattle.words.specs.Field.{direction_of, short_of}
@@ -28,9 +27,9 @@ returns c =
       pos = pos 0;
       flags = normal;
       dir = (dir.direction_of-dir.ensures ∙ ap direction_of (kept w32 w1.read_word.result w1.read_word.type_inv ∙ w1.read_word.ensures)) n;
-      blue = Blues.None;
-      link = Links.None;
-      serif = Links.None;
+      blue = None;
+      link = None;
+      serif = None;
       first = a.first;
       last = a.last;
       mark = Marks.Nothing;

@@ -1,8 +1,8 @@
 -- `build_join_words::read::read_segment` meets its contract.
+use Rattle.std.specs.Prelude.{None}
 use mathlib.Core.Path.{ap, ◌∙◌}
 use lib.IntN.{pos}
 use mir.Syntax.{w16, w32}
-use Rattle.axis.specs.declared.kinds.Link.TheVariants as Links
 use Rattle.axis.specs.Flags.{normal}
 use Rattle.words.specs.Field.{direction_of, short_of, link_of}
 use Rattle.words.specs.Segment.{segment_from}
@@ -37,10 +37,10 @@ returns c =
           ∙ ap short_of (kept w32 w4.read_word-4.result w4.read_word-4.type_inv ∙ w4.read_word-4.ensures)) n;
       score = pos 0;
       len = pos 0;
-      link = Links.None;
+      link = None;
       serif = (c.link_of.ensures ∙ ap link_of (kept w32 w5.read_word-5.result w5.read_word-5.type_inv ∙ w5.read_word-5.ensures)) n;
       first = 0;
       last = 0;
-      edge = Links.None;
-      next = Links.None;
+      edge = None;
+      next = None;
     }

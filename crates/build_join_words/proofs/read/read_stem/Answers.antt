@@ -1,4 +1,5 @@
 -- `build_join_words::read::read_stem` meets its contract: by whether there is a link.
+use Rattle.std.specs.Prelude.{None, Some}
 use mathlib.Core.Path.{sym, ap, ◌∙◌}
 use Rattle.signed.proofs.Reading.{cast-16, back-16}
 use Rattle.words.specs.Segment.{segment_from}
@@ -15,10 +16,10 @@ returns-in-None c =
     let link_at = c in
     ap (stem_of link_at.args.words.now) (sym c.in-None.is ∙ link_at.link_at-link.ensures)
 
-pub returns-in-To : goal.returns-in-To
+pub returns-in-Some : goal.returns-in-Some
 unfolding stem_of segment_from
-returns-in-To c =
+returns-in-Some c =
     let link = c in
     let link_at = link in
     back-16 c.short_at.result c.short_at.type_inv ∙ c.short_at.ensures
-    ∙ ap (stem_of link_at.args.words.now) (sym link.in-To.is ∙ link_at.link_at-link.ensures)
+    ∙ ap (stem_of link_at.args.words.now) (sym link.in-Some.is ∙ link_at.link_at-link.ensures)

@@ -1,6 +1,6 @@
 -- `build_mark::mark::member_of` meets its contract: each number that is kept is read back.
+use Rattle.std.specs.Prelude.{Some}
 use mir.Syntax.{w16, w32}
-use Rattle.axis.specs.declared.kinds.Link.TheVariants as Links
 use Rattle.signed.proofs.Reading.{back}
 use Rattle.build_mark.proofs.mark.member_of.Goals as goal
 
@@ -28,6 +28,6 @@ returns c =
       serif = s.serif;
       first = s.first;
       last = s.last;
-      edge = Links.To start.args.edge;
-      next = Links.To start.args.next;
+      edge = Some start.args.edge;
+      next = Some start.args.next;
     }

@@ -1,4 +1,5 @@
 -- `build_properties::outcome::nearer` meets its contract: by the cases of the two indices, and by the two distances.
+use Rattle.std.specs.Prelude.{Some}
 use borrow.Author.Rules.{rules}
 use mathlib.Core.Path.{◌≡◌}
 use mathlib.Core.Bool.{Bool}
@@ -18,7 +19,7 @@ returns-in_default c = rw c.in_default.is
 
 pub returns-in_default-edge2_ix : goal.returns-in_default-edge2_ix
 unfolding O.nearer
-returns-in_default-edge2_ix c = rw (c.in-To.is, c.in_default-edge2_ix.is)
+returns-in_default-edge2_ix c = rw (c.in-Some.is, c.in_default-edge2_ix.is)
 
 -- the test of the two distances
 abbrev first : After-struct_told-3-1 → Start
@@ -44,11 +45,11 @@ unfolding O.nearer
 returns-then-join-distance c =
     let told3 = c.before in
     let at1 = told3.before.before.before.before.before in
-    rw (at1.in-To.is, at1.in-To-edge2_ix.is, tested told3 c.if-join-distance.true)
+    rw (at1.in-Some.is, at1.in-Some-edge2_ix.is, tested told3 c.if-join-distance.true)
 
 pub returns : goal.returns
 unfolding O.nearer
 returns c =
     let told3 = c.before in
     let at1 = told3.before.before.before.before.before in
-    rw (at1.in-To.is, at1.in-To-edge2_ix.is, tested told3 c.if-join-distance.false)
+    rw (at1.in-Some.is, at1.in-Some-edge2_ix.is, tested told3 c.if-join-distance.false)

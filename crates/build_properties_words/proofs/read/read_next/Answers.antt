@@ -1,4 +1,5 @@
 -- `build_properties_words::read::read_next` meets its contract: by whether there is one.
+use Rattle.std.specs.Prelude.{None, Some}
 use mathlib.Core.Path.{sym, ap, ◌∙◌}
 use mir.Syntax.{w32}
 use Rattle.axis.specs.Link.{index_or}
@@ -16,11 +17,11 @@ returns-in-None c =
     ap (index_or read.args.last)
     (sym c.in-None.is ∙ read.link_of-next.ensures ∙ ap link_of (kept w32 w.result w.type_inv ∙ w.ensures))
 
-pub returns-in-To : goal.returns-in-To
+pub returns-in-Some : goal.returns-in-Some
 unfolding segment_from
-returns-in-To c =
+returns-in-Some c =
     let next = c in
     let read = next in
     let w = read.read_word in
     ap (index_or read.args.last)
-    (sym next.in-To.is ∙ read.link_of-next.ensures ∙ ap link_of (kept w32 w.result w.type_inv ∙ w.ensures))
+    (sym next.in-Some.is ∙ read.link_of-next.ensures ∙ ap link_of (kept w32 w.result w.type_inv ∙ w.ensures))

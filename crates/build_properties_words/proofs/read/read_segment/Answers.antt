@@ -1,9 +1,9 @@
 -- `build_properties_words::read::read_segment` meets its contract.
+use Rattle.std.specs.Prelude.{None}
 use mathlib.Core.Path.{ap, ◌∙◌}
 use lib.IntN.{pos}
 use mir.Syntax.{w16, w32}
 use Rattle.axis.specs.declared.kinds.Direction.TheVariants as Directions
-use Rattle.axis.specs.declared.kinds.Link.TheVariants as Links
 use Rattle.axis.specs.Flags.{normal}
 use Rattle.words.specs.Field.{link_of}
 use Rattle.words.specs.Segment.{segment_from}
@@ -35,5 +35,5 @@ returns c =
       first = 0;
       last = 0;
       edge = (c.link_of-3.ensures ∙ ap link_of (kept w32 e.read_word-3.result e.read_word-3.type_inv ∙ e.read_word-3.ensures)) n;
-      next = Links.None;
+      next = None;
     }

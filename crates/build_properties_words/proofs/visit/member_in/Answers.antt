@@ -1,4 +1,5 @@
 -- `build_properties_words::visit::member_in` meets its contract: by whether an edge is asked for, and in which way.
+use Rattle.std.specs.Prelude.{Some}
 use Prim.Native.Nat.{◌<◌}
 use mir.Syntax.{w32}
 use Rattle.signed.proofs.Signed.{is, got}
@@ -17,28 +18,28 @@ returns-in_default c = member-none c.args.segments.now c.args.edges.now c.args.k
 
 pub take_serif-requires : goal.take_serif-requires
 take_serif-requires c =
-    let ready : Joined c.args.edges.now c.args.k × (c.in-To.asked < edges_in c.args.edges.now) = (
+    let ready : Joined c.args.edges.now c.args.k × (c.in-Some.asked < edges_in c.args.edges.now) = (
       joined_in c.args.segments.now c.args.edges.now c.args.k c.requires.0 c.requires.1 c.requires.2,
       asked-inside c.args.segments.now c.args.edges.now c.args.k c.requires.0 c.requires.1 c.requires.2 c.args.ix c.requires.3
-          c.read_join-join.ensures c.in-To.is,
+          c.read_join-join.ensures c.in-Some.is,
     ) in
     ready
 
 pub returns-then-join : goal.returns-then-join
 returns-then-join c = member-serif c.args.segments.now c.args.edges.now c.args.k c.requires.0 c.requires.1 c.requires.2 c.args.ix c.requires.3
-    c.read_join-join.ensures c.in-To.is
+    c.read_join-join.ensures c.in-Some.is
     c.if-join.true (is (got w32 c.read_join-join.result.delta c.struct_told-1.given.1.1.0.1)) c.take_serif.ensures
 
 pub take_link-requires : goal.take_link-requires
 take_link-requires c =
-    let ready : Joined c.args.edges.now c.args.k × (c.in-To.asked < edges_in c.args.edges.now) = (
+    let ready : Joined c.args.edges.now c.args.k × (c.in-Some.asked < edges_in c.args.edges.now) = (
       joined_in c.args.segments.now c.args.edges.now c.args.k c.requires.0 c.requires.1 c.requires.2,
       asked-inside c.args.segments.now c.args.edges.now c.args.k c.requires.0 c.requires.1 c.requires.2 c.args.ix c.requires.3
-          c.read_join-join.ensures c.in-To.is,
+          c.read_join-join.ensures c.in-Some.is,
     ) in
     ready
 
 pub returns : goal.returns
 returns c = member-link c.args.segments.now c.args.edges.now c.args.k c.requires.0 c.requires.1 c.requires.2 c.args.ix c.requires.3
-    c.read_join-join.ensures c.in-To.is
+    c.read_join-join.ensures c.in-Some.is
     c.if-join.false (is (got w32 c.read_join-join.result.delta c.struct_told-2-1.given.1.1.0.1)) c.take_link.ensures

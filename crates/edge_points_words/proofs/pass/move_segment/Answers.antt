@@ -24,14 +24,14 @@ pub read_edge-edge-requires : goal.read_edge-edge-requires
 read_edge-edge-requires c =
     let linked : c.edge_of-link.result ≡ (segment_at (flat_segments c.args.segments.now) c.args.i).edge =
     c.edge_of-link.ensures in
-    (c.requires.accepted.0.edges, named _ _ _ _ _ c.requires.accepted.0 _ c.requires.accepted.1 _ (sym linked ∙ c.in-To.is))
+    (c.requires.accepted.0.edges, named _ _ _ _ _ c.requires.accepted.0 _ c.requires.accepted.1 _ (sym linked ∙ c.in-Some.is))
 
 pub returns-then-not-moves : goal.returns-then-not-moves
 returns-then-not-moves c =
     let linked : c.edge_of-link.result ≡ (segment_at (flat_segments c.args.segments.now) c.args.i).edge =
     c.edge_of-link.ensures in
     let a = c.args in
-    let e = sym linked ∙ c.in-To.is in
+    let e = sym linked ∙ c.in-Some.is in
     visit-still _ _ _ _ _ _ _ _ e (read-moves a.alone a.segments.now a.edges.now a.i c.read_edge-edge.result _ e c.read_edge-edge.ensures
     c.moves.ensures (c.if-not-moves.true))
 
@@ -56,7 +56,7 @@ move_walk-requires c =
     let last-read : c.last_of-last.result ≡ (segment_at (flat_segments c.args.segments.now) c.args.i).last =
     c.last_of-last.ensures in
     let a = c.requires.accepted.0 in
-    let e = sym linked ∙ c.in-To.is in
+    let e = sym linked ∙ c.in-Some.is in
     let moving = read-moves c.args.alone c.args.segments.now c.args.edges.now c.args.i c.read_edge-edge.result _ e c.read_edge-edge.ensures
     c.moves.ensures c.if-not-moves.false in
     record {
@@ -75,7 +75,7 @@ returns c =
     c.first_of-first.ensures in
     let last-read : c.last_of-last.result ≡ (segment_at (flat_segments c.args.segments.now) c.args.i).last =
     c.last_of-last.ensures in
-    let e = sym linked ∙ c.in-To.is in
+    let e = sym linked ∙ c.in-Some.is in
     let moving = read-moves c.args.alone c.args.segments.now c.args.edges.now c.args.i c.read_edge-edge.result _ e c.read_edge-edge.ensures
     c.moves.ensures c.if-not-moves.false in
     segment-moved _ _ _ _ _ c.requires.accepted.0 _ c.requires.accepted.1 _ e _ _ first_read last-read _ refl _ _ _ _ c.read_edge-edge.ensures moving

@@ -26,14 +26,14 @@ pub read_edge-edge-requires : goal.read_edge-edge-requires
 read_edge-edge-requires c =
     let linked : c.edge_of-link.result ≡ (segment_at (flat_segments c.args.segments.now) c.args.i).edge =
     c.edge_of-link.ensures in
-    (c.requires.whole_2.0, edge-below c.args.segments.now c.args.i c.requires.whole.0 c.requires.whole.1 _ _ c.requires.whole_2.1 (sym linked ∙ c.in-To.is))
+    (c.requires.whole_2.0, edge-below c.args.segments.now c.args.i c.requires.whole.0 c.requires.whole.1 _ _ c.requires.whole_2.1 (sym linked ∙ c.in-Some.is))
 
 pub returns-then-not-moves : goal.returns-then-not-moves
 returns-then-not-moves c =
     let linked : c.edge_of-link.result ≡ (segment_at (flat_segments c.args.segments.now) c.args.i).edge =
     c.edge_of-link.ensures in
     let a = c.args in
-    let e = sym linked ∙ c.in-To.is in
+    let e = sym linked ∙ c.in-Some.is in
     mover-still _ _ _ _ e (read-moves a.alone a.segments.now a.edges.now a.i c.read_edge-edge.result _ e c.read_edge-edge.ensures
     c.moves.ensures (c.if-not-moves.true))
 
@@ -42,7 +42,7 @@ returns c =
     let linked : c.edge_of-link.result ≡ (segment_at (flat_segments c.args.segments.now) c.args.i).edge =
     c.edge_of-link.ensures in
     let a = c.args in
-    let e = sym linked ∙ c.in-To.is in
+    let e = sym linked ∙ c.in-Some.is in
     mover-asked _ _ _ _ c.read_edge-edge.result _ e c.read_edge-edge.ensures
     (read-moves a.alone a.segments.now a.edges.now a.i c.read_edge-edge.result _ e c.read_edge-edge.ensures c.moves.ensures
     c.if-not-moves.false)

@@ -25,5 +25,5 @@ pub returns : goal.returns
 returns c =
     let linked : c.edge_of-link.result ≡ (segment_at (flat_segments c.args.segments.now) c.args.i).edge =
     c.edge_of-link.ensures in
-    points_on _ _ _ _ _ _ _ (sym linked ∙ c.in-To.is) c.first_of-first.ensures c.last_of-last.ensures c.contour_of.ensures
+    points_on _ _ _ _ _ _ _ (sym linked ∙ c.in-Some.is) c.first_of-first.ensures c.last_of-last.ensures c.contour_of.ensures
     c.is_on.ensures

@@ -1,5 +1,5 @@
 -- `fit_edges_words::row::then_guard` meets its contract.
-use mathlib.Core.Path.{sym, ◌∙◌}
+use mathlib.Core.Path.{refl, sym, ◌∙◌}
 use borrow.Author.Tests.{not-true, not-false}
 use borrow.Author.Rules.{rules}
 use Rattle.fit_edges_words.proofs.Steps.{guard-stops, ready-accepted}
@@ -13,8 +13,7 @@ returns-then-not-positions_hold c =
     let p = c in
     let s = p in
     let a = s.args in
-    guard-stops a.by a.count a.anchor a.words.now s.requires (sym p.positions_hold.ensures ∙ c.if-not-positions_hold.true)
-    c.refused_edges.ensures
+    guard-stops a.by a.count a.anchor a.words.now s.requires (sym p.positions_hold.ensures ∙ c.if-not-positions_hold.true) refl
 
 pub guarded-requires : goal.guarded-requires
 guarded-requires c =

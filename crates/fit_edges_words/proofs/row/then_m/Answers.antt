@@ -1,5 +1,5 @@
 -- `fit_edges_words::row::then_m` meets its contract.
-use mathlib.Core.Path.{◌≡◌, sym, ◌∙◌}
+use mathlib.Core.Path.{◌≡◌, refl, sym, ◌∙◌}
 use mathlib.Core.Bool.{true}
 use borrow.Author.Tests.{not-true, not-false}
 use borrow.Author.Rules.{rules}
@@ -29,7 +29,7 @@ returns-then-not-positions_hold c =
     let asked : is_asked c.args.by (edges_in c.args.words.now) ≡ true =
     sym c.is_asked.ensures ∙ c.if-not-is_asked.false in
     let a = c.args in
-    m-stops a.by a.count a.anchor c.requires asked (sym c.positions_hold.ensures ∙ c.if-not-positions_hold.true) c.refused_edges.ensures
+    m-stops a.by a.count a.anchor c.requires asked (sym c.positions_hold.ensures ∙ c.if-not-positions_hold.true) refl
 
 pub m_in-requires : goal.m_in-requires
 m_in-requires c =

@@ -1,5 +1,5 @@
 -- `fit_edges_words::row::then_remaining` meets its contract.
-use mathlib.Core.Path.{◌≡◌, sym, ◌∙◌}
+use mathlib.Core.Path.{◌≡◌, refl, sym, ◌∙◌}
 use mathlib.Core.Bool.{true}
 use borrow.Author.Tests.{not-true, not-false}
 use borrow.Author.Rules.{rules}
@@ -24,7 +24,7 @@ pub returns-then-not-positions_hold : goal.returns-then-not-positions_hold
 returns-then-not-positions_hold c =
     let left : is_left c.args.count c.args.anchor ≡ true = sym c.is_left.ensures ∙ c.if-not-is_left.false in
     let a = c.args in
-    remaining-stops a.by a.count a.anchor c.requires left (sym c.positions_hold.ensures ∙ c.if-not-positions_hold.true) c.refused_edges.ensures
+    remaining-stops a.by a.count a.anchor c.requires left (sym c.positions_hold.ensures ∙ c.if-not-positions_hold.true) refl
 
 pub pass_in-past-requires : goal.pass_in-past-requires
 pass_in-past-requires c =
@@ -43,7 +43,7 @@ returns-then-past c =
     let hold : positions_hold (edges_of c.args.words.now) ≡ true =
     sym c.positions_hold.ensures ∙ c.if-not-positions_hold.false in
     let a = c.args in
-    remaining-beyond a.by a.count a.anchor c.requires left hold c.pass_in-past.ensures c.if-past.true c.refused_edges-then-past.ensures
+    remaining-beyond a.by a.count a.anchor c.requires left hold c.pass_in-past.ensures c.if-past.true refl
 
 pub guarded-requires : goal.guarded-requires
 guarded-requires c =

@@ -32,8 +32,8 @@ returns-then-not-place_each c =
     c.if-not-coordinates_hold.false c.place_each.ensures
     (c.if-not-place_each.true)
 
-pub currents_refusal-answer-requires : goal.currents_refusal-answer-requires
-currents_refusal-answer-requires c =
+pub currents_refusal-tested-requires : goal.currents_refusal-tested-requires
+currents_refusal-tested-requires c =
     let lent : Points = points c.args.currents.now c.args.touched.now in
     let a = c.args in
     weak-ready a.edges.now a.fonts.now a.originals.now a.weak.now a.ends.now lent c.requires c.coordinates_hold.ensures
@@ -41,7 +41,7 @@ currents_refusal-answer-requires c =
     c.currents-1.given c.touched-1.given
 
 pub align_unrefused-requires : goal.align_unrefused-requires
-align_unrefused-requires c = c.currents_refusal-answer.ensures
+align_unrefused-requires c = c.currents_refusal-tested.ensures
 
 pub returns : goal.returns
 returns c =

@@ -13,6 +13,7 @@ use Rattle.words.specs.Segment.{segment_size, segments_in}
 use Rattle.words_shape.specs.Shape.{edges_shown, segments_shown}
 use Rattle.words_call.proofs.Lents.{not-whole, not_short, not-shown, all_shown}
 use Rattle.strong.specs.Strong.{list_tests}
+use Rattle.strong.proofs.Told.{told-by}
 use Rattle.fit.specs.Numbers.{number_size, numbers_shown}
 use Rattle.fit.specs.Fit.{told_size, fit_front}
 use borrow.Author.Rules.{rules}
@@ -49,7 +50,7 @@ returns-then-not-both c =
     let are-whole : whole ≡ true = sym c.lengths_hold.ensures ∙ c.if-not-lengths_hold.false in
     let are-short : c.both.result ≡ short =
     by₂ ◌&&◌ c.both.ensures (by₂ ◌&&◌ c.both-few.ensures c.few_segments-few.ensures c.few_edges.ensures)
-    (ap (λ (k : ℕ). eqb k 0) c.list_refusal-lists.ensures) in
+    (c.is_ok.ensures.value ∙ told-by c.list_refusal-lists.result ∙ ap (λ (k : ℕ). eqb k 0) c.list_refusal-lists.ensures) in
     not_short whole short shown are-whole (sym are-short ∙ c.if-not-both.true)
 
 pub tables_shown-shown-requires : goal.tables_shown-shown-requires
@@ -71,7 +72,7 @@ returns-then-both c =
     let are-whole : whole ≡ true = sym c.lengths_hold.ensures ∙ c.if-not-lengths_hold.false in
     let are-short : c.both.result ≡ short =
     by₂ ◌&&◌ c.both.ensures (by₂ ◌&&◌ c.both-few.ensures c.few_segments-few.ensures c.few_edges.ensures)
-    (ap (λ (k : ℕ). eqb k 0) c.list_refusal-lists.ensures) in
+    (c.is_ok.ensures.value ∙ told-by c.list_refusal-lists.result ∙ ap (λ (k : ℕ). eqb k 0) c.list_refusal-lists.ensures) in
     let are-few : short ≡ true = sym are-short ∙ c.if-not-both.false in
     let are-shown : c.both-2.result ≡ shown =
     by₂ ◌&&◌ c.both-2.ensures c.tables_shown-shown.ensures c.numbers_shown.ensures in
@@ -93,7 +94,7 @@ returns c =
     let are-whole : whole ≡ true = sym c.lengths_hold.ensures ∙ c.if-not-lengths_hold.false in
     let are-short : c.both.result ≡ short =
     by₂ ◌&&◌ c.both.ensures (by₂ ◌&&◌ c.both-few.ensures c.few_segments-few.ensures c.few_edges.ensures)
-    (ap (λ (k : ℕ). eqb k 0) c.list_refusal-lists.ensures) in
+    (c.is_ok.ensures.value ∙ told-by c.list_refusal-lists.result ∙ ap (λ (k : ℕ). eqb k 0) c.list_refusal-lists.ensures) in
     let are-few : short ≡ true = sym are-short ∙ c.if-not-both.false in
     let are-shown : c.both-2.result ≡ shown =
     by₂ ◌&&◌ c.both-2.ensures c.tables_shown-shown.ensures c.numbers_shown.ensures in

@@ -1,35 +1,46 @@
 -- `fit_test_words::refuse::table_refusal` meets its contract.
-use mathlib.Core.Path.{refl}
-use Rattle.refusals.specs.Refusal.{bad_index, out_of_range}
-use Rattle.refusals.proofs.Tests.{none-tested, then-tested}
+use native.Mathlib.Omega.{arith}
+use mathlib.Core.Path.{refl, ◌∙◌}
+use Rattle.refusals.proofs.Tests.{none-tested}
+use Rattle.refusals.proofs.Outcomes.{exit-answer, number-above, then-held, then-refused, then-last}
 use Rattle.turn.specs.Indices.{index_tests}
 use Rattle.words.specs.Segment.{flat_segments}
 use Rattle.words_call.specs.Lent.{edges_of}
 use Rattle.fit_test_words.proofs.Rows.{first-refuses, second-decides}
-use borrow.Author.Rules.{rules}
 use Rattle.fit_test_words.proofs.refuse.table_refusal.Goals as goal
 
-pub returns-then-answer-gt0 : goal.returns-then-answer-gt0
-returns-then-answer-gt0 c =
-    let r = c in
-    let s = r in
-    let a = s.args in
-    first-refuses (index_tests (edges_of a.edges.now) (flat_segments a.segments.now)) _ refl r.tables_indexed-answer.ensures c.if-answer-gt0.true
+pub returns-in_err-tables_indexed : goal.returns-in_err-tables_indexed
+returns-in_err-tables_indexed c =
+    let a = c.args in
+    exit-answer _ _ c.from_residual.ensures.1
+    ∙ first-refuses (index_tests (edges_of a.edges.now) (flat_segments a.segments.now)) _ refl c.in_err-tables_indexed.ensures (number-above _)
+
+pub returns-in_err-require : goal.returns-in_err-require
+returns-in_err-require c =
+    let a = c.args in
+    second-decides (index_tests (edges_of a.edges.now) (flat_segments a.segments.now)) _ refl c.in_ok-tables_indexed.ensures (omega arith)
+    (then-refused _ none-tested c.in_err-require.ensures c.ends_hold.ensures (exit-answer _ _ c.from_residual-in_err-require.ensures.1))
+
+pub returns-in_err-require-2 : goal.returns-in_err-require-2
+returns-in_err-require-2 c =
+    let a = c.args in
+    let t1 = then-held none-tested c.in_ok-require.ensures c.ends_hold.ensures in
+    second-decides (index_tests (edges_of a.edges.now) (flat_segments a.segments.now)) _ refl c.in_ok-tables_indexed.ensures (omega arith)
+    (then-refused _ t1 c.in_err-require-2.ensures c.segments_points.ensures (exit-answer _ _ c.from_residual-in_err-require-2.ensures.1))
+
+pub returns-in_err-require-3 : goal.returns-in_err-require-3
+returns-in_err-require-3 c =
+    let a = c.args in
+    let t1 = then-held none-tested c.in_ok-require.ensures c.ends_hold.ensures in
+    let t2 = then-held t1 c.in_ok-require-2.ensures c.segments_points.ensures in
+    second-decides (index_tests (edges_of a.edges.now) (flat_segments a.segments.now)) _ refl c.in_ok-tables_indexed.ensures (omega arith)
+    (then-refused _ t2 c.in_err-require-3.ensures c.segments_ranged.ensures (exit-answer _ _ c.from_residual-in_err-require-3.ensures.1))
 
 pub returns : goal.returns
 returns c =
-    let test4 = c in
-    let three = test4 in
-    let test3 = three in
-    let two = test3 in
-    let test2 = two in
-    let one = test2 in
-    let test1 = one in
-    let o = test1 in
-    let r = o in
-    let a = r.args in
-    let held1 = then-tested bad_index none-tested refl one.or_refused-answer.ensures test1.ends_hold.ensures in
-    let held2 = then-tested bad_index held1 refl two.or_refused-answer-2.ensures test2.segments_points.ensures in
-    let held3 = then-tested out_of_range held2 refl three.or_refused-answer-3.ensures test3.segments_ranged.ensures in
-    second-decides (index_tests (edges_of a.edges.now) (flat_segments a.segments.now)) _ refl r.tables_indexed-answer.ensures o.if-answer-gt0.false
-    (then-tested out_of_range held3 refl c.or_refused.ensures test4.edges_ranged.ensures).refused
+    let a = c.args in
+    let t1 = then-held none-tested c.in_ok-require.ensures c.ends_hold.ensures in
+    let t2 = then-held t1 c.in_ok-require-2.ensures c.segments_points.ensures in
+    let t3 = then-held t2 c.in_ok-require-3.ensures c.segments_ranged.ensures in
+    second-decides (index_tests (edges_of a.edges.now) (flat_segments a.segments.now)) _ refl c.in_ok-tables_indexed.ensures (omega arith)
+    (then-last t3 c.require-4.ensures c.edges_ranged.ensures)

@@ -1,5 +1,4 @@
 -- `fixed::pixel::pix_round` meets its contract.
-use borrow.Author.Rules.{rules}
 use native.Mathlib.Omega.{arith}
 use mathlib.Core.Path.{ap, ◌∙◌}
 use lib.IntN.{ℤ, pos, ◌+ℤ◌}

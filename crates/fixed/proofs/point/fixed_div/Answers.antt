@@ -1,15 +1,15 @@
 -- `fixed::point::fixed_div` meets its contract: the quotient where its magnitude is an answer's, and else too steep.
+use Rattle.std.specs.Prelude.{Some}
 use native.Mathlib.Omega.{arith}
 use mathlib.Core.Path.{◌≡◌, sym, ap, subst, ◌∙◌}
-use Prim.Native.Nat.{ℕ, ◌*◌}
+use Prim.Native.Nat.{◌*◌}
 use lib.IntN.{nat_abs}
 use mir.Syntax.{w32, w64}
 use mir.Val.{SFits, to_z, of_z}
-use Rattle.signed.proofs.Signed.{is, got, fits-in, abs-of, between-sfits}
+use Rattle.signed.proofs.Signed.{signed, fits, is, got, range, fits-in}
 use Rattle.signed.proofs.By.{by₂, by₃}
 use Rattle.fixed.specs.Point.{rounded, div_fix}
 use Rattle.fixed.specs.Steps.{signed_like}
-use Rattle.fixed.specs.declared.point.Quotient.TheVariants.{Of}
 use Rattle.fixed.proofs.Rounding.{div-sign}
 use Rattle.fixed.proofs.Quotients.{steep-of, not-steep-of, quotient_fits}
 use Rattle.fixed.proofs.point.fixed_div.Goals as goal
@@ -25,6 +25,13 @@ size_is c = by₂ rounded c.quotient_size-size.ensures (ap (λ z. nat_abs z * 65
 pub returns-then-size-gt-MOST_QUOTIENT : goal.returns-then-size-gt-MOST_QUOTIENT
 returns-then-size-gt-MOST_QUOTIENT c = let s = c.before.before in steep-of s.args.a s.args.b _ s.requires (size_is c.before) (omega arith)
 
+-- both in 64 bits
+pub overflow_cast-a : goal.overflow_cast-a
+overflow_cast-a c = fits (omega (arith, signed, range c.ranges.a))
+
+pub overflow_cast-b : goal.overflow_cast-b
+overflow_cast-b c = fits (omega (arith, signed, range c.ranges.b))
+
 pub with_sign-answer-requires : goal.with_sign-answer-requires
 with_sign-answer-requires c = omega arith
 
@@ -33,7 +40,7 @@ whole : (c : After-with_sign-answer) → to_z w64 (of_z w64 c.with_sign-answer.r
 whole c =
     let s = c.before.before.before in
     is (got w64 c.with_sign-answer.result c.with_sign-answer.type_inv)
-    ∙ by₃ signed_like c.with_sign-answer.ensures (size_is c.before.before) (is s.ranges.a) (is s.ranges.b)
+    ∙ by₃ signed_like c.with_sign-answer.ensures (size_is c.before.before) (is (overflow_cast-a c.before) ∙ is s.ranges.a) (is (overflow_cast-b c.before) ∙ is s.ranges.b)
     ∙ sym (div-sign s.args.a s.args.b s.requires)
 
 pub overflow_cast-answer : goal.overflow_cast-answer
@@ -44,4 +51,4 @@ overflow_cast-answer c =
 pub returns : goal.returns
 returns c =
     let s = c.before.before.before in
-    ap Of (is (overflow_cast-answer c) ∙ whole c) ∙ not-steep-of s.args.a s.args.b _ s.requires (size_is c.before.before) (omega arith)
+    ap Some (is (overflow_cast-answer c) ∙ whole c) ∙ not-steep-of s.args.a s.args.b _ s.requires (size_is c.before.before) (omega arith)

@@ -1,5 +1,4 @@
 -- `fixed::point::fixed_mul` meets its contract: the answer fits, as its caller shows.
-use borrow.Author.Rules.{rules}
 use mathlib.Core.Path.{◌≡◌, sym, subst, ◌∙◌}
 use mir.Syntax.{w32, w64}
 use mir.Val.{to_z, of_z, SFits}

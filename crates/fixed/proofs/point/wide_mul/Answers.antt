@@ -1,12 +1,11 @@
 -- `fixed::point::wide_mul` meets its contract: the rounded product of the magnitudes, with the sign of the two.
-use borrow.Author.Rules.{rules}
 use native.Mathlib.Nat.{mul-le-mul}
 use native.Mathlib.Omega.{arith}
 use mathlib.Core.Path.{◌≡◌, sym, ap, ◌∙◌}
 use Prim.Native.Nat.{◌*◌, ◌≤◌}
 use lib.IntN.{nat_abs}
 use mir.Syntax.{w64}
-use Rattle.signed.proofs.Signed.{is, got, abs-of, between-sfits}
+use Rattle.signed.proofs.Signed.{signed, fits, is, got, range, abs-of, between-sfits}
 use Rattle.signed.proofs.By.{by₃}
 use Rattle.fixed.specs.Point.{rounded}
 use Rattle.fixed.specs.Steps.{signed_like}
@@ -40,6 +39,13 @@ start c = c.before.before.before
 product_is : (c : After-rounded_product) → c.rounded_product.result ≡ rounded (nat_abs (start c).args.a * nat_abs (start c).args.b) 65536
 product_is c = c.rounded_product.ensures ∙ λ i. rounded (a-is c.before.before i * b-is c.before i) 65536
 
+-- both in 64 bits
+pub overflow_cast-a : goal.overflow_cast-a
+overflow_cast-a c = fits (omega (arith, signed, range (start c).ranges.a))
+
+pub overflow_cast-b : goal.overflow_cast-b
+overflow_cast-b c = fits (omega (arith, signed, range (start c).ranges.b))
+
 pub with_sign-requires : goal.with_sign-requires
 with_sign-requires c =
     let s = start c in
@@ -52,6 +58,7 @@ with_sign-requires c =
 
 pub returns : goal.returns
 returns c =
-    let s = start c.before in
+    let w = c.before in
+    let s = start w in
     is (got w64 c.with_sign.result c.with_sign.type_inv)
-    ∙ by₃ signed_like c.with_sign.ensures (product_is c.before) (is s.ranges.a) (is s.ranges.b) ∙ sym (mul-sign s.args.a s.args.b)
+    ∙ by₃ signed_like c.with_sign.ensures (product_is w) (is (overflow_cast-a w) ∙ is s.ranges.a) (is (overflow_cast-b w) ∙ is s.ranges.b) ∙ sym (mul-sign s.args.a s.args.b)

@@ -4,7 +4,7 @@ use mathlib.Core.Path.{◌≡◌, ap, ◌∙◌}
 use mathlib.Core.Bool.{Bool}
 use lib.IntN.{ℤ, pos, neg_ℤ, ◌-ℤ◌, +ℤ_idl}
 use lib.Signed.{lt_z}
-use mir.Syntax.{w32, w64}
+use mir.Syntax.{w64}
 use mir.Val.{to_z, of_z}
 use Rattle.signed.proofs.Signed.{signed, fits, is}
 use Rattle.signed.proofs.Reading.{lt-was}
@@ -24,11 +24,11 @@ plain : (c : Start) → to_z w64 (of_z w64 (pos c.args.size)) ≡ pos c.args.siz
 plain c = is (overflow_cast-plain c)
 
 -- what the tests of the two showed
-a_test : (c : Start) {t : Bool} → lt_z (to_z w32 (of_z w32 c.args.a)) (to_z w32 (of_z w32 (pos 0))) ≡ t → lt_z c.args.a (pos 0) ≡ t
-a_test c e = lt-was w32 c.args.a (pos 0) c.ranges.a.sfits (omega arith) e
+a_test : (c : Start) {t : Bool} → lt_z (to_z w64 (of_z w64 c.args.a)) (to_z w64 (of_z w64 (pos 0))) ≡ t → lt_z c.args.a (pos 0) ≡ t
+a_test c e = lt-was w64 c.args.a (pos 0) c.ranges.a.sfits (omega arith) e
 
-b-test : (c : Start) {t : Bool} → lt_z (to_z w32 (of_z w32 c.args.b)) (to_z w32 (of_z w32 (pos 0))) ≡ t → lt_z c.args.b (pos 0) ≡ t
-b-test c e = lt-was w32 c.args.b (pos 0) c.ranges.b.sfits (omega arith) e
+b-test : (c : Start) {t : Bool} → lt_z (to_z w64 (of_z w64 c.args.b)) (to_z w64 (of_z w64 (pos 0))) ≡ t → lt_z c.args.b (pos 0) ≡ t
+b-test c e = lt-was w64 c.args.b (pos 0) c.ranges.b.sfits (omega arith) e
 
 pub returns-then-b-lt0 : goal.returns-then-b-lt0
 unfolding signed_like

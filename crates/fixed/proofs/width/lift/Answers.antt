@@ -1,5 +1,4 @@
 -- `fixed::width::lift` meets its contract.
-use borrow.Author.Rules.{rules}
 use native.Mathlib.Omega.{arith}
 use mathlib.Core.Path.{sym, ◌∙◌}
 use Rattle.signed.proofs.Signed.{signed, is, nat_abs-is, one-zero}

@@ -1,9 +1,8 @@
 -- `fixed::width::nearest_place` meets its contract. The invariant: `best` is the place of the nearest of the first `i` standards.
-use borrow.Author.Rules.{rules}
 use native.Mathlib.Omega.{arith}
 use mathlib.Core.Path.{◌≡◌, sym, ap, subst, ◌∙◌}
-use Prim.Native.Nat.{◌+◌, ◌≤◌, ◌-◌}
-use lib.ListN.{length, get_or}
+use Prim.Native.Nat.{◌+◌}
+use lib.ListN.{get_or}
 use lib.IntN.{ℤ, pos}
 use mir.Syntax.{w32}
 use Rattle.signed.proofs.Signed.{is, got}
@@ -14,24 +13,6 @@ use Rattle.fixed.proofs.width.nearest_place.Goals.{then-new-old, else-new-old}
 
 pub loop-i-init : goal.loop-i-init
 loop-i-init c = (omega arith, nearest-first c.args.standards.now c.args.width)
-
-pub bounds-standards-i : goal.bounds-standards-i
-bounds-standards-i c = omega arith
-
-pub distance-new-requires : goal.distance-new-requires
-distance-new-requires c = omega arith
-
-pub bounds-standards-best : goal.bounds-standards-best
-bounds-standards-best c = omega arith
-
-pub distance-old-requires : goal.distance-old-requires
-distance-old-requires c = omega arith
-
-pub overflow_add-i : goal.overflow_add-i
-overflow_add-i c = omega arith
-
-pub loop-i-smaller : goal.loop-i-smaller
-loop-i-smaller c = omega arith
 
 pub loop-i-preserved : goal.loop-i-preserved
 loop-i-preserved c =

@@ -1,5 +1,4 @@
 -- `fixed::width::rule_holds` meets its contract.
-use borrow.Author.Rules.{rules}
 use Rattle.fixed.specs.Width.{rule_holds}
 use Rattle.fixed.proofs.width.rule_holds.Goals as goal
 

@@ -1,5 +1,4 @@
 -- `fixed::width::snap` meets its contract: the standard at the place found is `nearest`, by which the width settles.
-use borrow.Author.Rules.{rules}
 use native.Mathlib.Omega.{arith}
 use mathlib.Core.Path.{◌≡◌, sym, ap, subst, ◌∙◌}
 use mathlib.Core.List.{List}

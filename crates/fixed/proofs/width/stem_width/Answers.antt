@@ -1,5 +1,4 @@
 -- `fixed::width::stem_width` meets its contract.
-use borrow.Author.Rules.{rules}
 use mathlib.Core.Path.{ap, ◌∙◌}
 use mir.Syntax.{w32}
 use Rattle.signed.proofs.Signed.{is, got}

@@ -1,25 +1,33 @@
 -- `gaps::find::gaps_refusal` meets its contract: test by test.
-use borrow.Author.Rules.{rules}
-use mathlib.Core.Path.{refl, ap, ◌∙◌}
+use mathlib.Core.Path.{ap, ◌∙◌}
 use lib.IntN.{pos}
-use Rattle.refusals.specs.Refusal.{too_long, bad_parameter, bad_index, out_of_range}
-use Rattle.refusals.proofs.Tests.{none-tested, then-tested}
+use Rattle.refusals.proofs.Tests.{none-tested}
+use Rattle.refusals.proofs.Outcomes.{exit-answer, then-held, then-refused, then-last}
 use Rattle.signed.proofs.Signed.{is}
 use Rattle.axis.specs.Limits.{most_units}
 use Rattle.axis.specs.Refusals.{inside}
 use Rattle.gaps.proofs.find.gaps_refusal.Goals as goal
 
+pub returns-in_err-require : goal.returns-in_err-require
+returns-in_err-require c = then-refused _ none-tested c.in_err-require.ensures c.few_edges.ensures (exit-answer _ _ c.from_residual.ensures.1)
+
+pub returns-in_err-require-2 : goal.returns-in_err-require-2
+returns-in_err-require-2 c =
+    let least-tested = c.is_inside.ensures ∙ ap (inside (pos 0) (pos most_units)) (is c.ranges.least) in
+    let t1 = then-held none-tested c.in_ok-require.ensures c.few_edges.ensures in
+    then-refused _ t1 c.in_err-require-2.ensures least-tested (exit-answer _ _ c.from_residual-in_err-require-2.ensures.1)
+
+pub returns-in_err-require-3 : goal.returns-in_err-require-3
+returns-in_err-require-3 c =
+    let least-tested = c.is_inside.ensures ∙ ap (inside (pos 0) (pos most_units)) (is c.ranges.least) in
+    let t1 = then-held none-tested c.in_ok-require.ensures c.few_edges.ensures in
+    let t2 = then-held t1 c.in_ok-require-2.ensures least-tested in
+    then-refused _ t2 c.in_err-require-3.ensures c.edges_indices.ensures (exit-answer _ _ c.from_residual-in_err-require-3.ensures.1)
+
 pub returns : goal.returns
 returns c =
-    let test4 = c in
-    let so3 = test4 in
-    let test3 = so3 in
-    let so2 = test3 in
-    let test2 = so2 in
-    let so1 = test2 in
-    let test1 = so1 in
-    let least-tested = test2.is_inside.ensures ∙ ap (inside (pos 0) (pos most_units)) (is test1.ranges.least) in
-    let tested1 = then-tested too_long none-tested refl so1.or_refused-answer.ensures test1.few_edges.ensures in
-    let tested2 = then-tested bad_parameter tested1 refl so2.or_refused-answer-2.ensures least-tested in
-    let tested3 = then-tested bad_index tested2 refl so3.or_refused-answer-3.ensures test3.edges_indices.ensures in
-    (then-tested out_of_range tested3 refl c.or_refused.ensures test4.edges_numbers.ensures).refused
+    let least-tested = c.is_inside.ensures ∙ ap (inside (pos 0) (pos most_units)) (is c.ranges.least) in
+    let t1 = then-held none-tested c.in_ok-require.ensures c.few_edges.ensures in
+    let t2 = then-held t1 c.in_ok-require-2.ensures least-tested in
+    let t3 = then-held t2 c.in_ok-require-3.ensures c.edges_indices.ensures in
+    then-last t3 c.require-4.ensures c.edges_numbers.ensures

@@ -1,6 +1,5 @@
 -- `gaps::pair::pair_of` meets its contract.
-use borrow.Author.Rules.{rules}
-use Rattle.axis.specs.declared.kinds.Link.TheVariants as Links
+use Rattle.std.specs.Prelude.{Some}
 use Rattle.gaps.proofs.Widths.{wider, width_fits, width_is}
 use Rattle.gaps.proofs.pair.pair_of.Goals as goal
 
@@ -13,8 +12,8 @@ overflow_sub-result-2 c = let h = c.requires in width_fits h.1.pos h.0.pos
 pub returns : goal.returns
 returns c = let h = c.requires in
     λ k. record {
-      first = Links.To c.args.i;
-      second = Links.To c.args.j;
+      first = Some c.args.i;
+      second = Some c.args.j;
       before = width_is (wider h.1.opos) (wider h.0.opos) k;
       after = width_is h.1.pos h.0.pos k;
     }

@@ -1,5 +1,4 @@
 -- `link::gap::gap_between` meets its contract: coordinates of 16 bits have differences within the table.
-use borrow.Author.Rules.{rules}
 use mathlib.Core.Path.{◌≡◌}
 use mir.Syntax.{w16}
 use Rattle.link.specs.Pairs as P

@@ -1,21 +1,17 @@
 -- `link::rounds::last_round` meets its contract: each turn settles one segment, and segments stay within the table.
-use borrow.Author.Rules.{rules}
 use native.Mathlib.Omega.{arith}
 use native.Mathlib.Nat.{lt_of_lt_of_le}
-use mathlib.Core.Path.{◌≡◌}
-use Prim.Native.Nat.{◌≤◌, ◌<◌, ◌-◌}
-use Rattle.axis.specs.Limits.{most_segments}
-use Rattle.link.specs.Loops.{turns}
+use Prim.Native.Nat.{◌<◌, ◌-◌}
 use Rattle.link.specs.Rounds as R
 use Rattle.link.proofs.Loops.{none, turn, end}
 use Rattle.link.proofs.Kept.{Every}
 use Rattle.link.proofs.Within.{Within, last_within, every-within, to_below}
 use Rattle.link.proofs.Turns.{last_none, last-go}
 use Rattle.link.proofs.rounds.last_round.Goals as goal
-use Rattle.link.proofs.rounds.last_round.Goals.{In-To}
+use Rattle.link.proofs.rounds.last_round.Goals.{In-Some}
 
 -- in the middle of the round, each segment is within the table
-whole : (c : In-To)
+whole : (c : In-Some)
     → Every c.args.segments.len
     (Within c.args.segments.len)
     c.loop-ix1.table
@@ -26,11 +22,11 @@ whole c =
     last_within _ start.args.thresholds o.ix1 start.args.segments o.table (every-within _ start.requires) o.invariant.2 o.invariant.0
 
 -- the link is to a segment of the table
-target : (c : In-To) → c.in-To.ix2 < c.args.segments.len
+target : (c : In-Some) → c.in-Some.ix2 < c.args.segments.len
 target c =
     let in-outer = c.before.before in
     let o = in-outer.loop-ix1 in
-    to_below _ o.ix1 _ o.table (whole c) in-outer.loop-ix1-test.true c.in-To.is
+    to_below _ o.ix1 _ o.table (whole c) in-outer.loop-ix1-test.true c.in-Some.is
 
 pub loop-ix1-init : goal.loop-ix1-init
 loop-ix1-init c = (omega arith, c.requires.few, none _ _)
@@ -94,7 +90,7 @@ loop-ix1-preserved c =
       omega arith,
       outer.loop-ix1.invariant.1,
       turn (R.last_turn start.args.thresholds) outer.loop-ix1.ix1 _ _ _ outer.loop-ix1.invariant.2
-          (last-go _ _ _ _ _ link.in-To.is c.settled.ensures),
+          (last-go _ _ _ _ _ link.in-Some.is c.settled.ensures),
     )
 
 pub returns : goal.returns

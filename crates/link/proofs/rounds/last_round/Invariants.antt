@@ -1,16 +1,9 @@
 -- `link::rounds::last_round` meets its contract: each turn settles one segment, and segments stay within the table.
-use borrow.Author.Rules.{rules}
-use native.Mathlib.Omega.{arith}
-use native.Mathlib.Nat.{lt_of_lt_of_le}
 use mathlib.Core.Path.{◌≡◌}
-use Prim.Native.Nat.{◌≤◌, ◌<◌, ◌-◌}
+use Prim.Native.Nat.{◌≤◌, ◌-◌}
 use Rattle.axis.specs.Limits.{most_segments}
 use Rattle.link.specs.Loops.{turns}
 use Rattle.link.specs.Rounds as R
-use Rattle.link.proofs.Loops.{none, turn, end}
-use Rattle.link.proofs.Kept.{Every}
-use Rattle.link.proofs.Within.{Within, last_within, every-within, to_below}
-use Rattle.link.proofs.Turns.{last_none, last-go}
 use Rattle.link.proofs.rounds.last_round.Given as goal
 
 abbrev pub invariant-loop-ix1 : goal.invariant-loop-ix1

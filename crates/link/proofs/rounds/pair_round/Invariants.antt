@@ -1,17 +1,11 @@
 -- `link::rounds::pair_round` meets its contract: each inner turn tests one pair, and segments stay within the table.
-use borrow.Author.Rules.{rules}
-use borrow.Author.Tests.{not-true, not-false}
-use native.Mathlib.Omega.{arith}
-use mathlib.Core.Path.{◌≡◌, sym, ◌∙◌}
+use mathlib.Core.Path.{◌≡◌}
 use Prim.Native.Nat.{◌≤◌, ◌-◌}
-use Rattle.signed.specs.Range.{Between}
-use Rattle.axis.specs.Limits.{most_segments, most_score}
+use Rattle.axis.specs.Limits.{most_segments}
 use Rattle.link.specs.Loops.{turns}
 use Rattle.link.specs.Rounds as R
-use Rattle.link.proofs.Loops.{none, turn, end}
 use Rattle.link.proofs.Kept.{Every}
-use Rattle.link.proofs.Within.{Within, stem-dist, pair-within, every-within, all-within}
-use Rattle.link.proofs.Turns.{pair-skip, pair-go, major-skip, major-go}
+use Rattle.link.proofs.Within.{Within}
 use Rattle.link.proofs.rounds.pair_round.Given as goal
 
 abbrev pub invariant-loop-ix2 : goal.invariant-loop-ix2

@@ -1,10 +1,6 @@
 -- `link::rounds::rewrite_links` meets its contract: each turn rewrites one segment.
-use borrow.Author.Rules.{rules}
 use native.Mathlib.Omega.{arith}
-use mathlib.Core.Path.{◌≡◌}
-use Prim.Native.Nat.{◌≤◌, ◌-◌}
-use Rattle.axis.specs.Limits.{most_segments}
-use Rattle.link.specs.Loops.{turns}
+use Prim.Native.Nat.{◌-◌}
 use Rattle.link.specs.Rounds as R
 use Rattle.link.proofs.Loops.{none, turn, end}
 use Rattle.link.proofs.Turns.{rewrite-go}

@@ -1,13 +1,9 @@
 -- `link::rounds::rewrite_links` meets its contract: each turn rewrites one segment.
-use borrow.Author.Rules.{rules}
-use native.Mathlib.Omega.{arith}
 use mathlib.Core.Path.{◌≡◌}
 use Prim.Native.Nat.{◌≤◌, ◌-◌}
 use Rattle.axis.specs.Limits.{most_segments}
 use Rattle.link.specs.Loops.{turns}
 use Rattle.link.specs.Rounds as R
-use Rattle.link.proofs.Loops.{none, turn, end}
-use Rattle.link.proofs.Turns.{rewrite-go}
 use Rattle.link.proofs.rounds.rewrite_links.Given as goal
 
 abbrev pub invariant-loop-i : goal.invariant-loop-i

@@ -1,13 +1,9 @@
 -- `link::rounds::serif_round` meets its contract: each inner turn holds one stem against the first, until the break.
-use borrow.Author.Rules.{rules}
-use borrow.Author.Tests.{not-true, not-false}
 use native.Mathlib.Omega.{arith}
 use native.Mathlib.Nat.{lt_of_lt_of_le}
 use mathlib.Core.Path.{◌≡◌, sym, ◌∙◌}
-use Prim.Native.Nat.{◌≤◌, ◌<◌, ◌-◌}
+use Prim.Native.Nat.{◌<◌, ◌-◌}
 use Rattle.axis.specs.Segment.{segment_at}
-use Rattle.axis.specs.Limits.{most_segments}
-use Rattle.link.specs.Loops.{turns}
 use Rattle.link.specs.Rounds as R
 use Rattle.link.proofs.Loops.{none, turn, end}
 use Rattle.link.proofs.Kept.{Every}
@@ -15,10 +11,10 @@ use Rattle.link.proofs.Within.{Within, serif_within, every-within, to_below}
 use Rattle.link.proofs.Turns.{serif-none, serif-skip, serif-go}
 use Rattle.link.proofs.Holding as H
 use Rattle.link.proofs.rounds.serif_round.Goals as goal
-use Rattle.link.proofs.rounds.serif_round.Goals.{In-To, In-To-second, Left-loop-ix2, else-loop-ix2-test, then-loop-ix2-test+in-To-second+else-not-encloses+else-is_much_longer}
+use Rattle.link.proofs.rounds.serif_round.Goals.{In-Some, In-Some-second, Left-loop-ix2, else-loop-ix2-test, then-loop-ix2-test+in-Some-second+else-not-encloses+else-is_much_longer}
 
 -- in the middle of the round, each segment is within the table
-whole : (c : In-To)
+whole : (c : In-Some)
     → Every c.args.segments.len
     (Within c.args.segments.len)
     c.loop-ix1.table
@@ -28,36 +24,36 @@ whole c =
     let o = outer.loop-ix1 in
     serif_within _ start.args.thresholds o.ix1 start.args.segments o.table (every-within _ start.requires) o.invariant.2 o.invariant.0
 
-target : (c : In-To)
-    → c.in-To.link1_ix < c.args.segments.len
+target : (c : In-Some)
+    → c.in-Some.link1_ix < c.args.segments.len
 target c =
     let in-outer = c.before.before in
     let outer = in-outer.before in
     let o = outer.loop-ix1 in
-    to_below _ o.ix1 _ o.table (whole c) in-outer.loop-ix1-test.true c.in-To.is
+    to_below _ o.ix1 _ o.table (whole c) in-outer.loop-ix1-test.true c.in-Some.is
 
-target2 : (c : In-To-second)
-    → c.in-To-second.link2_ix < c.args.segments.len
+target2 : (c : In-Some-second)
+    → c.in-Some-second.link2_ix < c.args.segments.len
 target2 c =
     let in_inner = c.before.before in
     let inner = in_inner.before in
     let o = inner.loop-ix2 in
-    to_below _ o.ix2 _ o.table o.invariant.4.within in_inner.loop-ix2-test.true c.in-To-second.is
+    to_below _ o.ix2 _ o.table o.invariant.4.within in_inner.loop-ix2-test.true c.in-Some-second.is
 
 -- what the inner loop leaves, by its end or by the break
 made : (c : Left-loop-ix2)
     → let outer = c.before.before.before.before.before.before.before.before in
     let t = outer.loop-ix1.table in
     let ix = outer.loop-ix1.ix1 in
-    let link = c.in-To.link1_ix in
+    let link = c.in-Some.link1_ix in
     c.loop-ix2-test.table ≡ R.hold (segment_at t ix) (segment_at t link) ix link outer.args.segments.len t
 made c =
     let p = c.loop-ix2.invariant in
     elim c.loop-ix2-test.branch [
       | else-loop-ix2-test w ↦ w.table-is ∙ H.held-end _ _ _ _ _ p.2 p.3 _ _ _ p.4 w.loop-ix2-test.false
-      | then-loop-ix2-test+in-To-second+else-not-encloses+else-is_much_longer w ↦
+      | then-loop-ix2-test+in-Some-second+else-not-encloses+else-is_much_longer w ↦
           w.table-is ∙ H.last_turn _ _ _ _ _ p.2 p.3 _ _ _ _ p.4 w.loop-ix2-test.true
-          w.in-To-second.is _ _ (sym w.encloses.ensures ∙ w.if-not-encloses.false) (sym w.is_much_longer.ensures ∙ w.if-is_much_longer.false)
+          w.in-Some-second.is _ _ (sym w.encloses.ensures ∙ w.if-not-encloses.false) (sym w.is_much_longer.ensures ∙ w.if-is_much_longer.false)
           w.unlinked.ensures w.unlinked-in-loop-ix2.ensures
     ]
 
@@ -114,7 +110,7 @@ loop-ix1-preserved-then-not-is_near_stem c =
       omega arith,
       outer.loop-ix1.invariant.1,
       turn (R.serif_turn start.args.thresholds start.args.segments.len) outer.loop-ix1.ix1 _ _ _ outer.loop-ix1.invariant.2
-          (serif-skip _ _ _ _ _ first.in-To.is (sym c.is_near_stem.ensures ∙ c.if-not-is_near_stem.true)),
+          (serif-skip _ _ _ _ _ first.in-Some.is (sym c.is_near_stem.ensures ∙ c.if-not-is_near_stem.true)),
     )
 
 pub loop-ix2-init : goal.loop-ix2-init
@@ -190,7 +186,7 @@ loop-ix2-preserved-then-not-encloses c =
       inner.loop-ix2.invariant.2,
       inner.loop-ix2.invariant.3,
       H.step_skip _ _ _ _ _ inner.loop-ix2.invariant.2 inner.loop-ix2.invariant.3 _ _ _ _ inner.loop-ix2.invariant.4 in_inner.loop-ix2-test.true
-          second.in-To-second.is (sym c.encloses.ensures ∙ c.if-not-encloses.true),
+          second.in-Some-second.is (sym c.encloses.ensures ∙ c.if-not-encloses.true),
     )
 
 pub is_much_longer-requires : goal.is_much_longer-requires
@@ -228,7 +224,7 @@ loop-ix2-preserved c =
       inner.loop-ix2.invariant.2,
       inner.loop-ix2.invariant.3,
       H.step-serifs _ _ _ _ _ inner.loop-ix2.invariant.2 inner.loop-ix2.invariant.3 _ _ _ _ inner.loop-ix2.invariant.4 in_inner.loop-ix2-test.true
-          second.in-To-second.is _ (sym encloses.encloses.ensures ∙ else2.if-not-encloses.false)
+          second.in-Some-second.is _ (sym encloses.encloses.ensures ∙ else2.if-not-encloses.false)
           (sym is-much-longer.is_much_longer.ensures ∙ c.if-is_much_longer.true)
           c.rewrite_links-table.ensures,
     )
@@ -277,7 +273,7 @@ loop-ix1-preserved c =
       omega arith,
       outer.loop-ix1.invariant.1,
       turn (R.serif_turn start.args.thresholds start.args.segments.len) outer.loop-ix1.ix1 _ _ _ outer.loop-ix1.invariant.2
-          (serif-go _ _ _ _ _ _ first.in-To.is (sym is-near-stem.is_near_stem.ensures ∙ else1.if-not-is_near_stem.false) (made c)),
+          (serif-go _ _ _ _ _ _ first.in-Some.is (sym is-near-stem.is_near_stem.ensures ∙ else1.if-not-is_near_stem.false) (made c)),
     )
 
 pub returns : goal.returns

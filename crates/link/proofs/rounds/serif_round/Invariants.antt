@@ -1,19 +1,9 @@
 -- `link::rounds::serif_round` meets its contract: each inner turn holds one stem against the first, until the break.
-use borrow.Author.Rules.{rules}
-use borrow.Author.Tests.{not-true, not-false}
-use native.Mathlib.Omega.{arith}
-use native.Mathlib.Nat.{lt_of_lt_of_le}
-use mathlib.Core.Path.{◌≡◌, sym, ◌∙◌}
-use mathlib.Core.Logic.{⊎_elim}
+use mathlib.Core.Path.{◌≡◌}
 use Prim.Native.Nat.{◌≤◌, ◌<◌, ◌-◌}
-use Rattle.axis.specs.Segment.{segment_at}
 use Rattle.axis.specs.Limits.{most_segments}
 use Rattle.link.specs.Loops.{turns}
 use Rattle.link.specs.Rounds as R
-use Rattle.link.proofs.Loops.{none, turn, end}
-use Rattle.link.proofs.Kept.{Every}
-use Rattle.link.proofs.Within.{Within, serif_within, every-within, to_below}
-use Rattle.link.proofs.Turns.{serif-none, serif-skip, serif-go}
 use Rattle.link.proofs.Holding as H
 use Rattle.link.proofs.rounds.serif_round.Given as goal
 

@@ -1,6 +1,4 @@
 -- `link::serif::encloses` meets its contract: its tests stand in their order.
-use borrow.Author.Rules.{rules}
-use borrow.Author.Tests.{not-true, not-false}
 use mathlib.Core.Path.{sym, ◌∙◌}
 use Rattle.link.specs.Pairs as P
 use Rattle.link.proofs.serif.encloses.Goals as goal

@@ -1,26 +1,25 @@
 -- `link::serif::rewritten` meets its contract: by its two tests.
-use borrow.Author.Rules.{rules}
 use mathlib.Core.Path.{sym, ◌∙◌}
+use Rattle.axis.proofs.Equal.{option-links}
 use Rattle.link.specs.Pairs as P
 use Rattle.link.proofs.serif.rewritten.Goals as goal
 
-pub returns-then-links_to : goal.returns-then-links_to
+pub returns-then-eq : goal.returns-then-eq
 unfolding P.rewritten
-returns-then-links_to c =
-    let links-to = c in
-    rw (sym links-to.links_to.ensures ∙ c.if-links_to.true) c.as_serif.ensures
+returns-then-eq c = rw (sym (option-links c.args.seg.link c.args.ix2) ∙ sym c.eq.ensures ∙ c.if-eq.true) c.as_serif.ensures
 
-pub returns-then-links_to-2 : goal.returns-then-links_to-2
+pub returns-then-eq-2 : goal.returns-then-eq-2
 unfolding P.rewritten
-returns-then-links_to-2 c =
-    let links-to2 = c in
-    let else1 = links-to2 in
-    let links-to = else1 in
-    rw (sym links-to.links_to.ensures ∙ else1.if-links_to.false, sym links-to2.links_to-2.ensures ∙ c.if-links_to-2.true) c.as_serif-then-links_to-2.ensures
+returns-then-eq-2 c =
+    rw (
+      sym (option-links c.args.seg.link c.args.ix2) ∙ sym c.eq.ensures ∙ c.if-eq.false,
+      sym (option-links c.args.seg.link c.args.link2_ix) ∙ sym c.eq-2.ensures ∙ c.if-eq-2.true,
+    ) c.as_serif-then-eq-2.ensures
 
 pub returns : goal.returns
 unfolding P.rewritten
 returns c =
-    let else1 = c in
-    let links-to = else1 in
-    rw (sym links-to.links_to.ensures ∙ else1.if-links_to.false, sym c.links_to-2.ensures ∙ c.if-links_to-2.false)
+    rw (
+      sym (option-links c.args.seg.link c.args.ix2) ∙ sym c.eq.ensures ∙ c.if-eq.false,
+      sym (option-links c.args.seg.link c.args.link2_ix) ∙ sym c.eq-2.ensures ∙ c.if-eq-2.false,
+    )

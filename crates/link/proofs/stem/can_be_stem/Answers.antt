@@ -1,6 +1,5 @@
 -- `link::stem::can_be_stem` meets its contract: its tests stand in their order.
-use borrow.Author.Rules.{rules}
-use borrow.Author.Tests.{eq-eqb, ne_eqb, not-true, not-false}
+use borrow.Author.Tests.{eq-eqb, ne_eqb}
 use mathlib.Core.Path.{sym, ◌∙◌}
 use Rattle.link.specs.Pairs as P
 use Rattle.link.proofs.stem.can_be_stem.Goals as goal

@@ -1,6 +1,5 @@
 -- `link::stem::check_seg` meets its contract: its tests stand in their order.
 use borrow.Author.Rules.{rules}
-use borrow.Author.Tests.{not-true, not-false}
 use mathlib.Core.Path.{◌≡◌, sym, ◌∙◌}
 use lib.IntN.{pos, ◌*ℤ◌}
 use lib.Signed.{lt_z}

@@ -1,5 +1,4 @@
 -- `link::stem::improved` meets its contract: by its test.
-use borrow.Author.Rules.{rules}
 use mathlib.Core.Path.{sym, ◌∙◌}
 use Rattle.link.specs.Pairs as P
 use Rattle.link.proofs.stem.improved.Goals as goal

@@ -1,6 +1,4 @@
 -- `link::thresholds::numbers_hold` meets its contract: by its two tests.
-use borrow.Author.Rules.{rules}
-use borrow.Author.Tests.{not-true, not-false}
 use mathlib.Core.Path.{sym, ◌∙◌}
 use Rattle.signed.proofs.Signed.{is}
 use Rattle.link.specs.Linking.{numbers_hold}

@@ -1,5 +1,4 @@
 -- `link::thresholds::thresholds_of` meets its contract: the quotient is never too steep, and fits.
-use borrow.Author.Rules.{rules}
 use native.Mathlib.Omega.{arith}
 use mathlib.Core.Path.{◌≡◌, sym, ap, ◌∙◌}
 use mathlib.Core.Bool.{true, false}
@@ -7,7 +6,7 @@ use Prim.Native.Nat.{ℕ}
 use lib.IntN.{ℤ, pos}
 use mir.Syntax.{w32}
 use Rattle.signed.proofs.Signed.{is, got}
-use Rattle.fixed.specs.Point.{div_fix, derived}
+use Rattle.fixed.specs.Point.{derived}
 use Rattle.fixed.specs.Divide.{quotient_of}
 use Rattle.fixed.proofs.Quotients.{told-steep, told_of}
 use Rattle.link.specs.Linking.{thresholds_of}
@@ -44,9 +43,9 @@ returns c =
     let d = c.before in
     let s = d.before.before in
     let l = d.derived_constant-len in
-    let z = c.in-Of.dist in
-    let t = told_of (pos 192) s.args.scale z (sym (told d) ∙ c.in-Of.is) in
+    let z = c.in-Some.dist in
+    let t = told_of (pos 192) s.args.scale z (sym (told d) ∙ c.in-Some.is) in
     λ i. record {
       len = (is (got w32 l.result l.type_inv) ∙ l.ensures ∙ ap (λ (u : ℤ). derived u (pos 8)) (is s.ranges.units_per_em)) i;
-      dist = (is (got w32 z c.in-Of.known_told-1-own.given.0.1) ∙ t.1) i;
+      dist = (is (got w32 z c.in-Some.known_told-1-own.given.0.1) ∙ t.1) i;
     }

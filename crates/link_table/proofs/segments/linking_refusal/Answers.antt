@@ -1,28 +1,41 @@
 -- `link_table::segments::linking_refusal` meets its contract: test by test.
-use borrow.Author.Rules.{rules}
-use mathlib.Core.Path.{refl}
 use Rattle.signed.proofs.By.{by₂}
 use Rattle.signed.proofs.Signed.{is}
-use Rattle.refusals.specs.Refusal.{too_long, bad_parameter, bad_index, out_of_range}
-use Rattle.refusals.proofs.Tests.{none-tested, then-tested}
+use Rattle.refusals.proofs.Tests.{none-tested}
+use Rattle.refusals.proofs.Outcomes.{exit-answer, then-held, then-refused, then-last}
 use Rattle.link.specs.Linking.{numbers_hold}
 use Rattle.link_table.proofs.segments.linking_refusal.Goals as goal
 
+pub returns-in_err-require : goal.returns-in_err-require
+returns-in_err-require c =
+    then-refused _ none-tested c.in_err-require.ensures c.few_segments.ensures (exit-answer _ _ c.from_residual.ensures.1)
+
+pub returns-in_err-require-2 : goal.returns-in_err-require-2
+returns-in_err-require-2 c =
+    let t1 = then-held none-tested c.in_ok-require.ensures c.few_segments.ensures in
+    let numbers = by₂ numbers_hold c.numbers_hold.ensures (is c.ranges.units_per_em) (is c.ranges.scale) in
+    then-refused _ t1 c.in_err-require-2.ensures numbers (exit-answer _ _ c.from_residual-in_err-require-2.ensures.1)
+
+pub returns-in_err-require-3 : goal.returns-in_err-require-3
+returns-in_err-require-3 c =
+    let t1 = then-held none-tested c.in_ok-require.ensures c.few_segments.ensures in
+    let numbers = by₂ numbers_hold c.numbers_hold.ensures (is c.ranges.units_per_em) (is c.ranges.scale) in
+    let t2 = then-held t1 c.in_ok-require-2.ensures numbers in
+    then-refused _ t2 c.in_err-require-3.ensures c.segments_indices.ensures (exit-answer _ _ c.from_residual-in_err-require-3.ensures.1)
+
+pub returns-in_err-require-4 : goal.returns-in_err-require-4
+returns-in_err-require-4 c =
+    let t1 = then-held none-tested c.in_ok-require.ensures c.few_segments.ensures in
+    let numbers = by₂ numbers_hold c.numbers_hold.ensures (is c.ranges.units_per_em) (is c.ranges.scale) in
+    let t2 = then-held t1 c.in_ok-require-2.ensures numbers in
+    let t3 = then-held t2 c.in_ok-require-3.ensures c.segments_indices.ensures in
+    then-refused _ t3 c.in_err-require-4.ensures c.segments_nexts.ensures (exit-answer _ _ c.from_residual-in_err-require-4.ensures.1)
+
 pub returns : goal.returns
 returns c =
-    let range = c in
-    let indexed = range in
-    let nexts = indexed in
-    let linked = nexts in
-    let indices = linked in
-    let right = indices in
-    let numbers = right in
-    let short = numbers in
-    let few = short in
-    let start = few in
-    let one = then-tested too_long none-tested refl short.or_refused-answer.ensures few.few_segments.ensures in
-    let two = then-tested bad_parameter one refl right.or_refused-answer-2.ensures
-    (by₂ numbers_hold numbers.numbers_hold.ensures (is start.ranges.units_per_em) (is start.ranges.scale)) in
-    let three = then-tested bad_index two refl linked.or_refused-answer-3.ensures indices.segments_indices.ensures in
-    let four = then-tested bad_index three refl indexed.or_refused-answer-4.ensures nexts.segments_nexts.ensures in
-    (then-tested out_of_range four refl c.or_refused.ensures range.segments_numbers.ensures).refused
+    let t1 = then-held none-tested c.in_ok-require.ensures c.few_segments.ensures in
+    let numbers = by₂ numbers_hold c.numbers_hold.ensures (is c.ranges.units_per_em) (is c.ranges.scale) in
+    let t2 = then-held t1 c.in_ok-require-2.ensures numbers in
+    let t3 = then-held t2 c.in_ok-require-3.ensures c.segments_indices.ensures in
+    let t4 = then-held t3 c.in_ok-require-4.ensures c.segments_nexts.ensures in
+    then-last t4 c.require-5.ensures c.segments_numbers.ensures

@@ -1,4 +1,5 @@
 -- `link_words::serif::hold_in` meets its contract.
+use Rattle.std.specs.Prelude.{Some}
 use borrow.Author.Tests.{not-true, not-false}
 use mathlib.Core.Path.{sym, subst}
 use native.Mathlib.Omega.{arith}
@@ -35,7 +36,7 @@ read_segment-link2-requires c =
     let s = e in (
       s.requires.linkable.0.whole,
       link-leads s.requires.linkable.0 s.requires.linkable.3
-          (link-read s.args.words.now s.args.ix2 e.read_segment-seg2.ensures link.in-To.is),
+          (link-read s.args.words.now s.args.ix2 e.read_segment-seg2.ensures link.in-Some.is),
     )
 
 pub returns-then-not-encloses : goal.returns-then-not-encloses
@@ -47,7 +48,7 @@ returns-then-not-encloses c =
     let s = e in
     hold-skip s.args.seg1 s.args.link1 s.args.ix1 s.args.link1_ix s.args.ix2 s.args.words.now s.requires.linkable.0 s.requires.linkable.1
     s.requires.linkable.2 _ e.read_segment-seg2.ensures _
-    link.in-To.is _ f.read_segment-link2.ensures _ k.encloses.ensures (c.if-not-encloses.true)
+    link.in-Some.is _ f.read_segment-link2.ensures _ k.encloses.ensures (c.if-not-encloses.true)
 
 pub is_much_longer-requires : goal.is_much_longer-requires
 is_much_longer-requires c =
@@ -80,7 +81,7 @@ returns-then-is_much_longer c =
     let s = e in
     hold-serifs s.args.seg1 s.args.link1 s.args.ix1 s.args.link1_ix s.args.ix2 s.args.words.now s.requires.linkable.0 s.requires.linkable.1
     s.requires.linkable.2 _ e.read_segment-seg2.ensures _
-    link.in-To.is _ f.read_segment-link2.ensures _ k.encloses.ensures (x.if-not-encloses.false) _ n.is_much_longer.ensures
+    link.in-Some.is _ f.read_segment-link2.ensures _ k.encloses.ensures (x.if-not-encloses.false) _ n.is_much_longer.ensures
     y.if-is_much_longer.true p.rewrite_links_in.ensures
 
 pub put_no_link-requires : goal.put_no_link-requires
@@ -106,6 +107,6 @@ returns c =
     let s = e in
     hold-last s.args.seg1 s.args.link1 s.args.ix1 s.args.link1_ix s.args.ix2 s.args.words.now s.requires.linkable.0 s.requires.linkable.1
     s.requires.linkable.2 _ e.read_segment-seg2.ensures _
-    link.in-To.is _ f.read_segment-link2.ensures _ k.encloses.ensures (x.if-not-encloses.false) _ n.is_much_longer.ensures y.if-is_much_longer.false
+    link.in-Some.is _ f.read_segment-link2.ensures _ k.encloses.ensures (x.if-not-encloses.false) _ n.is_much_longer.ensures y.if-is_much_longer.false
     p.put_no_link.ensures
     q.put_no_link-2.ensures

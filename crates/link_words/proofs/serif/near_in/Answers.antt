@@ -1,4 +1,5 @@
 -- `link_words::serif::near_in` meets its contract.
+use Rattle.std.specs.Prelude.{Some}
 use borrow.Author.Tests.{not-true, not-false}
 use mathlib.Core.Path.{sym, subst}
 use Rattle.signed.specs.Range.{Between}
@@ -20,7 +21,7 @@ read_segment-link1-requires c =
     let link = c in
     let e = link in
     let s = e in
-    (s.requires.0.whole, link-leads s.requires.0 s.requires.1 (link-read s.args.words.now s.args.ix1 e.read_segment-seg1.ensures link.in-To.is))
+    (s.requires.0.whole, link-leads s.requires.0 s.requires.1 (link-read s.args.words.now s.args.ix1 e.read_segment-seg1.ensures link.in-Some.is))
 
 pub returns-then-not-is_near_stem : goal.returns-then-not-is_near_stem
 returns-then-not-is_near_stem c =
@@ -29,7 +30,7 @@ returns-then-not-is_near_stem c =
     let link = f in
     let e = link in
     let s = e in
-    near-skip s.args.thresholds s.args.words.now s.args.ix1 s.requires.0.whole _ e.read_segment-seg1.ensures _ link.in-To.is _
+    near-skip s.args.thresholds s.args.words.now s.args.ix1 s.requires.0.whole _ e.read_segment-seg1.ensures _ link.in-Some.is _
     f.read_segment-link1.ensures _ k.is_near_stem.ensures
     (c.if-not-is_near_stem.true)
 
@@ -42,7 +43,7 @@ holds_in-requires c =
     let s = e in (
       s.requires.0,
       s.requires.1,
-      link-leads s.requires.0 s.requires.1 (link-read s.args.words.now s.args.ix1 e.read_segment-seg1.ensures link.in-To.is),
+      link-leads s.requires.0 s.requires.1 (link-read s.args.words.now s.args.ix1 e.read_segment-seg1.ensures link.in-Some.is),
       subst (λ (x : Segment). Between 0 most_score x.score) (sym e.read_segment-seg1.ensures)
           ((each_within s.args.words.now s.requires.0.within).each s.args.ix1 s.requires.1).score,
     )
@@ -56,6 +57,6 @@ returns c =
     let link = f in
     let e = link in
     let s = e in
-    near-law s.args.thresholds s.args.words.now s.args.ix1 s.requires.0.whole _ e.read_segment-seg1.ensures _ link.in-To.is _
+    near-law s.args.thresholds s.args.words.now s.args.ix1 s.requires.0.whole _ e.read_segment-seg1.ensures _ link.in-Some.is _
     f.read_segment-link1.ensures _ k.is_near_stem.ensures
     (x.if-not-is_near_stem.false) p.holds_in.ensures

@@ -1,52 +1,34 @@
 -- `link_words::serif::rewrite_in` meets its contract.
+use mathlib.Core.Path.{◌∙◌}
+use Rattle.axis.proofs.Equal.{option-links}
 use native.Mathlib.Omega.{arith}
 use Rattle.axis.specs.Limits.{most_segments}
 use Rattle.axis.proofs.Acceptance.{below-to}
 use Rattle.link_words.proofs.Serifs.{rewrite-first, rewrite-second, rewrite-none}
-use borrow.Author.Rules.{rules}
 use Rattle.link_words.proofs.serif.rewrite_in.Goals as goal
 
 pub put_serif-requires : goal.put_serif-requires
 put_serif-requires c =
-    let s = c in
-    (s.requires.0, s.requires.1, below-to most_segments s.args.link1_ix (omega (arith, s.requires.2, s.requires.0.few)))
+    (c.requires.0, c.requires.1, below-to most_segments c.args.link1_ix (omega (arith, c.requires.2, c.requires.0.few)))
 
-pub returns-then-links_to : goal.returns-then-links_to
-returns-then-links_to c =
-    let p = c in
-    let x = p in
-    let k = x in
-    let e = k in
-    let s = e in
-    rewrite-first s.args.words.now s.args.ix2 s.args.link1_ix s.args.link2_ix s.args.ix1 s.args.i s.requires.0 _
-    e.read_segment-seg.ensures _ k.links_to.ensures x.if-links_to.true
-    p.put_serif.ensures
+pub returns-then-eq : goal.returns-then-eq
+returns-then-eq c =
+    rewrite-first c.args.words.now c.args.ix2 c.args.link1_ix c.args.link2_ix c.args.ix1 c.args.i c.requires.0 _
+    c.read_segment-seg.ensures _ (c.eq.ensures ∙ option-links _ _) c.if-eq.true
+    c.put_serif.ensures
 
-pub put_serif-requires-then-links_to-2 : goal.put_serif-requires-then-links_to-2
-put_serif-requires-then-links_to-2 c =
-    let s = c in
-    (s.requires.0, s.requires.1, below-to most_segments s.args.ix1 (omega (arith, s.requires.3, s.requires.0.few)))
+pub put_serif-requires-then-eq-2 : goal.put_serif-requires-then-eq-2
+put_serif-requires-then-eq-2 c =
+    (c.requires.0, c.requires.1, below-to most_segments c.args.ix1 (omega (arith, c.requires.3, c.requires.0.few)))
 
-pub returns-then-links_to-2 : goal.returns-then-links_to-2
-returns-then-links_to-2 c =
-    let p = c in
-    let y = p in
-    let n = y in
-    let x = n in
-    let k = x in
-    let e = k in
-    let s = e in
-    rewrite-second s.args.words.now s.args.ix2 s.args.link1_ix s.args.link2_ix s.args.ix1 s.args.i s.requires.0 _
-    e.read_segment-seg.ensures _ k.links_to.ensures x.if-links_to.false
-    _ n.links_to-2.ensures y.if-links_to-2.true p.put_serif-then-links_to-2.ensures
+pub returns-then-eq-2 : goal.returns-then-eq-2
+returns-then-eq-2 c =
+    rewrite-second c.args.words.now c.args.ix2 c.args.link1_ix c.args.link2_ix c.args.ix1 c.args.i c.requires.0 _
+    c.read_segment-seg.ensures _ (c.eq.ensures ∙ option-links _ _) c.if-eq.false
+    _ (c.eq-2.ensures ∙ option-links _ _) c.if-eq-2.true c.put_serif-then-eq-2.ensures
 
-pub returns-else-links_to-2 : goal.returns-else-links_to-2
-returns-else-links_to-2 c =
-    let n = c in
-    let x = n in
-    let k = x in
-    let e = k in
-    let s = e in
-    rewrite-none s.args.words.now s.args.ix2 s.args.link1_ix s.args.link2_ix s.args.ix1 s.args.i s.requires.0 _
-    e.read_segment-seg.ensures _ k.links_to.ensures x.if-links_to.false
-    _ n.links_to-2.ensures c.if-links_to-2.false
+pub returns-else-eq-2 : goal.returns-else-eq-2
+returns-else-eq-2 c =
+    rewrite-none c.args.words.now c.args.ix2 c.args.link1_ix c.args.link2_ix c.args.ix1 c.args.i c.requires.0 _
+    c.read_segment-seg.ensures _ (c.eq.ensures ∙ option-links _ _) c.if-eq.false
+    _ (c.eq-2.ensures ∙ option-links _ _) c.if-eq-2.false

@@ -1,27 +1,15 @@
 -- `log_digits::digit::all_digits` meets its contract. The invariant: the line is digits where what is left is.
-use borrow.Author.Rules.{rules}
-use borrow.Author.Tests.{not-true, not-false}
 use native.Mathlib.Omega.{arith}
-use mathlib.Core.Path.{◌≡◌, sym, ◌∙◌}
-use Prim.Native.Nat.{◌-◌, ◌≤◌}
-use lib.ListN.{length, drop}
-use Rattle.log_digits.specs.Digits.{all_digits}
+use mathlib.Core.Path.{sym, ◌∙◌}
 use Rattle.log_digits.proofs.Lines.{digits-stop, digits-on, digits-end}
 use Rattle.log_digits.proofs.digit.all_digits.Goals as goal
 
 pub returns-then-not-is_digit : goal.returns-then-not-is_digit
 returns-then-not-is_digit c =
-    let l = c in
-    sym (l.loop-i.invariant.1 ∙ digits-stop l.args.line.now l.loop-i.i (omega arith)
-    (sym c.is_digit.ensures ∙ c.if-not-is_digit.true))
+    sym (c.loop-char.invariant ∙ digits-stop c.args.line.now c.loop-char.char-index (omega arith) (sym c.is_digit.ensures ∙ c.if-not-is_digit.true))
 
-pub loop-i-preserved : goal.loop-i-preserved
-loop-i-preserved c =
-    let l = c in (
-      omega arith,
-      l.loop-i.invariant.1 ∙ digits-on l.args.line.now l.loop-i.i (omega arith)
-          (sym c.is_digit.ensures ∙ c.if-not-is_digit.false),
-    )
+pub loop-char-preserved : goal.loop-char-preserved
+loop-char-preserved c = c.loop-char.invariant ∙ digits-on c.args.line.now c.loop-char.char-index (omega arith) (sym c.is_digit.ensures ∙ c.if-not-is_digit.false)
 
 pub returns : goal.returns
-returns c = let l = c in sym (l.loop-i.invariant.1 ∙ digits-end l.args.line.now l.loop-i.i (omega arith))
+returns c = sym (c.loop-char.invariant ∙ digits-end c.args.line.now c.loop-char.char-index (omega arith))

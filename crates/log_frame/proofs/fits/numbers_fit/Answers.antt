@@ -6,19 +6,18 @@ use lib.IntN.{pos}
 use mir.Syntax.{w32}
 use Rattle.signed.proofs.Signed.{is, got}
 use Rattle.words_shape.specs.Shape.{is_in, short}
-use Rattle.log_frame.specs.Write.{numbers_fit}
 use Rattle.log_frame.proofs.Tested.{numbers-stop, numbers_on, numbers-end}
 use Rattle.log_frame.proofs.fits.numbers_fit.Goals as goal
 
 pub returns-then-not-is_in : goal.returns-then-not-is_in
 returns-then-not-is_in c =
-    let told : c.is_in.result ≡ is_in short (get_or c.args.list.now c.loop-i.i (pos 0)) = c.is_in.ensures ∙ ap (is_in short) (is (got w32 (get_or c.args.list.now c.loop-i.i (pos 0)) c.is_in-arg-1.given)) in
-    sym (c.loop-i.invariant.1 ∙ numbers-stop c.args.list.now c.loop-i.i (omega arith) (sym told ∙ c.if-not-is_in.true))
+    let told : c.is_in.result ≡ is_in short (get_or c.args.list.now c.loop-number.number-index (pos 0)) = c.is_in.ensures ∙ ap (is_in short) (is (got w32 (get_or c.args.list.now c.loop-number.number-index (pos 0)) c.is_in-arg-1.given)) in
+    sym (c.loop-number.invariant ∙ numbers-stop c.args.list.now c.loop-number.number-index (omega arith) (sym told ∙ c.if-not-is_in.true))
 
-pub loop-i-preserved : goal.loop-i-preserved
-loop-i-preserved c =
-    let told : c.is_in.result ≡ is_in short (get_or c.args.list.now c.loop-i.i (pos 0)) = c.is_in.ensures ∙ ap (is_in short) (is (got w32 (get_or c.args.list.now c.loop-i.i (pos 0)) c.is_in-arg-1.given)) in
-    (omega arith, c.loop-i.invariant.1 ∙ numbers_on c.args.list.now c.loop-i.i (omega arith) (sym told ∙ c.if-not-is_in.false))
+pub loop-number-preserved : goal.loop-number-preserved
+loop-number-preserved c =
+    let told : c.is_in.result ≡ is_in short (get_or c.args.list.now c.loop-number.number-index (pos 0)) = c.is_in.ensures ∙ ap (is_in short) (is (got w32 (get_or c.args.list.now c.loop-number.number-index (pos 0)) c.is_in-arg-1.given)) in
+    c.loop-number.invariant ∙ numbers_on c.args.list.now c.loop-number.number-index (omega arith) (sym told ∙ c.if-not-is_in.false)
 
 pub returns : goal.returns
-returns c = sym (c.loop-i.invariant.1 ∙ numbers-end c.args.list.now c.loop-i.i (omega arith))
+returns c = sym (c.loop-number.invariant ∙ numbers-end c.args.list.now c.loop-number.number-index (omega arith))

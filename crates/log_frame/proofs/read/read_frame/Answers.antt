@@ -1,24 +1,32 @@
 -- `log_frame::read::read_frame` meets its contract: a good line is read, its points and its ends.
 use native.Mathlib.Omega.{arith}
-use mathlib.Core.Path.{◌≡◌}
+use mathlib.Core.Path.{◌≡◌, sym, subst}
 use Prim.Native.Nat.{◌≤◌}
 use lib.ListN.{length}
+use Rattle.std.specs.Prelude.{Result}
+use Rattle.refusals.specs.declared.order.Refusal.{Refusal}
 use Rattle.refusals.specs.Refusal.{refusal}
+use Rattle.refusals.proofs.Outcomes.{number-above, exit}
 use Rattle.log_digits.specs.Digits.{digits_for}
 use Rattle.log_frame.specs.Limits.{most_counted, frame_size}
 use Rattle.log_frame.specs.Frame.{Frame, frame_of, points_in, contours_in}
-use Rattle.log_frame.specs.Read.{read_tests}
+use Rattle.log_frame.specs.Read.{read_tests, ReadsFrame}
+use Rattle.log_frame.specs.declared.read.Counts.{Counts}
+use Rattle.log_frame.specs.Answer.{read_of}
 use Rattle.log_frame.proofs.Tested.{Readable, readable, good_length, few-points-in, few-contours-in}
 use Rattle.log_frame.proofs.Determined.{reads-refused, reads-done}
 use Rattle.log_frame.proofs.read.read_frame.Goals as goal
 
-pub returns-then-answer-gt0 : goal.returns-then-answer-gt0
-returns-then-answer-gt0 c = reads-refused c.args.line.now (frame_of c.args.originals.now c.args.currents.now c.args.marks.now c.args.ends.now) _ c.read_refusal-answer.ensures c.if-answer-gt0.true
+pub returns-in_err-read_refusal : goal.returns-in_err-read_refusal
+returns-in_err-read_refusal c =
+    let rooms : Frame = frame_of c.args.originals.now c.args.currents.now c.args.marks.now c.args.ends.now in
+    subst (λ (o : Result Counts Refusal). ReadsFrame c.args.line.now rooms (read_of o) rooms) (sym (exit _ _ c.from_residual.ensures.1))
+    (reads-refused c.args.line.now rooms _ c.in_err-read_refusal.ensures (number-above _))
 
 pub points_in-points-requires : goal.points_in-points-requires
 points_in-points-requires c =
     let rooms : Frame = frame_of c.args.originals.now c.args.currents.now c.args.marks.now c.args.ends.now in
-    let not-refused : refusal (read_tests c.args.line.now rooms) ≡ 0 = omega (arith, c.read_refusal-answer.ensures, c.if-answer-gt0.false) in
+    let not-refused : refusal (read_tests c.args.line.now rooms) ≡ 0 = sym c.in_ok-read_refusal.ensures in
     let accepted : Readable c.args.line.now rooms = readable c.args.line.now rooms not-refused in
     let long : length c.args.line.now ≡ digits_for (frame_size (points_in c.args.line.now) (contours_in c.args.line.now)) = good_length c.args.line.now accepted.good in
     omega (arith, long)
@@ -26,7 +34,7 @@ points_in-points-requires c =
 pub contours_in-contours-requires : goal.contours_in-contours-requires
 contours_in-contours-requires c =
     let rooms : Frame = frame_of c.args.originals.now c.args.currents.now c.args.marks.now c.args.ends.now in
-    let not-refused : refusal (read_tests c.args.line.now rooms) ≡ 0 = omega (arith, c.read_refusal-answer.ensures, c.if-answer-gt0.false) in
+    let not-refused : refusal (read_tests c.args.line.now rooms) ≡ 0 = sym c.in_ok-read_refusal.ensures in
     let accepted : Readable c.args.line.now rooms = readable c.args.line.now rooms not-refused in
     let long : length c.args.line.now ≡ digits_for (frame_size (points_in c.args.line.now) (contours_in c.args.line.now)) = good_length c.args.line.now accepted.good in
     omega (arith, long)
@@ -34,7 +42,7 @@ contours_in-contours-requires c =
 pub read_points-requires : goal.read_points-requires
 read_points-requires c =
     let rooms : Frame = frame_of c.args.originals.now c.args.currents.now c.args.marks.now c.args.ends.now in
-    let not-refused : refusal (read_tests c.args.line.now rooms) ≡ 0 = omega (arith, c.read_refusal-answer.ensures, c.if-answer-gt0.false) in
+    let not-refused : refusal (read_tests c.args.line.now rooms) ≡ 0 = sym c.in_ok-read_refusal.ensures in
     let accepted : Readable c.args.line.now rooms = readable c.args.line.now rooms not-refused in
     let long : length c.args.line.now ≡ digits_for (frame_size (points_in c.args.line.now) (contours_in c.args.line.now)) = good_length c.args.line.now accepted.good in
     let counted : c.points_in-points.result ≤ most_counted = omega (arith, c.points_in-points.ensures, few-points-in c.args.line.now) in
@@ -55,7 +63,7 @@ overflow_add-points c =
 pub read_ends-requires : goal.read_ends-requires
 read_ends-requires c =
     let rooms : Frame = frame_of c.args.originals.now c.args.currents.now c.args.marks.now c.args.ends.now in
-    let not-refused : refusal (read_tests c.args.line.now rooms) ≡ 0 = omega (arith, c.read_refusal-answer.ensures, c.if-answer-gt0.false) in
+    let not-refused : refusal (read_tests c.args.line.now rooms) ≡ 0 = sym c.in_ok-read_refusal.ensures in
     let accepted : Readable c.args.line.now rooms = readable c.args.line.now rooms not-refused in
     let long : length c.args.line.now ≡ digits_for (frame_size (points_in c.args.line.now) (contours_in c.args.line.now)) = good_length c.args.line.now accepted.good in (
       omega (arith, long, c.points_in-points.ensures, c.contours_in-contours.ensures),
@@ -66,6 +74,6 @@ read_ends-requires c =
 pub returns : goal.returns
 returns c =
     let rooms : Frame = frame_of c.args.originals.now c.args.currents.now c.args.marks.now c.args.ends.now in
-    let not-refused : refusal (read_tests c.args.line.now rooms) ≡ 0 = omega (arith, c.read_refusal-answer.ensures, c.if-answer-gt0.false) in
+    let not-refused : refusal (read_tests c.args.line.now rooms) ≡ 0 = sym c.in_ok-read_refusal.ensures in
     reads-done c.args.line.now rooms _ _ not-refused c.points_in-points.ensures c.contours_in-contours.ensures c.read_points.ensures
     c.read_ends.ensures

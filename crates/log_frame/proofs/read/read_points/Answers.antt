@@ -45,9 +45,6 @@ offset_bounds-currents-i c = omega (arith, c.requires)
 pub bounds-currents-i : goal.bounds-currents-i
 bounds-currents-i c = omega (arith, c.requires, c.loop-i.invariant)
 
-pub overflow_add-i : goal.overflow_add-i
-overflow_add-i c = omega (arith, c.requires)
-
 pub loop-i-preserved : goal.loop-i-preserved
 loop-i-preserved c = let a = c.args in
     let l = c.loop-i in

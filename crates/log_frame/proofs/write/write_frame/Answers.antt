@@ -3,34 +3,41 @@ use native.Mathlib.Omega.{arith}
 use mathlib.Core.Path.{◌≡◌, sym, ap, subst, ◌∙◌}
 use mathlib.Core.List.{◌∷◌, []}
 use lib.ListN.{length}
+use Prim.Native.Nat.{ℕ}
+use Rattle.std.specs.Prelude.{Result}
+use Rattle.refusals.specs.declared.order.Refusal.{Refusal}
 use Rattle.refusals.specs.Refusal.{refusal}
+use Rattle.refusals.proofs.Outcomes.{number-above, exit}
 use Rattle.log_digits.specs.Digits.{Bytes}
 use Rattle.log_digits.proofs.Writing.{written-length}
 use Rattle.log_frame.specs.Limits.{head_size}
 use Rattle.log_frame.specs.Frame.{Frame, frame_of, kind_byte, points_bytes}
-use Rattle.log_frame.specs.Write.{write_tests}
+use Rattle.log_frame.specs.Write.{write_tests, WritesFrame}
+use Rattle.log_frame.specs.Answer.{written_of}
 use Rattle.log_frame.specs.Steps.{PointsFit, Writable}
 use Rattle.log_frame.proofs.Tested.{writable}
 use Rattle.log_frame.proofs.Composed.{points-length, frame-length, frame-written}
 use Rattle.log_frame.proofs.Determined.{writes-refused, writes-done}
 use Rattle.log_frame.proofs.write.write_frame.Goals as goal
 
-pub returns-then-answer-gt0 : goal.returns-then-answer-gt0
-returns-then-answer-gt0 c =
+pub returns-in_err-write_refusal : goal.returns-in_err-write_refusal
+returns-in_err-write_refusal c =
+    let frame : Frame = frame_of c.args.originals.now c.args.currents.now c.args.marks.now c.args.ends.now in
     let marked : Bytes c.args.marks.now = λ i. (c.shared_slice_known-1.given i).fits in
-    writes-refused (frame_of c.args.originals.now c.args.currents.now c.args.marks.now c.args.ends.now) c.args.line.now _ c.write_refusal-answer.ensures c.if-answer-gt0.true marked
+    subst (λ (o : Result ℕ Refusal). WritesFrame frame c.args.line.now (written_of o) c.args.line.now) (sym (exit _ _ c.from_residual.ensures.1))
+    (writes-refused frame c.args.line.now _ c.in_err-write_refusal.ensures (number-above _) marked)
 
 pub put_head-requires : goal.put_head-requires
 put_head-requires c =
     let frame : Frame = frame_of c.args.originals.now c.args.currents.now c.args.marks.now c.args.ends.now in
-    let not-refused : refusal (write_tests frame c.args.line.now) ≡ 0 = omega (arith, c.write_refusal-answer.ensures, c.if-answer-gt0.false) in
+    let not-refused : refusal (write_tests frame c.args.line.now) ≡ 0 = sym c.in_ok-write_refusal.ensures in
     let accepted : Writable frame (length c.args.line.now) = writable frame c.args.line.now not-refused in
     let w = accepted in ((w.few-points, w.few_contours), omega (arith, w.room))
 
 pub put_points-requires : goal.put_points-requires
 put_points-requires c =
     let frame : Frame = frame_of c.args.originals.now c.args.currents.now c.args.marks.now c.args.ends.now in
-    let not-refused : refusal (write_tests frame c.args.line.now) ≡ 0 = omega (arith, c.write_refusal-answer.ensures, c.if-answer-gt0.false) in
+    let not-refused : refusal (write_tests frame c.args.line.now) ≡ 0 = sym c.in_ok-write_refusal.ensures in
     let accepted : Writable frame (length c.args.line.now) = writable frame c.args.line.now not-refused in
     let headed : length c.put_head.new.line ≡ length c.args.line.now = let a = c.args in
     ap length c.put_head.ensures
@@ -41,7 +48,7 @@ put_points-requires c =
 pub put_ends-requires : goal.put_ends-requires
 put_ends-requires c =
     let frame : Frame = frame_of c.args.originals.now c.args.currents.now c.args.marks.now c.args.ends.now in
-    let not-refused : refusal (write_tests frame c.args.line.now) ≡ 0 = omega (arith, c.write_refusal-answer.ensures, c.if-answer-gt0.false) in
+    let not-refused : refusal (write_tests frame c.args.line.now) ≡ 0 = sym c.in_ok-write_refusal.ensures in
     let accepted : Writable frame (length c.args.line.now) = writable frame c.args.line.now not-refused in
     let headed : length c.put_head.new.line ≡ length c.args.line.now = let a = c.args in
     ap length c.put_head.ensures
@@ -58,7 +65,7 @@ put_ends-requires c =
 pub overflow_mul-result : goal.overflow_mul-result
 overflow_mul-result c =
     let frame : Frame = frame_of c.args.originals.now c.args.currents.now c.args.marks.now c.args.ends.now in
-    let not-refused : refusal (write_tests frame c.args.line.now) ≡ 0 = omega (arith, c.write_refusal-answer.ensures, c.if-answer-gt0.false) in
+    let not-refused : refusal (write_tests frame c.args.line.now) ≡ 0 = sym c.in_ok-write_refusal.ensures in
     let accepted : Writable frame (length c.args.line.now) = writable frame c.args.line.now not-refused in
     let w = accepted in omega (arith, w.few-points, w.few_contours)
 
@@ -66,7 +73,7 @@ pub returns : goal.returns
 returns c =
     let frame : Frame = frame_of c.args.originals.now c.args.currents.now c.args.marks.now c.args.ends.now in
     let marked : Bytes c.args.marks.now = λ i. (c.shared_slice_known-1.given i).fits in
-    let not-refused : refusal (write_tests frame c.args.line.now) ≡ 0 = omega (arith, c.write_refusal-answer.ensures, c.if-answer-gt0.false) in
+    let not-refused : refusal (write_tests frame c.args.line.now) ≡ 0 = sym c.in_ok-write_refusal.ensures in
     let accepted : Writable frame (length c.args.line.now) = writable frame c.args.line.now not-refused in
     writes-done frame c.args.line.now _ not-refused (sym (frame-length frame))
     (frame-written frame c.args.line.now accepted c.put_head.ensures c.put_points.ensures c.put_ends.ensures)

@@ -1,15 +1,15 @@
 -- `log_text::text::put_results` meets its contract. The invariant: what is written so far.
 use native.Mathlib.Omega.{arith}
-use mathlib.Core.Path.{◌≡◌, ap, ◌∙◌}
+use mathlib.Core.Path.{◌≡◌, ap, subst, ◌∙◌}
 use mathlib.Core.List.{[], ◌∷◌}
-use Prim.Native.Nat.{◌≤◌}
+use Prim.Native.Nat.{ℕ, ◌+◌, ◌*◌, ◌≤◌}
 use lib.ListN.{length, get_or}
 use lib.IntN.{pos}
 use mir.Syntax.{w32}
 use Rattle.signed.proofs.Signed.{is, got}
 use Rattle.log_digits.specs.Digits.{digits_for}
 use Rattle.log_digits.proofs.Writing.{written-length}
-use Rattle.log_text.specs.Answer.{done_byte, done_size}
+use Rattle.log_text.specs.Answer.{done_byte, done_size, done_bytes, Puts}
 use Rattle.log_text.proofs.Putting.{two-written}
 use Rattle.log_text.proofs.Results.{told_none, told_more, told-all}
 use Rattle.log_text.proofs.text.put_results.Goals as goal
@@ -42,12 +42,6 @@ loop-i-preserved c =
     (is (got w32 (get_or a.results.now c.loop-i.i (pos 0)) c.put_result-arg-in-loop-i-1.given))
     c.put_result.ensures
 
-pub overflow_mul-result : goal.overflow_mul-result
-overflow_mul-result c = omega (arith, c.loop-i.invariant)
-
-pub overflow_add-result : goal.overflow_add-result
-overflow_add-result c = omega (arith, c.loop-i.invariant)
-
 pub shape_of-out : goal.shape_of-out
 shape_of-out c =
     let begun : length c.put_byte-2.new.line
@@ -58,7 +52,9 @@ shape_of-out c =
 
 pub returns : goal.returns
 returns c = let a = c.args in
-    told-all a.results.now a.out.now c.loop-i.i
+    let all : c.loop-i.i ≡ length a.results.now = omega (arith, c.loop-i.invariant.within) in
+    subst (λ (n : ℕ). Puts (done_bytes a.results.now) a.out.now (2 + 3 * n) c.loop-i.out) all
+    (told-all a.results.now a.out.now c.loop-i.i
     c.requires.1
     c.put_byte.ensures c.put_byte-2.ensures
-    c.loop-i.invariant (omega arith)
+    c.loop-i.invariant (omega arith))

@@ -1,19 +1,26 @@
 -- `lowercase_m::hint::m_refusal` meets its contract: one test behind the other.
-use mathlib.Core.Path.{refl}
-use borrow.Author.Rules.{rules}
-use Rattle.refusals.specs.Refusal.{too_long, bad_parameter, bad_index, out_of_range}
-use Rattle.refusals.proofs.Tests.{none-tested, then-tested}
+use Rattle.refusals.proofs.Tests.{none-tested}
+use Rattle.refusals.proofs.Outcomes.{exit-answer, then-held, then-refused, then-last}
 use Rattle.lowercase_m.proofs.hint.m_refusal.Goals as goal
+
+pub returns-in_err-require : goal.returns-in_err-require
+returns-in_err-require c =
+    then-refused _ none-tested c.in_err-require.ensures c.few_edges.ensures (exit-answer _ _ c.from_residual.ensures.1)
+
+pub returns-in_err-require-2 : goal.returns-in_err-require-2
+returns-in_err-require-2 c =
+    let t1 = then-held none-tested c.in_ok-require.ensures c.few_edges.ensures in
+    then-refused _ t1 c.in_err-require-2.ensures c.count_holds.ensures (exit-answer _ _ c.from_residual-in_err-require-2.ensures.1)
+
+pub returns-in_err-require-3 : goal.returns-in_err-require-3
+returns-in_err-require-3 c =
+    let t1 = then-held none-tested c.in_ok-require.ensures c.few_edges.ensures in
+    let t2 = then-held t1 c.in_ok-require-2.ensures c.count_holds.ensures in
+    then-refused _ t2 c.in_err-require-3.ensures c.edges_indices.ensures (exit-answer _ _ c.from_residual-in_err-require-3.ensures.1)
 
 pub returns : goal.returns
 returns c =
-    let numbers = c in
-    let third = numbers in
-    let indices = third in
-    let second = indices in
-    let count = second in
-    let first = count in
-    let short = then-tested too_long none-tested refl first.or_refused-answer.ensures first.few_edges.ensures in
-    let right = then-tested bad_parameter short refl second.or_refused-answer-2.ensures count.count_holds.ensures in
-    let indexed = then-tested bad_index right refl third.or_refused-answer-3.ensures indices.edges_indices.ensures in
-    (then-tested out_of_range indexed refl c.or_refused.ensures numbers.edges_numbers.ensures).refused
+    let t1 = then-held none-tested c.in_ok-require.ensures c.few_edges.ensures in
+    let t2 = then-held t1 c.in_ok-require-2.ensures c.count_holds.ensures in
+    let t3 = then-held t2 c.in_ok-require-3.ensures c.edges_indices.ensures in
+    then-last t3 c.require-4.ensures c.edges_numbers.ensures

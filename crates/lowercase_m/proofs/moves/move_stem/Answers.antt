@@ -1,4 +1,5 @@
 -- `lowercase_m::moves::move_stem` meets its contract.
+use Rattle.std.specs.Prelude.{Some}
 use mathlib.Core.Path.{◌≡◌, sym, ap, subst, ◌∙◌}
 use Prim.Native.Nat.{ℕ, ◌<◌}
 use native.Mathlib.Omega.{arith}
@@ -7,7 +8,7 @@ use mir.Val.{to_z, of_z, SFits}
 use lib.IntN.{ℤ}
 use Rattle.signed.specs.Range.{Between}
 use Rattle.signed.proofs.Signed.{is}
-use Rattle.axis.specs.declared.kinds.Link.{Link}
+use Rattle.axis.specs.Link.{Link}
 use Rattle.axis.specs.declared.edge.Axis.{Axis}
 use Rattle.axis.specs.declared.edge.Edge.{Edge}
 use Rattle.axis.specs.Edge.{put_edge, edge_at, finished}
@@ -54,7 +55,7 @@ returns-in_default c =
     ∙ ap (λ (l : Link). move_serifs (move_link (move_done axis c.args.third d) l d) d) (sym c.in_default.is)
 
 pub bounds-moved-at : goal.bounds-moved-at
-bounds-moved-at c = let h = c.requires.third_lt_len.1.at _ c.in-To.is in let g = c.requires.places.0.few in omega arith
+bounds-moved-at c = let h = c.requires.third_lt_len.1.at _ c.in-Some.is in let g = c.requires.places.0.few in omega arith
 
 pub moved_back-requires-2 : goal.moved_back-requires-2
 moved_back-requires-2 c =
@@ -64,13 +65,13 @@ moved_back-requires-2 c =
     put-done axis c.args.third d c.moved_back.ensures c.with_done_flag.ensures c.ranges.delta in
     let p : Places once_moved (move_done axis c.args.third d) =
     done-places unmoved c.args.third axis d c.requires.places.0 c.requires.third_lt_len.0 c.requires.places.1 in
-    let h : c.in-To.k < (move_done axis c.args.third d).len = rw (done-len axis c.args.third d) (c.requires.third_lt_len.1.at _ c.in-To.is) in (
-      subst (λ (a : Axis). Between thrice_moved thrice_moved (edge_at a c.in-To.k).pos) (sym m) (further once_moved _ (omega arith) (p.at _ h)),
+    let h : c.in-Some.k < (move_done axis c.args.third d).len = rw (done-len axis c.args.third d) (c.requires.third_lt_len.1.at _ c.in-Some.is) in (
+      subst (λ (a : Axis). Between thrice_moved thrice_moved (edge_at a c.in-Some.k).pos) (sym m) (further once_moved _ (omega arith) (p.at _ h)),
       held _ c.ranges.delta c.requires.places.1,
     )
 
 pub bounds-moved-at-2 : goal.bounds-moved-at-2
-bounds-moved-at-2 c = let h = c.requires.third_lt_len.1.at _ c.in-To.is in let g = c.requires.places.0.few in omega arith
+bounds-moved-at-2 c = let h = c.requires.third_lt_len.1.at _ c.in-Some.is in let g = c.requires.places.0.few in omega arith
 
 pub move_serifs-requires-2 : goal.move_serifs-requires-2
 move_serifs-requires-2 c =
@@ -80,11 +81,11 @@ move_serifs-requires-2 c =
     put-done axis c.args.third d c.moved_back.ensures c.with_done_flag.ensures c.ranges.delta in
     let p : Places once_moved (move_done axis c.args.third d) =
     done-places unmoved c.args.third axis d c.requires.places.0 c.requires.third_lt_len.0 c.requires.places.1 in
-    let h : c.in-To.k < (move_done axis c.args.third d).len = rw (done-len axis c.args.third d) (c.requires.third_lt_len.1.at _ c.in-To.is) in
-    let m2 : put_edge (put_edge axis c.args.third c.with_done_flag.result) c.in-To.k c.with_done_flag-2.result ≡ move_done (move_done axis c.args.third d) c.in-To.k d =
-    put-done (put_edge axis c.args.third c.with_done_flag.result) c.in-To.k d c.moved_back-2.ensures c.with_done_flag-2.ensures c.ranges.delta
-    ∙ ap (λ (a : Axis). move_done a c.in-To.k d) m in (
-      subst (Places twice_moved) (sym m2) (done-places once_moved c.in-To.k (move_done axis c.args.third d) d p h c.requires.places.1),
+    let h : c.in-Some.k < (move_done axis c.args.third d).len = rw (done-len axis c.args.third d) (c.requires.third_lt_len.1.at _ c.in-Some.is) in
+    let m2 : put_edge (put_edge axis c.args.third c.with_done_flag.result) c.in-Some.k c.with_done_flag-2.result ≡ move_done (move_done axis c.args.third d) c.in-Some.k d =
+    put-done (put_edge axis c.args.third c.with_done_flag.result) c.in-Some.k d c.moved_back-2.ensures c.with_done_flag-2.ensures c.ranges.delta
+    ∙ ap (λ (a : Axis). move_done a c.in-Some.k d) m in (
+      subst (Places twice_moved) (sym m2) (done-places once_moved c.in-Some.k (move_done axis c.args.third d) d p h c.requires.places.1),
       held _ c.ranges.delta c.requires.places.1,
     )
 
@@ -95,8 +96,8 @@ returns c =
     let d = c.args.delta in
     let m : put_edge axis c.args.third c.with_done_flag.result ≡ move_done axis c.args.third d =
     put-done axis c.args.third d c.moved_back.ensures c.with_done_flag.ensures c.ranges.delta in
-    let m2 : put_edge (put_edge axis c.args.third c.with_done_flag.result) c.in-To.k c.with_done_flag-2.result ≡ move_done (move_done axis c.args.third d) c.in-To.k d =
-    put-done (put_edge axis c.args.third c.with_done_flag.result) c.in-To.k d c.moved_back-2.ensures c.with_done_flag-2.ensures c.ranges.delta
-    ∙ ap (λ (a : Axis). move_done a c.in-To.k d) m in
+    let m2 : put_edge (put_edge axis c.args.third c.with_done_flag.result) c.in-Some.k c.with_done_flag-2.result ≡ move_done (move_done axis c.args.third d) c.in-Some.k d =
+    put-done (put_edge axis c.args.third c.with_done_flag.result) c.in-Some.k d c.moved_back-2.ensures c.with_done_flag-2.ensures c.ranges.delta
+    ∙ ap (λ (a : Axis). move_done a c.in-Some.k d) m in
     by₂ move_serifs c.move_serifs-2.ensures m2 (is c.ranges.delta)
-    ∙ ap (λ (l : Link). move_serifs (move_link (move_done axis c.args.third d) l d) d) (sym c.in-To.is)
+    ∙ ap (λ (l : Link). move_serifs (move_link (move_done axis c.args.third d) l d) d) (sym c.in-Some.is)

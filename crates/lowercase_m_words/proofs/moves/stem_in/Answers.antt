@@ -1,4 +1,5 @@
 -- `lowercase_m_words::moves::stem_in` meets its contract.
+use Rattle.std.specs.Prelude.{Some}
 use mathlib.Core.Path.{sym, ap, subst, ◌∙◌}
 use Prim.Native.Nat.{◌<◌}
 use native.Mathlib.Omega.{arith}
@@ -45,8 +46,8 @@ pub move_done-requires-2 : goal.move_done-requires-2
 move_done-requires-2 c =
     let d = held _ c.ranges.delta c.requires.places.1 in
     let once = done-within unmoved c.args.third _ c.requires.places.0 c.requires.whole.1 d c.move_done.ensures in
-    let below = c.requires.whole.2.at _ (sym (ap (λ (e : Edge). e.link) c.read_edge-stem.ensures) ∙ c.in-To.is) in
-    let still = below_in c.in-To.k c.move_done.ensures below in
+    let below = c.requires.whole.2.at _ (sym (ap (λ (e : Edge). e.link) c.read_edge-stem.ensures) ∙ c.in-Some.is) in
+    let still = below_in c.in-Some.k c.move_done.ensures below in
     record {
       whole = (c.move_done.ensures.whole, still);
       between = (further once_moved _ (omega arith) (once.at _ (of-axis _ _ still)), d);
@@ -56,14 +57,14 @@ pub serifs_in-requires-2 : goal.serifs_in-requires-2
 serifs_in-requires-2 c =
     let d = held _ c.ranges.delta c.requires.places.1 in
     let once = done-within unmoved c.args.third _ c.requires.places.0 c.requires.whole.1 d c.move_done.ensures in
-    let below = c.requires.whole.2.at _ (sym (ap (λ (e : Edge). e.link) c.read_edge-stem.ensures) ∙ c.in-To.is) in
-    let still = below_in c.in-To.k c.move_done.ensures below in (
+    let below = c.requires.whole.2.at _ (sym (ap (λ (e : Edge). e.link) c.read_edge-stem.ensures) ∙ c.in-Some.is) in
+    let still = below_in c.in-Some.k c.move_done.ensures below in (
       c.move_done-2.ensures.whole,
-      done-within once_moved c.in-To.k _ once still d c.move_done-2.ensures,
+      done-within once_moved c.in-Some.k _ once still d c.move_done-2.ensures,
       d,
     )
 
 pub returns : goal.returns
 returns c =
-    linked-law c.args.third c.read_edge-stem.ensures (is c.ranges.delta) c.move_done.ensures c.in-To.k
-    c.in-To.is c.move_done-2.ensures c.serifs_in-2.ensures
+    linked-law c.args.third c.read_edge-stem.ensures (is c.ranges.delta) c.move_done.ensures c.in-Some.k
+    c.in-Some.is c.move_done-2.ensures c.serifs_in-2.ensures

@@ -1,4 +1,5 @@
 -- `pack_steps_words::down::packed_words` meets its contract: the words are copied, and three of them are others.
+use Rattle.std.specs.Prelude.{None}
 use borrow.Author.Rules.{rules}
 use mir.Syntax.{w32}
 use native.Mathlib.Omega.{arith}
@@ -9,8 +10,7 @@ use Prim.Native.Nat.{ℕ, ◌+◌, ◌-◌, ◌*◌, ◌≤◌, ◌<◌}
 use lib.IntN.{ℤ}
 use lib.ListN.{length, take, drop}
 use Rattle.signed.proofs.Signed.{is, got}
-use Rattle.axis.specs.declared.kinds.Link.{Link}
-use Rattle.axis.specs.declared.kinds.Link.TheVariants as Links
+use Rattle.axis.specs.Link.{Link}
 use Rattle.axis.specs.Accepted.{Below}
 use Rattle.axis.specs.Link.{is_linked}
 use Rattle.axis.specs.Limits.{most_segments}
@@ -114,4 +114,4 @@ returns c =
     (is (got w32 c.link_word-2.result c.link_word-2.type_inv) ∙ c.link_word-2.ensures
     ∙ ap link_word (c.moved_link-2.ensures ∙ ap (moved f) (serif-is ws i w h _ c.link_at-serif.ensures)))
     (is (got w32 c.link_word-3.result c.link_word-3.type_inv) ∙ c.link_word-3.ensures
-    ∙ ap link_word (c.moved_next.ensures ∙ (λ j. cond (is_linked (edge j)) (moved f (led j)) Links.None)))
+    ∙ ap link_word (c.moved_next.ensures ∙ (λ j. cond (is_linked (edge j)) (moved f (led j)) None)))

@@ -8,7 +8,7 @@ use Rattle.axis.specs.declared.segment.Segments.{Segments}
 use Rattle.words.specs.Segment.{segments_in, flat_segments}
 use Rattle.words_segment.proofs.Wholes.{segments-len}
 use Rattle.pack.proofs.Filled.{Three, three-none, three-next, link_fits, serif-fits, three-ready, three-followed}
-use Rattle.pack_steps_words.proofs.Readings.{inside, edged-read, link-or, serif-or}
+use Rattle.pack_steps_words.proofs.Readings.{some-linked, read-or, inside, edged-read, link-or, serif-or}
 use Rattle.pack_steps_words.proofs.keep.kept_in.Goals as goal
 
 pub loop-i-init : goal.loop-i-init
@@ -39,8 +39,8 @@ pub overflow_cast-links : goal.overflow_cast-links
 overflow_cast-links c =
     omega (
       arith,
-      link_fits (flat_segments c.args.words.now) c.requires.1 c.loop-i.i c.index_or.result (inside c.args.words.now c.requires.0 c.loop-i.i c.loop-i-test.true)
-          (link-or _ c.requires.0 _ c.loop-i-test.true _ _ c.link_at-link.ensures c.index_or.ensures),
+      link_fits (flat_segments c.args.words.now) c.requires.1 c.loop-i.i c.map_or.result (inside c.args.words.now c.requires.0 c.loop-i.i c.loop-i-test.true)
+          (link-or _ c.requires.0 _ c.loop-i-test.true _ _ c.link_at-link.ensures (read-or _ _ _ c.map_or.ensures)),
     )
 
 pub offset_bounds-links-i : goal.offset_bounds-links-i
@@ -53,8 +53,8 @@ pub overflow_cast-serifs : goal.overflow_cast-serifs
 overflow_cast-serifs c =
     omega (
       arith,
-      serif-fits (flat_segments c.args.words.now) c.requires.1 c.loop-i.i c.index_or-in-loop-i.result (inside c.args.words.now c.requires.0 c.loop-i.i c.loop-i-test.true)
-          (serif-or _ c.requires.0 _ c.loop-i-test.true _ _ c.link_at-serif.ensures c.index_or-in-loop-i.ensures),
+      serif-fits (flat_segments c.args.words.now) c.requires.1 c.loop-i.i c.map_or-in-loop-i.result (inside c.args.words.now c.requires.0 c.loop-i.i c.loop-i-test.true)
+          (serif-or _ c.requires.0 _ c.loop-i-test.true _ _ c.link_at-serif.ensures (read-or _ _ _ c.map_or-in-loop-i.ensures)),
     )
 
 pub offset_bounds-serifs-i : goal.offset_bounds-serifs-i
@@ -74,9 +74,9 @@ loop-i-preserved c =
       c.loop-i.invariant.1,
       c.loop-i.invariant.2,
       three-next (flat_segments c.args.words.now) _ _ _ c.loop-i.i _ _ _ c.loop-i.invariant.3 (omega (arith, h, c.loop-i.invariant.2))
-          (edged-read _ w _ h _ _ c.link_at-edge.ensures c.is_linked.ensures)
-          (link-or _ w _ h _ _ c.link_at-link.ensures c.index_or.ensures)
-          (serif-or _ w _ h _ _ c.link_at-serif.ensures c.index_or-in-loop-i.ensures),
+          (edged-read _ w _ h _ _ c.link_at-edge.ensures (some-linked _ _ c.is_some.ensures))
+          (link-or _ w _ h _ _ c.link_at-link.ensures (read-or _ _ _ c.map_or.ensures))
+          (serif-or _ w _ h _ _ c.link_at-serif.ensures (read-or _ _ _ c.map_or-in-loop-i.ensures)),
     )
 
 pub follow-requires : goal.follow-requires

@@ -1,24 +1,21 @@
 -- `pack_words::lend::packing_refusal` meets its contract.
-use borrow.Author.Rules.{rules}
+use mathlib.Core.Path.{refl, ◌∙◌}
+use Rattle.refusals.proofs.Outcomes.{exit-answer, number-above, then-last}
+use Rattle.turn.specs.Indices.{index_tests}
 use Rattle.words.specs.Segment.{flat_segments}
 use Rattle.words_call.specs.Lent.{edges_of}
-use Rattle.pack.proofs.Calls.{refused-first, refused-last}
+use Rattle.pack.proofs.Calls.{refused-first}
 use Rattle.pack_words.proofs.lend.packing_refusal.Goals as goal
 
-pub returns-then-answer-gt0 : goal.returns-then-answer-gt0
-returns-then-answer-gt0 c =
-    let r = c in
-    let s = r in refused-first (edges_of s.args.edges.now) (flat_segments s.args.segments.now) _ r.index_refusal-answer.ensures c.if-answer-gt0.true
+pub returns-in_err-index_refusal : goal.returns-in_err-index_refusal
+returns-in_err-index_refusal c =
+    exit-answer _ _ c.from_residual.ensures.1
+    ∙ refused-first (edges_of c.args.edges.now) (flat_segments c.args.segments.now) _ c.in_err-index_refusal.ensures (number-above _)
 
 pub rings_sound_in-requires : goal.rings_sound_in-requires
 rings_sound_in-requires c = c.requires
 
 pub returns : goal.returns
 returns c =
-    let sound = c in
-    let else = sound in
-    let r = else in
-    let s = r in
-    refused-last (edges_of s.args.edges.now) (flat_segments s.args.segments.now) _ _ _ r.index_refusal-answer.ensures else.if-answer-gt0.false
-    sound.rings_sound_in.ensures
-    c.or_refused.ensures
+    then-last {ts = index_tests (edges_of c.args.edges.now) (flat_segments c.args.segments.now)}
+    (record { refused = c.in_ok-index_refusal.ensures; numbers = refl }) c.require.ensures c.rings_sound_in.ensures

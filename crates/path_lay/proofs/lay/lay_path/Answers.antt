@@ -11,47 +11,36 @@ use Rattle.path_lay.proofs.Lays.{Laying, laying, laying-as, laying-more, laying-
 use Rattle.path_walk.proofs.Seeks.{path-start, path-turn, path-end}
 use Rattle.path_lay.proofs.lay.lay_path.Goals as goal
 
-pub loop-c-init : goal.loop-c-init
-loop-c-init c = (omega arith, c.requires.ends_value, laying-as _ _ (path-start (points c.args.xs.now c.args.ys.now c.args.marks.now) c.args.ends.now) (laying _ _ c.requires.room))
-
-pub overflow_add-e : goal.overflow_add-e
-overflow_add-e c =
-    let end : EndAt c.loop-c.a (length c.args.xs.now) c.args.ends.now c.loop-c.c = end-at _ _ _ _ c.loop-c-test.true c.loop-c.invariant.1 in
-    omega (arith, end.high, c.wide-e.ensures, c.requires.admitted.few)
+pub loop-end-init : goal.loop-end-init
+loop-end-init c = (c.requires.ends_value, laying-as _ _ (path-start (points c.args.xs.now c.args.ys.now c.args.marks.now) c.args.ends.now) (laying _ _ c.requires.room))
 
 pub lay_contour-n-requires : goal.lay_contour-n-requires
 lay_contour-n-requires c =
     let outline : Points = points c.args.xs.now c.args.ys.now c.args.marks.now in
-    let end : EndAt c.loop-c.a (length c.args.xs.now) c.args.ends.now c.loop-c.c = end-at _ _ _ _ c.loop-c-test.true c.loop-c.invariant.1 in
-    let turn : Laying (lent c.args.kinds.now c.args.places.now 0) (path outline c.args.ends.now) (lent c.loop-c.kinds c.loop-c.places c.loop-c.n)
-    (steps_of outline (round_of outline c.loop-c.a (c.wide-e.result + 1 - 1))
-    ++ path_from outline (c.wide-e.result + 1) (drop (c.loop-c.c + 1) c.args.ends.now)) = laying-as _ _ (path-turn outline c.loop-c.a c.args.ends.now c.loop-c.c c.wide-e.result c.loop-c-test.true
-    c.wide-e.ensures) c.loop-c.invariant.2 in
+    let end : EndAt c.loop-end.a (length c.args.xs.now) c.args.ends.now c.loop-end.end-index = end-at _ _ _ _ c.loop-end-test.true c.loop-end.invariant.0 in
+    let turn : Laying (lent c.args.kinds.now c.args.places.now 0) (path outline c.args.ends.now) (lent c.loop-end.kinds c.loop-end.places c.loop-end.n)
+    (steps_of outline (round_of outline c.loop-end.a (c.wide-e.result + 1 - 1))
+    ++ path_from outline (c.wide-e.result + 1) (drop (c.loop-end.end-index + 1) c.args.ends.now)) = laying-as _ _ (path-turn outline c.loop-end.a c.args.ends.now c.loop-end.end-index c.wide-e.result c.loop-end-test.true
+    c.wide-e.ensures) c.loop-end.invariant.1 in
     record {
       admitted = c.requires.admitted;
       within = record { some = omega (arith, end.low, c.wide-e.ensures); inside = omega (arith, end.high, c.wide-e.ensures) };
       room = room-less _ _ _ (omega (
         arith,
-        length-append (steps_of outline (round_of outline c.loop-c.a (c.wide-e.result + 1 - 1)))
-            (path_from outline (c.wide-e.result + 1) (drop (c.loop-c.c + 1) c.args.ends.now)),
+        length-append (steps_of outline (round_of outline c.loop-end.a (c.wide-e.result + 1 - 1)))
+            (path_from outline (c.wide-e.result + 1) (drop (c.loop-end.end-index + 1) c.args.ends.now)),
       )) turn.room;
     }
 
-pub loop-c-preserved : goal.loop-c-preserved
-loop-c-preserved c =
-    let end : EndAt c.loop-c.a (length c.args.xs.now) c.args.ends.now c.loop-c.c = end-at _ _ _ _ c.loop-c-test.true c.loop-c.invariant.1 in
+pub loop-end-preserved : goal.loop-end-preserved
+loop-end-preserved c =
+    let end : EndAt c.loop-end.a (length c.args.xs.now) c.args.ends.now c.loop-end.end-index = end-at _ _ _ _ c.loop-end-test.true c.loop-end.invariant.0 in
     let outline : Points = points c.args.xs.now c.args.ys.now c.args.marks.now in
-    let turn : Laying (lent c.args.kinds.now c.args.places.now 0) (path outline c.args.ends.now) (lent c.loop-c.kinds c.loop-c.places c.loop-c.n)
-    (steps_of outline (round_of outline c.loop-c.a (c.wide-e.result + 1 - 1))
-    ++ path_from outline (c.wide-e.result + 1) (drop (c.loop-c.c + 1) c.args.ends.now)) = laying-as _ _ (path-turn outline c.loop-c.a c.args.ends.now c.loop-c.c c.wide-e.result c.loop-c-test.true
-    c.wide-e.ensures) c.loop-c.invariant.2 in
-    (omega (arith, c.loop-c-test.true), rw c.wide-e.ensures end.rest, laying-more _ _ _ c.lay_contour-n.ensures turn)
-
-pub shape_of-kinds : goal.shape_of-kinds
-shape_of-kinds c = c.loop-c.invariant.2.kinds_length
-
-pub shape_of-places : goal.shape_of-places
-shape_of-places c = c.loop-c.invariant.2.places_length
+    let turn : Laying (lent c.args.kinds.now c.args.places.now 0) (path outline c.args.ends.now) (lent c.loop-end.kinds c.loop-end.places c.loop-end.n)
+    (steps_of outline (round_of outline c.loop-end.a (c.wide-e.result + 1 - 1))
+    ++ path_from outline (c.wide-e.result + 1) (drop (c.loop-end.end-index + 1) c.args.ends.now)) = laying-as _ _ (path-turn outline c.loop-end.a c.args.ends.now c.loop-end.end-index c.wide-e.result c.loop-end-test.true
+    c.wide-e.ensures) c.loop-end.invariant.1 in
+    (rw c.wide-e.ensures end.rest, laying-more _ _ _ c.lay_contour-n.ensures turn)
 
 pub returns : goal.returns
-returns c = laying-done (laying-as _ _ (path-end (points c.args.xs.now c.args.ys.now c.args.marks.now) c.loop-c.a c.args.ends.now c.loop-c.c c.loop-c-test.false) c.loop-c.invariant.2)
+returns c = laying-done (laying-as _ _ (path-end (points c.args.xs.now c.args.ys.now c.args.marks.now) c.loop-end.a c.args.ends.now c.loop-end.end-index c.loop-end-test.false) c.loop-end.invariant.1)

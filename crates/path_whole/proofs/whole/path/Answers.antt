@@ -1,13 +1,11 @@
 -- `path_whole::whole::path` meets its contract.
 use mathlib.Core.List.{List}
 use Prim.Native.Nat.{ℕ}
+use native.Mathlib.Omega.{arith}
 use lib.Ieee.{Float}
 use lib.IntN.{ℤ}
-use Rattle.path_whole.proofs.Wrote.{wrote_nothing, sound, room, few, wrote}
+use Rattle.path_whole.proofs.Wrote.{sound, room, few, wrote}
 use Rattle.path_whole.proofs.whole.path.Goals as goal
-
-pub returns-then-answer-gt0 : goal.returns-then-answer-gt0
-returns-then-answer-gt0 c = wrote_nothing c.args.xs.now c.args.ys.now c.args.marks.now c.args.ends.now c.args.kinds.now c.args.places.now _ _ c.whole_refusal-answer.ensures c.if-answer-gt0.true
 
 pub lay_path-steps-requires : goal.lay_path-steps-requires
 lay_path-steps-requires c =
@@ -17,16 +15,16 @@ lay_path-steps-requires c =
     let ends : List ℕ = c.args.ends.now in
     let kinds : List ℕ = c.args.kinds.now in
     let places : List Float = c.args.places.now in
-    let a = sound xs ys marks ends kinds places 0 _ c.whole_refusal-answer.ensures c.if-answer-gt0.false in
+    let a = sound xs ys marks ends kinds places 0 _ c.in_ok-whole_refusal.ensures (omega arith) in
     record {
       admitted = a.0;
       ends_value = a.1;
-      room = room xs ys marks ends kinds places 0 _ c.whole_refusal-answer.ensures c.if-answer-gt0.false;
+      room = room xs ys marks ends kinds places 0 _ c.in_ok-whole_refusal.ensures (omega arith);
     }
 
 pub counted-requires : goal.counted-requires
-counted-requires c = few c.args.xs.now c.args.ys.now c.args.marks.now c.args.ends.now c.args.kinds.now c.args.places.now 0 _ c.whole_refusal-answer.ensures c.if-answer-gt0.false _ _ _ c.lay_path-steps.ensures
+counted-requires c = few c.args.xs.now c.args.ys.now c.args.marks.now c.args.ends.now c.args.kinds.now c.args.places.now 0 _ c.in_ok-whole_refusal.ensures (omega arith) _ _ _ c.lay_path-steps.ensures
 
 pub returns : goal.returns
-returns c = wrote c.args.xs.now c.args.ys.now c.args.marks.now c.args.ends.now c.args.kinds.now c.args.places.now _ _ c.whole_refusal-answer.ensures c.if-answer-gt0.false _ _ _ c.lay_path-steps.ensures _
+returns c = wrote c.args.xs.now c.args.ys.now c.args.marks.now c.args.ends.now c.args.kinds.now c.args.places.now _ _ c.in_ok-whole_refusal.ensures (omega arith) _ _ _ c.lay_path-steps.ensures _
     c.counted.ensures

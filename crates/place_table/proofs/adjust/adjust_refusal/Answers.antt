@@ -1,22 +1,35 @@
--- `place_table::adjust::adjust_refusal` meets its contract.
+-- `place_table::adjust::adjust_refusal` meets its contract: test by test.
 use mathlib.Core.Path.{refl}
-use Rattle.refusals.specs.Refusal.{too_long, bad_index, out_of_range, retired}
-use Rattle.refusals.proofs.Tests.{none-tested, then-tested}
-use borrow.Author.Rules.{rules}
+use Rattle.refusals.proofs.Tests.{none-tested}
+use Rattle.refusals.proofs.Outcomes.{exit-answer, then-held, then-refused, then-last}
 use Rattle.place_table.proofs.adjust.adjust_refusal.Goals as goal
 
--- the tests one behind the other
+pub returns-in_err-require : goal.returns-in_err-require
+returns-in_err-require c =
+    then-refused _ none-tested c.in_err-require.ensures c.few_edges.ensures (exit-answer _ _ c.from_residual.ensures.1)
+
+pub returns-in_err-require-2 : goal.returns-in_err-require-2
+returns-in_err-require-2 c =
+    let t1 = then-held none-tested c.in_ok-require.ensures c.few_edges.ensures in
+    then-refused _ t1 c.in_err-require-2.ensures refl (exit-answer _ _ c.from_residual-in_err-require-2.ensures.1)
+
+pub returns-in_err-require-3 : goal.returns-in_err-require-3
+returns-in_err-require-3 c =
+    let t1 = then-held none-tested c.in_ok-require.ensures c.few_edges.ensures in
+    let t2 = then-held t1 c.in_ok-require-2.ensures refl in
+    then-refused _ t2 c.in_err-require-3.ensures c.edges_indices.ensures (exit-answer _ _ c.from_residual-in_err-require-3.ensures.1)
+
+pub returns-in_err-require-4 : goal.returns-in_err-require-4
+returns-in_err-require-4 c =
+    let t1 = then-held none-tested c.in_ok-require.ensures c.few_edges.ensures in
+    let t2 = then-held t1 c.in_ok-require-2.ensures refl in
+    let t3 = then-held t2 c.in_ok-require-3.ensures c.edges_indices.ensures in
+    then-refused _ t3 c.in_err-require-4.ensures refl (exit-answer _ _ c.from_residual-in_err-require-4.ensures.1)
+
 pub returns : goal.returns
 returns c =
-    let test5 = c in
-    let so4 = test5 in
-    let so3 = so4 in
-    let test3 = so3 in
-    let so2 = test3 in
-    let so1 = so2 in
-    let test1 = so1 in
-    let tested1 = then-tested too_long none-tested refl so1.or_refused-answer.ensures test1.few_edges.ensures in
-    let tested2 = then-tested retired tested1 refl so2.or_refused-answer-2.ensures refl in
-    let tested3 = then-tested bad_index tested2 refl so3.or_refused-answer-3.ensures test3.edges_indices.ensures in
-    let tested4 = then-tested bad_index tested3 refl so4.or_refused-answer-4.ensures refl in
-    (then-tested out_of_range tested4 refl c.or_refused.ensures test5.edges_numbers.ensures).refused
+    let t1 = then-held none-tested c.in_ok-require.ensures c.few_edges.ensures in
+    let t2 = then-held t1 c.in_ok-require-2.ensures refl in
+    let t3 = then-held t2 c.in_ok-require-3.ensures c.edges_indices.ensures in
+    let t4 = then-held t3 c.in_ok-require-4.ensures refl in
+    then-last t4 c.require-5.ensures c.edges_numbers.ensures

@@ -1,82 +1,74 @@
 -- `place_table::align::align_linked_edge` meets its contract.
-use mathlib.Core.Path.{refl}
+use mathlib.Core.Path.{◌≡◌, refl, sym, ap, ◌∙◌}
+use mathlib.Core.Bool.{true}
 use mathlib.Core.List.{List}
-use Prim.Native.Nat.{◌<◌}
+use lib.IntN.{ℤ}
+use Prim.Native.Nat.{ℕ, ◌<◌}
+use borrow.Author.Rules.{rules}
 use native.Mathlib.Omega.{arith}
-use Rattle.refusals.specs.Refusal.{Test}
-use Rattle.refusals.proofs.Tests.{AllHold, all_held, answered-no, answered-yes}
+use Rattle.refusals.specs.Refusal.{refusal}
+use Rattle.refusals.proofs.Tests.{all_hold, answered-no, answered-yes}
+use Rattle.refusals.proofs.Outcomes.{number-above, exit}
+use Rattle.fixed.specs.declared.width.WidthRule.{WidthRule}
+use Rattle.fixed.specs.Width.{rule_holds}
+use Rattle.axis.specs.declared.edge.Axis.{Axis}
 use Rattle.axis.specs.Edge.{put_edge}
 use Rattle.axis.specs.Limits.{most_edges, most_pos}
 use Rattle.axis.specs.Accepted.{AxisWithin}
 use Rattle.axis.proofs.Acceptance.{axis-within}
 use Rattle.place.proofs.Reach.{below-first, below-second, in_table, in_reach}
+use Rattle.place.specs.Answer.{fitted_of}
 use Rattle.place.specs.Fitting.{linked_tests, fitted, align_linked_edge}
-use borrow.Author.Rules.{rules}
 use Rattle.place_table.proofs.align.align_linked_edge.Goals as goal
-use Rattle.place_table.proofs.align.align_linked_edge.Goals.{Else-answer-gt0, Start}
 
--- ---- what acceptance yields
-abbrev start : Else-answer-gt0 → Start
-start c = c.before.before
+-- what the tests of the call say of its arguments
+record Told (axis : Axis) (rule : WidthRule) (xs : List ℤ) (base stem : ℕ) : Type 0 where
+  within : AxisWithin most_pos axis
+  rule_held : rule_holds rule xs ≡ true
+  base_below : base < axis.len
+  stem_below : stem < axis.len
+  base_inside : base < most_edges
+  stem_inside : stem < most_edges
 
--- the tests of the call, by its arguments
-abbrev tests_of : Start → List Test
-tests_of s = linked_tests s.args.axis s.args.rule s.args.standards.now s.args.base s.args.stem
-
-tests-hold : (c : Else-answer-gt0) → AllHold (tests_of (start c))
-tests-hold c = all_held {ts = tests_of (start c)} (record { refused = c.linked_refusal-answer.ensures; numbers = refl }) c.if-answer-gt0.false
-
-accepted : (c : Else-answer-gt0) → AxisWithin most_pos (start c).args.axis
-accepted c = let h = tests-hold c in axis-within _ h.0 h.1.1.0 h.1.1.1.1.0
-
-base-below : (c : Else-answer-gt0) → (start c).args.base < (start c).args.axis.len
-base-below c = below-first _ _ _ (tests-hold c).1.1.1.0
-
-stem-below : (c : Else-answer-gt0) → (start c).args.stem < (start c).args.axis.len
-stem-below c = below-second _ _ _ (tests-hold c).1.1.1.0
-
-base-inside : (c : Else-answer-gt0) → (start c).args.base < most_edges
-base-inside c = in_table _ _ _ (accepted c) (base-below c)
-
-stem-inside : (c : Else-answer-gt0) → (start c).args.stem < most_edges
-stem-inside c = in_table _ _ _ (accepted c) (stem-below c)
+told : (axis : Axis) (rule : WidthRule) (xs : List ℤ) (base stem : ℕ) → 0 ≡ refusal (linked_tests axis rule xs base stem) → Told axis rule xs base stem
+told axis rule xs base stem e =
+    let h = all_hold (linked_tests axis rule xs base stem) refl (sym e) in
+    let a = axis-within axis h.0 h.1.1.0 h.1.1.1.1.0 in
+    let b = below-first _ _ _ h.1.1.1.0 in
+    let s = below-second _ _ _ h.1.1.1.0 in
+    record { within = a; rule_held = h.1.0; base_below = b; stem_below = s; base_inside = in_table _ _ _ a b; stem_inside = in_table _ _ _ a s }
 
 -- ---- the answers
-pub returns-then-answer-gt0 : goal.returns-then-answer-gt0
+pub returns-in_err-linked_refusal : goal.returns-in_err-linked_refusal
 unfolding align_linked_edge
-returns-then-answer-gt0 c = answered-no _ _ (fitted c.args.axis) _ c.linked_refusal-answer.ensures c.if-answer-gt0.true
+returns-in_err-linked_refusal c =
+    ap (fitted_of c.args.axis) (exit _ _ c.from_residual.ensures.1) ∙ answered-no _ _ (fitted c.args.axis) _ c.in_err-linked_refusal.ensures (number-above _)
 
 pub offset_bounds-axis-base : goal.offset_bounds-axis-base
-offset_bounds-axis-base c = let h = base-inside c in search rules
+offset_bounds-axis-base c = let h = (told c.args.axis c.args.rule c.args.standards.now c.args.base c.args.stem c.in_ok-linked_refusal.ensures).base_inside in search rules
 
 pub bounds-axis-base : goal.bounds-axis-base
-bounds-axis-base c = base-inside c
+bounds-axis-base c = (told c.args.axis c.args.rule c.args.standards.now c.args.base c.args.stem c.in_ok-linked_refusal.ensures).base_inside
 
 pub offset_bounds-axis-stem : goal.offset_bounds-axis-stem
-offset_bounds-axis-stem c = let h = stem-inside c.before in search rules
+offset_bounds-axis-stem c = let h = (told c.args.axis c.args.rule c.args.standards.now c.args.base c.args.stem c.in_ok-linked_refusal.ensures).stem_inside in search rules
 
 pub bounds-axis-stem : goal.bounds-axis-stem
-bounds-axis-stem c = stem-inside c.before
+bounds-axis-stem c = (told c.args.axis c.args.rule c.args.standards.now c.args.base c.args.stem c.in_ok-linked_refusal.ensures).stem_inside
 
 pub linked_edge-requires : goal.linked_edge-requires
 linked_edge-requires c =
-    let o = c.before.before in
-    let a = accepted o in
-    record {
-      standards_value = (tests-hold o).1.0;
-      in_reach = (in_reach _ _ _ (omega arith) a (base-below o), in_reach _ _ _ (omega arith) a (stem-below o));
-    }
+    let t = told c.args.axis c.args.rule c.args.standards.now c.args.base c.args.stem c.in_ok-linked_refusal.ensures in
+    record { standards_value = t.rule_held; in_reach = (in_reach _ _ _ (omega arith) t.within t.base_below, in_reach _ _ _ (omega arith) t.within t.stem_below) }
 
 pub offset_bounds-aligned-stem : goal.offset_bounds-aligned-stem
-offset_bounds-aligned-stem c = let h = stem-inside c.before.before.before in search rules
+offset_bounds-aligned-stem c = let h = (told c.args.axis c.args.rule c.args.standards.now c.args.base c.args.stem c.in_ok-linked_refusal.ensures).stem_inside in search rules
 
 pub bounds-aligned-stem : goal.bounds-aligned-stem
-bounds-aligned-stem c = stem-inside c.before.before.before
+bounds-aligned-stem c = (told c.args.axis c.args.rule c.args.standards.now c.args.base c.args.stem c.in_ok-linked_refusal.ensures).stem_inside
 
 pub returns : goal.returns
 unfolding align_linked_edge
 returns c =
-    let o = c.before.before.before in
-    let s = start o in
-    answered-yes _ _ (fitted s.args.axis) _ _ o.linked_refusal-answer.ensures o.if-answer-gt0.false
-    (λ i. fitted (put_edge s.args.axis s.args.stem (c.linked_edge.ensures i)) 0)
+    answered-yes _ _ (fitted c.args.axis) _ _ c.in_ok-linked_refusal.ensures (omega arith)
+    (λ i. fitted (put_edge c.args.axis c.args.stem (c.linked_edge.ensures i)) 0)

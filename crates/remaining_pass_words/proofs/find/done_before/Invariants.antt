@@ -1,15 +1,9 @@
 -- `remaining_pass_words::find::done_before` meets its contract.
-use native.Mathlib.Omega.{arith}
-use mathlib.Core.Path.{◌≡◌, refl, sym, ◌∙◌}
-use Prim.Native.Nat.{◌≤◌}
+use mathlib.Core.Path.{◌≡◌}
 use Rattle.words_call.specs.Lent.{edges_of}
 use Rattle.remaining.specs.Remaining.{done_before}
-use Rattle.remaining_pass_words.proofs.Finding.{before-found, before-passed, before-none}
 use Rattle.remaining_pass_words.proofs.find.done_before.Given as goal
 
 -- no edge from k on before edge i is done
 abbrev pub invariant-loop-k : goal.invariant-loop-k
-invariant-loop-k l = (l.k ≤ l.i) × (done_before (edges_of l.words) l.k ≡ done_before (edges_of l.words) l.i)
-
-abbrev pub decreases-loop-k : goal.decreases-loop-k
-decreases-loop-k l = l.k
+invariant-loop-k l = done_before (edges_of l.words) l.k ≡ done_before (edges_of l.words) l.i

@@ -1,23 +1,17 @@
 -- `remaining_pass_words::pass::visit_all` meets its contract.
 use Prim.Native.Nat.{◌-◌}
 use native.Mathlib.Omega.{arith}
-use Rattle.remaining_pass_words.proofs.Passes.{Aligning, aligning-starts, aligning-ready, aligning-next, aligning-ends}
+use Rattle.remaining_pass_words.proofs.Passes.{aligning-starts, aligning-ready, aligning-next, aligning-ends}
 use Rattle.remaining_pass_words.proofs.pass.visit_all.Goals as goal
 
 pub loop-i-init : goal.loop-i-init
 loop-i-init c = aligning-starts _ _ c.requires
 
 pub visit_in-past-requires : goal.visit_in-past-requires
-visit_in-past-requires c = let t = c in let l = t in aligning-ready _ _ l.loop-i.invariant t.loop-i-test.true
-
-pub overflow_step-i : goal.overflow_step-i
-overflow_step-i c = let t = c in let few = t.loop-i.invariant.few in omega (arith, few, t.loop-i-test.true)
-
-pub loop-i-smaller : goal.loop-i-smaller
-loop-i-smaller c = let h = c.loop-i-test.true in omega (arith, h)
+visit_in-past-requires c = aligning-ready _ _ c.loop-i.invariant c.loop-i-test.true
 
 pub loop-i-preserved : goal.loop-i-preserved
-loop-i-preserved c = let t = c in aligning-next _ _ t.loop-i.invariant t.loop-i-test.true c.visit_in-past.ensures
+loop-i-preserved c = aligning-next _ _ c.loop-i.invariant c.loop-i-test.true c.visit_in-past.ensures
 
 pub shape_of-words : goal.shape_of-words
 shape_of-words c = c.loop-i.invariant.long

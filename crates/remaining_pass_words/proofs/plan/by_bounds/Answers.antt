@@ -1,7 +1,7 @@
 -- `remaining_pass_words::plan::by_bounds` meets its contract.
+use Rattle.std.specs.Prelude.{Some}
 use mathlib.Core.Path.{◌≡◌, sym, ◌∙◌}
 use Prim.Native.Nat.{ℕ}
-use Rattle.axis.specs.declared.kinds.Link.TheVariants as Links
 use Rattle.words_call.specs.Lent.{edges_of}
 use Rattle.remaining.specs.Plan.{spaced_plan, latin_between}
 use Rattle.remaining.specs.Remaining.{done_before, done_behind}
@@ -47,28 +47,28 @@ spaced_plan-requires-in_default-behind c =
 
 pub returns-in_default-behind : goal.returns-in_default-behind
 returns-in_default-behind c =
-    let before_of : ℕ = c.in-To.b in
-    let first_is : done_before (edges_of c.args.words.now) c.args.i ≡ Links.To before_of = sym c.done_before-before.ensures ∙ c.in-To.is in
+    let before_of : ℕ = c.in-Some.b in
+    let first_is : done_before (edges_of c.args.words.now) c.args.i ≡ Some before_of = sym c.done_before-before.ensures ∙ c.in-Some.is in
     c.spaced_plan-in_default-behind.ensures ∙ (λ j. spaced_plan (c.read_edge-in_default-behind.ensures j) (c.read_edge-edge.ensures j) c.args.past)
     ∙ bounds-first (edges_of c.args.words.now) c.args.past c.args.i c.args.a before_of _ _ first_is
     (sym c.done_behind-behind.ensures ∙ c.in_default-behind.is)
 
 pub read_edge-first-requires : goal.read_edge-first-requires
 read_edge-first-requires c =
-    let first_is : done_before (edges_of c.args.words.now) c.args.i ≡ Links.To c.in-To.b = sym c.done_before-before.ensures ∙ c.in-To.is in
-    (c.requires.0.whole, before-in c.requires.0 c.in-To.b first_is)
+    let first_is : done_before (edges_of c.args.words.now) c.args.i ≡ Some c.in-Some.b = sym c.done_before-before.ensures ∙ c.in-Some.is in
+    (c.requires.0.whole, before-in c.requires.0 c.in-Some.b first_is)
 
 pub read_edge-last-requires : goal.read_edge-last-requires
 read_edge-last-requires c =
-    let last_is : done_behind (edges_of c.args.words.now) c.args.i ≡ Links.To c.in-To-behind.f = sym c.done_behind-behind.ensures ∙ c.in-To-behind.is in
-    (c.requires.0.whole, behind-in c.requires.0 c.in-To-behind.f last_is)
+    let last_is : done_behind (edges_of c.args.words.now) c.args.i ≡ Some c.in-Some-behind.f = sym c.done_behind-behind.ensures ∙ c.in-Some-behind.is in
+    (c.requires.0.whole, behind-in c.requires.0 c.in-Some-behind.f last_is)
 
 pub latin_between-requires : goal.latin_between-requires
 latin_between-requires c =
-    let before_of : ℕ = c.in-To.b in
-    let first_is : done_before (edges_of c.args.words.now) c.args.i ≡ Links.To before_of = sym c.done_before-before.ensures ∙ c.in-To.is in
-    let behind_of : ℕ = c.in-To-behind.f in
-    let last_is : done_behind (edges_of c.args.words.now) c.args.i ≡ Links.To behind_of = sym c.done_behind-behind.ensures ∙ c.in-To-behind.is in
+    let before_of : ℕ = c.in-Some.b in
+    let first_is : done_before (edges_of c.args.words.now) c.args.i ≡ Some before_of = sym c.done_before-before.ensures ∙ c.in-Some.is in
+    let behind_of : ℕ = c.in-Some-behind.f in
+    let last_is : done_behind (edges_of c.args.words.now) c.args.i ≡ Some behind_of = sym c.done_behind-behind.ensures ∙ c.in-Some-behind.is in
     let ws = c.args.words.now in
     let r = c.requires.0 in (
       reach ws before_of r.axis (before-in r before_of first_is) c.read_edge-first.ensures,
@@ -78,10 +78,10 @@ latin_between-requires c =
 
 pub returns : goal.returns
 returns c =
-    let before_of : ℕ = c.in-To.b in
-    let first_is : done_before (edges_of c.args.words.now) c.args.i ≡ Links.To before_of = sym c.done_before-before.ensures ∙ c.in-To.is in
-    let behind_of : ℕ = c.in-To-behind.f in
-    let last_is : done_behind (edges_of c.args.words.now) c.args.i ≡ Links.To behind_of = sym c.done_behind-behind.ensures ∙ c.in-To-behind.is in
+    let before_of : ℕ = c.in-Some.b in
+    let first_is : done_before (edges_of c.args.words.now) c.args.i ≡ Some before_of = sym c.done_before-before.ensures ∙ c.in-Some.is in
+    let behind_of : ℕ = c.in-Some-behind.f in
+    let last_is : done_behind (edges_of c.args.words.now) c.args.i ≡ Some behind_of = sym c.done_behind-behind.ensures ∙ c.in-Some-behind.is in
     c.latin_between.ensures ∙ (λ j. latin_between (c.read_edge-first.ensures j) (c.read_edge-last.ensures j) (c.read_edge-edge.ensures j)
     c.args.past)
     ∙ bounds-both (edges_of c.args.words.now) c.args.past c.args.i c.args.a before_of behind_of _ _ first_is last_is

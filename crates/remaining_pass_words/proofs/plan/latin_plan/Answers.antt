@@ -1,6 +1,6 @@
 -- `remaining_pass_words::plan::latin_plan` meets its contract.
 use native.Mathlib.Omega.{arith}
-use mathlib.Core.Path.{◌≡◌, sym, ◌∙◌}
+use mathlib.Core.Path.{sym, ◌∙◌}
 use Prim.Native.Nat.{ℕ}
 use Rattle.words_call.specs.Lent.{edges_of}
 use Rattle.remaining.specs.Plan.{anchor_plan}
@@ -14,18 +14,18 @@ near_serif-serif-requires c = (c.requires.whole, c.requires.axis, c.requires.bel
 
 pub by_serif-requires : goal.by_serif-requires
 by_serif-requires c =
-    let serif_of : ℕ = c.in-To.k in
+    let serif_of : ℕ = c.in-Some.k in
     let ws = c.args.words.now in
     let r = c.requires in (
       r,
       serif-below ws c.args.i serif_of r.axis r.below
-          (near-was (edges_of ws) c.args.i serif_of _ (sym c.near_serif-serif.ensures ∙ c.in-To.is)),
+          (near-was (edges_of ws) c.args.i serif_of _ (sym c.near_serif-serif.ensures ∙ c.in-Some.is)),
     )
 
-pub returns-in-To : goal.returns-in-To
-returns-in-To c =
-    let serif_of : ℕ = c.in-To.k in
-    c.by_serif.ensures ∙ serif_near (edges_of c.args.words.now) c.args.past c.args.i serif_of _ (sym c.near_serif-serif.ensures ∙ c.in-To.is)
+pub returns-in-Some : goal.returns-in-Some
+returns-in-Some c =
+    let serif_of : ℕ = c.in-Some.k in
+    c.by_serif.ensures ∙ serif_near (edges_of c.args.words.now) c.args.past c.args.i serif_of _ (sym c.near_serif-serif.ensures ∙ c.in-Some.is)
 
 pub read_edge-requires : goal.read_edge-requires
 read_edge-requires c = let r = c.requires in (r.whole, r.below)
@@ -44,11 +44,11 @@ returns-in_default-anchor c =
 
 pub by_bounds-requires : goal.by_bounds-requires
 by_bounds-requires c =
-    let anchor_of : ℕ = c.in-To-anchor.a in
-    (c.requires, c.requires.anchor.at anchor_of c.in-To-anchor.is)
+    let anchor_of : ℕ = c.in-Some-anchor.a in
+    (c.requires, c.requires.anchor.at anchor_of c.in-Some-anchor.is)
 
 pub returns : goal.returns
 returns c =
-    let anchor_of : ℕ = c.in-To-anchor.a in
+    let anchor_of : ℕ = c.in-Some-anchor.a in
     c.by_bounds.ensures ∙ with-anchor (edges_of c.args.words.now) c.args.past c.args.i anchor_of _ (sym c.near_serif-serif.ensures ∙ c.in_default.is)
-    c.in-To-anchor.is
+    c.in-Some-anchor.is

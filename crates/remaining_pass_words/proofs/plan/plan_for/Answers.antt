@@ -9,20 +9,17 @@ use Rattle.remaining_pass_words.proofs.plan.plan_for.Goals as goal
 pub returns-in-Latin : goal.returns-in-Latin
 unfolding plan_of
 returns-in-Latin c =
-    let t = c in
-    let a = t.args in
-    c.latin_plan.ensures ∙ sym (ap (λ (r : Round). plan_of r (edges_of a.words.now) a.past a.i) t.in-Latin.is)
+    let a = c.args in
+    c.latin_plan.ensures ∙ sym (ap (λ (r : Round). plan_of r (edges_of a.words.now) a.past a.i) c.in-Latin.is)
 
 pub returns-in-Serifs : goal.returns-in-Serifs
 unfolding plan_of
 returns-in-Serifs c =
-    let t = c in
-    let a = t.args in
-    c.serifs_plan.ensures ∙ sym (ap (λ (r : Round). plan_of r (edges_of a.words.now) a.past a.i) t.in-Serifs.is)
+    let a = c.args in
+    c.serifs_plan.ensures ∙ sym (ap (λ (r : Round). plan_of r (edges_of a.words.now) a.past a.i) c.in-Serifs.is)
 
 pub returns-in-Others : goal.returns-in-Others
 unfolding plan_of
 returns-in-Others c =
-    let t = c in
-    let a = t.args in
-    c.others_plan.ensures ∙ sym (ap (λ (r : Round). plan_of r (edges_of a.words.now) a.past a.i) t.in-Others.is)
+    let a = c.args in
+    c.others_plan.ensures ∙ sym (ap (λ (r : Round). plan_of r (edges_of a.words.now) a.past a.i) c.in-Others.is)

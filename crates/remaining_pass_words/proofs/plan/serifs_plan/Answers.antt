@@ -1,8 +1,8 @@
 -- `remaining_pass_words::plan::serifs_plan` meets its contract.
+use Rattle.std.specs.Prelude.{Some}
 use mathlib.Core.Path.{◌≡◌, sym, ap, subst, ◌∙◌}
 use Prim.Native.Nat.{ℕ}
 use Rattle.axis.specs.declared.edge.Edge.{Edge}
-use Rattle.axis.specs.declared.kinds.Link.TheVariants as Links
 use Rattle.axis.specs.Accepted.{Below}
 use Rattle.axis.specs.Edge.{edge_at}
 use Rattle.words.specs.Edge.{edges_in}
@@ -26,9 +26,9 @@ returns-in_default c =
 
 pub by_serif-requires : goal.by_serif-requires
 by_serif-requires c =
-    let serif_of : ℕ = c.in-To.k in
-    let serif-is : (edge_at (edges_of c.args.words.now) c.args.i).serif ≡ Links.To serif_of =
-    sym (ap (λ (e : Edge). e.serif) c.read_edge-edge.ensures) ∙ c.in-To.is in
+    let serif_of : ℕ = c.in-Some.k in
+    let serif-is : (edge_at (edges_of c.args.words.now) c.args.i).serif ≡ Some serif_of =
+    sym (ap (λ (e : Edge). e.serif) c.read_edge-edge.ensures) ∙ c.in-Some.is in
     let ws = c.args.words.now in
     let r = c.requires in (
       record {
@@ -42,9 +42,9 @@ by_serif-requires c =
 
 pub returns : goal.returns
 returns c =
-    let serif_of : ℕ = c.in-To.k in
-    let serif-is : (edge_at (edges_of c.args.words.now) c.args.i).serif ≡ Links.To serif_of =
-    sym (ap (λ (e : Edge). e.serif) c.read_edge-edge.ensures) ∙ c.in-To.is in
+    let serif_of : ℕ = c.in-Some.k in
+    let serif-is : (edge_at (edges_of c.args.words.now) c.args.i).serif ≡ Some serif_of =
+    sym (ap (λ (e : Edge). e.serif) c.read_edge-edge.ensures) ∙ c.in-Some.is in
     let axis = edges_of c.args.words.now in
     c.by_serif.ensures ∙ ap (serif_plan (edge_at axis serif_of) (edge_at axis c.args.i) Ways.Fixed) c.one_less.ensures
     ∙ serifs-to axis c.args.past c.args.i serif_of _ serif-is

@@ -11,8 +11,7 @@ pub slice_bounds-room-end : goal.slice_bounds-room-end
 slice_bounds-room-end c = let w = c.requires.whole in omega (arith, w.few, w.long)
 
 pub try_in-requires : goal.try_in-requires
-try_in-requires c =
-    let s = c in let w = s.requires.whole in (s.requires, room-long table_size (length s.args.words.now) (pos 0) (omega (arith, w.few, w.long)))
+try_in-requires c = let w = c.requires.whole in (c.requires, room-long table_size (length c.args.words.now) (pos 0) (omega (arith, w.few, w.long)))
 
 pub shape_of-words : goal.shape_of-words
 shape_of-words c = c.try_in.ensures.long

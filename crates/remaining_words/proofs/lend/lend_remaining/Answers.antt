@@ -1,10 +1,14 @@
 -- `remaining_words::lend::lend_remaining` meets its contract.
-use mathlib.Core.Path.{◌≡◌, refl, ap, ◌∙◌}
+use mathlib.Core.Path.{◌≡◌, refl, sym, ap, subst, ◌∙◌}
 use mathlib.Core.Bool.{false, ◌&&◌}
+use Prim.Native.Nat.{ℕ, ◌<◌}
+use native.Mathlib.Omega.{arith}
 use mir.Syntax.{w32}
 use Rattle.signed.specs.Parts.{up}
 use Rattle.signed.proofs.Signed.{is}
 use Rattle.signed.proofs.By.{by₂}
+use Rattle.refusals.specs.Outcome.{answer_of}
+use Rattle.refusals.proofs.Outcomes.{number-above, exit-answer}
 use Rattle.words.specs.Field.{group_of}
 use Rattle.words.proofs.Fields.{kept}
 use Rattle.words_shape.specs.Shape.{is_in, choice, index}
@@ -14,9 +18,9 @@ use Rattle.remaining_words.proofs.Lending.{TestedRemaining, remaining-ready, rem
 use borrow.Author.Rules.{rules}
 use Rattle.remaining_words.proofs.lend.lend_remaining.Goals as goal
 
-pub returns-then-answer-gt0 : goal.returns-then-answer-gt0
-returns-then-answer-gt0 c =
-    let found : TestedRemaining c.args.edges.now c.args.dim c.args.group c.args.count c.args.anchor c.named_anchor-start.result c.edges_test-answer.result =
+pub returns-in_err-edges_test : goal.returns-in_err-edges_test
+returns-in_err-edges_test c =
+    let found : TestedRemaining c.args.edges.now c.args.dim c.args.group c.args.count c.args.anchor c.named_anchor-start.result (answer_of c.from_residual.result) =
     record {
       others = c.both-others.result;
       named = c.link_holds-named.result;
@@ -25,14 +29,14 @@ returns-then-answer-gt0 c =
           by₂ ◌&&◌ c.both-others.ensures (by₂ (both_in choice) c.both_in.ensures (is c.ranges.dim) (is c.ranges.group))
           (c.is_in.ensures ∙ ap (is_in index) (is c.ranges.count));
       named_is = c.link_holds-named.ensures;
-      answer = c.edges_test-answer.ensures;
+      answer = exit-answer _ _ c.from_residual.ensures.1 ∙ c.in_err-edges_test.ensures;
     } in
     let a = c.args in
-    remaining-refused a.edges.now a.dim a.group a.count a.anchor a.found.now found c.if-answer-gt0.true
+    remaining-refused a.edges.now a.dim a.group a.count a.anchor a.found.now found (subst (λ (k : ℕ). 0 < k) (sym (exit-answer _ _ c.from_residual.ensures.1)) (number-above _))
 
 pub align_copied-past-requires : goal.align_copied-past-requires
 align_copied-past-requires c =
-    let found : TestedRemaining c.args.edges.now c.args.dim c.args.group c.args.count c.args.anchor c.named_anchor-start.result c.edges_test-answer.result =
+    let found : TestedRemaining c.args.edges.now c.args.dim c.args.group c.args.count c.args.anchor c.named_anchor-start.result 0 =
     record {
       others = c.both-others.result;
       named = c.link_holds-named.result;
@@ -41,14 +45,14 @@ align_copied-past-requires c =
           by₂ ◌&&◌ c.both-others.ensures (by₂ (both_in choice) c.both_in.ensures (is c.ranges.dim) (is c.ranges.group))
           (c.is_in.ensures ∙ ap (is_in index) (is c.ranges.count));
       named_is = c.link_holds-named.ensures;
-      answer = c.edges_test-answer.ensures;
+      answer = c.in_ok-edges_test.ensures;
     } in
     let a = c.args in
-    remaining-ready a.edges.now a.dim a.group a.count a.anchor a.found.now found c.if-answer-gt0.false refl
+    remaining-ready a.edges.now a.dim a.group a.count a.anchor a.found.now found (omega arith) refl
 
 pub returns-then-past : goal.returns-then-past
 returns-then-past c =
-    let found : TestedRemaining c.args.edges.now c.args.dim c.args.group c.args.count c.args.anchor c.named_anchor-start.result c.edges_test-answer.result =
+    let found : TestedRemaining c.args.edges.now c.args.dim c.args.group c.args.count c.args.anchor c.named_anchor-start.result 0 =
     record {
       others = c.both-others.result;
       named = c.link_holds-named.result;
@@ -57,18 +61,18 @@ returns-then-past c =
           by₂ ◌&&◌ c.both-others.ensures (by₂ (both_in choice) c.both_in.ensures (is c.ranges.dim) (is c.ranges.group))
           (c.is_in.ensures ∙ ap (is_in index) (is c.ranges.count));
       named_is = c.link_holds-named.ensures;
-      answer = c.edges_test-answer.ensures;
+      answer = c.in_ok-edges_test.ensures;
     } in
     let group_is : c.group_of.result ≡ group_of c.args.group = c.group_of.ensures ∙ ap group_of (is c.ranges.group) in
     let begun-is : ◌≡◌ (record { anchor = c.named_anchor-start.result; count = c.size_of.result; beyond = false }) (begun (up c.args.count) (named_anchor c.args.anchor)) =
     λ j. begun ((c.size_of.ensures ∙ ap up (is c.ranges.count)) j) (found.start_is j) in
     let a = c.args in
-    remaining-beyond a.edges.now a.dim a.group a.count a.anchor a.found.now found c.if-answer-gt0.false group_is begun-is
+    remaining-beyond a.edges.now a.dim a.group a.count a.anchor a.found.now found (omega arith) group_is begun-is
     c.align_copied-past.ensures c.if-past.true
 
 pub returns : goal.returns
 returns c =
-    let found : TestedRemaining c.args.edges.now c.args.dim c.args.group c.args.count c.args.anchor c.named_anchor-start.result c.edges_test-answer.result =
+    let found : TestedRemaining c.args.edges.now c.args.dim c.args.group c.args.count c.args.anchor c.named_anchor-start.result 0 =
     record {
       others = c.both-others.result;
       named = c.link_holds-named.result;
@@ -77,13 +81,13 @@ returns c =
           by₂ ◌&&◌ c.both-others.ensures (by₂ (both_in choice) c.both_in.ensures (is c.ranges.dim) (is c.ranges.group))
           (c.is_in.ensures ∙ ap (is_in index) (is c.ranges.count));
       named_is = c.link_holds-named.ensures;
-      answer = c.edges_test-answer.ensures;
+      answer = c.in_ok-edges_test.ensures;
     } in
     let group_is : c.group_of.result ≡ group_of c.args.group = c.group_of.ensures ∙ ap group_of (is c.ranges.group) in
     let begun-is : ◌≡◌ (record { anchor = c.named_anchor-start.result; count = c.size_of.result; beyond = false }) (begun (up c.args.count) (named_anchor c.args.anchor)) =
     λ j. begun ((c.size_of.ensures ∙ ap up (is c.ranges.count)) j) (found.start_is j) in
     let a = c.args in
     let w = c.link_word in
-    remaining-done a.edges.now a.dim a.group a.count a.anchor a.found.now found c.if-answer-gt0.false group_is begun-is
+    remaining-done a.edges.now a.dim a.group a.count a.anchor a.found.now found (omega arith) group_is begun-is
     c.align_copied-past.ensures c.if-past.false
     (kept w32 w.result w.type_inv ∙ w.ensures)

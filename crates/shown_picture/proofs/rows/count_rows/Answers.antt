@@ -1,5 +1,5 @@
 -- `shown_picture::rows::count_rows` meets its contract. The invariant: the rows passed are counted, and the last of them is the row below.
-use mathlib.Core.Path.{◌≡◌, refl, sym, subst, ◌∙◌}
+use mathlib.Core.Path.{◌≡◌, refl, subst, ◌∙◌}
 use mathlib.Core.Bool.{Bool}
 use Prim.Native.Nat.{ℕ, ◌+◌}
 use native.Mathlib.Omega.{arith}
@@ -14,7 +14,6 @@ pub loop-j-init : goal.loop-j-init
 loop-j-init c =
     let from : ℕ → ℕ → Bool = let a = c.args in shifted (picture a.magnify (points a.xs.now a.ys.now a.marks.now) a.ends.now) a.window.left a.window.low in
     let places : ℕ = c.args.window.columns + 1 in (
-      omega arith,
       c.requires.below_len.0,
       c.requires.below_len.1,
       lower-none from places c.args.below.now c.requires.below_len.2,
@@ -22,31 +21,16 @@ loop-j-init c =
           from places,
     )
 
-pub overflow_add-window : goal.overflow_add-window
-overflow_add-window c = record { fits = omega (arith, c.requires.bounds.high) }
-
-pub count_row-row-requires : goal.count_row-row-requires
-count_row-row-requires c = let v = c.loop-j.invariant in
-    record {
-      admitted = c.requires.admitted;
-      ends_value = c.requires.ends_value;
-      in_field = c.requires.in_field;
-      below_len = (v.1 ∙ sym v.2, omega (arith, v.2, c.requires.bounds.wide), omega (arith, c.requires.bounds.high));
-    }
-
 pub plus-counts-requires : goal.plus-counts-requires
 plus-counts-requires c =
     let from : ℕ → ℕ → Bool = let a = c.args in shifted (picture a.magnify (points a.xs.now a.ys.now a.marks.now) a.ends.now) a.window.left a.window.low in
     let places : ℕ = c.args.window.columns + 1 in
     let counted : RowRead (λ i. from i c.loop-j.j) c.loop-j.below places c.count_row-row.result
     c.count_row-row.new.below = subst (λ (n : ℕ). RowRead (λ i. from i c.loop-j.j) c.loop-j.below n c.count_row-row.result c.count_row-row.new.below)
-    c.loop-j.invariant.2 c.count_row-row.ensures.0 in (
-      rows-small places (omega (arith, c.requires.bounds.wide)) from c.loop-j.j (omega (arith, c.requires.bounds.high)) c.loop-j.invariant.4,
+    c.loop-j.invariant.1 c.count_row-row.ensures.0 in (
+      rows-small places (omega (arith, c.requires.bounds.wide)) from c.loop-j.j (omega (arith, c.requires.bounds.high)) c.loop-j.invariant.3,
       row_small places (omega (arith, c.requires.bounds.wide)) (black_at c.loop-j.below) (λ i. from i c.loop-j.j) counted.counts,
     )
-
-pub overflow_add-j : goal.overflow_add-j
-overflow_add-j c = record { fits = omega (arith, c.requires.bounds.high) }
 
 pub loop-j-preserved : goal.loop-j-preserved
 loop-j-preserved c =
@@ -54,60 +38,38 @@ loop-j-preserved c =
     let places : ℕ = c.args.window.columns + 1 in
     let counted : RowRead (λ i. from i c.loop-j.j) c.loop-j.below places c.count_row-row.result
     c.count_row-row.new.below = subst (λ (n : ℕ). RowRead (λ i. from i c.loop-j.j) c.loop-j.below n c.count_row-row.result c.count_row-row.new.below)
-    c.loop-j.invariant.2 c.count_row-row.ensures.0 in
+    c.loop-j.invariant.1 c.count_row-row.ensures.0 in
     let v = c.loop-j.invariant in
     let d = counted in (
-      omega arith,
-      d.as_long ∙ v.1,
-      c.count_row-row.ensures.1 ∙ v.2,
+      d.as_long ∙ v.0,
+      c.count_row-row.ensures.1 ∙ v.1,
       lower-more from places c.loop-j.j _ (λ i. refl) d,
-      rows_more from places c.loop-j.j _ (λ i. refl) d v.3 v.4 c.plus-counts.ensures,
+      rows_more from places c.loop-j.j _ (λ i. refl) d v.2 v.3 c.plus-counts.ensures,
     )
-
-pub clear-requires : goal.clear-requires
-clear-requires c = tt
-
-pub close_row-top-requires : goal.close_row-top-requires
-close_row-top-requires c = let n = c.clear.ensures.as_long ∙ c.loop-j.invariant.2 in
-    (c.loop-j.invariant.1 ∙ sym n, omega (arith, n, c.requires.bounds.wide))
 
 pub plus-requires : goal.plus-requires
 plus-requires c =
     let from : ℕ → ℕ → Bool = let a = c.args in shifted (picture a.magnify (points a.xs.now a.ys.now a.marks.now) a.ends.now) a.window.left a.window.low in
     let places : ℕ = c.args.window.columns + 1 in
-    let passed : c.loop-j.j ≡ c.args.window.rows = omega (arith, c.loop-j-test.false, c.loop-j.invariant.0) in
+    let passed : c.loop-j.j ≡ c.args.window.rows = omega (arith, c.loop-j-test.false) in
     let topmost : RowRead (λ i. from i c.loop-j.j) c.loop-j.below places c.close_row-top.result
     c.close_row-top.new.below = let e = c.clear.ensures in
-    subst (λ (n : ℕ). RowRead (λ i. from i c.loop-j.j) c.loop-j.below n c.close_row-top.result c.close_row-top.new.below) c.loop-j.invariant.2
+    subst (λ (n : ℕ). RowRead (λ i. from i c.loop-j.j) c.loop-j.below n c.close_row-top.result c.close_row-top.new.below) c.loop-j.invariant.1
     (white-read (λ i. from i c.loop-j.j) (λ i. c.requires.bounds.white.above (c.args.window.left + i) (c.args.window.low + c.loop-j.j)
     (omega (arith, passed))) e c.close_row-top.ensures) in (
-      rows-small places (omega (arith, c.requires.bounds.wide)) from c.loop-j.j (omega (arith, c.requires.bounds.high)) c.loop-j.invariant.4,
+      rows-small places (omega (arith, c.requires.bounds.wide)) from c.loop-j.j (omega (arith, c.requires.bounds.high)) c.loop-j.invariant.3,
       row_small places (omega (arith, c.requires.bounds.wide)) (black_at c.loop-j.below) (λ i. from i c.loop-j.j) topmost.counts,
     )
-
-pub shape_of-below : goal.shape_of-below
-shape_of-below c =
-    let from : ℕ → ℕ → Bool = let a = c.args in shifted (picture a.magnify (points a.xs.now a.ys.now a.marks.now) a.ends.now) a.window.left a.window.low in
-    let passed : c.loop-j.j ≡ c.args.window.rows = omega (arith, c.loop-j-test.false, c.loop-j.invariant.0) in
-    let topmost : RowRead (λ i. from i c.loop-j.j) c.loop-j.below (c.args.window.columns + 1) c.close_row-top.result
-    c.close_row-top.new.below = let e = c.clear.ensures in
-    subst (λ (n : ℕ). RowRead (λ i. from i c.loop-j.j) c.loop-j.below n c.close_row-top.result c.close_row-top.new.below) c.loop-j.invariant.2
-    (white-read (λ i. from i c.loop-j.j) (λ i. c.requires.bounds.white.above (c.args.window.left + i) (c.args.window.low + c.loop-j.j)
-    (omega (arith, passed))) e c.close_row-top.ensures) in
-    topmost.as_long ∙ c.loop-j.invariant.1 ∙ sym c.requires.below_len.0
-
-pub shape_of-changes : goal.shape_of-changes
-shape_of-changes c = c.clear.ensures.as_long ∙ c.loop-j.invariant.2 ∙ sym c.requires.below_len.1
 
 pub returns : goal.returns
 returns c =
     let from : ℕ → ℕ → Bool = let a = c.args in shifted (picture a.magnify (points a.xs.now a.ys.now a.marks.now) a.ends.now) a.window.left a.window.low in
     let places : ℕ = c.args.window.columns + 1 in
-    let passed : c.loop-j.j ≡ c.args.window.rows = omega (arith, c.loop-j-test.false, c.loop-j.invariant.0) in
+    let passed : c.loop-j.j ≡ c.args.window.rows = omega (arith, c.loop-j-test.false) in
     let topmost : RowRead (λ i. from i c.loop-j.j) c.loop-j.below places c.close_row-top.result
     c.close_row-top.new.below = let e = c.clear.ensures in
-    subst (λ (n : ℕ). RowRead (λ i. from i c.loop-j.j) c.loop-j.below n c.close_row-top.result c.close_row-top.new.below) c.loop-j.invariant.2
+    subst (λ (n : ℕ). RowRead (λ i. from i c.loop-j.j) c.loop-j.below n c.close_row-top.result c.close_row-top.new.below) c.loop-j.invariant.1
     (white-read (λ i. from i c.loop-j.j) (λ i. c.requires.bounds.white.above (c.args.window.left + i) (c.args.window.low + c.loop-j.j)
     (omega (arith, passed))) e c.close_row-top.ensures) in
     let v = c.loop-j.invariant in
-    rows-read _ c.args.window passed (rows_more from places c.loop-j.j _ (λ i. refl) topmost v.3 v.4 c.plus.ensures)
+    rows-read _ c.args.window passed (rows_more from places c.loop-j.j _ (λ i. refl) topmost v.2 v.3 c.plus.ensures)

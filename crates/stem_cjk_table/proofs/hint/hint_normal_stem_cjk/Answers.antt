@@ -1,5 +1,5 @@
 -- `stem_cjk_table::hint::hint_normal_stem_cjk` meets its contract.
-use mathlib.Core.Path.{◌≡◌, refl, ap, ◌∙◌}
+use mathlib.Core.Path.{◌≡◌, refl, sym, ap, ◌∙◌}
 use mathlib.Core.List.{List}
 use Prim.Native.Nat.{◌<◌}
 use native.Mathlib.Omega.{arith}
@@ -9,13 +9,15 @@ use mir.Val.{to_z, of_z}
 use Rattle.signed.specs.Range.{Between}
 use Rattle.signed.proofs.Signed.{is}
 use Rattle.refusals.specs.Refusal.{Test, refusal}
-use Rattle.refusals.proofs.Tests.{AllHold, all_held, answered-no, answered-yes}
+use Rattle.refusals.proofs.Tests.{AllHold, all_hold, answered-no, answered-yes}
+use Rattle.refusals.proofs.Outcomes.{number-above, exit}
 use Rattle.axis.specs.Limits.{most_edges, most_passed, most_pos}
 use Rattle.axis.specs.Edge.{edge_at}
 use Rattle.axis.specs.Accepted.{AxisWithin}
 use Rattle.axis.proofs.Acceptance.{within-between, axis-within}
 use Rattle.place.specs.Steps.{InReach}
 use Rattle.place.proofs.Reach.{below-first, below-second, in_table, in_reach}
+use Rattle.stems_cjk.specs.Answer.{outcome_of}
 use Rattle.stems_cjk.specs.declared.stem.Stem.{Stem}
 use Rattle.stems_cjk.specs.Cjk.{stem_of, hinted_stem}
 use Rattle.stems_cjk.proofs.Moves.{stem-pos-range, stem-width-range, stem-delta-range, move_read}
@@ -24,19 +26,19 @@ use borrow.Author.Rules.{rules}
 use Rattle.stem_cjk_table.proofs.hint.hint_normal_stem_cjk.Goals as goal
 
 -- ---- the answers
-pub returns-then-answer-gt0 : goal.returns-then-answer-gt0
+pub returns-in_err-stem_refusal : goal.returns-in_err-stem_refusal
 unfolding hint_normal_stem_cjk
-returns-then-answer-gt0 c =
-    let refusal_is : c.stem_refusal-answer.result ≡ refusal (stem_tests c.args.axis c.args.rule c.args.standards.now c.args.edge c.args.edge2 c.args.delta) = c.stem_refusal-answer.ensures
+returns-in_err-stem_refusal c =
+    let refusal_is = c.in_err-stem_refusal.ensures
     ∙ ap (λ (d : ℤ). refusal (stem_tests c.args.axis c.args.rule c.args.standards.now c.args.edge c.args.edge2 d)) (is c.ranges.delta) in
-    answered-no _ _ (hinted c.args.axis _) _ refusal_is c.if-answer-gt0.true
+    ap (outcome_of c.args.axis) (exit _ _ c.from_residual.ensures.1) ∙ answered-no _ _ (hinted c.args.axis _) _ refusal_is (number-above _)
 
 pub offset_bounds-axis-edge : goal.offset_bounds-axis-edge
 offset_bounds-axis-edge c =
     let tests_of : List Test = stem_tests c.args.axis c.args.rule c.args.standards.now c.args.edge c.args.edge2 c.args.delta in
-    let refusal_is : c.stem_refusal-answer.result ≡ refusal tests_of = c.stem_refusal-answer.ensures
+    let refusal_is = c.in_ok-stem_refusal.ensures
     ∙ ap (λ (d : ℤ). refusal (stem_tests c.args.axis c.args.rule c.args.standards.now c.args.edge c.args.edge2 d)) (is c.ranges.delta) in
-    let tests-hold : AllHold tests_of = all_held {ts = tests_of} (record { refused = refusal_is; numbers = refl }) c.if-answer-gt0.false in
+    let tests-hold : AllHold tests_of = all_hold tests_of refl (sym refusal_is) in
     let accepted : AxisWithin most_pos c.args.axis = let h = tests-hold in axis-within _ h.0 h.1.1.0 h.1.1.1.1.0 in
     let edge-below : c.args.edge < c.args.axis.len = below-first c.args.axis.len c.args.edge c.args.edge2 tests-hold.1.1.1.0 in
     let edge-inside : c.args.edge < most_edges = in_table _ _ _ accepted edge-below in
@@ -45,9 +47,9 @@ offset_bounds-axis-edge c =
 pub bounds-axis-edge : goal.bounds-axis-edge
 bounds-axis-edge c =
     let tests_of : List Test = stem_tests c.args.axis c.args.rule c.args.standards.now c.args.edge c.args.edge2 c.args.delta in
-    let refusal_is : c.stem_refusal-answer.result ≡ refusal tests_of = c.stem_refusal-answer.ensures
+    let refusal_is = c.in_ok-stem_refusal.ensures
     ∙ ap (λ (d : ℤ). refusal (stem_tests c.args.axis c.args.rule c.args.standards.now c.args.edge c.args.edge2 d)) (is c.ranges.delta) in
-    let tests-hold : AllHold tests_of = all_held {ts = tests_of} (record { refused = refusal_is; numbers = refl }) c.if-answer-gt0.false in
+    let tests-hold : AllHold tests_of = all_hold tests_of refl (sym refusal_is) in
     let accepted : AxisWithin most_pos c.args.axis = let h = tests-hold in axis-within _ h.0 h.1.1.0 h.1.1.1.1.0 in
     let edge-below : c.args.edge < c.args.axis.len = below-first c.args.axis.len c.args.edge c.args.edge2 tests-hold.1.1.1.0 in
     let edge-inside : c.args.edge < most_edges = in_table _ _ _ accepted edge-below in
@@ -56,9 +58,9 @@ bounds-axis-edge c =
 pub offset_bounds-axis-edge2 : goal.offset_bounds-axis-edge2
 offset_bounds-axis-edge2 c =
     let tests_of : List Test = stem_tests c.args.axis c.args.rule c.args.standards.now c.args.edge c.args.edge2 c.args.delta in
-    let refusal_is : c.stem_refusal-answer.result ≡ refusal tests_of = c.stem_refusal-answer.ensures
+    let refusal_is = c.in_ok-stem_refusal.ensures
     ∙ ap (λ (d : ℤ). refusal (stem_tests c.args.axis c.args.rule c.args.standards.now c.args.edge c.args.edge2 d)) (is c.ranges.delta) in
-    let tests-hold : AllHold tests_of = all_held {ts = tests_of} (record { refused = refusal_is; numbers = refl }) c.if-answer-gt0.false in
+    let tests-hold : AllHold tests_of = all_hold tests_of refl (sym refusal_is) in
     let accepted : AxisWithin most_pos c.args.axis = let h = tests-hold in axis-within _ h.0 h.1.1.0 h.1.1.1.1.0 in
     let edge2-below : c.args.edge2 < c.args.axis.len = below-second c.args.axis.len c.args.edge c.args.edge2 tests-hold.1.1.1.0 in
     let edge2-inside : c.args.edge2 < most_edges = in_table _ _ _ accepted edge2-below in
@@ -67,9 +69,9 @@ offset_bounds-axis-edge2 c =
 pub bounds-axis-edge2 : goal.bounds-axis-edge2
 bounds-axis-edge2 c =
     let tests_of : List Test = stem_tests c.args.axis c.args.rule c.args.standards.now c.args.edge c.args.edge2 c.args.delta in
-    let refusal_is : c.stem_refusal-answer.result ≡ refusal tests_of = c.stem_refusal-answer.ensures
+    let refusal_is = c.in_ok-stem_refusal.ensures
     ∙ ap (λ (d : ℤ). refusal (stem_tests c.args.axis c.args.rule c.args.standards.now c.args.edge c.args.edge2 d)) (is c.ranges.delta) in
-    let tests-hold : AllHold tests_of = all_held {ts = tests_of} (record { refused = refusal_is; numbers = refl }) c.if-answer-gt0.false in
+    let tests-hold : AllHold tests_of = all_hold tests_of refl (sym refusal_is) in
     let accepted : AxisWithin most_pos c.args.axis = let h = tests-hold in axis-within _ h.0 h.1.1.0 h.1.1.1.1.0 in
     let edge2-below : c.args.edge2 < c.args.axis.len = below-second c.args.axis.len c.args.edge c.args.edge2 tests-hold.1.1.1.0 in
     let edge2-inside : c.args.edge2 < most_edges = in_table _ _ _ accepted edge2-below in
@@ -78,9 +80,9 @@ bounds-axis-edge2 c =
 pub stem_of-stem-requires : goal.stem_of-stem-requires
 stem_of-stem-requires c =
     let tests_of : List Test = stem_tests c.args.axis c.args.rule c.args.standards.now c.args.edge c.args.edge2 c.args.delta in
-    let refusal_is : c.stem_refusal-answer.result ≡ refusal tests_of = c.stem_refusal-answer.ensures
+    let refusal_is = c.in_ok-stem_refusal.ensures
     ∙ ap (λ (d : ℤ). refusal (stem_tests c.args.axis c.args.rule c.args.standards.now c.args.edge c.args.edge2 d)) (is c.ranges.delta) in
-    let tests-hold : AllHold tests_of = all_held {ts = tests_of} (record { refused = refusal_is; numbers = refl }) c.if-answer-gt0.false in
+    let tests-hold : AllHold tests_of = all_hold tests_of refl (sym refusal_is) in
     let delta-within : Between most_passed most_passed c.args.delta = within-between most_passed _ tests-hold.1.1.1.1.1.0 in
     let accepted : AxisWithin most_pos c.args.axis = let h = tests-hold in axis-within _ h.0 h.1.1.0 h.1.1.1.1.0 in
     let edge-below : c.args.edge < c.args.axis.len = below-first c.args.axis.len c.args.edge c.args.edge2 tests-hold.1.1.1.0 in
@@ -95,9 +97,9 @@ stem_of-stem-requires c =
 pub hint_stem-requires : goal.hint_stem-requires
 hint_stem-requires c =
     let tests_of : List Test = stem_tests c.args.axis c.args.rule c.args.standards.now c.args.edge c.args.edge2 c.args.delta in
-    let refusal_is : c.stem_refusal-answer.result ≡ refusal tests_of = c.stem_refusal-answer.ensures
+    let refusal_is = c.in_ok-stem_refusal.ensures
     ∙ ap (λ (d : ℤ). refusal (stem_tests c.args.axis c.args.rule c.args.standards.now c.args.edge c.args.edge2 d)) (is c.ranges.delta) in
-    let tests-hold : AllHold tests_of = all_held {ts = tests_of} (record { refused = refusal_is; numbers = refl }) c.if-answer-gt0.false in
+    let tests-hold : AllHold tests_of = all_hold tests_of refl (sym refusal_is) in
     let accepted : AxisWithin most_pos c.args.axis = let h = tests-hold in axis-within _ h.0 h.1.1.0 h.1.1.1.1.0 in
     let edge-below : c.args.edge < c.args.axis.len = below-first c.args.axis.len c.args.edge c.args.edge2 tests-hold.1.1.1.0 in
     let edge2-below : c.args.edge2 < c.args.axis.len = below-second c.args.axis.len c.args.edge c.args.edge2 tests-hold.1.1.1.0 in
@@ -116,7 +118,7 @@ hint_stem-requires c =
 pub returns : goal.returns
 unfolding hint_normal_stem_cjk
 returns c =
-    let refusal_is : c.stem_refusal-answer.result ≡ refusal (stem_tests c.args.axis c.args.rule c.args.standards.now c.args.edge c.args.edge2 c.args.delta) = c.stem_refusal-answer.ensures
+    let refusal_is = c.in_ok-stem_refusal.ensures
     ∙ ap (λ (d : ℤ). refusal (stem_tests c.args.axis c.args.rule c.args.standards.now c.args.edge c.args.edge2 d)) (is c.ranges.delta) in
     let stem_by : Stem = stem_of c.args.axis.dim c.args.stem_adjust c.args.rule c.args.standards.now
     (edge_at c.args.axis c.args.edge) (edge_at c.args.axis c.args.edge2) c.args.delta in
@@ -124,4 +126,4 @@ returns c =
     let moved-read : to_z w32 (of_z w32 stem_by.delta) ≡ stem_by.delta = move_read _ (stem-delta-range c.args.axis.dim c.args.stem_adjust c.args.rule c.args.standards.now _ _ c.args.delta) in
     let placed = c.hint_stem.ensures ∙ ap (λ (t : Stem). hinted_stem c.args.axis c.args.edge c.args.edge2 t) stem-is in
     let moved = ap (λ (t : Stem). to_z w32 (of_z w32 t.delta)) stem-is ∙ moved-read in
-    answered-yes _ _ (hinted c.args.axis _) _ _ refusal_is c.if-answer-gt0.false (λ i. hinted (placed i) (moved i) 0)
+    answered-yes _ _ (hinted c.args.axis _) _ _ refusal_is (omega arith) (λ i. hinted (placed i) (moved i) 0)

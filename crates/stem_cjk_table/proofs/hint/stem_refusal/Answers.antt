@@ -1,19 +1,47 @@
--- `stem_cjk_table::hint::stem_refusal` meets its contract.
-use mathlib.Core.Path.{refl, ap, ◌∙◌}
+-- `stem_cjk_table::hint::stem_refusal` meets its contract: test by test.
+use mathlib.Core.Path.{ap, ◌∙◌}
 use Rattle.signed.proofs.Signed.{is}
-use Rattle.refusals.specs.Refusal.{too_long, bad_parameter, bad_index, out_of_range}
-use Rattle.refusals.proofs.Tests.{none-tested, then-tested}
+use Rattle.refusals.proofs.Tests.{none-tested}
+use Rattle.refusals.proofs.Outcomes.{exit-answer, then-held, then-refused, then-last}
 use Rattle.axis.specs.Limits.{most_passed}
 use Rattle.axis.specs.Refusals.{within}
-use borrow.Author.Rules.{rules}
 use Rattle.stem_cjk_table.proofs.hint.stem_refusal.Goals as goal
 
--- the tests one behind the other
+pub returns-in_err-require : goal.returns-in_err-require
+returns-in_err-require c =
+    then-refused _ none-tested c.in_err-require.ensures c.few_edges.ensures (exit-answer _ _ c.from_residual.ensures.1)
+
+pub returns-in_err-require-2 : goal.returns-in_err-require-2
+returns-in_err-require-2 c =
+    let t1 = then-held none-tested c.in_ok-require.ensures c.few_edges.ensures in
+    then-refused _ t1 c.in_err-require-2.ensures c.rule_holds.ensures (exit-answer _ _ c.from_residual-in_err-require-2.ensures.1)
+
+pub returns-in_err-require-3 : goal.returns-in_err-require-3
+returns-in_err-require-3 c =
+    let t1 = then-held none-tested c.in_ok-require.ensures c.few_edges.ensures in
+    let t2 = then-held t1 c.in_ok-require-2.ensures c.rule_holds.ensures in
+    then-refused _ t2 c.in_err-require-3.ensures c.edges_indices.ensures (exit-answer _ _ c.from_residual-in_err-require-3.ensures.1)
+
+pub returns-in_err-require-4 : goal.returns-in_err-require-4
+returns-in_err-require-4 c =
+    let t1 = then-held none-tested c.in_ok-require.ensures c.few_edges.ensures in
+    let t2 = then-held t1 c.in_ok-require-2.ensures c.rule_holds.ensures in
+    let t3 = then-held t2 c.in_ok-require-3.ensures c.edges_indices.ensures in
+    then-refused _ t3 c.in_err-require-4.ensures c.both_below.ensures (exit-answer _ _ c.from_residual-in_err-require-4.ensures.1)
+
+pub returns-in_err-require-5 : goal.returns-in_err-require-5
+returns-in_err-require-5 c =
+    let t1 = then-held none-tested c.in_ok-require.ensures c.few_edges.ensures in
+    let t2 = then-held t1 c.in_ok-require-2.ensures c.rule_holds.ensures in
+    let t3 = then-held t2 c.in_ok-require-3.ensures c.edges_indices.ensures in
+    let t4 = then-held t3 c.in_ok-require-4.ensures c.both_below.ensures in
+    then-refused _ t4 c.in_err-require-5.ensures c.edges_numbers.ensures (exit-answer _ _ c.from_residual-in_err-require-5.ensures.1)
+
 pub returns : goal.returns
-returns c = let tested1 = then-tested too_long none-tested refl c.or_refused-answer.ensures c.few_edges.ensures in
-    let tested2 = then-tested bad_parameter tested1 refl c.or_refused-answer-2.ensures c.rule_holds.ensures in
-    let tested3 = then-tested bad_index tested2 refl c.or_refused-answer-3.ensures c.edges_indices.ensures in
-    let tested4 = then-tested bad_index tested3 refl c.or_refused-answer-4.ensures c.both_below.ensures in
-    let tested5 = then-tested out_of_range tested4 refl c.or_refused-answer-5.ensures c.edges_numbers.ensures in
-    (then-tested out_of_range tested5 refl c.or_refused.ensures (c.is_inside.ensures ∙ ap (within most_passed) (is c.ranges.delta))
-    ).refused
+returns c =
+    let t1 = then-held none-tested c.in_ok-require.ensures c.few_edges.ensures in
+    let t2 = then-held t1 c.in_ok-require-2.ensures c.rule_holds.ensures in
+    let t3 = then-held t2 c.in_ok-require-3.ensures c.edges_indices.ensures in
+    let t4 = then-held t3 c.in_ok-require-4.ensures c.both_below.ensures in
+    let t5 = then-held t4 c.in_ok-require-5.ensures c.edges_numbers.ensures in
+    then-last t5 c.require-6.ensures (c.is_inside.ensures ∙ ap (within most_passed) (is c.ranges.delta))

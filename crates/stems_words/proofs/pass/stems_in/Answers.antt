@@ -9,12 +9,6 @@ loop-i-init c = let h = c.requires.whole in aligning-starts _ _ _ _ h.0 h.1 h.2 
 pub visit_in-past-requires : goal.visit_in-past-requires
 visit_in-past-requires c = record { standards_value = c.requires.standards_value; ready_visit = aligning-ready _ _ _ _ c.loop-i.invariant c.loop-i-test.true }
 
-pub overflow_step-i : goal.overflow_step-i
-overflow_step-i c = let few = c.loop-i.invariant.few in omega (arith, few, c.loop-i-test.true)
-
-pub loop-i-smaller : goal.loop-i-smaller
-loop-i-smaller c = let h = c.loop-i-test.true in omega (arith, h)
-
 pub loop-i-preserved : goal.loop-i-preserved
 loop-i-preserved c = aligning-next _ _ _ _ c.loop-i.invariant c.loop-i-test.true c.visit_in-past.ensures
 

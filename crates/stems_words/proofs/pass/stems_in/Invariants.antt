@@ -1,10 +1,6 @@
 -- `stems_words::pass::stems_in` meets its contract.
-use Prim.Native.Nat.{◌-◌}
 use Rattle.stems_words.proofs.Passes.{Aligning}
 use Rattle.stems_words.proofs.pass.stems_in.Given as goal
 
 abbrev pub invariant-loop-i : goal.invariant-loop-i
 invariant-loop-i l = Aligning l.fallback l.mode l.standards l.initial.past.anchor l.n l.initial.words l.words l.past l.i
-
-abbrev pub decreases-loop-i : goal.decreases-loop-i
-decreases-loop-i l = l.n - l.i

@@ -15,7 +15,7 @@ use Rattle.fixed.proofs.Quotients.{told-steep, told_of}
 use Rattle.strong.specs.declared.place.Place.TheVariants.{At}
 use Rattle.strong.proofs.Places.{step, some, step_fits, sum-between, between-steep, between-at}
 use Rattle.strong.proofs.place.between.Goals as goal
-use Rattle.strong.proofs.place.between.Goals.{After-fixed_div-quotient, After-fixed_mul, In-Of, Start}
+use Rattle.strong.proofs.place.between.Goals.{After-fixed_div-quotient, After-fixed_mul, In-Some, Start}
 
 pub overflow_sub-p2 : goal.overflow_sub-p2
 overflow_sub-p2 c = let f = c.ranges in fits (omega (arith, signed))
@@ -48,28 +48,28 @@ returns-in_default c =
     sym (between-steep a.u a.f1 a.p1 a.f2 a.p2 (told-steep _ _ (sym (told d) ∙ c.in_default.is)))
 
 -- the start, from behind the quotient
-abbrev start : In-Of → Start
+abbrev start : In-Some → Start
 start c = c.before.before
 
 -- the quotient, and that it is not too steep
-quotient : (c : In-Of)
+quotient : (c : In-Some)
     → (too_steep ((start c).args.p2 -ℤ (start c).args.p1) ((start c).args.f2 -ℤ (start c).args.f1) ≡ false)
-    × (c.in-Of.scale ≡ div_fix ((start c).args.p2 -ℤ (start c).args.p1) ((start c).args.f2 -ℤ (start c).args.f1))
+    × (c.in-Some.scale ≡ div_fix ((start c).args.p2 -ℤ (start c).args.p1) ((start c).args.f2 -ℤ (start c).args.f1))
 quotient c =
     let d = c.before in
     let a = d.args in
-    told_of (a.p2 -ℤ a.p1) (a.f2 -ℤ a.f1) c.in-Of.scale (sym (told d) ∙ c.in-Of.is)
+    told_of (a.p2 -ℤ a.p1) (a.f2 -ℤ a.f1) c.in-Some.scale (sym (told d) ∙ c.in-Some.is)
 
 pub overflow_sub-u : goal.overflow_sub-u
 overflow_sub-u c = let f = (start c).ranges also (start c).requires in fits (omega (arith, signed))
 
 -- the factors as the machine reads them
-module _ (c : In-Of) where
+module _ (c : In-Some) where
   gap : to_z w32 (of_z w32 (to_z w32 (of_z w32 (start c).args.u) -ℤ to_z w32 (of_z w32 (start c).args.f1))) ≡ (start c).args.u -ℤ (start c).args.f1
   gap = by₂ ◌-ℤ◌ (is (overflow_sub-u c)) (is (start c).ranges.u) (is (start c).ranges.f1)
 
-  scale : to_z w32 (of_z w32 c.in-Of.scale) ≡ div_fix ((start c).args.p2 -ℤ (start c).args.p1) ((start c).args.f2 -ℤ (start c).args.f1)
-  scale = is (got w32 c.in-Of.scale c.in-Of.known_told-1-own.given.0.1) ∙ (quotient c).1
+  scale : to_z w32 (of_z w32 c.in-Some.scale) ≡ div_fix ((start c).args.p2 -ℤ (start c).args.p1) ((start c).args.f2 -ℤ (start c).args.f1)
+  scale = is (got w32 c.in-Some.scale c.in-Some.known_told-1-own.given.0.1) ∙ (quotient c).1
 
 -- how far behind the first's position
 abbrev far : Start → ℤ

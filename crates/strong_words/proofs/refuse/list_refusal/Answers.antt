@@ -1,18 +1,34 @@
 -- `strong_words::refuse::list_refusal` meets its contract: one test behind the other.
-use borrow.Author.Rules.{rules}
 use mathlib.Core.Path.{refl}
-use Rattle.refusals.specs.Refusal.{too_long}
-use Rattle.refusals.proofs.Tests.{none-tested, then-tested}
+use Rattle.refusals.proofs.Tests.{none-tested}
+use Rattle.refusals.proofs.Outcomes.{exit-answer, then-held, then-refused, then-last}
 use Rattle.strong_words.proofs.refuse.list_refusal.Goals as goal
+
+pub returns-in_err-require : goal.returns-in_err-require
+returns-in_err-require c = then-refused _ none-tested c.in_err-require.ensures refl (exit-answer _ _ c.from_residual.ensures.1)
+
+pub returns-in_err-require-2 : goal.returns-in_err-require-2
+returns-in_err-require-2 c =
+    let t1 = then-held none-tested c.in_ok-require.ensures refl in
+    then-refused _ t1 c.in_err-require-2.ensures refl (exit-answer _ _ c.from_residual-in_err-require-2.ensures.1)
+
+pub returns-in_err-require-3 : goal.returns-in_err-require-3
+returns-in_err-require-3 c =
+    let t1 = then-held none-tested c.in_ok-require.ensures refl in
+    let t2 = then-held t1 c.in_ok-require-2.ensures refl in
+    then-refused _ t2 c.in_err-require-3.ensures refl (exit-answer _ _ c.from_residual-in_err-require-3.ensures.1)
+
+pub returns-in_err-require-4 : goal.returns-in_err-require-4
+returns-in_err-require-4 c =
+    let t1 = then-held none-tested c.in_ok-require.ensures refl in
+    let t2 = then-held t1 c.in_ok-require-2.ensures refl in
+    let t3 = then-held t2 c.in_ok-require-3.ensures refl in
+    then-refused _ t3 c.in_err-require-4.ensures refl (exit-answer _ _ c.from_residual-in_err-require-4.ensures.1)
 
 pub returns : goal.returns
 returns c =
-    let four = c in
-    let three = four in
-    let two = three in
-    let one = two in
-    let a = then-tested too_long none-tested refl one.or_refused-answer.ensures refl in
-    let b = then-tested too_long a refl two.or_refused-answer-2.ensures refl in
-    let d = then-tested too_long b refl three.or_refused-answer-3.ensures refl in
-    let e = then-tested too_long d refl four.or_refused-answer-4.ensures refl in
-    (then-tested too_long e refl c.or_refused.ensures refl).refused
+    let t1 = then-held none-tested c.in_ok-require.ensures refl in
+    let t2 = then-held t1 c.in_ok-require-2.ensures refl in
+    let t3 = then-held t2 c.in_ok-require-3.ensures refl in
+    let t4 = then-held t3 c.in_ok-require-4.ensures refl in
+    then-last t4 c.require-5.ensures refl

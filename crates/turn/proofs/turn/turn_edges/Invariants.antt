@@ -1,13 +1,8 @@
 -- `turn::turn::turn_edges` meets its contract: each turn fills one place.
-use native.Mathlib.Omega.{arith}
-use mathlib.Core.Path.{◌≡◌, refl, ◌∙◌}
-use Prim.Native.Nat.{◌≤◌, ◌-◌, min}
-use lib.ListN.{length}
+use mathlib.Core.Path.{◌≡◌}
+use Prim.Native.Nat.{◌≤◌, ◌-◌}
 use Rattle.axis.specs.Limits.{most_edges}
-use Rattle.axis.specs.Refusals.{edges_indices}
-use Rattle.axis.proofs.Declared.{typed-axis}
-use Rattle.axis.proofs.Tests.{every-at}
-use Rattle.turn.proofs.Places.{edges_to, edges_more, edges-all}
+use Rattle.turn.proofs.Places.{edges_to}
 use Rattle.turn.proofs.turn.turn_edges.Given as goal
 
 abbrev pub invariant-loop-i : goal.invariant-loop-i

@@ -1,13 +1,8 @@
 -- `turn::turn::turn_segments` meets its contract: each turn fills one place.
-use native.Mathlib.Omega.{arith}
-use mathlib.Core.Path.{◌≡◌, refl, ◌∙◌}
-use Prim.Native.Nat.{◌≤◌, ◌-◌, min}
-use lib.ListN.{length}
+use mathlib.Core.Path.{◌≡◌}
+use Prim.Native.Nat.{◌≤◌, ◌-◌}
 use Rattle.axis.specs.Limits.{most_segments}
-use Rattle.axis.proofs.Declared.{typed}
-use Rattle.axis.proofs.Tests.{every-at}
-use Rattle.turn.specs.Indices.{segments_edges}
-use Rattle.turn.proofs.Places.{segments_to, segments-more, segments-all}
+use Rattle.turn.proofs.Places.{segments_to}
 use Rattle.turn.proofs.turn.turn_segments.Given as goal
 
 abbrev pub invariant-loop-i : goal.invariant-loop-i

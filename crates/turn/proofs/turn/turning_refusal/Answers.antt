@@ -1,35 +1,77 @@
 -- `turn::turn::turning_refusal` meets its contract: test by test.
-use borrow.Author.Rules.{rules}
 use mathlib.Core.Path.{refl}
-use Rattle.refusals.specs.Refusal.{too_long, bad_index, out_of_range}
-use Rattle.refusals.proofs.Tests.{none-tested, then-tested}
+use Rattle.refusals.proofs.Tests.{none-tested}
+use Rattle.refusals.proofs.Outcomes.{exit-answer, then-held, then-refused, then-last}
 use Rattle.turn.proofs.turn.turning_refusal.Goals as goal
+
+pub returns-in_err-require : goal.returns-in_err-require
+returns-in_err-require c =
+    then-refused _ none-tested c.in_err-require.ensures c.few_segments.ensures (exit-answer _ _ c.from_residual.ensures.1)
+
+pub returns-in_err-require-2 : goal.returns-in_err-require-2
+returns-in_err-require-2 c =
+    let t1 = then-held none-tested c.in_ok-require.ensures c.few_segments.ensures in
+    then-refused _ t1 c.in_err-require-2.ensures c.few_edges.ensures (exit-answer _ _ c.from_residual-in_err-require-2.ensures.1)
+
+pub returns-in_err-require-3 : goal.returns-in_err-require-3
+returns-in_err-require-3 c =
+    let t1 = then-held none-tested c.in_ok-require.ensures c.few_segments.ensures in
+    let t2 = then-held t1 c.in_ok-require-2.ensures c.few_edges.ensures in
+    then-refused _ t2 c.in_err-require-3.ensures c.segments_indices.ensures (exit-answer _ _ c.from_residual-in_err-require-3.ensures.1)
+
+pub returns-in_err-require-4 : goal.returns-in_err-require-4
+returns-in_err-require-4 c =
+    let t1 = then-held none-tested c.in_ok-require.ensures c.few_segments.ensures in
+    let t2 = then-held t1 c.in_ok-require-2.ensures c.few_edges.ensures in
+    let t3 = then-held t2 c.in_ok-require-3.ensures c.segments_indices.ensures in
+    then-refused _ t3 c.in_err-require-4.ensures c.segments_nexts.ensures (exit-answer _ _ c.from_residual-in_err-require-4.ensures.1)
+
+pub returns-in_err-require-5 : goal.returns-in_err-require-5
+returns-in_err-require-5 c =
+    let t1 = then-held none-tested c.in_ok-require.ensures c.few_segments.ensures in
+    let t2 = then-held t1 c.in_ok-require-2.ensures c.few_edges.ensures in
+    let t3 = then-held t2 c.in_ok-require-3.ensures c.segments_indices.ensures in
+    let t4 = then-held t3 c.in_ok-require-4.ensures c.segments_nexts.ensures in
+    then-refused _ t4 c.in_err-require-5.ensures c.segments_edges.ensures (exit-answer _ _ c.from_residual-in_err-require-5.ensures.1)
+
+pub returns-in_err-require-6 : goal.returns-in_err-require-6
+returns-in_err-require-6 c =
+    let t1 = then-held none-tested c.in_ok-require.ensures c.few_segments.ensures in
+    let t2 = then-held t1 c.in_ok-require-2.ensures c.few_edges.ensures in
+    let t3 = then-held t2 c.in_ok-require-3.ensures c.segments_indices.ensures in
+    let t4 = then-held t3 c.in_ok-require-4.ensures c.segments_nexts.ensures in
+    let t5 = then-held t4 c.in_ok-require-5.ensures c.segments_edges.ensures in
+    then-refused _ t5 c.in_err-require-6.ensures c.edges_indices.ensures (exit-answer _ _ c.from_residual-in_err-require-6.ensures.1)
+
+pub returns-in_err-require-7 : goal.returns-in_err-require-7
+returns-in_err-require-7 c =
+    let t1 = then-held none-tested c.in_ok-require.ensures c.few_segments.ensures in
+    let t2 = then-held t1 c.in_ok-require-2.ensures c.few_edges.ensures in
+    let t3 = then-held t2 c.in_ok-require-3.ensures c.segments_indices.ensures in
+    let t4 = then-held t3 c.in_ok-require-4.ensures c.segments_nexts.ensures in
+    let t5 = then-held t4 c.in_ok-require-5.ensures c.segments_edges.ensures in
+    let t6 = then-held t5 c.in_ok-require-6.ensures c.edges_indices.ensures in
+    then-refused _ t6 c.in_err-require-7.ensures c.edges_segments.ensures (exit-answer _ _ c.from_residual-in_err-require-7.ensures.1)
+
+pub returns-in_err-require-8 : goal.returns-in_err-require-8
+returns-in_err-require-8 c =
+    let t1 = then-held none-tested c.in_ok-require.ensures c.few_segments.ensures in
+    let t2 = then-held t1 c.in_ok-require-2.ensures c.few_edges.ensures in
+    let t3 = then-held t2 c.in_ok-require-3.ensures c.segments_indices.ensures in
+    let t4 = then-held t3 c.in_ok-require-4.ensures c.segments_nexts.ensures in
+    let t5 = then-held t4 c.in_ok-require-5.ensures c.segments_edges.ensures in
+    let t6 = then-held t5 c.in_ok-require-6.ensures c.edges_indices.ensures in
+    let t7 = then-held t6 c.in_ok-require-7.ensures c.edges_segments.ensures in
+    then-refused _ t7 c.in_err-require-8.ensures c.segments_numbers.ensures (exit-answer _ _ c.from_residual-in_err-require-8.ensures.1)
 
 pub returns : goal.returns
 returns c =
-    let test9 = c in
-    let eight = test9 in
-    let test8 = eight in
-    let seven = test8 in
-    let test7 = seven in
-    let six = test7 in
-    let test6 = six in
-    let five = test6 in
-    let test5 = five in
-    let four = test5 in
-    let test4 = four in
-    let three = test4 in
-    let test3 = three in
-    let two = test3 in
-    let test2 = two in
-    let one = test2 in
-    let test1 = one in
-    let held1 = then-tested too_long none-tested refl one.or_refused-answer.ensures test1.few_segments.ensures in
-    let held2 = then-tested too_long held1 refl two.or_refused-answer-2.ensures test2.few_edges.ensures in
-    let held3 = then-tested bad_index held2 refl three.or_refused-answer-3.ensures test3.segments_indices.ensures in
-    let held4 = then-tested bad_index held3 refl four.or_refused-answer-4.ensures test4.segments_nexts.ensures in
-    let held5 = then-tested bad_index held4 refl five.or_refused-answer-5.ensures test5.segments_edges.ensures in
-    let held6 = then-tested bad_index held5 refl six.or_refused-answer-6.ensures test6.edges_indices.ensures in
-    let held7 = then-tested bad_index held6 refl seven.or_refused-answer-7.ensures test7.edges_segments.ensures in
-    let held8 = then-tested out_of_range held7 refl eight.or_refused-answer-8.ensures test8.segments_numbers.ensures in
-    (then-tested out_of_range held8 refl c.or_refused.ensures test9.edges_numbers.ensures).refused
+    let t1 = then-held none-tested c.in_ok-require.ensures c.few_segments.ensures in
+    let t2 = then-held t1 c.in_ok-require-2.ensures c.few_edges.ensures in
+    let t3 = then-held t2 c.in_ok-require-3.ensures c.segments_indices.ensures in
+    let t4 = then-held t3 c.in_ok-require-4.ensures c.segments_nexts.ensures in
+    let t5 = then-held t4 c.in_ok-require-5.ensures c.segments_edges.ensures in
+    let t6 = then-held t5 c.in_ok-require-6.ensures c.edges_indices.ensures in
+    let t7 = then-held t6 c.in_ok-require-7.ensures c.edges_segments.ensures in
+    let t8 = then-held t7 c.in_ok-require-8.ensures c.segments_numbers.ensures in
+    then-last t8 c.require-9.ensures c.edges_numbers.ensures

@@ -9,17 +9,17 @@ use Rattle.weak.proofs.accept.ends_hold.Goals as goal
 
 pub returns-then-end-start : goal.returns-then-end-start
 returns-then-end-start c = let a = c.args in
-    sym (c.loop-k.invariant.1 ∙ ends_low c.loop-k.start a.count a.ends.now c.loop-k.k (omega arith) (omega arith))
+    sym (c.loop-x.invariant ∙ ends_low c.loop-x.start a.count a.ends.now c.loop-x.x-index (omega arith) (omega arith))
 
 pub returns-then-count-end : goal.returns-then-count-end
 returns-then-count-end c = let a = c.args in
-    sym (c.loop-k.invariant.1 ∙ ends-high c.loop-k.start a.count a.ends.now c.loop-k.k (omega arith) (omega arith) (omega arith))
+    sym (c.loop-x.invariant ∙ ends-high c.loop-x.start a.count a.ends.now c.loop-x.x-index (omega arith) (omega arith) (omega arith))
 
-pub loop-k-preserved : goal.loop-k-preserved
-loop-k-preserved c = let a = c.args in
-    let e = c.loop-k.invariant.1 ∙ ends_on c.loop-k.start a.count a.ends.now c.loop-k.k (omega arith) (omega arith) (omega arith) in
-    (omega arith, e ∙ ap (λ (x : ℕ). ends_hold (x + 1) a.count (drop (c.loop-k.k + 1) a.ends.now)) (sym c.wide-end.ensures))
+pub loop-x-preserved : goal.loop-x-preserved
+loop-x-preserved c = let a = c.args in
+    let e = c.loop-x.invariant ∙ ends_on c.loop-x.start a.count a.ends.now c.loop-x.x-index (omega arith) (omega arith) (omega arith) in
+    e ∙ ap (λ (x : ℕ). ends_hold (x + 1) a.count (drop (c.loop-x.x-index + 1) a.ends.now)) (sym c.wide-end.ensures)
 
 pub returns : goal.returns
 returns c = let a = c.args in
-    sym (c.loop-k.invariant.1 ∙ ends-end c.loop-k.start a.count a.ends.now c.loop-k.k (omega arith))
+    sym (c.loop-x.invariant ∙ ends-end c.loop-x.start a.count a.ends.now c.loop-x.x-index (omega arith))

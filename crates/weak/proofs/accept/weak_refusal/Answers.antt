@@ -8,14 +8,15 @@ use mathlib.Core.List.{List}
 use Prim.Native.Nat.{ℕ}
 use Rattle.refusals.specs.Refusal.{Test, refusal}
 use Rattle.refusals.proofs.Tests.{own_first, answered-no, answered-yes}
+use Rattle.refusals.proofs.Outcomes.{exit-answer, number-above}
 use Rattle.weak.specs.Weak.{list_tests, number_tests}
 use Rattle.weak.proofs.Refusals.{number-originals}
 use Rattle.weak.proofs.accept.weak_refusal.Goals as goal
 
-pub returns-then-answer-gt0 : goal.returns-then-answer-gt0
-returns-then-answer-gt0 c =
+pub returns-in_err-list_refusal : goal.returns-in_err-list_refusal
+returns-in_err-list_refusal c =
     let numbers : List Test = number_tests c.args.originals.now c.args.currents.now c.args.touched.now c.args.ends.now in
-    answered-no _ _ (λ (k : ℕ). k) (refusal numbers) c.list_refusal-answer.ensures c.if-answer-gt0.true ∙ sym (own_first (list_tests c.args.originals.now c.args.currents.now c.args.touched.now c.args.ends.now) numbers refl)
+    exit-answer _ _ c.from_residual.ensures.1 ∙ answered-no _ _ (λ (k : ℕ). k) (refusal numbers) c.in_err-list_refusal.ensures (number-above _) ∙ sym (own_first (list_tests c.args.originals.now c.args.currents.now c.args.touched.now c.args.ends.now) numbers refl)
 
 pub returns-then-not-coordinates_hold : goal.returns-then-not-coordinates_hold
 returns-then-not-coordinates_hold c =
@@ -23,11 +24,11 @@ returns-then-not-coordinates_hold c =
     let a = c.args in
     let far = number-originals a.originals.now a.currents.now a.touched.now a.ends.now
     (sym c.coordinates_hold.ensures ∙ c.if-not-coordinates_hold.true) in
-    answered-yes _ _ (λ (k : ℕ). k) (refusal numbers) _ c.list_refusal-answer.ensures c.if-answer-gt0.false (sym far)
+    answered-yes _ _ (λ (k : ℕ). k) (refusal numbers) _ c.in_ok-list_refusal.ensures (omega arith) (sym far)
     ∙ sym (own_first (list_tests c.args.originals.now c.args.currents.now c.args.touched.now c.args.ends.now) numbers refl)
 
 pub currents_refusal-requires : goal.currents_refusal-requires
-currents_refusal-requires c = (omega (arith, c.list_refusal-answer.ensures, c.if-answer-gt0.false), sym c.coordinates_hold.ensures ∙ c.if-not-coordinates_hold.false)
+currents_refusal-requires c = (sym c.in_ok-list_refusal.ensures, sym c.coordinates_hold.ensures ∙ c.if-not-coordinates_hold.false)
 
 pub returns : goal.returns
 returns c = c.currents_refusal.ensures

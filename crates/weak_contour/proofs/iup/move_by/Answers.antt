@@ -8,11 +8,8 @@ use Rattle.signed.proofs.Signed.{signed, fits, is, got, ◌also◌}
 use Rattle.weak_contour.specs.Contour.{at}
 use Rattle.weak_contour.specs.Steps.{moved_by}
 use Rattle.signed.proofs.By.{by₂}
-use Rattle.weak_contour.proofs.Writing.{wrote_none, wrote-more}
+use Rattle.weak_contour.proofs.Writing.{wrote-more}
 use Rattle.weak_contour.proofs.iup.move_by.Goals as goal
-
-pub loop-i-init : goal.loop-i-init
-loop-i-init c = (omega arith, omega arith, wrote_none _ _ _)
 
 pub overflow_add-currents : goal.overflow_add-currents
 overflow_add-currents c =
@@ -27,11 +24,8 @@ loop-i-preserved c =
     let original : ℤ = at c.args.originals.now c.loop-i.i in
     let whole : SFits w32 original = got w32 original c.v-1.given in
     let l = c.loop-i in
-    (omega arith, omega arith, wrote-more _ _ _ _ _ _ l.invariant.0 (omega arith) l.invariant.2 (by₂ ◌+ℤ◌ (is (overflow_add-currents c)) (is whole) refl))
-
-pub shape_of-currents : goal.shape_of-currents
-shape_of-currents c = c.loop-i.invariant.2.len
+    wrote-more _ _ _ _ _ _ (omega arith) (omega arith) l.invariant (by₂ ◌+ℤ◌ (is (overflow_add-currents c)) (is whole) refl)
 
 pub returns : goal.returns
 returns c = let e : c.loop-i.i ≡ c.args.to = omega arith in
-    rw (is c.ranges.delta, e) at c.loop-i.invariant.2
+    rw (is c.ranges.delta, e) at c.loop-i.invariant

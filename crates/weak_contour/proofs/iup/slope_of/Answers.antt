@@ -68,6 +68,6 @@ returns c =
     let told : c.fixed_div-quotient.result ≡ quotient_of (c.args.u2 -ℤ c.args.u1)
     (c.args.v2 -ℤ c.args.v1) = by₂ quotient_of c.fixed_div-quotient.ensures currents originals in
     let a = c.args in
-    let z = c.in-Of.scale in
-    let t = told_of (a.u2 -ℤ a.u1) (a.v2 -ℤ a.v1) z (sym told ∙ c.in-Of.is) in
-    is (got w32 z c.in-Of.known_told-1-own.given.0.1) ∙ t.1 ∙ sym (slope-is a.v1 a.u1 a.v2 a.u2 differ distinct t.0)
+    let z = c.in-Some.scale in
+    let t = told_of (a.u2 -ℤ a.u1) (a.v2 -ℤ a.v1) z (sym told ∙ c.in-Some.is) in
+    is (got w32 z c.in-Some.known_told-1-own.given.0.1) ∙ t.1 ∙ sym (slope-is a.v1 a.u1 a.v2 a.u2 differ distinct t.0)

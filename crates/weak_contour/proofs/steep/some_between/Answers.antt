@@ -11,9 +11,6 @@ use Rattle.weak_contour.specs.Steps.{is_between, between_originals}
 use Rattle.weak_contour.proofs.Steepness.{found, missed, none_more}
 use Rattle.weak_contour.proofs.steep.some_between.Goals as goal
 
-pub loop-i-init : goal.loop-i-init
-loop-i-init c = (omega arith, omega arith, λ j l h. absurd (omega arith))
-
 pub returns-then-is_between : goal.returns-then-is_between
 unfolding between_originals
 returns-then-is_between c =
@@ -25,7 +22,7 @@ returns-then-is_between c =
     let passed : (i : ℕ)
     → between_originals c.args.originals.now (to_z w32 (of_z w32 c.args.v1)) (to_z w32 (of_z w32 c.args.v2)) i
     ≡ between_originals c.args.originals.now c.args.v1 c.args.v2 i = λ i. λ k. between_originals c.args.originals.now (is c.ranges.v1 k) (is c.ranges.v2 k) i in
-    found _ _ _ c.loop-i.i c.loop-i.invariant.0 (omega arith) (sym (passed c.loop-i.i) ∙ sym told ∙ c.if-is_between.true)
+    found _ _ _ c.loop-i.i (omega arith) (omega arith) (sym (passed c.loop-i.i) ∙ sym told ∙ c.if-is_between.true)
 
 pub loop-i-preserved : goal.loop-i-preserved
 unfolding between_originals
@@ -35,11 +32,11 @@ loop-i-preserved c =
     (to_z w32 (of_z w32 c.args.v2)) c.loop-i.i = c.is_between.ensures
     ∙ ap (λ (z : ℤ). is_between z (to_z w32 (of_z w32 c.args.v1)) (to_z w32 (of_z w32 c.args.v2)))
     (is (got w32 (at c.args.originals.now c.loop-i.i) c.is_between-arg-1.given)) in
-    (omega arith, omega arith, none_more _ _ _ c.loop-i.invariant.2 (sym told ∙ c.if-is_between.false))
+    none_more _ _ _ c.loop-i.invariant (sym told ∙ c.if-is_between.false)
 
 pub returns : goal.returns
 returns c =
     let passed : (i : ℕ)
     → between_originals c.args.originals.now (to_z w32 (of_z w32 c.args.v1)) (to_z w32 (of_z w32 c.args.v2)) i
     ≡ between_originals c.args.originals.now c.args.v1 c.args.v2 i = λ i. λ k. between_originals c.args.originals.now (is c.ranges.v1 k) (is c.ranges.v2 k) i in
-    missed _ _ _ (λ i a h. sym (passed i) ∙ c.loop-i.invariant.2 i a (omega arith))
+    missed _ _ _ (λ i a h. sym (passed i) ∙ c.loop-i.invariant i a (omega arith))

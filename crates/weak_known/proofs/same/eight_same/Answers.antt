@@ -7,11 +7,11 @@ use Rattle.weak_known.proofs.same.eight_same.Goals as goal
 
 pub loop-k-init : goal.loop-k-init
 unfolding all_from
-loop-k-init c = (omega arith, refl)
+loop-k-init c = refl
 
 pub loop-k-preserved : goal.loop-k-preserved
-loop-k-preserved c = (omega arith, all_more _ _ _ _ _ c.loop-k.invariant.1 (c.pair_same-here.ensures ∙ fits-here _ _ _ _))
+loop-k-preserved c = all_more _ _ _ _ _ c.loop-k.invariant (c.pair_same-here.ensures ∙ fits-here _ _ _ _)
 
 pub returns : goal.returns
 returns c = let e : c.loop-k.k ≡ 8 = omega arith in
-    rw e at c.loop-k.invariant.1
+    rw e at c.loop-k.invariant

@@ -1,11 +1,7 @@
 -- `weak_known::same::eight_same` meets its contract. The invariant: the neighbours passed are compared.
 use mathlib.Core.Path.{◌≡◌}
-use Prim.Native.Nat.{◌-◌, ◌≤◌}
 use Rattle.weak_known.specs.Walks.{fits_at, all_from}
 use Rattle.weak_known.proofs.same.eight_same.Given as goal
 
 abbrev pub invariant-loop-k : goal.invariant-loop-k
-invariant-loop-k l = (l.k ≤ 8) × (l.ok ≡ all_from (fits_at l.touched l.before l.behind) l.a l.k)
-
-abbrev pub decreases-loop-k : goal.decreases-loop-k
-decreases-loop-k l = 8 - l.k
+invariant-loop-k l = (l.ok ≡ all_from (fits_at l.touched l.before l.behind) l.a l.k)

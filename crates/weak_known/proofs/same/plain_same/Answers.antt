@@ -6,12 +6,12 @@ use Rattle.weak_known.proofs.Walking.{walk_none, walk-to}
 use Rattle.weak_known.proofs.same.plain_same.Goals as goal
 
 pub loop-i-init : goal.loop-i-init
-loop-i-init c = (omega arith, omega arith, walk_none _ _ _)
+loop-i-init c = walk_none _ _ _
 
 pub loop-i-preserved : goal.loop-i-preserved
 unfolding plain_at
-loop-i-preserved c = (omega arith, omega arith, walk-to _ _ _ _ _ _ _ c.loop-i.invariant.0 c.loop-i.invariant.2 c.same-here.ensures (λ _. c.number-x.ensures))
+loop-i-preserved c = walk-to _ _ _ _ _ _ _ (omega arith) c.loop-i.invariant c.same-here.ensures (λ _. c.number-x.ensures)
 
 pub returns : goal.returns
 returns c = let e : c.loop-i.i ≡ c.args.e = omega arith in
-    rw e at c.loop-i.invariant.2
+    rw e at c.loop-i.invariant

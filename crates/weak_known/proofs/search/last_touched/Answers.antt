@@ -4,11 +4,11 @@ use mathlib.Core.Path.{sym, ◌∙◌}
 use Rattle.weak_known.proofs.Entries.{last-here, last_on, last_end}
 use Rattle.weak_known.proofs.search.last_touched.Goals as goal
 
-pub returns-then-touched-j-ne0 : goal.returns-then-touched-j-ne0
-returns-then-touched-j-ne0 c = sym (c.loop-i.invariant.2 ∙ last-here _ _ _ _ (omega arith) (omega arith) (omega (arith, c.if-touched-j-ne0.true)))
+pub returns-then-touched-i-ne0 : goal.returns-then-touched-i-ne0
+returns-then-touched-i-ne0 c = sym (c.loop-i.invariant.1 ∙ last-here _ _ _ _ (omega arith) (omega arith) (omega (arith, c.if-touched-i-ne0.true)))
 
 pub loop-i-preserved : goal.loop-i-preserved
-loop-i-preserved c = (omega arith, omega arith, c.loop-i.invariant.2 ∙ last_on _ _ _ _ (omega arith) (omega arith) c.if-touched-j-ne0.false)
+loop-i-preserved c = (omega arith, c.loop-i.invariant.1 ∙ last_on _ _ _ _ (omega arith) (omega arith) c.if-touched-i-ne0.false)
 
 pub returns : goal.returns
-returns c = sym (c.loop-i.invariant.2 ∙ last_end _ _ _ _ (omega arith))
+returns c = sym (c.loop-i.invariant.1 ∙ last_end _ _ _ _ (omega arith))

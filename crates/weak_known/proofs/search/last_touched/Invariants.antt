@@ -6,7 +6,4 @@ use Rattle.weak_known.specs.Walks.{found_or}
 use Rattle.weak_known.proofs.search.last_touched.Given as goal
 
 abbrev pub invariant-loop-i : goal.invariant-loop-i
-invariant-loop-i l = (l.s ≤ l.i) × (l.i ≤ l.e) × (found_or l.e (last_touched l.touched l.s (l.e - l.s)) ≡ found_or l.e (last_touched l.touched l.s (l.i - l.s)))
-
-abbrev pub decreases-loop-i : goal.decreases-loop-i
-decreases-loop-i l = l.i
+invariant-loop-i l = (l.s ≤ l.i) × (found_or l.e (last_touched l.touched l.s (l.e - l.s)) ≡ found_or l.e (last_touched l.touched l.s (l.i - l.s)))

@@ -6,7 +6,4 @@ use Rattle.weak_known.specs.Walks.{later_at, found_or, Put}
 use Rattle.weak_known.proofs.write.later_write.Given as goal
 
 abbrev pub invariant-loop-i : goal.invariant-loop-i
-invariant-loop-i l = (l.s ≤ l.i) × (l.i ≤ l.e) × Put (later_at l.touched l.e l.first) l.i l.e l.initial.list l.list × (l.held ≡ found_or l.first (first_touched l.touched l.i (l.e - l.i)))
-
-abbrev pub decreases-loop-i : goal.decreases-loop-i
-decreases-loop-i l = l.i
+invariant-loop-i l = (l.s ≤ l.i) × Put (later_at l.touched l.e l.first) l.i l.e l.initial.list l.list × (l.held ≡ found_or l.first (first_touched l.touched l.i (l.e - l.i)))

@@ -1,5 +1,4 @@
 -- `words::edge::edge_from` meets its contract.
-use borrow.Author.Rules.{rules}
 use Rattle.words.specs.Word.{word_at}
 use Rattle.words.specs.Field.{blue_of}
 use Rattle.words.specs.Edge.{edge_from}

@@ -1,5 +1,4 @@
 -- `words::edge::edge_words` meets its contract.
-use borrow.Author.Rules.{rules}
 use mathlib.Core.Path.{◌∙◌}
 use mathlib.Core.List.{[], ◌∷◌}
 use Rattle.words.specs.Edge.{edge_words}

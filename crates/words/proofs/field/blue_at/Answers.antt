@@ -1,5 +1,4 @@
 -- `words::field::blue_at` meets its contract.
-use borrow.Author.Rules.{rules}
 use Rattle.words.specs.Field.{blue_of}
 use mathlib.Core.Path.{◌∙◌}
 use mir.Syntax.{w32}

@@ -1,5 +1,4 @@
 -- `words::field::direction_word` meets its contract.
-use borrow.Author.Rules.{rules}
 use mathlib.Core.Path.{sym, ap}
 use Rattle.words.specs.Field.{direction_word}
 use Rattle.words.proofs.field.direction_word.Goals as goal

@@ -1,5 +1,4 @@
 -- `words::field::flags_of` meets its contract.
-use borrow.Author.Rules.{rules}
 use Rattle.words.specs.Field.{odd_of, flags_of}
 use mathlib.Core.Path.{◌≡◌, ap, ◌∙◌}
 use Prim.Native.Nat.{ℕ, ◌/◌}

@@ -1,5 +1,4 @@
 -- `words::field::flags_word` meets its contract.
-use borrow.Author.Rules.{rules}
 use Rattle.words.specs.Field.{flags_word}
 use native.Mathlib.Omega.{arith}
 use mathlib.Core.Path.{◌∙◌}

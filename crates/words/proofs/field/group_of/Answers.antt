@@ -1,5 +1,4 @@
 -- `words::field::group_of` meets its contract.
-use borrow.Author.Rules.{rules}
 use mathlib.Core.Path.{◌≡◌, sym, ap, ◌∙◌}
 use mathlib.Core.Bool.{Bool, cond}
 use Rattle.signed.proofs.Signed.{is}

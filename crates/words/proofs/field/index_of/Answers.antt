@@ -1,5 +1,4 @@
 -- `words::field::index_of` meets its contract.
-use borrow.Author.Rules.{rules}
 use mathlib.Core.Path.{ap, ◌∙◌}
 use Prim.Native.Nat.{ℕ, ◌%◌}
 use Rattle.signed.specs.Parts.{up}

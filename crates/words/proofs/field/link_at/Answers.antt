@@ -1,5 +1,4 @@
 -- `words::field::link_at` meets its contract.
-use borrow.Author.Rules.{rules}
 use mathlib.Core.Path.{ap, ◌∙◌}
 use mir.Syntax.{w32}
 use Rattle.words.specs.Field.{link_of}

@@ -1,5 +1,4 @@
 -- `words::field::link_word` meets its contract.
-use borrow.Author.Rules.{rules}
 use mathlib.Core.Path.{sym, ap, ◌∙◌}
 use mir.Syntax.{w32}
 use Rattle.words.specs.Field.{link_word}
@@ -9,5 +8,5 @@ use Rattle.words.proofs.field.link_word.Goals as goal
 pub returns-in-None : goal.returns-in-None
 returns-in-None c = sym (ap link_word c.in-None.is)
 
-pub returns-in-To : goal.returns-in-To
-returns-in-To c = let w = c.index_word in kept w32 w.result w.type_inv ∙ w.ensures ∙ sym (ap link_word c.in-To.is)
+pub returns-in-Some : goal.returns-in-Some
+returns-in-Some c = let w = c.index_word in kept w32 w.result w.type_inv ∙ w.ensures ∙ sym (ap link_word c.in-Some.is)

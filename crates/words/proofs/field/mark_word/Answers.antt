@@ -1,5 +1,4 @@
 -- `words::field::mark_word` meets its contract.
-use borrow.Author.Rules.{rules}
 use mathlib.Core.Path.{sym, ap}
 use Rattle.words.specs.Field.{mark_word}
 use Rattle.words.proofs.field.mark_word.Goals as goal

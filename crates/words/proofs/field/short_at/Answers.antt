@@ -1,5 +1,4 @@
 -- `words::field::short_at` meets its contract.
-use borrow.Author.Rules.{rules}
 use mathlib.Core.Path.{ap, ◌∙◌}
 use mir.Syntax.{w16, w32}
 use Rattle.words.specs.Field.{short_of}

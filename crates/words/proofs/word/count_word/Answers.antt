@@ -1,5 +1,4 @@
 -- `words::word::count_word` meets its contract.
-use borrow.Author.Rules.{rules}
 use Rattle.signed.proofs.Signed.{read_low}
 use native.Mathlib.Omega.{arith}
 use mir.Syntax.{w32}

@@ -1,5 +1,4 @@
 -- `words::word::word_at` meets its contract.
-use borrow.Author.Rules.{rules}
 use mathlib.Core.Path.{sym}
 use lib.ListN.{get_or-eq_default}
 use lib.IntN.{pos}

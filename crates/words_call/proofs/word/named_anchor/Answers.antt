@@ -1,11 +1,11 @@
 -- `words_call::word::named_anchor` meets its contract.
+use Rattle.std.specs.Prelude.{Some}
 use borrow.Author.Rules.{rules}
 use native.Mathlib.Omega.{arith}
 use mathlib.Core.Path.{sym, ap, ◌∙◌}
 use mir.Syntax.{w32}
 use mir.Val.{to_z, of_z}
 use Rattle.signed.proofs.Signed.{is}
-use Rattle.axis.specs.declared.kinds.Link.TheVariants as Links
 use Rattle.words_call.specs.Lent.{named_edge}
 use Rattle.words_call.proofs.Naming.{anchor-none, anchor-named, named-short}
 use Rattle.words_call.proofs.word.named_anchor.Goals as goal
@@ -19,4 +19,4 @@ overflow_cast-result c = omega (arith, c.named_edge.ensures, named-short (to_z w
 pub returns : goal.returns
 returns c =
     let s = c in
-    ap Links.To (c.named_edge.ensures ∙ ap named_edge (is s.ranges.word)) ∙ anchor-named s.args.word (λ e. c.if-word-eqminus1.false (ap (of_z w32) e))
+    ap Some (c.named_edge.ensures ∙ ap named_edge (is s.ranges.word)) ∙ anchor-named s.args.word (λ e. c.if-word-eqminus1.false (ap (of_z w32) e))

@@ -1,10 +1,10 @@
 -- `words_edge::edge::read_edge` meets its contract.
+use Rattle.std.specs.Prelude.{None}
 use mathlib.Core.Path.{ap, sym, ◌∙◌}
 use lib.IntN.{pos}
 use mir.Syntax.{w32}
 use Rattle.axis.specs.declared.kinds.Dimension.TheVariants as Dimensions
 use Rattle.axis.specs.declared.kinds.Direction.TheVariants as Directions
-use Rattle.axis.specs.declared.kinds.Link.TheVariants as Links
 use Rattle.axis.specs.declared.kinds.Mark.TheVariants as Marks
 use Rattle.words.specs.Field.{blue_of, flags_of, link_of}
 use Rattle.words.specs.Edge.{edge_from}
@@ -37,7 +37,7 @@ returns c =
           ∙ (λ k. blue_of ((kept w32 y.read_word-4.result y.read_word-4.type_inv ∙ y.read_word-4.ensures) k)
           ((kept w32 z.read_word-5.result z.read_word-5.type_inv ∙ z.read_word-5.ensures) k))) n;
       link = (c.link_of.ensures ∙ ap link_of (kept w32 l.read_word-6.result l.read_word-6.type_inv ∙ l.read_word-6.ensures)) n;
-      serif = Links.None;
+      serif = None;
       first = 0;
       last = 0;
       mark = Marks.Nothing;

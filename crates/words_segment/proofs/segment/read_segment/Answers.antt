@@ -1,9 +1,9 @@
 -- `words_segment::segment::read_segment` meets its contract.
+use Rattle.std.specs.Prelude.{None}
 use mathlib.Core.Path.{ap, sym, ◌∙◌}
 use native.Mathlib.Omega.{arith}
 use lib.IntN.{pos}
 use mir.Syntax.{w16, w32}
-use Rattle.axis.specs.declared.kinds.Link.TheVariants as Links
 use Rattle.axis.specs.declared.segment.Segment.{Segment}
 use Rattle.axis.specs.Flags.{normal}
 use Rattle.words.specs.Segment.{segment_from}
@@ -72,6 +72,6 @@ returns c =
       serif = (c.read_link-2.ensures ∙ ap (λ (x : Segment). x.serif) (sym same)) n;
       first = 0;
       last = 0;
-      edge = Links.None;
-      next = Links.None;
+      edge = None;
+      next = None;
     })

@@ -13,4 +13,4 @@ pub returns : goal.returns
 returns c = let e = c in
     let s = e in
     let a = s.args in
-    sym (run_ends a.n a.kind a.words.now e.in-At.end (sym s.skip_elements.ensures ∙ e.in-At.is))
+    sym (run_ends a.n a.kind a.words.now e.in-Some.end (sym s.skip_elements.ensures ∙ e.in-Some.is))

@@ -1,4 +1,5 @@
 -- `words_shape::element::skip_edge` meets its contract.
+use Rattle.std.specs.Prelude.{Some}
 use borrow.Author.Rules.{rules}
 use native.Mathlib.Omega.{arith}
 use mathlib.Core.Path.{◌≡◌, sym, ap, ◌∙◌}
@@ -7,24 +8,23 @@ use mir.Syntax.{w32}
 use mir.Val.{to_z, of_z}
 use Rattle.words.specs.Edge.{edge_size}
 use Rattle.words.proofs.Fields.{kept}
-use Rattle.words_shape.specs.declared.field.Place.TheVariants.{At}
 use Rattle.words_shape.specs.declared.element.Record.TheVariants.{Edge}
 use Rattle.words_shape.specs.Shape.{fields, ranges_of}
 use Rattle.words_shape.proofs.Shapes.{fields-place, edge-nowhere, edge-blue, edge-plain, edge-breaks}
 use Rattle.words_shape.proofs.element.skip_edge.Goals as goal
-use Rattle.words_shape.proofs.element.skip_edge.Goals.{In-At, Start}
+use Rattle.words_shape.proofs.element.skip_edge.Goals.{In-Some, Start}
 
 -- the entry, the place behind the record, and that the record is there
-abbrev start : In-At → Start
+abbrev start : In-Some → Start
 start c = c.before.before
 
-abbrev next : In-At → ℕ
-next c = c.in-At.next
+abbrev next : In-Some → ℕ
+next c = c.in-Some.next
 
-there : (c : In-At) → fields (ranges_of Edge) (start c).args.words.now (start c).args.at ≡ At (next c)
-there c = sym c.skip_record.ensures ∙ c.in-At.is
+there : (c : In-Some) → fields (ranges_of Edge) (start c).args.words.now (start c).args.at ≡ Some (next c)
+there c = sym c.skip_record.ensures ∙ c.in-Some.is
 
-place : (c : In-At) → next c ≡ (start c).args.at + edge_size
+place : (c : In-Some) → next c ≡ (start c).args.at + edge_size
 place c = fields-place (ranges_of Edge) (start c).args.words.now (start c).args.at (next c) (there c)
 
 pub returns-in_default : goal.returns-in_default

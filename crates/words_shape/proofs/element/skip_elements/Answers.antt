@@ -3,7 +3,7 @@ use borrow.Author.Rules.{rules}
 use native.Mathlib.Omega.{arith}
 use mathlib.Core.Path.{◌≡◌, sym, ap, ◌∙◌}
 use Prim.Native.Nat.{ℕ, ◌+◌, ◌-◌, ◌<◌}
-use Rattle.words_shape.specs.declared.field.Place.{Place}
+use Rattle.words_shape.specs.Place.{Place}
 use mathlib.Core.List.{List}
 use lib.IntN.{ℤ}
 use Rattle.words_shape.specs.declared.element.Element.{Element}
@@ -27,25 +27,19 @@ step kind ws n at i here next below held went = record {
 pub loop-i-init : goal.loop-i-init
 loop-i-init c = let a = c.args in (omega arith, ap (λ (k : ℕ). elements k a.kind a.words.now a.at) (omega arith))
 
-pub returns-in_default : goal.returns-in_default
-returns-in_default c =
+pub returns-in_err-here : goal.returns-in_err-here
+returns-in_err-here c =
     let a = c.args in
     let l = c.loop-i in
     let goes = step a.kind a.words.now a.n a.at l.i l.here _ (omega arith) l.invariant.1 c.skip_element.ensures in
-    then-nowhere goes c.in_default.is
-
-pub overflow_add-i : goal.overflow_add-i
-overflow_add-i c = omega arith
-
-pub loop-i-smaller : goal.loop-i-smaller
-loop-i-smaller c = omega arith
+    c.from_residual.ensures ∙ then-nowhere goes c.in_err-here.was
 
 pub loop-i-preserved : goal.loop-i-preserved
 loop-i-preserved c =
     let a = c.args in
     let l = c.loop-i in
     let goes = step a.kind a.words.now a.n a.at l.i l.here _ (omega arith) l.invariant.1 c.skip_element.ensures in
-    (omega arith, then_at goes c.in-At.is)
+    (omega arith, then_at goes c.in_ok-here.was)
 
 pub returns : goal.returns
 returns c =

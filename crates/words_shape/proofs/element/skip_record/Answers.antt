@@ -1,5 +1,4 @@
 -- `words_shape::element::skip_record` meets its contract. The invariant: what is left of the record, read from here, gives the whole.
-use borrow.Author.Rules.{rules}
 use native.Mathlib.Omega.{arith}
 use mathlib.Core.Path.{◌≡◌, refl, sym, ap, ◌∙◌}
 use Prim.Native.Nat.{ℕ, ◌+◌, ◌<◌}
@@ -7,7 +6,7 @@ use mathlib.Core.List.{List}
 use lib.IntN.{ℤ}
 use lib.ListN.{length, drop, get_or}
 use Rattle.words_shape.specs.declared.element.Record.{Record}
-use Rattle.words_shape.specs.declared.field.Place.{Place}
+use Rattle.words_shape.specs.Place.{Place}
 use Rattle.words_shape.specs.declared.field.Range.{Range}
 use Rattle.words_shape.specs.Shape.{and_then, no_range, field, fields, ranges_of}
 use Rattle.words_shape.proofs.Shapes.{Goes, then-nowhere, then_at, fields-step, fields-end}
@@ -34,25 +33,19 @@ loop-i-init c = (omega arith, refl)
 pub range_of-requires : goal.range_of-requires
 range_of-requires c = omega (arith, c.size-n.ensures)
 
-pub returns-in_default : goal.returns-in_default
-returns-in_default c =
+pub returns-in_err-here : goal.returns-in_err-here
+returns-in_err-here c =
     let a = c.args in
     let l = c.loop-i in
     let goes = step a.kind a.words.now a.at l.i l.here _ _ (omega (arith, c.size-n.ensures)) l.invariant.1 c.range_of.ensures c.skip_field.ensures in
-    then-nowhere goes c.in_default.is
-
-pub overflow_add-i : goal.overflow_add-i
-overflow_add-i c = omega arith
-
-pub loop-i-smaller : goal.loop-i-smaller
-loop-i-smaller c = omega arith
+    c.from_residual.ensures ∙ then-nowhere goes c.in_err-here.was
 
 pub loop-i-preserved : goal.loop-i-preserved
 loop-i-preserved c =
     let a = c.args in
     let l = c.loop-i in
     let goes = step a.kind a.words.now a.at l.i l.here _ _ (omega (arith, c.size-n.ensures)) l.invariant.1 c.range_of.ensures c.skip_field.ensures in
-    (omega arith, then_at goes c.in-At.is)
+    (omega arith, then_at goes c.in_ok-here.was)
 
 pub returns : goal.returns
 returns c =

@@ -3,7 +3,6 @@ use mathlib.Core.Path.{ap, ◌∙◌}
 use mir.Syntax.{w32}
 use Rattle.signed.proofs.Signed.{is, got}
 use Rattle.words_shape.specs.Shape.{is_in}
-use borrow.Author.Rules.{rules}
 use Rattle.words_shape.proofs.field.in_at.Goals as goal
 
 pub returns : goal.returns

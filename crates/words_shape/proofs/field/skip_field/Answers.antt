@@ -1,5 +1,4 @@
 -- `words_shape::field::skip_field` meets its contract.
-use borrow.Author.Rules.{rules}
 use native.Mathlib.Omega.{arith}
 use mathlib.Core.Path.{sym, ◌∙◌}
 use Rattle.words_shape.proofs.Shapes.{field_end, field_off, field-on}

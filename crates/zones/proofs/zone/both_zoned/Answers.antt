@@ -1,26 +1,24 @@
 -- `zones::zone::both_zoned` meets its contract.
-use mathlib.Core.Path.{sym, ◌∙◌}
+use Rattle.std.specs.Prelude.{None, Some}
+use Rattle.std.specs.Option.{is_some}
+use mathlib.Core.Path.{◌≡◌, refl, sym, ◌∙◌}
+use Rattle.axis.specs.Link.{Link, is_linked}
 use Rattle.zones.specs.Steps.{both_zoned}
-use borrow.Author.Rules.{rules}
 use Rattle.zones.proofs.zone.both_zoned.Goals as goal
+
+some-linked : (l : Link) → is_some l ≡ is_linked l
+some-linked None = refl
+some-linked (Some k) = refl
 
 pub returns-then-has_blue : goal.returns-then-has_blue
 unfolding both_zoned
 returns-then-has_blue c =
-    let t = c in
-    let h = t in
-    let o = h in
-    let l = o in
-    rw (sym l.is_linked.ensures ∙ o.if-is_linked.true, sym h.has_blue.ensures ∙ t.if-has_blue.true) c.has_blue-then-has_blue.ensures
+    rw (sym (some-linked _) ∙ sym c.is_some.ensures ∙ c.if-is_some.true, sym c.has_blue.ensures ∙ c.if-has_blue.true) c.has_blue-then-has_blue.ensures
 
 pub returns-else-has_blue : goal.returns-else-has_blue
 unfolding both_zoned
-returns-else-has_blue c =
-    let h = c in
-    let o = h in
-    let l = o in
-    rw (sym l.is_linked.ensures ∙ o.if-is_linked.true, sym h.has_blue.ensures ∙ c.if-has_blue.false)
+returns-else-has_blue c = rw (sym (some-linked _) ∙ sym c.is_some.ensures ∙ c.if-is_some.true, sym c.has_blue.ensures ∙ c.if-has_blue.false)
 
-pub returns-else-is_linked : goal.returns-else-is_linked
+pub returns-else-is_some : goal.returns-else-is_some
 unfolding both_zoned
-returns-else-is_linked c = rw (sym c.is_linked.ensures ∙ c.if-is_linked.false)
+returns-else-is_some c = rw (sym (some-linked _) ∙ sym c.is_some.ensures ∙ c.if-is_some.false)

@@ -1,4 +1,5 @@
 -- `zones::zone::zone_mark` meets its contract.
+use Rattle.std.specs.Prelude.{None, Some}
 use Rattle.zones.specs.Zones.{zone_mark}
 use borrow.Author.Rules.{rules}
 use Rattle.zones.proofs.zone.zone_mark.Goals as goal
@@ -7,6 +8,6 @@ pub returns-in-None : goal.returns-in-None
 unfolding zone_mark
 returns-in-None c = rw c.in-None.is
 
-pub returns-in-To : goal.returns-in-To
+pub returns-in-Some : goal.returns-in-Some
 unfolding zone_mark
-returns-in-To c = rw c.in-To.is
+returns-in-Some c = rw c.in-Some.is

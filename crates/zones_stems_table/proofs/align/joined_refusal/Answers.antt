@@ -1,24 +1,45 @@
--- `zones_stems_table::align::joined_refusal` meets its contract: one test behind the other.
+-- `zones_stems_table::align::joined_refusal` meets its contract: test by test.
 use mathlib.Core.Path.{refl}
-use Rattle.refusals.specs.Refusal.{too_long, bad_parameter, bad_index, out_of_range, retired}
-use Rattle.refusals.proofs.Tests.{none-tested, then-tested}
+use Rattle.refusals.proofs.Tests.{none-tested}
+use Rattle.refusals.proofs.Outcomes.{exit-answer, then-held, then-refused, then-last}
 use borrow.Author.Rules.{rules}
 use Rattle.zones_stems_table.proofs.align.joined_refusal.Goals as goal
 
+pub returns-in_err-require : goal.returns-in_err-require
+returns-in_err-require c =
+    then-refused _ none-tested c.in_err-require.ensures c.few_edges.ensures (exit-answer _ _ c.from_residual.ensures.1)
+
+pub returns-in_err-require-2 : goal.returns-in_err-require-2
+returns-in_err-require-2 c =
+    let t1 = then-held none-tested c.in_ok-require.ensures c.few_edges.ensures in
+    then-refused _ t1 c.in_err-require-2.ensures refl (exit-answer _ _ c.from_residual-in_err-require-2.ensures.1)
+
+pub returns-in_err-require-3 : goal.returns-in_err-require-3
+returns-in_err-require-3 c =
+    let t1 = then-held none-tested c.in_ok-require.ensures c.few_edges.ensures in
+    let t2 = then-held t1 c.in_ok-require-2.ensures refl in
+    then-refused _ t2 c.in_err-require-3.ensures c.rule_holds.ensures (exit-answer _ _ c.from_residual-in_err-require-3.ensures.1)
+
+pub returns-in_err-require-4 : goal.returns-in_err-require-4
+returns-in_err-require-4 c =
+    let t1 = then-held none-tested c.in_ok-require.ensures c.few_edges.ensures in
+    let t2 = then-held t1 c.in_ok-require-2.ensures refl in
+    let t3 = then-held t2 c.in_ok-require-3.ensures c.rule_holds.ensures in
+    then-refused _ t3 c.in_err-require-4.ensures c.zones_hold.ensures (exit-answer _ _ c.from_residual-in_err-require-4.ensures.1)
+
+pub returns-in_err-require-5 : goal.returns-in_err-require-5
+returns-in_err-require-5 c =
+    let t1 = then-held none-tested c.in_ok-require.ensures c.few_edges.ensures in
+    let t2 = then-held t1 c.in_ok-require-2.ensures refl in
+    let t3 = then-held t2 c.in_ok-require-3.ensures c.rule_holds.ensures in
+    let t4 = then-held t3 c.in_ok-require-4.ensures c.zones_hold.ensures in
+    then-refused _ t4 c.in_err-require-5.ensures c.edges_indices.ensures (exit-answer _ _ c.from_residual-in_err-require-5.ensures.1)
+
 pub returns : goal.returns
 returns c =
-    let numbers = c in
-    let fifth = numbers in
-    let indices = fifth in
-    let fourth = indices in
-    let zones = fourth in
-    let third = zones in
-    let rule = third in
-    let second = rule in
-    let first = second in
-    let short = then-tested too_long none-tested refl first.or_refused-answer.ensures first.few_edges.ensures in
-    let upward = then-tested retired short refl second.or_refused-answer-2.ensures refl in
-    let right = then-tested bad_parameter upward refl third.or_refused-answer-3.ensures rule.rule_holds.ensures in
-    let zoned = then-tested bad_parameter right refl fourth.or_refused-answer-4.ensures zones.zones_hold.ensures in
-    let indexed = then-tested bad_index zoned refl fifth.or_refused-answer-5.ensures indices.edges_indices.ensures in
-    (then-tested out_of_range indexed refl c.or_refused.ensures numbers.edges_numbers.ensures).refused
+    let t1 = then-held none-tested c.in_ok-require.ensures c.few_edges.ensures in
+    let t2 = then-held t1 c.in_ok-require-2.ensures refl in
+    let t3 = then-held t2 c.in_ok-require-3.ensures c.rule_holds.ensures in
+    let t4 = then-held t3 c.in_ok-require-4.ensures c.zones_hold.ensures in
+    let t5 = then-held t4 c.in_ok-require-5.ensures c.edges_indices.ensures in
+    then-last t5 c.require-6.ensures c.edges_numbers.ensures

@@ -11,4 +11,4 @@ returns-then-has_blues c = rw (sym c.has_blues.ensures ∙ c.if-has_blues.true)
 
 pub returns : goal.returns
 unfolding zones_hold edge_passes
-returns c = let o = c in rw (sym o.has_blues.ensures ∙ o.if-has_blues.false) c.every_edge.ensures
+returns c = rw (sym c.has_blues.ensures ∙ c.if-has_blues.false) c.every_edge.ensures

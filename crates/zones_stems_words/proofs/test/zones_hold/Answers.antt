@@ -6,7 +6,7 @@ use native.Mathlib.Omega.{arith}
 use Rattle.zones_stems_words.proofs.test.zones_hold.Goals as goal
 
 pub returns-then-has_blues : goal.returns-then-has_blues
-returns-then-has_blues c few = let h = c in let a = h.args in zones-there a.words.now a.dim a.group h.has_blues.ensures c.if-has_blues.true
+returns-then-has_blues c few = let a = c.args in zones-there a.words.now a.dim a.group c.has_blues.ensures c.if-has_blues.true
 
 pub returns-then-words-gt-MOST_EDGES : goal.returns-then-words-gt-MOST_EDGES
 returns-then-words-gt-MOST_EDGES c few = absurd (omega (arith, few))
@@ -14,7 +14,5 @@ returns-then-words-gt-MOST_EDGES c few = absurd (omega (arith, few))
 pub returns : goal.returns
 unfolding edge_passes
 returns c few =
-    let o = c in
-    let h = o in
-    let a = h.args in
-    zones-absent a.words.now a.dim a.group h.has_blues.ensures o.if-has_blues.false c.every_edge.ensures
+    let a = c.args in
+    zones-absent a.words.now a.dim a.group c.has_blues.ensures c.if-has_blues.false c.every_edge.ensures

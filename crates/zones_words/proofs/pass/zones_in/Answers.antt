@@ -1,8 +1,7 @@
 -- `zones_words::pass::zones_in` meets its contract.
 use mathlib.Core.Path.{refl}
 use Prim.Native.Nat.{◌-◌}
-use native.Mathlib.Omega.{arith}
-use Rattle.zones_words.proofs.Passes.{Zoning, zoning-starts, zoning-ready, zoning-next, zoning-ends}
+use Rattle.zones_words.proofs.Passes.{zoning-starts, zoning-ready, zoning-next, zoning-ends}
 use Rattle.zones_words.proofs.pass.zones_in.Goals as goal
 
 pub loop-i-init : goal.loop-i-init
@@ -10,12 +9,6 @@ loop-i-init c = zoning-starts c.args.rule c.args.standards.now c.requires.whole.
 
 pub visit_in-anchor-requires : goal.visit_in-anchor-requires
 visit_in-anchor-requires c = record { standards_value = c.requires.standards_value; whole = zoning-ready _ _ c.loop-i.invariant c.loop-i-test.true }
-
-pub overflow_step-i : goal.overflow_step-i
-overflow_step-i c = let p = c.loop-i.invariant in let h = c.loop-i-test.true in omega (arith, p.few, h)
-
-pub loop-i-smaller : goal.loop-i-smaller
-loop-i-smaller c = let h = c.loop-i-test.true in omega (arith, h)
 
 pub loop-i-preserved : goal.loop-i-preserved
 loop-i-preserved c =

@@ -1,4 +1,5 @@
 -- `zones_words::visit::visit_in` meets its contract.
+use Rattle.std.specs.Prelude.{Some}
 use Prim.Native.Nat.{◌<◌}
 use native.Mathlib.Omega.{arith}
 use lib.IntN.{ℤ}
@@ -9,6 +10,7 @@ use Rattle.signed.proofs.Signed.{is, fits-in}
 use Rattle.words.specs.Edge.{edges_in}
 use Rattle.words_edge.specs.Whole.{Became}
 use Rattle.words_edge.proofs.Became.{below_in}
+use Rattle.zones.proofs.Kept.{read-or}
 use Rattle.zones_words.specs.Blues.{zoning}
 use Rattle.zones_words.proofs.Visits.{
   Found,
@@ -22,7 +24,6 @@ use Rattle.zones_words.proofs.Visits.{
   zone-bound,
   visited-zone,
 }
-use borrow.Author.Rules.{rules}
 use Rattle.zones_words.proofs.visit.visit_in.Goals as goal
 
 pub returns-then-edge : goal.returns-then-edge
@@ -32,19 +33,19 @@ returns-then-edge c =
 
 pub skip_in-requires : goal.skip_in-requires
 skip_in-requires c =
-    let linked-in : c.index_or-k.result < edges_in c.args.words.now =
-    link-below c.args.words.now c.args.i _ c.read_edge-edge.ensures c.requires.whole.1 c.requires.whole.2 c.index_or-k.ensures in
+    let linked-in : c.map_or-k.result < edges_in c.args.words.now =
+    link-below c.args.words.now c.args.i _ c.read_edge-edge.ensures c.requires.whole.1 c.requires.whole.2 (read-or _ _ _ c.map_or-k.ensures) in
     (c.requires.whole.0, c.requires.whole.1, linked-in)
 
 pub read_edge-edge2-requires : goal.read_edge-edge2-requires
 read_edge-edge2-requires c =
-    let linked-in : c.index_or-k.result < edges_in c.args.words.now =
-    link-below c.args.words.now c.args.i _ c.read_edge-edge.ensures c.requires.whole.1 c.requires.whole.2 c.index_or-k.ensures in
+    let linked-in : c.map_or-k.result < edges_in c.args.words.now =
+    link-below c.args.words.now c.args.i _ c.read_edge-edge.ensures c.requires.whole.1 c.requires.whole.2 (read-or _ _ _ c.map_or-k.ensures) in
     (c.skip_in.ensures.whole, below_in _ c.skip_in.ensures linked-in)
 
 pub returns-in_default : goal.returns-in_default
 returns-in_default c =
-    let found : Found c.args.words.now c.skip_in.new.words c.args.i c.index_or-k.result c.read_edge-visited.result c.zone_of-zone.result =
+    let found : Found c.args.words.now c.skip_in.new.words c.args.i c.map_or-k.result c.read_edge-visited.result c.zone_of-zone.result =
     record {
       edge = c.read_edge-edge.result;
       edge2 = c.read_edge-edge2.result;
@@ -52,7 +53,7 @@ returns-in_default c =
       within = c.requires.whole.2;
       read = c.read_edge-edge.ensures;
       not_done = c.if-edge.false;
-      link = c.index_or-k.ensures;
+      link = (read-or _ _ _ c.map_or-k.ensures);
       skip = c.skip_in.ensures;
       first = c.read_edge-visited.ensures;
       second = c.read_edge-edge2.ensures;
@@ -62,7 +63,7 @@ returns-in_default c =
 
 pub zone_in-requires : goal.zone_in-requires
 zone_in-requires c =
-    let found : Found c.args.words.now c.skip_in.new.words c.args.i c.index_or-k.result c.read_edge-visited.result c.zone_of-zone.result =
+    let found : Found c.args.words.now c.skip_in.new.words c.args.i c.map_or-k.result c.read_edge-visited.result c.zone_of-zone.result =
     record {
       edge = c.read_edge-edge.result;
       edge2 = c.read_edge-edge2.result;
@@ -70,17 +71,17 @@ zone_in-requires c =
       within = c.requires.whole.2;
       read = c.read_edge-edge.ensures;
       not_done = c.if-edge.false;
-      link = c.index_or-k.ensures;
+      link = (read-or _ _ _ c.map_or-k.ensures);
       skip = c.skip_in.ensures;
       first = c.read_edge-visited.ensures;
       second = c.read_edge-edge2.ensures;
       zone = c.zone_of-zone.ensures;
     } in
-    let fitted : ℤ = c.in-Fitted.fitted in
-    let chosen : Chosen c.args.i c.index_or-k.result c.read_edge-visited.result c.zone_of-zone.result c.choose-one.result c.choose-two.result fitted =
+    let fitted : ℤ = c.in-Some.fitted in
+    let chosen : Chosen c.args.i c.map_or-k.result c.read_edge-visited.result c.zone_of-zone.result c.choose-one.result c.choose-two.result fitted =
     record {
       on = c.has_blue-on.result;
-      fitted = c.in-Fitted.is;
+      fitted = c.in-Some.is;
       on_is = c.has_blue-on.ensures;
       one_is = c.choose-one.ensures;
       two_is = c.choose-two.ensures;
@@ -89,7 +90,7 @@ zone_in-requires c =
 
 pub stem_in-requires : goal.stem_in-requires
 stem_in-requires c =
-    let found : Found c.args.words.now c.skip_in.new.words c.args.i c.index_or-k.result c.read_edge-visited.result c.zone_of-zone.result =
+    let found : Found c.args.words.now c.skip_in.new.words c.args.i c.map_or-k.result c.read_edge-visited.result c.zone_of-zone.result =
     record {
       edge = c.read_edge-edge.result;
       edge2 = c.read_edge-edge2.result;
@@ -97,17 +98,17 @@ stem_in-requires c =
       within = c.requires.whole.2;
       read = c.read_edge-edge.ensures;
       not_done = c.if-edge.false;
-      link = c.index_or-k.ensures;
+      link = (read-or _ _ _ c.map_or-k.ensures);
       skip = c.skip_in.ensures;
       first = c.read_edge-visited.ensures;
       second = c.read_edge-edge2.ensures;
       zone = c.zone_of-zone.ensures;
     } in
-    let fitted : ℤ = c.in-Fitted.fitted in
-    let chosen : Chosen c.args.i c.index_or-k.result c.read_edge-visited.result c.zone_of-zone.result c.choose-one.result c.choose-two.result fitted =
+    let fitted : ℤ = c.in-Some.fitted in
+    let chosen : Chosen c.args.i c.map_or-k.result c.read_edge-visited.result c.zone_of-zone.result c.choose-one.result c.choose-two.result fitted =
     record {
       on = c.has_blue-on.result;
-      fitted = c.in-Fitted.is;
+      fitted = c.in-Some.is;
       on_is = c.has_blue-on.ensures;
       one_is = c.choose-one.ensures;
       two_is = c.choose-two.ensures;
@@ -131,7 +132,7 @@ anchor_first-requires c =
 
 pub returns : goal.returns
 returns c =
-    let found : Found c.args.words.now c.skip_in.new.words c.args.i c.index_or-k.result c.read_edge-visited.result c.zone_of-zone.result =
+    let found : Found c.args.words.now c.skip_in.new.words c.args.i c.map_or-k.result c.read_edge-visited.result c.zone_of-zone.result =
     record {
       edge = c.read_edge-edge.result;
       edge2 = c.read_edge-edge2.result;
@@ -139,17 +140,17 @@ returns c =
       within = c.requires.whole.2;
       read = c.read_edge-edge.ensures;
       not_done = c.if-edge.false;
-      link = c.index_or-k.ensures;
+      link = (read-or _ _ _ c.map_or-k.ensures);
       skip = c.skip_in.ensures;
       first = c.read_edge-visited.ensures;
       second = c.read_edge-edge2.ensures;
       zone = c.zone_of-zone.ensures;
     } in
-    let fitted : ℤ = c.in-Fitted.fitted in
-    let chosen : Chosen c.args.i c.index_or-k.result c.read_edge-visited.result c.zone_of-zone.result c.choose-one.result c.choose-two.result fitted =
+    let fitted : ℤ = c.in-Some.fitted in
+    let chosen : Chosen c.args.i c.map_or-k.result c.read_edge-visited.result c.zone_of-zone.result c.choose-one.result c.choose-two.result fitted =
     record {
       on = c.has_blue-on.result;
-      fitted = c.in-Fitted.is;
+      fitted = c.in-Some.is;
       on_is = c.has_blue-on.ensures;
       one_is = c.choose-one.ensures;
       two_is = c.choose-two.ensures;

@@ -1,8 +1,0 @@
--- `fixed_ratio::ratio::rounded_quotient` meets its contract: it is the definition.
-use borrow.Author.Rules.{rules}
-use Rattle.fixed.specs.Point.{rounded}
-use Rattle.fixed_ratio.proofs.ratio.rounded_quotient.Goals as goal
-
-pub returns : goal.returns
-unfolding rounded
-returns c = search rules

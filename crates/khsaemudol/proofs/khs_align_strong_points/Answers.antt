@@ -1,0 +1,5 @@
+-- `khsaemudol::khs_align_strong_points` meets its contract.
+use Rattle.khsaemudol.proofs.khs_align_strong_points.Goals as goal
+
+pub returns : goal.returns
+returns c = rw c.answer_of.ensures c.align_strong_points.ensures

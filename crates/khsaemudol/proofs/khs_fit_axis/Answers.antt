@@ -1,0 +1,5 @@
+-- `khsaemudol::khs_fit_axis` meets its contract.
+use Rattle.khsaemudol.proofs.khs_fit_axis.Goals as goal
+
+pub returns : goal.returns
+returns c = rw c.answer_of.ensures c.lend_fit.ensures
