@@ -33,19 +33,17 @@ use super::segment::{Segment, Segments};
 pub fn is_inside(x: i32, low: i32, high: i32) -> bool
     ensures { result ≡ inside low high x }
 {
-    if low <= x {
-        return x <= high;
-    }
-    false
+    low <= x && x <= high
 }
 
 // Whether an index, where there is one, is below a count.
+#[tactic(auto, unfolding(crate::specs::Refusals::link_holds))]
 pub fn link_holds(link: Option<u16>, count: usize) -> bool
     ensures { result ≡ link_holds count link }
 {
     match link {
         None => true,
-        Some(k) => (k as usize) < count,
+        Some(k) => usize::from(k) < count,
     }
 }
 
@@ -60,76 +58,59 @@ fn blue_holds(blue: Option<i32>) -> bool
 }
 
 // Whether an edge's link and serif are edges.
+#[tactic(auto, unfolding(crate::specs::Refusals::edge_indices))]
 fn edge_indices(edge: Edge, count: usize) -> bool
     ensures { result ≡ edge_indices count edge }
 {
-    let link = edge.link;
-    if link_holds(link, count) {
-        let serif = edge.serif;
-        return link_holds(serif, count);
-    }
-    false
+    link_holds(edge.link, count) && link_holds(edge.serif, count)
 }
 
 // Whether an edge's positions are accepted.
 fn edge_numbers(edge: Edge) -> bool
     ensures { result ≡ edge_numbers edge }
 {
-    if is_inside(edge.opos, LEAST_UNITS, MOST_UNITS) {
-        if is_inside(edge.pos, LEAST_POS, MOST_POS) {
-            let blue = edge.blue;
-            return blue_holds(blue);
-        }
-    }
-    false
+    is_inside(edge.opos, LEAST_UNITS, MOST_UNITS)
+        && is_inside(edge.pos, LEAST_POS, MOST_POS)
+        && blue_holds(edge.blue)
 }
 
 // Whether an edge's first and last are segments.
+#[tactic(auto, unfolding(crate::specs::Refusals::edge_segments))]
 fn edge_segments(edge: Edge, count: usize) -> bool
     ensures { result ≡ edge_segments count edge }
 {
-    if (edge.first as usize) < count {
-        return (edge.last as usize) < count;
-    }
-    false
+    usize::from(edge.first) < count && usize::from(edge.last) < count
 }
 
 // Whether a segment's link and serif are segments.
+#[tactic(auto, unfolding(crate::specs::Refusals::segment_indices))]
 fn segment_indices(segment: Segment, count: usize) -> bool
     ensures { result ≡ segment_indices count segment }
 {
-    let link = segment.link;
-    if link_holds(link, count) {
-        let serif = segment.serif;
-        return link_holds(serif, count);
-    }
-    false
+    link_holds(segment.link, count) && link_holds(segment.serif, count)
 }
 
 // Whether a segment's next is a segment.
+#[tactic(auto, unfolding(crate::specs::Refusals::segment_next))]
 fn segment_next(segment: Segment, count: usize) -> bool
     ensures { result ≡ segment_next count segment }
 {
-    let next = segment.next;
-    link_holds(next, count)
+    link_holds(segment.next, count)
 }
 
 // Whether a segment's edge is an edge.
+#[tactic(auto, unfolding(crate::specs::Refusals::segment_edge))]
 fn segment_edge(segment: Segment, count: usize) -> bool
     ensures { result ≡ segment_edge count segment }
 {
-    let edge = segment.edge;
-    link_holds(edge, count)
+    link_holds(segment.edge, count)
 }
 
 // Whether a segment's score and len are accepted.
 fn segment_numbers(segment: Segment) -> bool
     ensures { result ≡ segment_numbers segment }
 {
-    if is_inside(segment.score, 0, MOST_SCORE) {
-        return is_inside(segment.len, 0, MOST_SCORE);
-    }
-    false
+    is_inside(segment.score, 0, MOST_SCORE) && is_inside(segment.len, 0, MOST_SCORE)
 }
 
 // Whether there are no more edges than their limit.
@@ -202,7 +183,7 @@ pub fn segment_passes(segment: Segment, test: SegmentTest) -> bool
 pub fn every_edge(axis: Axis, test: EdgeTest) -> bool
     ensures { result ≡ every_edge (edge_passes test) axis }
 {
-    let n = least(axis.len, MOST_EDGES);
+    let n = axis.len.min(MOST_EDGES);
     for i in 0..n {
         let edge = axis.edges[i];
         if !edge_passes(edge, test) {
@@ -216,7 +197,7 @@ pub fn every_edge(axis: Axis, test: EdgeTest) -> bool
 pub fn every_segment(table: Segments, test: SegmentTest) -> bool
     ensures { result ≡ every_segment (segment_passes test) table }
 {
-    let n = least(table.len, MOST_SEGMENTS);
+    let n = table.len.min(MOST_SEGMENTS);
     for i in 0..n {
         let segment = table.segments[i];
         if !segment_passes(segment, test) {

@@ -59,14 +59,11 @@ pub fn empty_axis(dim: Dimension, major_dir: Direction) -> Axis
 }
 
 // Whether an edge has a blue zone.
+#[tactic(auto, unfolding(crate::specs::Edge::has_blue))]
 pub fn has_blue(edge: Edge) -> bool
     ensures { result ≡ has_blue edge.blue }
 {
-    let blue = edge.blue;
-    match blue {
-        None => false,
-        Some(z) => true,
-    }
+    edge.blue.is_some()
 }
 
 // The edge at a position, and what gave it.

@@ -2,7 +2,6 @@
 ghost use Rattle.std.specs.Prelude.{◌≡◌};
 ghost use Rattle.build.specs.Building.{products_hold};
 
-use axis::accept::least;
 use axis::limits::MOST_SEGMENTS;
 use axis::segment::Segments;
 use build::numbers::scaled_holds;
@@ -11,7 +10,7 @@ use build::numbers::scaled_holds;
 pub fn products_hold(segments: Segments, scale: i32) -> bool
     ensures { result ≡ products_hold segments scale }
 {
-    let n = least(segments.len, MOST_SEGMENTS);
+    let n = segments.len.min(MOST_SEGMENTS);
     for i in 0..n {
         let segment = segments.segments[i];
         if !scaled_holds(segment, scale) {

@@ -14,7 +14,7 @@ use refusals::order::{Refusal, require};
 use words::edge::TABLE_WORDS;
 use words::field::{choice_of, dimension_of, direction_of, group_of};
 use words::word::count_word;
-use words_call::shown::{are_choices, both};
+use words_call::shown::are_choices;
 use words_segment_test::test::segments_test;
 use words_shape::field::{DIRECTION, is_in};
 
@@ -42,10 +42,7 @@ pub fn lend_building(
         (answer_of result) (segments.new, (edges.new, count.new)) }
 {
     let room = edges.len() == TABLE_WORDS;
-    let others = both(
-        is_in(major_dir, DIRECTION),
-        are_choices(dim, group, top_to_bottom),
-    );
+    let others = is_in(major_dir, DIRECTION) && are_choices(dim, group, top_to_bottom);
     let own = own_refusal(choice_of(top_to_bottom), scale, thresholds);
     let products = products_hold(segments, scale);
     segments_test(segments, room, others, own, false, products)?;

@@ -3,8 +3,6 @@ ghost use Rattle.std.specs.Prelude.{◌≡◌, ◌&&◌, leb, ltb};
 ghost use Rattle.weak.specs.Weak.{contour_of};
 ghost use Rattle.edge_points.specs.Steps.{stretch_of};
 
-use weak::accept::wide;
-
 // The points of a contour: those from `start` on that are in front of `end`.
 #[derive(Clone, Copy)]
 pub struct Stretch {
@@ -18,7 +16,7 @@ pub fn contour_of(ends: &[u16], p: usize) -> Stretch
 {
     let mut start: usize = 0;
     for end in ends {
-        let last = wide(*end);
+        let last = usize::from(*end);
         if p <= last {
             return Stretch {
                 start,

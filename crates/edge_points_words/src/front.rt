@@ -11,7 +11,7 @@ use refusals::order::Refusal;
 use weak::limits::MOST_POINTS;
 use words::edge::EDGE_WORDS;
 use words::segment::SEGMENT_WORDS;
-use words_call::shown::{both, both_in};
+use words_call::shown::both_in;
 use words_shape::field::CHOICE;
 use words_tables_test::test::tables_shown;
 
@@ -19,10 +19,7 @@ use words_tables_test::test::tables_shown;
 fn few_points(count: usize, marks: usize) -> bool
     ensures { result ≡ (leb count most_points && eqb marks count) }
 {
-    if MOST_POINTS < count {
-        return false;
-    }
-    marks == count
+    count <= MOST_POINTS && marks == count
 }
 
 // The refusal in front of the call: the lengths, how many segments, edges, points and marks they are, and only then their words, which need no test where both tables hold, and the choices.
@@ -38,19 +35,14 @@ pub fn points_front(
     requires { held ≡ true → Held segments.now edges.now }
     ensures { answer_of result ≡ refusal (points_front segments.now edges.now snap alone currents.now touched.now) }
 {
-    if !both(
-        segments.len() % SEGMENT_WORDS == 0,
-        edges.len() % EDGE_WORDS == 0,
-    ) {
+    if !(segments.len() % SEGMENT_WORDS == 0 && edges.len() % EDGE_WORDS == 0) {
         return Err(Refusal::NotWords);
     }
-    let few = few_segments(segments.len() / SEGMENT_WORDS);
-    let few = both(few, few_edges(edges.len() / EDGE_WORDS));
-    if !both(few, few_points(currents.len(), touched.len())) {
+    let few = few_segments(segments.len() / SEGMENT_WORDS) && few_edges(edges.len() / EDGE_WORDS);
+    if !(few && few_points(currents.len(), touched.len())) {
         return Err(Refusal::TooLong);
     }
-    let shown = tables_shown(segments, edges, held);
-    if both(shown, both_in(snap, alone, CHOICE)) {
+    if tables_shown(segments, edges, held) && both_in(snap, alone, CHOICE) {
         return Ok(());
     }
     Err(Refusal::NotWords)

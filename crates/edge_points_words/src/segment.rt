@@ -4,7 +4,6 @@ ghost use Rattle.axis.specs.Segment.{segment_at};
 ghost use Rattle.words.specs.Segment.{segments_in, flat_segments};
 ghost use Rattle.words_segment.specs.Whole.{Whole};
 
-use weak::accept::wide;
 use words::field::{index_of, link_of};
 use words::segment::{EDGE_PLACE, FIRST_PLACE, LAST_PLACE, SEGMENT_WORDS};
 use words::word::read_word;
@@ -22,7 +21,7 @@ pub fn first_of(segments: &[i32], i: usize) -> usize
     requires { Whole segments.now × (i < segments_in segments.now) }
     ensures { result ≡ (segment_at (flat_segments segments.now) i).first }
 {
-    wide(index_of(read_word(segments, SEGMENT_WORDS * i + FIRST_PLACE)))
+    usize::from(index_of(read_word(segments, SEGMENT_WORDS * i + FIRST_PLACE)))
 }
 
 // Its last point.
@@ -30,5 +29,5 @@ pub fn last_of(segments: &[i32], i: usize) -> usize
     requires { Whole segments.now × (i < segments_in segments.now) }
     ensures { result ≡ (segment_at (flat_segments segments.now) i).last }
 {
-    wide(index_of(read_word(segments, SEGMENT_WORDS * i + LAST_PLACE)))
+    usize::from(index_of(read_word(segments, SEGMENT_WORDS * i + LAST_PLACE)))
 }

@@ -9,7 +9,7 @@ use fixed::width::WidthRule;
 use lowercase_m::hint::count_holds;
 use words::field::{choice_of, dimension_of, group_of, rule_of};
 use words::word::word_at;
-use words_call::shown::{are_choices, both, both_in};
+use words_call::shown::{are_choices, both_in};
 use words_shape::field::CHOICE;
 
 // How many words the numbers are.
@@ -63,7 +63,7 @@ pub fn numbers_shown(words: &[i32]) -> bool
     let first = are_choices(word_at(words, 0), word_at(words, 1), word_at(words, 2));
     let second = are_choices(word_at(words, 3), word_at(words, 4), word_at(words, 5));
     let last = both_in(word_at(words, 6), word_at(words, 8), CHOICE);
-    both(first, both(second, last))
+    first && second && last
 }
 
 // Whether a dimension is the horizontal one.
@@ -80,6 +80,5 @@ fn is_horizontal(dim: Dimension) -> bool
 pub fn is_asked(by: Numbers, count: usize) -> bool
     ensures { result ≡ is_asked by count }
 {
-    let dim = by.dim;
-    both(by.lowercase_m, both(is_horizontal(dim), count_holds(count)))
+    by.lowercase_m && is_horizontal(by.dim) && count_holds(count)
 }

@@ -2,6 +2,5 @@
 #![tactic(auto)]
 
 mod back;
-mod copied;
 pub mod rooms;
 mod tell;

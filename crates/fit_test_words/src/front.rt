@@ -16,15 +16,14 @@ use refusals::order::Refusal;
 use strong_words::refuse::list_refusal;
 use words::edge::EDGE_WORDS;
 use words::segment::SEGMENT_WORDS;
-use words_call::shown::both;
 use words_tables_test::test::tables_shown;
 
 // Whether lengths are those of whole records, of the numbers, and of what is told.
 fn lengths_hold(segments: usize, edges: usize, numbers: usize, told: usize) -> bool
     ensures { result ≡ ((eqb (segments % segment_size) 0 && eqb (edges % edge_size) 0) && (eqb numbers number_size && eqb told told_size)) }
 {
-    let records = both(segments % SEGMENT_WORDS == 0, edges % EDGE_WORDS == 0);
-    both(records, both(numbers == NUMBER_WORDS, told == TOLD_WORDS))
+    let records = segments % SEGMENT_WORDS == 0 && edges % EDGE_WORDS == 0;
+    records && numbers == NUMBER_WORDS && told == TOLD_WORDS
 }
 
 // The refusal in front of the call: the lengths, how many segments, edges and points there are, and only then their words, which need no test where both tables hold, and the numbers.
@@ -47,14 +46,12 @@ pub fn fit_front(
     if !lengths_hold(segments.len(), edges.len(), numbers.len(), told.len()) {
         return Err(Refusal::NotWords);
     }
-    let few = few_segments(segments.len() / SEGMENT_WORDS);
-    let few = both(few, few_edges(edges.len() / EDGE_WORDS));
+    let few = few_segments(segments.len() / SEGMENT_WORDS) && few_edges(edges.len() / EDGE_WORDS);
     let lists = list_refusal(fonts, originals, currents, touched, weak);
-    if !both(few, lists.is_ok()) {
+    if !(few && lists.is_ok()) {
         return Err(Refusal::TooLong);
     }
-    let shown = tables_shown(segments, edges, held);
-    if both(shown, numbers_shown(numbers)) {
+    if tables_shown(segments, edges, held) && numbers_shown(numbers) {
         return Ok(());
     }
     Err(Refusal::NotWords)

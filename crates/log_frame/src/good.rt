@@ -11,7 +11,6 @@ use super::limits::{HEAD_SIZE, KIND_BYTE, MOST_COUNTED, frame_size};
 use log_digits::bytes::byte_at;
 use log_digits::digit::all_digits;
 use refusals::order::{Refusal, require};
-use words_call::shown::both;
 
 // How many points a line says that it has.
 pub fn points_in(line: &[u8]) -> usize
@@ -46,16 +45,14 @@ fn good_line(line: &[u8]) -> bool
 }
 
 // Whether rooms of these lengths have a place for each that a frame can have, and no other.
+#[tactic(auto, unfolding(crate::specs::Read::are_rooms))]
 fn are_rooms(originals: usize, currents: usize, marks: usize, ends: usize) -> bool
     ensures { result ≡ are_rooms originals currents marks ends }
 {
-    both(
-        originals == MOST_COUNTED,
-        both(
-            currents == MOST_COUNTED,
-            both(marks == MOST_COUNTED, ends == MOST_COUNTED),
-        ),
-    )
+    originals == MOST_COUNTED
+        && currents == MOST_COUNTED
+        && marks == MOST_COUNTED
+        && ends == MOST_COUNTED
 }
 
 // The refusal of reading, if there is one.

@@ -30,7 +30,7 @@ pub fn take_line(block: &[u8], from: usize, line: &mut [u8], count: usize) -> Ta
 {
     let mut at = from;
     let mut held = at_most(count, line.len());
-    // a while: the place where it ends is handed back, which is `from` where that lies behind the block
+    // a while: the place behind what was taken is handed back
     while at < block.len() {
         let byte = block[at];
         at += 1;

@@ -3,7 +3,6 @@ ghost use Rattle.std.specs.Prelude.{◌≡◌, min, ◌≤◌, length};
 ghost use Rattle.axis.specs.Limits.{most_edges};
 ghost use Rattle.lowercase_m_list.specs.Table.{empty_table, copied};
 
-use axis::accept::least;
 use axis::edge::{EMPTY_EDGE, Edge};
 use axis::limits::MOST_EDGES;
 
@@ -18,7 +17,7 @@ fn empty_table() -> [Edge; MOST_EDGES]
 pub fn load(edges: &[Edge]) -> [Edge; MOST_EDGES]
     ensures { result ≡ copied (min (length edges.now) most_edges) edges.now empty_table }
 {
-    let n = least(edges.len(), MOST_EDGES);
+    let n = edges.len().min(MOST_EDGES);
     let mut table = empty_table();
     table[..n].copy_from_slice(&edges[..n]);
     table

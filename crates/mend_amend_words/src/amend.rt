@@ -1,6 +1,5 @@
 // One word altered, and listed where it differs.
 ghost use Rattle.std.specs.Prelude.{◌≡◌, ◌<◌, ◌+◌, ◌*◌, length};
-ghost use Rattle.signed.specs.Equality.{eq_z};
 ghost use Rattle.mend.specs.Altered.{most_altered};
 ghost use Rattle.words.specs.Word.{word_at};
 ghost use Rattle.mend_amend_words.specs.Listing.{alteration_size};
@@ -23,13 +22,6 @@ pub struct Named {
     pub field: u16,
 }
 
-// Whether two words are the same.
-fn same(a: i32, b: i32) -> bool
-    ensures { result ≡ eq_z a b }
-{
-    a == b
-}
-
 // Writes a word, and lists it where it differs from what stood there; tells how many are listed.
 pub fn amend(
     words: &mut [i32],
@@ -43,7 +35,7 @@ pub fn amend(
     ensures { AmendedWord named at new count words.old room.old result words.new room.new }
 {
     let old = read_word(words, at);
-    if same(old, new) {
+    if old == new {
         return count;
     }
     let table = index_word(named.table);

@@ -10,7 +10,6 @@ use path_trip::place::{middle_of, place_of};
 use path_trip::step::PathStep;
 use path_trip::trip::{Trip, around_at, is_on, trip_of};
 use path_walk::walk::{End, end_of};
-use weak::accept::wide;
 
 // Writes the step of the point at place `j` of a trip behind `count` others, and tells the place of the next step's point: an on-curve point that ends a curve gives none.
 fn lay_point(
@@ -126,7 +125,7 @@ pub fn lay_path(
     let mut n: usize = 0;
     let mut a: usize = 0;
     for end in ends {
-        let e = wide(*end) + 1;
+        let e = usize::from(*end) + 1;
         n = lay_contour(xs, ys, marks, a, e, kinds, places, n);
         a = e;
     }

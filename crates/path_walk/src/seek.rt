@@ -7,7 +7,6 @@ ghost use Rattle.path_walk.specs.Steps.{seek};
 
 use super::walk::contour_step;
 use path_trip::step::PathStep;
-use weak::accept::wide;
 
 // Step k of the path, or how far k is behind its end.
 pub fn path_at(
@@ -24,7 +23,7 @@ pub fn path_at(
     let mut left = k;
     let mut a: usize = 0;
     for end in ends {
-        let e = wide(*end) + 1;
+        let e = usize::from(*end) + 1;
         let sought = contour_step(xs, ys, marks, a, e, left);
         let Err(rest) = sought else {
             return sought;

@@ -15,13 +15,6 @@ use fixed::point::magnitude;
 use fixed_ratio::ratio::fixed_mul_div;
 use place::place::serif_edge;
 
-// A position as plans hold it.
-fn wide(pos: i32) -> i64
-    ensures { result ≡ pos }
-{
-    pos as i64
-}
-
 // Whether an original position is near enough to that of its base edge for Latin.
 fn is_close(opos: i32, base: i32) -> bool
     requires { Between most_units most_units opos × Between most_units most_units base }
@@ -46,7 +39,7 @@ pub fn serif_plan(base: Edge, edge: Edge, way: Way, past: Progress) -> Plan
 {
     let moved = serif_edge(base, edge);
     Plan {
-        pos: wide(moved.pos),
+        pos: i64::from(moved.pos),
         mark: Mark::Serif,
         way,
         next: past,
@@ -60,7 +53,7 @@ pub fn anchor_plan(edge: Edge, i: usize, past: Progress) -> Plan
 {
     let pos = pix_round(edge.opos);
     Plan {
-        pos: wide(pos),
+        pos: i64::from(pos),
         mark: Mark::RemainingAnchor,
         way: Way::Held,
         next: Progress {
@@ -94,7 +87,7 @@ pub fn spaced_plan(anchor: Edge, edge: Edge, past: Progress) -> Plan
 {
     let pos = spaced_pos(anchor.pos, anchor.opos, edge.opos);
     Plan {
-        pos: wide(pos),
+        pos: i64::from(pos),
         mark: Mark::Spaced,
         way: Way::Held,
         next: past,
@@ -108,10 +101,10 @@ fn between_pos(at: i32, before_at: i32, before_pos: i32, after_at: i32, after_po
     ensures { result ≡ between_pos at before_at before_pos after_at after_pos }
 {
     if after_at == before_at {
-        return wide(before_pos);
+        return i64::from(before_pos);
     }
     let part = fixed_mul_div(at - before_at, after_pos - before_pos, after_at - before_at);
-    wide(before_pos) + part
+    i64::from(before_pos) + part
 }
 
 // Latin's edge between two that are done, by its original position.
@@ -157,7 +150,7 @@ pub fn stays_plan(edge: Edge, past: Progress) -> Plan
     ensures { result ≡ stays_plan edge past }
 {
     Plan {
-        pos: wide(edge.pos),
+        pos: i64::from(edge.pos),
         mark: Mark::Nothing,
         way: Way::Stays,
         next: past,

@@ -9,7 +9,7 @@ use remaining::kinds::Progress;
 use words::edge::EDGE_WORDS;
 use words::field::{group_of, link_word};
 use words::word::size_of;
-use words_call::shown::{both, both_in};
+use words_call::shown::both_in;
 use words_call::word::named_anchor;
 use words_edge_test::test::edges_test;
 use words_shape::field::{CHOICE, INDEX, is_in};
@@ -25,7 +25,7 @@ pub fn lend_remaining(
 ) -> Result<(), Refusal>
     ensures { RemainingLent edges.old dim group count anchor found.old (answer_of result) (edges.new, found.new) }
 {
-    let others = both(both_in(dim, group, CHOICE), is_in(count, INDEX));
+    let others = both_in(dim, group, CHOICE) && is_in(count, INDEX);
     let start = named_anchor(anchor);
     let named = link_holds(start, edges.len() / EDGE_WORDS);
     edges_test(edges, others, Ok(()), named, true)?;

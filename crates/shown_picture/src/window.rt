@@ -7,7 +7,6 @@ ghost use Rattle.shown_lines.specs.Lines.{most_halves, InField};
 ghost use Rattle.shown_picture.specs.Window.{cell_of, Lesser, Greater, Spread, picture, Bounds};
 
 use shown_lines::place::point_place;
-use weak::accept::wide;
 
 // These columns from `left` on, and rows from `low` on.
 #[derive(Clone, Copy)]
@@ -88,7 +87,7 @@ pub fn window_of(xs: &[i32], ys: &[i32], marks: &[u8], ends: &[u16], magnify: u3
             rows: 0,
         };
     }
-    let count = wide(ends[ends.len() - 1]) + 1;
+    let count = usize::from(ends[ends.len() - 1]) + 1;
     let across = extremes_of(xs, count);
     let leftmost = point_place(xs, ys, marks, magnify, across.least);
     let rightmost = point_place(xs, ys, marks, magnify, across.largest);

@@ -14,7 +14,6 @@ use path_trip::trip::{around_at, is_on};
 use path_walk::walk::end_of;
 use shown_lines::line::{cross_curve, cross_straight};
 use shown_lines::place::{end_halves, point_place, spot_halves};
-use weak::accept::wide;
 
 // Adds the lines of the contour from `a` up to `e`. An on-curve point behind a curve gives a line of no height, which crosses nothing.
 fn cross_contour(
@@ -73,7 +72,7 @@ pub fn cross_outline(
 {
     let mut a: usize = 0;
     for end in ends {
-        let e = wide(*end) + 1;
+        let e = usize::from(*end) + 1;
         cross_contour(changes, left, xs, ys, marks, a, e, magnify, y);
         a = e;
     }

@@ -10,7 +10,7 @@ use stems::kinds::Mode;
 use words::edge::EDGE_WORDS;
 use words::field::{choice_of, dimension_of, group_of, link_word, rule_of};
 use words::word::count_word;
-use words_call::shown::{are_choices, both, both_in};
+use words_call::shown::{are_choices, both_in};
 use words_call::word::named_anchor;
 use words_edge_test::test::edges_test;
 use words_shape::field::CHOICE;
@@ -31,10 +31,7 @@ pub fn lend_stems(
     ensures { StemsLent edges.old dim group stem_adjust top_to_bottom anchor rule standards.now count.old found.old
         (answer_of result) (edges.new, (count.new, found.new)) }
 {
-    let others = both(
-        are_choices(dim, group, stem_adjust),
-        both_in(top_to_bottom, rule, CHOICE),
-    );
+    let others = are_choices(dim, group, stem_adjust) && both_in(top_to_bottom, rule, CHOICE);
     let width = rule_of(rule);
     let start = named_anchor(anchor);
     let named = link_holds(start, edges.len() / EDGE_WORDS);

@@ -1,13 +1,14 @@
 -- The converter by its tests and its two passes.
 use mathlib.Core.Path.{◌≡◌, refl, sym, ap, subst, ◌∙◌}
-use mathlib.Core.Bool.{true}
-use mathlib.Core.List.{List}
-use Prim.Native.Nat.{ℕ, ◌≤◌, ◌<◌}
+use mathlib.Core.Bool.{Bool, true, false, cond, ◌&&◌}
+use mathlib.Core.List.{List, [], ◌∷◌}
+use Prim.Native.Nat.{ℕ, ◌%◌, ◌≤◌, ◌<◌}
 use native.Mathlib.Omega.{arith}
 use borrow.Author.Tests.{leb-true}
-use lib.Dec.{leb}
+use lib.Dec.{eqb, leb}
+use lib.ListN.{length}
 use lib.IntN.{ℤ}
-use Rattle.refusals.specs.Refusal.{refusal, answered}
+use Rattle.refusals.specs.Refusal.{Test, ◌unless◌, too_long, refusal, answered}
 use Rattle.refusals.proofs.Tests.{and_first, and_second, all_hold}
 use Rattle.axis.specs.declared.edge.Axis.{Axis}
 use Rattle.axis.specs.declared.segment.Segments.{Segments}
@@ -17,10 +18,10 @@ use Rattle.turn.specs.Answer.{Turned}
 use Rattle.turn.specs.Indices.{segments_edges}
 use Rattle.turn.specs.Turning.{turned_axis, turned_segments, turning_tests, beside, turn_over}
 use Rattle.turn.proofs.Calls.{Taken, took}
-use Rattle.words.specs.Edge.{edges_in, edges_over}
-use Rattle.words.specs.Segment.{segments_in, flat_segments, segments_over}
+use Rattle.words.specs.Edge.{edge_size, edges_in, edges_over}
+use Rattle.words.specs.Segment.{segment_size, segments_in, flat_segments, segments_over}
 use Rattle.words_shape.specs.Shape.{edges_shown, segments_shown}
-use Rattle.words_call.specs.Lent.{refused_or, edges_of}
+use Rattle.words_call.specs.Lent.{not_words, refused_or, edges_of}
 use Rattle.words_edge.specs.Whole as E
 use Rattle.words_edge.proofs.Wholes.{shown-whole, edges-len}
 use Rattle.words_edge_test.proofs.Calls.{lent-refused, lent-done}
@@ -29,6 +30,23 @@ use Rattle.words_segment.proofs.Wholes.{shown-whole as segments_whole}
 use Rattle.turn_words.specs.Lent.{turn_front, turned_words, TurnedLent}
 
 -- ---- the tests in front
+-- two tests by one number are one
+two-as-one : (a b : Bool) (n : ℕ) (ts us : List Test) → refusal ts ≡ refusal us → refusal (n unless a ∷ n unless b ∷ ts) ≡ refusal (n unless (a && b) ∷ us)
+unfolding refusal
+two-as-one true b n ts us e = ap (λ (k : ℕ). cond b k n) e
+two-as-one false b n ts us e = refl
+
+-- the tests of each list by itself
+pub each-test : (ws es : List ℤ)
+    → refusal (not_words unless eqb (length ws % segment_size) 0 ∷ not_words unless eqb (length es % edge_size) 0 ∷ too_long unless leb (segments_in ws) most_segments
+    ∷ too_long unless leb (edges_in es) most_edges ∷ not_words unless segments_shown ws ∷ not_words unless edges_shown es ∷ [])
+    ≡ refusal (turn_front ws es)
+unfolding turn_front
+each-test ws es =
+    two-as-one (eqb (length ws % segment_size) 0) (eqb (length es % edge_size) 0) not_words _ _
+    (two-as-one (leb (segments_in ws) most_segments) (leb (edges_in es) most_edges) too_long _ _
+    (two-as-one (segments_shown ws) (edges_shown es) not_words [] [] refl))
+
 -- what they say where none refuses
 pub record Shown (ws es : List ℤ) : Type 0 where
   pub few-segments : segments_in ws ≤ most_segments

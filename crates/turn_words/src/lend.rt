@@ -7,31 +7,24 @@ ghost use Rattle.turn_words.specs.Lent.{turn_front, TurnedLent};
 use super::pass::{turn_edges_in, turn_segments_in};
 use super::test::turn_refusal;
 use axis::accept::{few_edges, few_segments};
-use refusals::order::Refusal;
+use refusals::order::{Refusal, require};
 use words::edge::EDGE_WORDS;
 use words::segment::SEGMENT_WORDS;
-use words_call::shown::both;
 use words_shape::element::{is_edges, is_segments};
 
 // The refusal in front of a call over both lists: the lengths, how many segments and edges they are, and only then their words.
 pub fn turning_front(segments: &[i32], edges: &[i32]) -> Result<(), Refusal>
     ensures { answer_of result ≡ refusal (turn_front segments.now edges.now) }
 {
-    if !both(
-        segments.len() % SEGMENT_WORDS == 0,
-        edges.len() % EDGE_WORDS == 0,
-    ) {
-        return Err(Refusal::NotWords);
-    }
-    let few = few_segments(segments.len() / SEGMENT_WORDS);
-    if !both(few, few_edges(edges.len() / EDGE_WORDS)) {
-        return Err(Refusal::TooLong);
-    }
-    let shown = is_segments(segments);
-    if both(shown, is_edges(edges)) {
-        return Ok(());
-    }
-    Err(Refusal::NotWords)
+    require(segments.len() % SEGMENT_WORDS == 0, Refusal::NotWords)?;
+    require(edges.len() % EDGE_WORDS == 0, Refusal::NotWords)?;
+    require(
+        few_segments(segments.len() / SEGMENT_WORDS),
+        Refusal::TooLong,
+    )?;
+    require(few_edges(edges.len() / EDGE_WORDS), Refusal::TooLong)?;
+    require(is_segments(segments), Refusal::NotWords)?;
+    require(is_edges(edges), Refusal::NotWords)
 }
 
 // Turns the edges of an axis over, with the indices that lead to them.

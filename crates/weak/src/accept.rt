@@ -11,20 +11,13 @@ use super::reach::{coordinates_hold, is_calm, reach_of};
 use super::steep::too_steep;
 use refusals::order::Refusal;
 
-// A contour end as an index.
-pub fn wide(x: u16) -> usize
-    ensures { result ≡ x }
-{
-    x as usize
-}
-
 // Whether the contour ends rise strictly, each below the point count.
 pub fn ends_hold(ends: &[u16], count: usize) -> bool
     ensures { result ≡ ends_hold 0 count ends.now }
 {
     let mut start: usize = 0;
     for x in ends {
-        let end = wide(*x);
+        let end = usize::from(*x);
         if end < start {
             return false;
         }

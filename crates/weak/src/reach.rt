@@ -38,26 +38,6 @@ pub fn coordinates_hold(list: &[i32], most: i32) -> bool
     all
 }
 
-// The smaller of two numbers.
-fn lesser(a: i32, b: i32) -> i32
-    ensures { (result ≤ℤ a) × (result ≤ℤ b) }
-{
-    if b < a {
-        return b;
-    }
-    a
-}
-
-// The larger of two numbers.
-fn greater(a: i32, b: i32) -> i32
-    ensures { (a ≤ℤ result) × (b ≤ℤ result) }
-{
-    if a < b {
-        return b;
-    }
-    a
-}
-
 // The reach of a list.
 pub fn reach_of(list: &[i32]) -> Reach
     ensures { Reaches list.now result.least result.most }
@@ -65,8 +45,8 @@ pub fn reach_of(list: &[i32]) -> Reach
     let mut least: i32 = 0;
     let mut most: i32 = 0;
     for x in list {
-        least = lesser(least, *x);
-        most = greater(most, *x);
+        least = least.min(*x);
+        most = most.max(*x);
     }
     Reach { least, most }
 }

@@ -3,7 +3,6 @@ ghost use Rattle.std.specs.Prelude.{◌≡◌, not};
 ghost use Rattle.weak.specs.Weak.{gentle};
 ghost use Rattle.weak.specs.Steps.{Accepted};
 
-use super::accept::wide;
 use weak_contour::steep::contour_steep;
 
 // Whether a point of the outline is too steep: each contour is looked at on its own stretch of the lists, and nothing is written.
@@ -13,7 +12,7 @@ pub fn too_steep(originals: &[i32], currents: &[i32], touched: &[u8], ends: &[u1
 {
     let mut start: usize = 0;
     for x in ends {
-        let end = wide(*x) + 1;
+        let end = usize::from(*x) + 1;
         if contour_steep(
             &originals[start..end],
             &currents[start..end],

@@ -5,7 +5,7 @@ ghost use Rattle.refusals.specs.Refusal.{refusal};
 ghost use Rattle.weak.specs.Weak.{weak_tests, Outcome};
 ghost use Rattle.weak.specs.Steps.{Accepted, GentleAll, AllDone};
 
-use super::accept::{weak_refusal, wide};
+use super::accept::weak_refusal;
 use refusals::order::Refusal;
 use weak_contour::contour::align_contour;
 
@@ -17,7 +17,7 @@ fn align_contours(originals: &[i32], currents: &mut [i32], touched: &[u8], ends:
 {
     let mut start: usize = 0;
     for x in ends {
-        let end = wide(*x) + 1;
+        let end = usize::from(*x) + 1;
         align_contour(
             &originals[start..end],
             &mut currents[start..end],

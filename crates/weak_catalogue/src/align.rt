@@ -5,7 +5,6 @@ ghost use Rattle.weak_catalogue.specs.Steps.{AddsUp, EachDone};
 
 use super::counts::catalogue_refusal;
 use refusals::order::{Refusal, answer_of};
-use weak::accept::wide;
 use weak::weak::align_weak_points;
 
 // Aligns each outline on its own parts of the lists, which are lent and not copied, and writes its answer.
@@ -25,8 +24,8 @@ fn align_outlines(
     let mut point: usize = 0;
     let mut contour: usize = 0;
     for j in 0..answers.len() {
-        let point_end = point + wide(point_counts[j]);
-        let contour_end = contour + wide(contour_counts[j]);
+        let point_end = point + usize::from(point_counts[j]);
+        let contour_end = contour + usize::from(contour_counts[j]);
         let aligned = align_weak_points(
             &originals[point..point_end],
             &mut currents[point..point_end],

@@ -5,7 +5,6 @@ ghost use Rattle.refusals.specs.Refusal.{refusal};
 ghost use Rattle.weak_catalogue.specs.Catalogue.{total, catalogue_tests};
 
 use refusals::order::{Refusal, require};
-use weak::accept::wide;
 
 // Whether counts add up to a length: each is taken from what remains of it, so that no sum can wrap.
 fn adds_up(length: usize, counts: &[u16]) -> bool
@@ -13,7 +12,7 @@ fn adds_up(length: usize, counts: &[u16]) -> bool
 {
     let mut left = length;
     for x in counts {
-        let count = wide(*x);
+        let count = usize::from(*x);
         if left < count {
             return false;
         }

@@ -9,7 +9,6 @@ ghost use Rattle.weak_drag.specs.Drag.{is_there};
 ghost use Rattle.weak_drag.specs.Steps.{GentleArc, ArcWrote, Refitted, DragDone};
 
 use super::around::{next_around, prior_around};
-use weak::accept::wide;
 use weak_contour::iup::iup_interpolate;
 
 // Whether a point's current is its original.
@@ -71,7 +70,7 @@ pub fn refit(originals: &[i32], currents: &mut [i32], touched: &[u8], ends: &[u1
 {
     let mut start: usize = 0;
     for x in ends {
-        let end = wide(*x) + 1;
+        let end = usize::from(*x) + 1;
         if p < end {
             refit_contour(originals, currents, touched, start, end, p);
             return;

@@ -9,7 +9,6 @@ ghost use Rattle.weak_known.specs.Walks.{contour, LoneOn, CoordinatesOn};
 use super::contour::show_two;
 use super::round::align_round;
 use super::search::first_touched;
-use weak::accept::wide;
 use weak_contour::iup::iup_shift;
 
 // Aligns the points from s up to e, of which one is touched or none: they are shifted as that one was, and no second is searched for.
@@ -41,7 +40,7 @@ pub fn align_listed(
 {
     let mut start: usize = 0;
     for x in ends {
-        let end = wide(*x) + 1;
+        let end = usize::from(*x) + 1;
         if show_two(before, behind, start, end) {
             align_round(originals, currents, touched, before, behind, start, end);
         } else {

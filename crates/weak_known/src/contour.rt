@@ -3,11 +3,10 @@ ghost use Rattle.std.specs.Prelude.{◌≡◌, true, ◌≤◌, ◌<◌, length}
 ghost use Rattle.weak_contour.specs.Limits.{most_points};
 ghost use Rattle.weak_known.specs.Walks.{contour, before_on, behind_on, said_on, show_two, seam_holds, Put};
 
-use super::number::{ONE_OR_NONE, narrow, number, same, shown};
+use super::number::{ONE_OR_NONE, narrow, number, shown};
 use super::same::{lone_same, pairs_same};
 use super::search::{first_touched, last_touched};
 use super::write::{later_write, plain_write, prior_write};
-use weak::accept::wide;
 
 // Whether the entries at both ends of the contour show two touched points of it: the first and the last, if the lists are right.
 pub fn show_two(before: &[u16], behind: &[u16], s: usize, e: usize) -> bool
@@ -15,8 +14,8 @@ pub fn show_two(before: &[u16], behind: &[u16], s: usize, e: usize) -> bool
     ensures { result ≡ show_two before.now behind.now s e }
 {
     let i = e - 1;
-    let first = wide(shown(behind[s], s));
-    let last = wide(shown(before[i], i));
+    let first = usize::from(shown(behind[s], s));
+    let last = usize::from(shown(before[i], i));
     if first < s {
         return false;
     }
@@ -35,11 +34,11 @@ fn seam_same(touched: &[u8], before: &[u16], behind: &[u16], s: usize, e: usize)
     let i = e - 1;
     let first = shown(behind[s], s);
     let last = shown(before[i], i);
-    if touched[wide(first)] == 0 {
+    if touched[usize::from(first)] == 0 {
         return false;
     }
-    let front = same(before[s], number(touched[s], last));
-    let rear = same(behind[i], number(touched[i], first));
+    let front = before[s] == number(touched[s], last);
+    let rear = behind[i] == number(touched[i], first);
     front & rear
 }
 

@@ -7,7 +7,6 @@ ghost use Rattle.weak_known.specs.Known.{matches};
 use super::contour::contour_same;
 use super::number::NO_CONTOUR;
 use super::same::plain_same;
-use weak::accept::wide;
 
 // Whether the lists are what is known of every point.
 pub fn lists_match(touched: &[u8], ends: &[u16], before: &[u16], behind: &[u16]) -> bool
@@ -18,7 +17,7 @@ pub fn lists_match(touched: &[u8], ends: &[u16], before: &[u16], behind: &[u16])
     let n = touched.len();
     let mut s: usize = 0;
     for x in ends {
-        let e = wide(*x) + 1;
+        let e = usize::from(*x) + 1;
         if !contour_same(touched, before, behind, s, e) {
             return false;
         }

@@ -62,10 +62,3 @@ pub fn number_by(entry: u16, v: u16) -> u16
     }
     v
 }
-
-// Whether two numbers are the same.
-pub fn same(a: u16, b: u16) -> bool
-    ensures { result ≡ eqb a b }
-{
-    a == b
-}

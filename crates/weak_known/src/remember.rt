@@ -8,7 +8,6 @@ ghost use Rattle.weak_known.specs.Walks.{Put};
 use super::contour::contour_write;
 use super::number::NO_CONTOUR;
 use super::write::plain_write;
-use weak::accept::wide;
 
 // Writes what is known of every point.
 pub fn remember(touched: &[u8], ends: &[u16], before: &mut [u16], behind: &mut [u16])
@@ -20,7 +19,7 @@ pub fn remember(touched: &[u8], ends: &[u16], before: &mut [u16], behind: &mut [
     let n = touched.len();
     let mut s: usize = 0;
     for x in ends {
-        let e = wide(*x) + 1;
+        let e = usize::from(*x) + 1;
         contour_write(touched, before, behind, s, e);
         s = e;
     }

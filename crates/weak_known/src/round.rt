@@ -6,7 +6,6 @@ ghost use Rattle.weak_contour.specs.Steps.{Coordinates, Wrote};
 ghost use Rattle.weak_known.specs.Walks.{contour, Says, TwoOn, CoordinatesOn, GentleOn};
 
 use super::number::TOUCHED_INDEX;
-use weak::accept::wide;
 use weak_contour::iup::iup_interpolate;
 
 // Where the stretch of the point i ends, whose reference behind is q: there, or at the contour's end e.
@@ -39,12 +38,12 @@ pub fn align_round(
     let mut i = s;
     // a while: each step goes on behind a stretch
     while i < e {
-        let p = wide(before[i]);
+        let p = usize::from(before[i]);
         if p == TOUCHED_INDEX {
             i += 1;
             continue;
         }
-        let q = wide(behind[i]);
+        let q = usize::from(behind[i]);
         let to = stretch_end(i, q, e);
         iup_interpolate(originals, currents, i, to, p, q);
         i = to + 1;

@@ -4,7 +4,7 @@ ghost use Rattle.weak_contour.specs.Limits.{most_points};
 ghost use Rattle.weak_known.specs.Known.{same_as};
 ghost use Rattle.weak_known.specs.Walks.{plain_at, fits, fits_at, all_from, weight, weight_at, sum_from};
 
-use super::number::{ONE_OR_NONE, number, number_by, same, shown};
+use super::number::{ONE_OR_NONE, number, number_by, shown};
 
 // Whether the entries from s up to e are v, but of touched points their number.
 pub fn plain_same(touched: &[u8], list: &[u16], s: usize, e: usize, v: u16) -> bool
@@ -14,7 +14,7 @@ pub fn plain_same(touched: &[u8], list: &[u16], s: usize, e: usize, v: u16) -> b
     let mut ok = true;
     for i in s..e {
         let x = number(touched[i], v);
-        let here = same(list[i], x);
+        let here = list[i] == x;
         ok = ok & here;
     }
     ok
@@ -35,8 +35,8 @@ fn pair_same(
 {
     let x = number(mark, shown(before_j, j));
     let y = number_by(before_j, shown(behind_i, i));
-    let front = same(before_i, x);
-    let rear = same(behind_j, y);
+    let front = before_i == x;
+    let rear = behind_j == y;
     front & rear
 }
 
@@ -93,8 +93,8 @@ fn weigh(mark: u8, before: u16, behind: u16) -> u16
     ensures { result ≡ weight mark «before» «behind» }
 {
     let x = number(mark, ONE_OR_NONE);
-    let front = same(before, x);
-    let rear = same(behind, x);
+    let front = before == x;
+    let rear = behind == x;
     if !(front & rear) {
         return 2;
     }

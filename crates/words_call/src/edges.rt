@@ -4,9 +4,8 @@ ghost use Rattle.refusals.specs.Outcome.{answer_of};
 ghost use Rattle.refusals.specs.Refusal.{refusal};
 ghost use Rattle.words_call.specs.Lent.{edges_front};
 
-use super::shown::both;
 use axis::accept::few_edges;
-use refusals::order::Refusal;
+use refusals::order::{Refusal, require};
 use words::edge::EDGE_WORDS;
 use words_shape::element::is_edges;
 
@@ -14,14 +13,7 @@ use words_shape::element::is_edges;
 pub fn edges_refusal(edges: &[i32], others: bool) -> Result<(), Refusal>
     ensures { answer_of result ≡ refusal (edges_front edges.now others) }
 {
-    if edges.len() % EDGE_WORDS != 0 {
-        return Err(Refusal::NotWords);
-    }
-    if !few_edges(edges.len() / EDGE_WORDS) {
-        return Err(Refusal::TooLong);
-    }
-    if both(is_edges(edges), others) {
-        return Ok(());
-    }
-    Err(Refusal::NotWords)
+    require(edges.len() % EDGE_WORDS == 0, Refusal::NotWords)?;
+    require(few_edges(edges.len() / EDGE_WORDS), Refusal::TooLong)?;
+    require(is_edges(edges) && others, Refusal::NotWords)
 }

@@ -2,7 +2,6 @@
 ghost use Rattle.std.specs.Prelude.{◌≡◌};
 ghost use Rattle.words_call.specs.Lent.{named_edge, named_anchor};
 
-use axis::accept::least;
 use axis::limits::MOST_EDGES;
 use words::word::size_of;
 
@@ -13,7 +12,7 @@ pub fn named_edge(word: i32) -> usize
     if word < 0 {
         return MOST_EDGES;
     }
-    least(size_of(word), MOST_EDGES)
+    size_of(word).min(MOST_EDGES)
 }
 
 // None where the word is -1, and else the edge that it names.

@@ -1,6 +1,7 @@
 -- The answer to lent edges that pass the one loop.
 use mathlib.Core.Path.{◌≡◌, refl, sym, ◌∙◌}
-use mathlib.Core.Bool.{Bool, true, ◌&&◌}
+use mathlib.Core.Bool.{Bool, true, false, ◌&&◌}
+use mathlib.Core.Logic.{◌⊎◌, ⊎_elim}
 use mathlib.Core.List.{List}
 use Prim.Native.Nat.{ℕ, ◌%◌}
 use native.Mathlib.Omega.{arith}
@@ -22,7 +23,25 @@ use Rattle.words_call.proofs.Tested.{front-tested}
 use Rattle.words_call.proofs.Whole.{edges_long}
 use Rattle.words_edge_test.specs.Held.{Held, tested}
 
--- a call's own outcome is no refusal where its answer is 0
+-- ---- two tests in one condition
+-- both hold
+pub both-hold : {a b x y : Bool} → a ≡ x → b ≡ y → (a ≡ true) × (b ≡ true) → (x && y) ≡ true
+both-hold p q h = λ i. (sym p ∙ h.0) i && (sym q ∙ h.1) i
+
+-- one does not
+pub one-fails : {a b x y : Bool} → a ≡ x → b ≡ y → ((a ≡ true) × (b ≡ false)) ⊎ (a ≡ false) → (x && y) ≡ false
+one-fails {a} {b} {x} {y} p q h =
+    ⊎_elim (λ (w : (a ≡ true) × (b ≡ false)). λ i. (sym p ∙ w.0) i && (sym q ∙ w.1) i) (λ (w : a ≡ false). λ i. (sym p ∙ w) i && y) h
+
+-- the first decides, or leaves it to the second
+pub second-asked : {a b x y r : Bool} → a ≡ true → r ≡ b → a ≡ x → b ≡ y → r ≡ (x && y)
+second-asked t e p q = e ∙ (λ i. (sym t ∙ p) i && q i)
+
+pub first-fails : {a x r : Bool} (y : Bool) → a ≡ false → r ≡ a → a ≡ x → r ≡ (x && y)
+first-fails y t e p = e ∙ t ∙ (λ i. (sym t ∙ p) i && y)
+
+-- ---- a call's own outcome
+-- it is no refusal where its answer is 0
 pub none-own : (own : Result (Unit {0}) Refusal) → is_ok own ≡ eqb (answer_of own) 0
 none-own (Ok x) = refl
 none-own (Err r) = sym (ne_eqb (number_of r) 0 (λ e. let h = number-above r in omega arith))

@@ -3,7 +3,7 @@ ghost use Rattle.std.specs.Prelude.{◌≡◌};
 ghost use Rattle.axis.specs.Refusals.{every_edge, edge_passes, edges_indices, edges_numbers};
 ghost use Rattle.words_call.specs.Lent.{edges_of};
 
-use axis::accept::{EdgeTest, edge_passes, least};
+use axis::accept::{EdgeTest, edge_passes};
 use axis::limits::MOST_EDGES;
 use words::edge::{EDGE_WORDS, edge_from};
 
@@ -11,7 +11,7 @@ use words::edge::{EDGE_WORDS, edge_from};
 pub fn every_edge(words: &[i32], test: EdgeTest) -> bool
     ensures { result ≡ every_edge (edge_passes test) (edges_of words.now) }
 {
-    let n = least(words.len() / EDGE_WORDS, MOST_EDGES);
+    let n = (words.len() / EDGE_WORDS).min(MOST_EDGES);
     for i in 0..n {
         let edge = edge_from(words, EDGE_WORDS * i);
         if !edge_passes(edge, test) {

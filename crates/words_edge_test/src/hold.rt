@@ -13,7 +13,6 @@ use words::edge::{
 };
 use words::field::choice_of;
 use words::word::read_word;
-use words_call::shown::both;
 use words_shape::element::{
     EDGE_BLUE, EDGE_DIR, EDGE_FIRST, EDGE_FLAGS, EDGE_FPOS, EDGE_LAST, EDGE_MARK,
 };
@@ -70,7 +69,7 @@ fn front_holds(words: &[i32], at: usize) -> bool
     let opos = in_at(words, at + OPOS_PLACE, UNITS);
     let pos = in_at(words, at + POS_PLACE, POS);
     let flags = in_at(words, at + FLAGS_PLACE, EDGE_FLAGS);
-    both(both(fpos, opos), both(pos, flags))
+    fpos && opos && pos && flags
 }
 
 // Whether the other eight are, where link and serif have these values.

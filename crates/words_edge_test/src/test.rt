@@ -8,7 +8,6 @@ use super::exact::{indices_hold, numbers_hold};
 use super::hold::edges_hold;
 use refusals::order::Refusal;
 use words_call::edges::edges_refusal;
-use words_call::shown::both;
 
 // The refusal of edges in front of a call and by its tests: the first that fails, in its order.
 fn exact_refusal(
@@ -22,10 +21,10 @@ fn exact_refusal(
 {
     edges_refusal(words, others)?;
     own?;
-    if !both(indices_hold(words), named) {
+    if !(indices_hold(words) && named) {
         return Err(Refusal::BadIndex);
     }
-    if both(numbers_hold(words), passed) {
+    if numbers_hold(words) && passed {
         return Ok(());
     }
     Err(Refusal::OutOfRange)
@@ -42,8 +41,7 @@ pub fn edges_test(
 ) -> Result<(), Refusal>
     ensures { (answer_of result) ≡ refused_or (edges_front words.now others) (tested (edges_of words.now) (answer_of own) named passed) }
 {
-    let rest = both(both(others, own.is_ok()), both(named, passed));
-    if both(rest, edges_hold(words)) {
+    if others && own.is_ok() && named && passed && edges_hold(words) {
         return Ok(());
     }
     exact_refusal(words, others, own, named, passed)

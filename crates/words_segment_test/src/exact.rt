@@ -5,7 +5,7 @@ ghost use Rattle.words.specs.Segment.{flat_segments};
 ghost use Rattle.words_segment_test.specs.Held.{indices_hold};
 
 use super::read::segment_from;
-use axis::accept::{SegmentTest, least, segment_passes};
+use axis::accept::{SegmentTest, segment_passes};
 use axis::limits::MOST_SEGMENTS;
 use words::segment::SEGMENT_WORDS;
 
@@ -13,7 +13,7 @@ use words::segment::SEGMENT_WORDS;
 pub fn every_segment(words: &[i32], test: SegmentTest) -> bool
     ensures { result ≡ every_segment (segment_passes test) (flat_segments words.now) }
 {
-    let n = least(words.len() / SEGMENT_WORDS, MOST_SEGMENTS);
+    let n = (words.len() / SEGMENT_WORDS).min(MOST_SEGMENTS);
     for i in 0..n {
         let segment = segment_from(words, SEGMENT_WORDS * i);
         if !segment_passes(segment, test) {

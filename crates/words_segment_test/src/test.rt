@@ -9,7 +9,6 @@ use super::exact::{indexed_hold, numbers_hold};
 use super::hold::segments_hold;
 use refusals::order::Refusal;
 use words_call::segments::segments_refusal;
-use words_call::shown::both;
 
 // The refusal of segments in front of a call and by its tests: the first that fails, in its order.
 fn exact_refusal(
@@ -27,7 +26,7 @@ fn exact_refusal(
     if !indexed_hold(words, nexts) {
         return Err(Refusal::BadIndex);
     }
-    if both(numbers_hold(words), passed) {
+    if numbers_hold(words) && passed {
         return Ok(());
     }
     Err(Refusal::OutOfRange)
@@ -45,8 +44,7 @@ pub fn segments_test(
 ) -> Result<(), Refusal>
     ensures { (answer_of result) ≡ refused_or (segments_front words.now room others) (tested (flat_segments words.now) (answer_of own) nexts passed) }
 {
-    let rest = both(both(room, others), both(own.is_ok(), passed));
-    if both(rest, segments_hold(words, nexts)) {
+    if room && others && own.is_ok() && passed && segments_hold(words, nexts) {
         return Ok(());
     }
     exact_refusal(words, room, others, own, nexts, passed)

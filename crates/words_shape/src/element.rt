@@ -150,9 +150,7 @@ fn skip_record(words: &[i32], at: usize, kind: Record) -> Option<usize>
 fn skip_edge(words: &[i32], at: usize) -> Option<usize>
     ensures { result ≡ edge words.now at }
 {
-    let Some(next) = skip_record(words, at, Record::Edge) else {
-        return None;
-    };
+    let next = skip_record(words, at, Record::Edge)?;
     if word_at(words, at + BLUE_PLACE) == 1 {
         return Some(next);
     }

@@ -10,7 +10,6 @@ ghost use Rattle.words_tables_test.specs.Held.{indices_to, Held};
 
 use words::edge::{EDGE_WORDS, FIRST_PLACE, LAST_PLACE};
 use words::segment::{EDGE_PLACE, SEGMENT_WORDS};
-use words_call::shown::both;
 use words_edge_test::hold::{edges_hold, links_to};
 use words_segment_test::hold::segments_hold;
 use words_shape::field::{Range, in_at};
@@ -49,7 +48,7 @@ fn segments_named(edges: &[i32], count: usize) -> bool
     for i in 0..n {
         let first = in_at(edges, EDGE_WORDS * i + FIRST_PLACE, indices);
         let last = in_at(edges, EDGE_WORDS * i + LAST_PLACE, indices);
-        if !both(first, last) {
+        if !(first && last) {
             return false;
         }
     }

@@ -11,7 +11,6 @@ ghost use Rattle.words_tables_test.specs.Held.{Held};
 
 use refusals::order::Refusal;
 use turn_words::test::index_refusal;
-use words_call::shown::both;
 use words_edge_test::exact as of_edges;
 use words_segment_test::exact as of_segments;
 use words_shape::element::{is_edges, is_segments};
@@ -24,8 +23,7 @@ pub fn tables_shown(segments: &[i32], edges: &[i32], held: bool) -> bool
     if held {
         return true;
     }
-    let shown = is_segments(segments);
-    both(shown, is_edges(edges))
+    is_segments(segments) && is_edges(edges)
 }
 
 // The refusal by lengths and indices, if there is one.

@@ -9,7 +9,7 @@ use stems::kinds::Mode;
 use stems_words::pass::stems_in;
 use words::field::{choice_of, dimension_of, group_of, link_word, rule_of};
 use words::word::count_word;
-use words_call::shown::{are_choices, both, both_in};
+use words_call::shown::{are_choices, both_in};
 use words_edge_test::test::edges_test;
 use words_shape::field::CHOICE;
 use zones_words::pass::where_zoned_in;
@@ -29,10 +29,7 @@ pub fn lend_joined(
     ensures { JoinedLent edges.old dim group stem_adjust top_to_bottom rule standards.now count.old found.old
         (answer_of result) (edges.new, (count.new, found.new)) }
 {
-    let others = both(
-        are_choices(dim, group, stem_adjust),
-        both_in(top_to_bottom, rule, CHOICE),
-    );
+    let others = are_choices(dim, group, stem_adjust) && both_in(top_to_bottom, rule, CHOICE);
     let axis = dimension_of(dim);
     let script = group_of(group);
     let width = rule_of(rule);

@@ -12,7 +12,7 @@ use Rattle.axis.proofs.Tests.{every-none, every_more, every-fails, every-done}
 use Rattle.axis.proofs.accept.every_edge.Goals as goal
 
 pub loop-i-init : goal.loop-i-init
-loop-i-init c = (omega arith, c.least-n.ensures, every-none _)
+loop-i-init c = (omega arith, c.min-n.ensures, every-none _)
 
 pub offset_bounds-axis-i : goal.offset_bounds-axis-i
 offset_bounds-axis-i c = omega arith

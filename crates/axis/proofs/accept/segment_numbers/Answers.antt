@@ -18,9 +18,9 @@ returns-then-is_inside c =
     rw h (c.is_inside-then-is_inside.ensures ∙ ap (inside (pos 0) (pos most_score))
     (is (got w32 o.args.segment.len c.struct_told-then-is_inside-1.given.1.1.1.1.1.1.1.1.0.1)))
 
-pub returns : goal.returns
+pub returns-else-is_inside : goal.returns-else-is_inside
 unfolding segment_numbers
-returns c =
+returns-else-is_inside c =
     let h = tested (inside (pos 0) (pos most_score)) c.args.segment.score _ _ _
     (is (got w32 _ c.struct_told-1.given.1.1.1.1.1.1.1.0.1)) c.is_inside.ensures c.if-is_inside.false in
-    rw h
+    rw h c.if-is_inside.false

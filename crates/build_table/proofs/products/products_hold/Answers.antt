@@ -16,7 +16,7 @@ use Rattle.axis.proofs.Tests.{every-none, every_more, every-fails, every-done}
 use Rattle.build_table.proofs.products.products_hold.Goals as goal
 
 pub loop-i-init : goal.loop-i-init
-loop-i-init c = (omega arith, c.least-n.ensures, every-none _)
+loop-i-init c = (omega arith, c.min-n.ensures, every-none _)
 
 pub offset_bounds-segments-i : goal.offset_bounds-segments-i
 offset_bounds-segments-i c = omega arith

@@ -20,6 +20,8 @@ use Rattle.words_shape.specs.Shape.{is_in, direction}
 use Rattle.words_call.specs.Lent.{choices}
 use Rattle.words_call.proofs.Counting.{count-is}
 use Rattle.build_words.proofs.Lending.{own_tests, TestedBuilding, numbers-hold, building-ready, building-refused, building-full, building-done}
+use Rattle.words_edge_test.proofs.Answers.{second-asked, first-fails}
+use Rattle.build_words.proofs.lend.lend_building.Goals.{then-is_in, else-is_in}
 use Rattle.build_words.proofs.lend.lend_building.Goals as goal
 
 pub returns-in_err-segments_test : goal.returns-in_err-segments_test
@@ -27,14 +29,17 @@ returns-in_err-segments_test c =
     let found : TestedBuilding c.args.segments.now c.args.edges.now c.args.dim c.args.major_dir c.args.group c.args.top_to_bottom c.args.scale c.args.thresholds (answer_of c.from_residual.result) =
     record {
       right = _;
-      others = c.both-others.result;
+      others = c.if-is_in.others;
       own = _;
       products = c.products_hold-products.result;
       right_is = refl;
       others_are =
-          by₂ ◌&&◌ c.both-others.ensures
-          (c.is_in.ensures ∙ ap (is_in direction) (is c.ranges.major_dir))
-          (by₃ choices c.are_choices.ensures (is c.ranges.dim) (is c.ranges.group) (is c.ranges.top_to_bottom));
+          let first = c.is_in.ensures ∙ ap (is_in direction) (is c.ranges.major_dir) in
+          elim c.if-is_in.branch [
+            | then-is_in w ↦ second-asked w.if-is_in.true w.others-is first
+                (by₃ choices w.are_choices-others.ensures (is c.ranges.dim) (is c.ranges.group) (is c.ranges.top_to_bottom))
+            | else-is_in w ↦ first-fails (choices c.args.dim c.args.group c.args.top_to_bottom) w.if-is_in.false w.others-is first
+          ];
       own_is = record {
         refused = c.own_refusal-own.ensures
             ∙ (λ i. refusal (own_tests ((c.choice_of.ensures ∙ ap choice_of (is c.ranges.top_to_bottom)) i) (is c.ranges.scale i) c.args.thresholds));
@@ -54,14 +59,17 @@ rules_of-rules-requires c =
     let found : TestedBuilding c.args.segments.now c.args.edges.now c.args.dim c.args.major_dir c.args.group c.args.top_to_bottom c.args.scale c.args.thresholds 0 =
     record {
       right = _;
-      others = c.both-others.result;
+      others = c.if-is_in.others;
       own = _;
       products = c.products_hold-products.result;
       right_is = refl;
       others_are =
-          by₂ ◌&&◌ c.both-others.ensures
-          (c.is_in.ensures ∙ ap (is_in direction) (is c.ranges.major_dir))
-          (by₃ choices c.are_choices.ensures (is c.ranges.dim) (is c.ranges.group) (is c.ranges.top_to_bottom));
+          let first = c.is_in.ensures ∙ ap (is_in direction) (is c.ranges.major_dir) in
+          elim c.if-is_in.branch [
+            | then-is_in w ↦ second-asked w.if-is_in.true w.others-is first
+                (by₃ choices w.are_choices-others.ensures (is c.ranges.dim) (is c.ranges.group) (is c.ranges.top_to_bottom))
+            | else-is_in w ↦ first-fails (choices c.args.dim c.args.group c.args.top_to_bottom) w.if-is_in.false w.others-is first
+          ];
       own_is = record {
         refused = c.own_refusal-own.ensures
             ∙ (λ i. refusal (own_tests ((c.choice_of.ensures ∙ ap choice_of (is c.ranges.top_to_bottom)) i) (is c.ranges.scale i) c.args.thresholds));
@@ -81,14 +89,17 @@ build_in-joined-requires c =
     let found : TestedBuilding c.args.segments.now c.args.edges.now c.args.dim c.args.major_dir c.args.group c.args.top_to_bottom c.args.scale c.args.thresholds 0 =
     record {
       right = _;
-      others = c.both-others.result;
+      others = c.if-is_in.others;
       own = _;
       products = c.products_hold-products.result;
       right_is = refl;
       others_are =
-          by₂ ◌&&◌ c.both-others.ensures
-          (c.is_in.ensures ∙ ap (is_in direction) (is c.ranges.major_dir))
-          (by₃ choices c.are_choices.ensures (is c.ranges.dim) (is c.ranges.group) (is c.ranges.top_to_bottom));
+          let first = c.is_in.ensures ∙ ap (is_in direction) (is c.ranges.major_dir) in
+          elim c.if-is_in.branch [
+            | then-is_in w ↦ second-asked w.if-is_in.true w.others-is first
+                (by₃ choices w.are_choices-others.ensures (is c.ranges.dim) (is c.ranges.group) (is c.ranges.top_to_bottom))
+            | else-is_in w ↦ first-fails (choices c.args.dim c.args.group c.args.top_to_bottom) w.if-is_in.false w.others-is first
+          ];
       own_is = record {
         refused = c.own_refusal-own.ensures
             ∙ (λ i. refusal (own_tests ((c.choice_of.ensures ∙ ap choice_of (is c.ranges.top_to_bottom)) i) (is c.ranges.scale i) c.args.thresholds));
@@ -115,14 +126,17 @@ returns-then-joined c =
     let found : TestedBuilding c.args.segments.now c.args.edges.now c.args.dim c.args.major_dir c.args.group c.args.top_to_bottom c.args.scale c.args.thresholds 0 =
     record {
       right = _;
-      others = c.both-others.result;
+      others = c.if-is_in.others;
       own = _;
       products = c.products_hold-products.result;
       right_is = refl;
       others_are =
-          by₂ ◌&&◌ c.both-others.ensures
-          (c.is_in.ensures ∙ ap (is_in direction) (is c.ranges.major_dir))
-          (by₃ choices c.are_choices.ensures (is c.ranges.dim) (is c.ranges.group) (is c.ranges.top_to_bottom));
+          let first = c.is_in.ensures ∙ ap (is_in direction) (is c.ranges.major_dir) in
+          elim c.if-is_in.branch [
+            | then-is_in w ↦ second-asked w.if-is_in.true w.others-is first
+                (by₃ choices w.are_choices-others.ensures (is c.ranges.dim) (is c.ranges.group) (is c.ranges.top_to_bottom))
+            | else-is_in w ↦ first-fails (choices c.args.dim c.args.group c.args.top_to_bottom) w.if-is_in.false w.others-is first
+          ];
       own_is = record {
         refused = c.own_refusal-own.ensures
             ∙ (λ i. refusal (own_tests ((c.choice_of.ensures ∙ ap choice_of (is c.ranges.top_to_bottom)) i) (is c.ranges.scale i) c.args.thresholds));
@@ -150,14 +164,17 @@ returns c =
     let found : TestedBuilding c.args.segments.now c.args.edges.now c.args.dim c.args.major_dir c.args.group c.args.top_to_bottom c.args.scale c.args.thresholds 0 =
     record {
       right = _;
-      others = c.both-others.result;
+      others = c.if-is_in.others;
       own = _;
       products = c.products_hold-products.result;
       right_is = refl;
       others_are =
-          by₂ ◌&&◌ c.both-others.ensures
-          (c.is_in.ensures ∙ ap (is_in direction) (is c.ranges.major_dir))
-          (by₃ choices c.are_choices.ensures (is c.ranges.dim) (is c.ranges.group) (is c.ranges.top_to_bottom));
+          let first = c.is_in.ensures ∙ ap (is_in direction) (is c.ranges.major_dir) in
+          elim c.if-is_in.branch [
+            | then-is_in w ↦ second-asked w.if-is_in.true w.others-is first
+                (by₃ choices w.are_choices-others.ensures (is c.ranges.dim) (is c.ranges.group) (is c.ranges.top_to_bottom))
+            | else-is_in w ↦ first-fails (choices c.args.dim c.args.group c.args.top_to_bottom) w.if-is_in.false w.others-is first
+          ];
       own_is = record {
         refused = c.own_refusal-own.ensures
             ∙ (λ i. refusal (own_tests ((c.choice_of.ensures ∙ ap choice_of (is c.ranges.top_to_bottom)) i) (is c.ranges.scale i) c.args.thresholds));

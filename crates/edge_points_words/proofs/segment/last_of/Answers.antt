@@ -19,8 +19,5 @@ read_word-requires c = omega (arith, c.requires.1)
 
 pub returns : goal.returns
 returns c =
-    let y = c in
-    let x = y in
-    let s = x in
-    c.wide.ensures ∙ y.index_of.ensures ∙ ap index_of (is (got w32 x.read_word.result x.read_word.type_inv) ∙ x.read_word.ensures)
-    ∙ last_is s.args.segments.now s.args.i s.requires.0 s.requires.1
+    c.from.ensures ∙ c.index_of.ensures ∙ ap index_of (is (got w32 c.read_word.result c.read_word.type_inv) ∙ c.read_word.ensures)
+    ∙ last_is c.args.segments.now c.args.i c.requires.0 c.requires.1

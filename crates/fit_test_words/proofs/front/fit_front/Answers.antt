@@ -1,11 +1,9 @@
 -- `fit_test_words::front::fit_front` meets its contract.
-use borrow.Author.Tests.{not-true, not-false}
 use mathlib.Core.Path.{◌≡◌, sym, ap, ◌∙◌}
-use mathlib.Core.Bool.{Bool, true, ◌&&◌}
+use mathlib.Core.Bool.{Bool, true, false, ◌&&◌}
 use Prim.Native.Nat.{ℕ, ◌%◌}
 use lib.Dec.{eqb, leb}
 use lib.ListN.{length}
-use Rattle.signed.proofs.By.{by₂}
 use Rattle.refusals.specs.Refusal.{refusal}
 use Rattle.axis.specs.Limits.{most_segments, most_edges}
 use Rattle.words.specs.Edge.{edge_size, edges_in}
@@ -16,8 +14,15 @@ use Rattle.strong.specs.Strong.{list_tests}
 use Rattle.strong.proofs.Told.{told-by}
 use Rattle.fit.specs.Numbers.{number_size, numbers_shown}
 use Rattle.fit.specs.Fit.{told_size, fit_front}
-use borrow.Author.Rules.{rules}
 use Rattle.fit_test_words.proofs.front.fit_front.Goals as goal
+use Rattle.fit_test_words.proofs.front.fit_front.Goals.{then-few_segments, else-few_segments, then-few, else-few, else-tables_shown-via-then-tables_shown+else-numbers_shown, else-tables_shown-via-else-tables_shown}
+
+-- a conjunction is its second where the first holds, and false where it does not
+then-last : (x y : Bool) → x ≡ true → y ≡ (x && y)
+then-last x y h = rw h
+
+then-not : (x y : Bool) → x ≡ false → false ≡ (x && y)
+then-not x y h = rw h
 
 pub returns-then-not-lengths_hold : goal.returns-then-not-lengths_hold
 unfolding fit_front
@@ -34,9 +39,9 @@ returns-then-not-lengths_hold c =
     let a = c.args in (segments_shown a.segments.now && edges_shown a.edges.now) && numbers_shown a.numbers.now in
     not-whole whole short shown (sym c.lengths_hold.ensures ∙ c.if-not-lengths_hold.true)
 
-pub returns-then-not-both : goal.returns-then-not-both
+pub returns-then-not-is_ok : goal.returns-then-not-is_ok
 unfolding fit_front
-returns-then-not-both c =
+returns-then-not-is_ok c =
     let whole : Bool =
     let a = c.args in
     (eqb (length a.segments.now % segment_size) 0 && eqb (length a.edges.now % edge_size) 0)
@@ -48,17 +53,29 @@ returns-then-not-both c =
     let shown : Bool =
     let a = c.args in (segments_shown a.segments.now && edges_shown a.edges.now) && numbers_shown a.numbers.now in
     let are-whole : whole ≡ true = sym c.lengths_hold.ensures ∙ c.if-not-lengths_hold.false in
-    let are-short : c.both.result ≡ short =
-    by₂ ◌&&◌ c.both.ensures (by₂ ◌&&◌ c.both-few.ensures c.few_segments-few.ensures c.few_edges.ensures)
-    (c.is_ok.ensures.value ∙ told-by c.list_refusal-lists.result ∙ ap (λ (k : ℕ). eqb k 0) c.list_refusal-lists.ensures) in
-    not_short whole short shown are-whole (sym are-short ∙ c.if-not-both.true)
+    let few : Bool = leb (segments_in c.args.segments.now) most_segments && leb (edges_in c.args.edges.now) most_edges in
+    let are-few-of : c.if-few_segments.few ≡ few =
+    elim c.if-few_segments.branch [
+      | then-few_segments w ↦ w.few-is ∙ w.few_edges-few.ensures ∙ then-last _ _ (sym c.few_segments.ensures ∙ w.if-few_segments.true)
+      | else-few_segments w ↦ let e = then-not _ (leb (edges_in c.args.edges.now) most_edges) (sym c.few_segments.ensures ∙ w.if-few_segments.false) in cc
+    ] in
+    let are-short : c.if-few.value ≡ short =
+    elim c.if-few.branch [
+      | then-few w ↦
+          w.value-is ∙ w.is_ok.ensures.value ∙ told-by c.list_refusal-lists.result ∙ ap (λ (k : ℕ). eqb k 0) c.list_refusal-lists.ensures
+          ∙ then-last few _ (sym are-few-of ∙ w.if-few.true)
+      | else-few w ↦
+          let a = c.args in
+          let e = then-not few (eqb (refusal (list_tests a.fonts.now a.originals.now a.currents.now a.touched.now a.weak.now)) 0) (sym are-few-of ∙ w.if-few.false) in cc
+    ] in
+    not_short whole short shown are-whole (sym are-short ∙ c.if-not-is_ok.true)
 
-pub tables_shown-shown-requires : goal.tables_shown-shown-requires
-tables_shown-shown-requires c = c.requires
+pub tables_shown-requires : goal.tables_shown-requires
+tables_shown-requires c = c.requires
 
-pub returns-then-both : goal.returns-then-both
+pub returns-then-numbers_shown : goal.returns-then-numbers_shown
 unfolding fit_front
-returns-then-both c =
+returns-then-numbers_shown c =
     let whole : Bool =
     let a = c.args in
     (eqb (length a.segments.now % segment_size) 0 && eqb (length a.edges.now % edge_size) 0)
@@ -70,13 +87,26 @@ returns-then-both c =
     let shown : Bool =
     let a = c.args in (segments_shown a.segments.now && edges_shown a.edges.now) && numbers_shown a.numbers.now in
     let are-whole : whole ≡ true = sym c.lengths_hold.ensures ∙ c.if-not-lengths_hold.false in
-    let are-short : c.both.result ≡ short =
-    by₂ ◌&&◌ c.both.ensures (by₂ ◌&&◌ c.both-few.ensures c.few_segments-few.ensures c.few_edges.ensures)
-    (c.is_ok.ensures.value ∙ told-by c.list_refusal-lists.result ∙ ap (λ (k : ℕ). eqb k 0) c.list_refusal-lists.ensures) in
-    let are-few : short ≡ true = sym are-short ∙ c.if-not-both.false in
-    let are-shown : c.both-2.result ≡ shown =
-    by₂ ◌&&◌ c.both-2.ensures c.tables_shown-shown.ensures c.numbers_shown.ensures in
-    all_shown whole short shown are-whole are-few (sym are-shown ∙ c.if-both.true)
+    let few : Bool = leb (segments_in c.args.segments.now) most_segments && leb (edges_in c.args.edges.now) most_edges in
+    let are-few-of : c.if-few_segments.few ≡ few =
+    elim c.if-few_segments.branch [
+      | then-few_segments w ↦ w.few-is ∙ w.few_edges-few.ensures ∙ then-last _ _ (sym c.few_segments.ensures ∙ w.if-few_segments.true)
+      | else-few_segments w ↦ let e = then-not _ (leb (edges_in c.args.edges.now) most_edges) (sym c.few_segments.ensures ∙ w.if-few_segments.false) in cc
+    ] in
+    let are-short : c.if-few.value ≡ short =
+    elim c.if-few.branch [
+      | then-few w ↦
+          w.value-is ∙ w.is_ok.ensures.value ∙ told-by c.list_refusal-lists.result ∙ ap (λ (k : ℕ). eqb k 0) c.list_refusal-lists.ensures
+          ∙ then-last few _ (sym are-few-of ∙ w.if-few.true)
+      | else-few w ↦
+          let a = c.args in
+          let e = then-not few (eqb (refusal (list_tests a.fonts.now a.originals.now a.currents.now a.touched.now a.weak.now)) 0) (sym are-few-of ∙ w.if-few.false) in cc
+    ] in
+    let are-few : short ≡ true = sym are-short ∙ c.if-not-is_ok.false in
+    let tables : Bool = let a = c.args in segments_shown a.segments.now && edges_shown a.edges.now in
+    let are-shown : shown ≡ true =
+    sym (then-last tables _ (sym c.tables_shown.ensures ∙ c.if-tables_shown.true)) ∙ sym c.numbers_shown.ensures ∙ c.if-numbers_shown.true in
+    all_shown whole short shown are-whole are-few are-shown
 
 pub returns : goal.returns
 unfolding fit_front
@@ -92,10 +122,27 @@ returns c =
     let shown : Bool =
     let a = c.args in (segments_shown a.segments.now && edges_shown a.edges.now) && numbers_shown a.numbers.now in
     let are-whole : whole ≡ true = sym c.lengths_hold.ensures ∙ c.if-not-lengths_hold.false in
-    let are-short : c.both.result ≡ short =
-    by₂ ◌&&◌ c.both.ensures (by₂ ◌&&◌ c.both-few.ensures c.few_segments-few.ensures c.few_edges.ensures)
-    (c.is_ok.ensures.value ∙ told-by c.list_refusal-lists.result ∙ ap (λ (k : ℕ). eqb k 0) c.list_refusal-lists.ensures) in
-    let are-few : short ≡ true = sym are-short ∙ c.if-not-both.false in
-    let are-shown : c.both-2.result ≡ shown =
-    by₂ ◌&&◌ c.both-2.ensures c.tables_shown-shown.ensures c.numbers_shown.ensures in
-    not-shown whole short shown are-whole are-few (sym are-shown ∙ c.if-both.false)
+    let few : Bool = leb (segments_in c.args.segments.now) most_segments && leb (edges_in c.args.edges.now) most_edges in
+    let are-few-of : c.if-few_segments.few ≡ few =
+    elim c.if-few_segments.branch [
+      | then-few_segments w ↦ w.few-is ∙ w.few_edges-few.ensures ∙ then-last _ _ (sym c.few_segments.ensures ∙ w.if-few_segments.true)
+      | else-few_segments w ↦ let e = then-not _ (leb (edges_in c.args.edges.now) most_edges) (sym c.few_segments.ensures ∙ w.if-few_segments.false) in cc
+    ] in
+    let are-short : c.if-few.value ≡ short =
+    elim c.if-few.branch [
+      | then-few w ↦
+          w.value-is ∙ w.is_ok.ensures.value ∙ told-by c.list_refusal-lists.result ∙ ap (λ (k : ℕ). eqb k 0) c.list_refusal-lists.ensures
+          ∙ then-last few _ (sym are-few-of ∙ w.if-few.true)
+      | else-few w ↦
+          let a = c.args in
+          let e = then-not few (eqb (refusal (list_tests a.fonts.now a.originals.now a.currents.now a.touched.now a.weak.now)) 0) (sym are-few-of ∙ w.if-few.false) in cc
+    ] in
+    let are-few : short ≡ true = sym are-short ∙ c.if-not-is_ok.false in
+    let tables : Bool = let a = c.args in segments_shown a.segments.now && edges_shown a.edges.now in
+    let are-not : shown ≡ false =
+    elim c.else-tables_shown.branch [
+      | else-tables_shown-via-then-tables_shown+else-numbers_shown w ↦
+          sym (then-last tables _ (sym c.tables_shown.ensures ∙ w.if-tables_shown.true)) ∙ sym w.numbers_shown.ensures ∙ w.if-numbers_shown.false
+      | else-tables_shown-via-else-tables_shown w ↦ sym (then-not tables (numbers_shown c.args.numbers.now) (sym c.tables_shown.ensures ∙ w.if-tables_shown.false))
+    ] in
+    not-shown whole short shown are-whole are-few are-not

@@ -4,4 +4,4 @@ use Rattle.lowercase_m_list.proofs.table.load.Goals as goal
 
 pub returns : goal.returns
 unfolding copied
-returns c = cc (c.copy_from_slice.ensures.after, c.least-n.ensures, c.empty_table-table.ensures)
+returns c = cc (c.copy_from_slice.ensures.after, c.min-n.ensures, c.empty_table-table.ensures)

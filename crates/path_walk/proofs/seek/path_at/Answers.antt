@@ -15,19 +15,19 @@ loop-end-init c = (c.requires.ends_value, ap (λ p. seek p c.args.k) (path-start
 pub contour_step-sought-requires-clause-within : goal.contour_step-sought-requires-clause-within
 contour_step-sought-requires-clause-within c =
     let end : EndAt c.loop-end.a (length c.args.xs.now) c.args.ends.now c.loop-end.end-index = end-at _ _ _ _ c.loop-end-test.true c.loop-end.invariant.0 in
-    record { some = omega (arith, end.low, c.wide-e.ensures); inside = omega (arith, end.high, c.wide-e.ensures) }
+    record { some = omega (arith, end.low, c.from-e.ensures); inside = omega (arith, end.high, c.from-e.ensures) }
 
 pub returns-in_default : goal.returns-in_default
-returns-in_default c = sym (c.loop-end.invariant.1 ∙ contour-here (points c.args.xs.now c.args.ys.now c.args.marks.now) c.loop-end.a c.args.ends.now c.loop-end.end-index c.loop-end.left c.wide-e.result _
-    c.loop-end-test.true c.wide-e.ensures c.contour_step-sought.ensures _ c.in_default.is)
+returns-in_default c = sym (c.loop-end.invariant.1 ∙ contour-here (points c.args.xs.now c.args.ys.now c.args.marks.now) c.loop-end.a c.args.ends.now c.loop-end.end-index c.loop-end.left c.from-e.result _
+    c.loop-end-test.true c.from-e.ensures c.contour_step-sought.ensures _ c.in_default.is)
 
 pub loop-end-preserved : goal.loop-end-preserved
 loop-end-preserved c =
     let end : EndAt c.loop-end.a (length c.args.xs.now) c.args.ends.now c.loop-end.end-index = end-at _ _ _ _ c.loop-end-test.true c.loop-end.invariant.0 in
     let h = c.loop-end-test.true in (
-      rw c.wide-e.ensures end.rest,
+      rw c.from-e.ensures end.rest,
       c.loop-end.invariant.1
-          ∙ contour-past (points c.args.xs.now c.args.ys.now c.args.marks.now) c.loop-end.a c.args.ends.now c.loop-end.end-index c.loop-end.left c.wide-e.result _ h c.wide-e.ensures
+          ∙ contour-past (points c.args.xs.now c.args.ys.now c.args.marks.now) c.loop-end.a c.args.ends.now c.loop-end.end-index c.loop-end.left c.from-e.result _ h c.from-e.ensures
           c.contour_step-sought.ensures _ c.in-Err.is,
     )
 

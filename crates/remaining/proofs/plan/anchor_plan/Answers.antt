@@ -19,7 +19,7 @@ returns c =
     let r = c in
     let s = r in
     λ i. record {
-      pos = (is (got w64 c.wide.result c.wide.type_inv) ∙ c.wide.ensures ∙ is (got w32 r.pix_round-pos.result r.pix_round-pos.type_inv) ∙ r.pix_round-pos.ensures
+      pos = (is (got w64 c.from.result c.from.type_inv) ∙ c.from.ensures ∙ is (got w32 r.pix_round-pos.result r.pix_round-pos.type_inv) ∙ r.pix_round-pos.ensures
           ∙ ap pix_round (units-read _ s.requires.0.opos)) i;
       mark = Marks.RemainingAnchor;
       way = Ways.Held;

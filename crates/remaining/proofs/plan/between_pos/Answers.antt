@@ -12,13 +12,13 @@ use Rattle.fixed_ratio.specs.Ratio.{mul_div}
 use Rattle.remaining.specs.Plan.{between_pos}
 use Rattle.remaining.proofs.Numbers.{apart-abs, part-most}
 use Rattle.remaining.proofs.plan.between_pos.Goals as goal
-use Rattle.remaining.proofs.plan.between_pos.Goals.{After-fixed_mul_div-part, After-wide-2, Else-after_at-before_at, Start}
+use Rattle.remaining.proofs.plan.between_pos.Goals.{After-fixed_mul_div-part, After-from-2, Else-after_at-before_at, Start}
 
 pub returns-then-after_at-before_at : goal.returns-then-after_at-before_at
 unfolding between_pos
 returns-then-after_at-before_at c =
     let s = c.before.before in
-    is (got w64 c.wide.result c.wide.type_inv) ∙ c.wide.ensures ∙ is s.ranges.before_pos
+    is (got w64 c.from.result c.from.type_inv) ∙ c.from.ensures ∙ is s.ranges.before_pos
     ∙ sym (cond-true (eq_z s.args.after_at s.args.before_at) _ _
     (eq_z-yes s.args.after_at s.args.before_at (sym (is s.ranges.after_at) ∙ ap (to_z w32) c.if-after_at-before_at.true ∙ is s.ranges.before_at)))
 
@@ -53,8 +53,8 @@ part-is c =
     ((is (overflow_sub-after_pos e) ∙ λ j. is f.after_pos j -ℤ is f.before_pos j) i)
     ((is (overflow_sub-after_at e) ∙ λ j. is f.after_at j -ℤ is f.before_at j) i)
 
-start_is : (c : After-wide-2) → to_z w64 (of_z w64 c.wide-2.result) ≡ c.args.before_pos
-start_is c = is (got w64 c.wide-2.result c.wide-2.type_inv) ∙ c.wide-2.ensures ∙ is c.ranges.before_pos
+start_is : (c : After-from-2) → to_z w64 (of_z w64 c.from-2.result) ≡ c.args.before_pos
+start_is c = is (got w64 c.from-2.result c.from-2.type_inv) ∙ c.from-2.ensures ∙ is c.ranges.before_pos
 
 pub overflow_add-result : goal.overflow_add-result
 overflow_add-result c =

@@ -14,7 +14,7 @@ returns c =
     let s = edge in
     λ i. record {
       pos =
-          (is (got w64 c.wide.result c.wide.type_inv) ∙ c.wide.ensures ∙ is (got w32 _ told.struct_told-1.given.1.1.0.1)
+          (is (got w64 c.from.result c.from.type_inv) ∙ c.from.ensures ∙ is (got w32 _ told.struct_told-1.given.1.1.0.1)
           ∙ ap (λ (e : Edge). e.pos) edge.serif_edge-moved.ensures) i;
       mark = Marks.Serif;
       way = s.args.way;

@@ -15,7 +15,7 @@ returns c =
     let s = r in
     let a = s.requires.0 in
     λ i. record {
-      pos = (is (got w64 c.wide.result c.wide.type_inv) ∙ c.wide.ensures ∙ is (got w32 r.spaced_pos-pos.result r.spaced_pos-pos.type_inv) ∙ r.spaced_pos-pos.ensures
+      pos = (is (got w64 c.from.result c.from.type_inv) ∙ c.from.ensures ∙ is (got w32 r.spaced_pos-pos.result r.spaced_pos-pos.type_inv) ∙ r.spaced_pos-pos.ensures
           ∙ λ j. spaced_pos (reach-read _ a.pos j) (units-read _ a.opos j) (units-read _ s.requires.1.opos j)) i;
       mark = Marks.Spaced;
       way = Ways.Held;

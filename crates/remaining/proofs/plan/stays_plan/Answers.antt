@@ -12,7 +12,7 @@ returns c =
     let told = c in
     let s = told in
     λ i. record {
-      pos = (is (got w64 c.wide.result c.wide.type_inv) ∙ c.wide.ensures ∙ is (got w32 s.args.edge.pos told.struct_told-1.given.1.1.0.1)) i;
+      pos = (is (got w64 c.from.result c.from.type_inv) ∙ c.from.ensures ∙ is (got w32 s.args.edge.pos told.struct_told-1.given.1.1.0.1)) i;
       mark = Marks.Nothing;
       way = Ways.Stays;
       next = s.args.past;

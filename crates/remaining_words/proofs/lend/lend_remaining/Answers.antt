@@ -16,18 +16,23 @@ use Rattle.words_call.specs.Lent.{both_in, named_anchor}
 use Rattle.remaining.specs.Remaining.{begun}
 use Rattle.remaining_words.proofs.Lending.{TestedRemaining, remaining-ready, remaining-refused, remaining-beyond, remaining-done}
 use borrow.Author.Rules.{rules}
+use Rattle.words_edge_test.proofs.Answers.{second-asked, first-fails}
+use Rattle.remaining_words.proofs.lend.lend_remaining.Goals.{then-both_in, else-both_in}
 use Rattle.remaining_words.proofs.lend.lend_remaining.Goals as goal
 
 pub returns-in_err-edges_test : goal.returns-in_err-edges_test
 returns-in_err-edges_test c =
     let found : TestedRemaining c.args.edges.now c.args.dim c.args.group c.args.count c.args.anchor c.named_anchor-start.result (answer_of c.from_residual.result) =
     record {
-      others = c.both-others.result;
+      others = c.if-both_in.others;
       named = c.link_holds-named.result;
       start_is = c.named_anchor-start.ensures ∙ ap named_anchor (is c.ranges.anchor);
       others_are =
-          by₂ ◌&&◌ c.both-others.ensures (by₂ (both_in choice) c.both_in.ensures (is c.ranges.dim) (is c.ranges.group))
-          (c.is_in.ensures ∙ ap (is_in index) (is c.ranges.count));
+          let choices = by₂ (both_in choice) c.both_in.ensures (is c.ranges.dim) (is c.ranges.group) in
+          elim c.if-both_in.branch [
+            | then-both_in w ↦ second-asked w.if-both_in.true w.others-is choices (w.is_in-others.ensures ∙ ap (is_in index) (is c.ranges.count))
+            | else-both_in w ↦ first-fails (is_in index c.args.count) w.if-both_in.false w.others-is choices
+          ];
       named_is = c.link_holds-named.ensures;
       answer = exit-answer _ _ c.from_residual.ensures.1 ∙ c.in_err-edges_test.ensures;
     } in
@@ -38,12 +43,15 @@ pub align_copied-past-requires : goal.align_copied-past-requires
 align_copied-past-requires c =
     let found : TestedRemaining c.args.edges.now c.args.dim c.args.group c.args.count c.args.anchor c.named_anchor-start.result 0 =
     record {
-      others = c.both-others.result;
+      others = c.if-both_in.others;
       named = c.link_holds-named.result;
       start_is = c.named_anchor-start.ensures ∙ ap named_anchor (is c.ranges.anchor);
       others_are =
-          by₂ ◌&&◌ c.both-others.ensures (by₂ (both_in choice) c.both_in.ensures (is c.ranges.dim) (is c.ranges.group))
-          (c.is_in.ensures ∙ ap (is_in index) (is c.ranges.count));
+          let choices = by₂ (both_in choice) c.both_in.ensures (is c.ranges.dim) (is c.ranges.group) in
+          elim c.if-both_in.branch [
+            | then-both_in w ↦ second-asked w.if-both_in.true w.others-is choices (w.is_in-others.ensures ∙ ap (is_in index) (is c.ranges.count))
+            | else-both_in w ↦ first-fails (is_in index c.args.count) w.if-both_in.false w.others-is choices
+          ];
       named_is = c.link_holds-named.ensures;
       answer = c.in_ok-edges_test.ensures;
     } in
@@ -54,12 +62,15 @@ pub returns-then-past : goal.returns-then-past
 returns-then-past c =
     let found : TestedRemaining c.args.edges.now c.args.dim c.args.group c.args.count c.args.anchor c.named_anchor-start.result 0 =
     record {
-      others = c.both-others.result;
+      others = c.if-both_in.others;
       named = c.link_holds-named.result;
       start_is = c.named_anchor-start.ensures ∙ ap named_anchor (is c.ranges.anchor);
       others_are =
-          by₂ ◌&&◌ c.both-others.ensures (by₂ (both_in choice) c.both_in.ensures (is c.ranges.dim) (is c.ranges.group))
-          (c.is_in.ensures ∙ ap (is_in index) (is c.ranges.count));
+          let choices = by₂ (both_in choice) c.both_in.ensures (is c.ranges.dim) (is c.ranges.group) in
+          elim c.if-both_in.branch [
+            | then-both_in w ↦ second-asked w.if-both_in.true w.others-is choices (w.is_in-others.ensures ∙ ap (is_in index) (is c.ranges.count))
+            | else-both_in w ↦ first-fails (is_in index c.args.count) w.if-both_in.false w.others-is choices
+          ];
       named_is = c.link_holds-named.ensures;
       answer = c.in_ok-edges_test.ensures;
     } in
@@ -74,12 +85,15 @@ pub returns : goal.returns
 returns c =
     let found : TestedRemaining c.args.edges.now c.args.dim c.args.group c.args.count c.args.anchor c.named_anchor-start.result 0 =
     record {
-      others = c.both-others.result;
+      others = c.if-both_in.others;
       named = c.link_holds-named.result;
       start_is = c.named_anchor-start.ensures ∙ ap named_anchor (is c.ranges.anchor);
       others_are =
-          by₂ ◌&&◌ c.both-others.ensures (by₂ (both_in choice) c.both_in.ensures (is c.ranges.dim) (is c.ranges.group))
-          (c.is_in.ensures ∙ ap (is_in index) (is c.ranges.count));
+          let choices = by₂ (both_in choice) c.both_in.ensures (is c.ranges.dim) (is c.ranges.group) in
+          elim c.if-both_in.branch [
+            | then-both_in w ↦ second-asked w.if-both_in.true w.others-is choices (w.is_in-others.ensures ∙ ap (is_in index) (is c.ranges.count))
+            | else-both_in w ↦ first-fails (is_in index c.args.count) w.if-both_in.false w.others-is choices
+          ];
       named_is = c.link_holds-named.ensures;
       answer = c.in_ok-edges_test.ensures;
     } in

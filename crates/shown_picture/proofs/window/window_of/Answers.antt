@@ -23,19 +23,19 @@ returns-then-ends-eq0 c = bounds-none c.args.magnify (points c.args.xs.now c.arg
 pub overflow_add-count : goal.overflow_add-count
 overflow_add-count c =
     let xs : List ℤ = c.args.xs.now in
-    let inside : c.wide-count.result < length xs = omega (arith, c.wide-count.ensures, last-inside (length xs) c.args.ends.now c.requires.ends_value (omega arith)) in
+    let inside : c.from-count.result < length xs = omega (arith, c.from-count.ensures, last-inside (length xs) c.args.ends.now c.requires.ends_value (omega arith)) in
     record { fits = omega (arith, inside, c.requires.admitted.few) }
 
 pub extremes_of-across-requires : goal.extremes_of-across-requires
 extremes_of-across-requires c =
     let xs : List ℤ = c.args.xs.now in
-    let inside : c.wide-count.result < length xs = omega (arith, c.wide-count.ensures, last-inside (length xs) c.args.ends.now c.requires.ends_value (omega arith)) in
+    let inside : c.from-count.result < length xs = omega (arith, c.from-count.ensures, last-inside (length xs) c.args.ends.now c.requires.ends_value (omega arith)) in
     (omega arith, omega (arith, inside))
 
 pub point_place-leftmost-requires : goal.point_place-leftmost-requires
 point_place-leftmost-requires c =
     let xs : List ℤ = c.args.xs.now in
-    let inside : c.wide-count.result < length xs = omega (arith, c.wide-count.ensures, last-inside (length xs) c.args.ends.now c.requires.ends_value (omega arith)) in
+    let inside : c.from-count.result < length xs = omega (arith, c.from-count.ensures, last-inside (length xs) c.args.ends.now c.requires.ends_value (omega arith)) in
     record {
       in_field = c.requires.in_field;
       i_in_bounds = (omega (arith, inside, c.extremes_of-across.ensures.least_in), c.requires.admitted.ys_length);
@@ -44,7 +44,7 @@ point_place-leftmost-requires c =
 pub point_place-rightmost-requires : goal.point_place-rightmost-requires
 point_place-rightmost-requires c =
     let xs : List ℤ = c.args.xs.now in
-    let inside : c.wide-count.result < length xs = omega (arith, c.wide-count.ensures, last-inside (length xs) c.args.ends.now c.requires.ends_value (omega arith)) in
+    let inside : c.from-count.result < length xs = omega (arith, c.from-count.ensures, last-inside (length xs) c.args.ends.now c.requires.ends_value (omega arith)) in
     record {
       in_field = c.requires.in_field;
       i_in_bounds = (omega (arith, inside, c.extremes_of-across.ensures.largest_in), c.requires.admitted.ys_length);
@@ -53,13 +53,13 @@ point_place-rightmost-requires c =
 pub extremes_of-upward-requires : goal.extremes_of-upward-requires
 extremes_of-upward-requires c =
     let xs : List ℤ = c.args.xs.now in
-    let inside : c.wide-count.result < length xs = omega (arith, c.wide-count.ensures, last-inside (length xs) c.args.ends.now c.requires.ends_value (omega arith)) in
+    let inside : c.from-count.result < length xs = omega (arith, c.from-count.ensures, last-inside (length xs) c.args.ends.now c.requires.ends_value (omega arith)) in
     (omega arith, omega (arith, inside, c.requires.admitted.ys_length))
 
 pub point_place-lowest-requires : goal.point_place-lowest-requires
 point_place-lowest-requires c =
     let xs : List ℤ = c.args.xs.now in
-    let inside : c.wide-count.result < length xs = omega (arith, c.wide-count.ensures, last-inside (length xs) c.args.ends.now c.requires.ends_value (omega arith)) in
+    let inside : c.from-count.result < length xs = omega (arith, c.from-count.ensures, last-inside (length xs) c.args.ends.now c.requires.ends_value (omega arith)) in
     record {
       in_field = c.requires.in_field;
       i_in_bounds = (omega (arith, inside, c.extremes_of-upward.ensures.least_in), c.requires.admitted.ys_length);
@@ -68,7 +68,7 @@ point_place-lowest-requires c =
 pub point_place-highest-requires : goal.point_place-highest-requires
 point_place-highest-requires c =
     let xs : List ℤ = c.args.xs.now in
-    let inside : c.wide-count.result < length xs = omega (arith, c.wide-count.ensures, last-inside (length xs) c.args.ends.now c.requires.ends_value (omega arith)) in
+    let inside : c.from-count.result < length xs = omega (arith, c.from-count.ensures, last-inside (length xs) c.args.ends.now c.requires.ends_value (omega arith)) in
     record {
       in_field = c.requires.in_field;
       i_in_bounds = (omega (arith, inside, c.extremes_of-upward.ensures.largest_in), c.requires.admitted.ys_length);
@@ -96,7 +96,7 @@ pub returns : goal.returns
 returns c =
     let xs : List ℤ = c.args.xs.now in
     let ends : List ℕ = c.args.ends.now in
-    let held : ends_hold 0 (c.wide-count.result + 1) ends ≡ true = last-holds (length xs) ends c.requires.ends_value (omega arith) _ (ap (λ (n : ℕ). n + 1) c.wide-count.ensures) in
+    let held : ends_hold 0 (c.from-count.result + 1) ends ≡ true = last-holds (length xs) ends c.requires.ends_value (omega arith) _ (ap (λ (n : ℕ). n + 1) c.from-count.ensures) in
     let left_is : c.cell_of-left.result ≡ cell_of (halves field_half c.args.magnify c.args.xs.now (Point c.extremes_of-across.result.least)) =
     c.cell_of-left.ensures ∙ ap (λ (z : Halves). cell_of z.x) c.point_place-leftmost.ensures.0 in
     let right_is : c.cell_of-right.result ≡ cell_of (halves field_half c.args.magnify c.args.xs.now (Point c.extremes_of-across.result.largest)) =

@@ -20,6 +20,8 @@ use Rattle.stems_words.proofs.Passes.{passed-few}
 use Rattle.stems_words.proofs.Lending.{TestedStems, and-answer, stems-ready, stems-refused, stems-done}
 use native.Mathlib.Omega.{arith}
 use borrow.Author.Rules.{rules}
+use Rattle.words_edge_test.proofs.Answers.{second-asked, first-fails}
+use Rattle.stems_words.proofs.lend.lend_stems.Goals.{then-are_choices, else-are_choices}
 use Rattle.stems_words.proofs.lend.lend_stems.Goals as goal
 
 pub returns-in_err-edges_test : goal.returns-in_err-edges_test
@@ -29,7 +31,7 @@ returns-in_err-edges_test c =
     c.rule_of-width.result c.named_anchor-start.result (answer_of c.from_residual.result)) = let turned = ap not (c.choice_of.ensures ∙ ap choice_of (is c.ranges.top_to_bottom)) in
     record {
       own = answer_of c.and-own.result;
-      others = c.both-others.result;
+      others = c.if-are_choices.others;
       named = c.link_holds-named.result;
       width_is = c.rule_of-width.ensures ∙ ap rule_of (is c.ranges.rule);
       start_is = c.named_anchor-start.ensures ∙ ap named_anchor (is c.ranges.anchor);
@@ -39,9 +41,12 @@ returns-in_err-edges_test c =
             numbers = refl;
           };
       others_are =
-          by₂ ◌&&◌ c.both-others.ensures
-          (by₃ choices c.are_choices.ensures (is c.ranges.dim) (is c.ranges.group) (is c.ranges.stem_adjust))
-          (by₂ (both_in choice) c.both_in.ensures (is c.ranges.top_to_bottom) (is c.ranges.rule));
+          let first = by₃ choices c.are_choices.ensures (is c.ranges.dim) (is c.ranges.group) (is c.ranges.stem_adjust) in
+          elim c.if-are_choices.branch [
+            | then-are_choices w ↦ second-asked w.if-are_choices.true w.others-is first
+                (by₂ (both_in choice) w.both_in-others.ensures (is c.ranges.top_to_bottom) (is c.ranges.rule))
+            | else-are_choices w ↦ first-fails (both_in choice c.args.top_to_bottom c.args.rule) w.if-are_choices.false w.others-is first
+          ];
       named_is = c.link_holds-named.ensures;
       answer = exit-answer _ _ c.from_residual.ensures.1 ∙ c.in_err-edges_test.ensures;
     } in
@@ -56,7 +61,7 @@ stems_in-passed-requires c =
     c.rule_of-width.result c.named_anchor-start.result 0) = let turned = ap not (c.choice_of.ensures ∙ ap choice_of (is c.ranges.top_to_bottom)) in
     record {
       own = answer_of c.and-own.result;
-      others = c.both-others.result;
+      others = c.if-are_choices.others;
       named = c.link_holds-named.result;
       width_is = c.rule_of-width.ensures ∙ ap rule_of (is c.ranges.rule);
       start_is = c.named_anchor-start.ensures ∙ ap named_anchor (is c.ranges.anchor);
@@ -66,9 +71,12 @@ stems_in-passed-requires c =
             numbers = refl;
           };
       others_are =
-          by₂ ◌&&◌ c.both-others.ensures
-          (by₃ choices c.are_choices.ensures (is c.ranges.dim) (is c.ranges.group) (is c.ranges.stem_adjust))
-          (by₂ (both_in choice) c.both_in.ensures (is c.ranges.top_to_bottom) (is c.ranges.rule));
+          let first = by₃ choices c.are_choices.ensures (is c.ranges.dim) (is c.ranges.group) (is c.ranges.stem_adjust) in
+          elim c.if-are_choices.branch [
+            | then-are_choices w ↦ second-asked w.if-are_choices.true w.others-is first
+                (by₂ (both_in choice) w.both_in-others.ensures (is c.ranges.top_to_bottom) (is c.ranges.rule))
+            | else-are_choices w ↦ first-fails (both_in choice c.args.top_to_bottom c.args.rule) w.if-are_choices.false w.others-is first
+          ];
       named_is = c.link_holds-named.ensures;
       answer = c.in_ok-edges_test.ensures;
     } in
@@ -88,7 +96,7 @@ returns c =
     c.rule_of-width.result c.named_anchor-start.result 0) = let turned = ap not (c.choice_of.ensures ∙ ap choice_of (is c.ranges.top_to_bottom)) in
     record {
       own = answer_of c.and-own.result;
-      others = c.both-others.result;
+      others = c.if-are_choices.others;
       named = c.link_holds-named.result;
       width_is = c.rule_of-width.ensures ∙ ap rule_of (is c.ranges.rule);
       start_is = c.named_anchor-start.ensures ∙ ap named_anchor (is c.ranges.anchor);
@@ -98,9 +106,12 @@ returns c =
             numbers = refl;
           };
       others_are =
-          by₂ ◌&&◌ c.both-others.ensures
-          (by₃ choices c.are_choices.ensures (is c.ranges.dim) (is c.ranges.group) (is c.ranges.stem_adjust))
-          (by₂ (both_in choice) c.both_in.ensures (is c.ranges.top_to_bottom) (is c.ranges.rule));
+          let first = by₃ choices c.are_choices.ensures (is c.ranges.dim) (is c.ranges.group) (is c.ranges.stem_adjust) in
+          elim c.if-are_choices.branch [
+            | then-are_choices w ↦ second-asked w.if-are_choices.true w.others-is first
+                (by₂ (both_in choice) w.both_in-others.ensures (is c.ranges.top_to_bottom) (is c.ranges.rule))
+            | else-are_choices w ↦ first-fails (both_in choice c.args.top_to_bottom c.args.rule) w.if-are_choices.false w.others-is first
+          ];
       named_is = c.link_holds-named.ensures;
       answer = c.in_ok-edges_test.ensures;
     } in

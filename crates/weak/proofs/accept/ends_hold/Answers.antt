@@ -18,7 +18,7 @@ returns-then-count-end c = let a = c.args in
 pub loop-x-preserved : goal.loop-x-preserved
 loop-x-preserved c = let a = c.args in
     let e = c.loop-x.invariant ∙ ends_on c.loop-x.start a.count a.ends.now c.loop-x.x-index (omega arith) (omega arith) (omega arith) in
-    e ∙ ap (λ (x : ℕ). ends_hold (x + 1) a.count (drop (c.loop-x.x-index + 1) a.ends.now)) (sym c.wide-end.ensures)
+    e ∙ ap (λ (x : ℕ). ends_hold (x + 1) a.count (drop (c.loop-x.x-index + 1) a.ends.now)) (sym c.from-end.ensures)
 
 pub returns : goal.returns
 returns c = let a = c.args in

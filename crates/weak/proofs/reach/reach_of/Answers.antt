@@ -8,11 +8,11 @@ use Rattle.weak.proofs.reach.reach_of.Goals as goal
 
 pub loop-x-preserved : goal.loop-x-preserved
 loop-x-preserved c = let x = at c.args.list.now c.loop-x.x-index in
-    let e = is (got w32 x c.lesser-arg-1.given) in
-    let p = is (got w32 c.lesser-least.result c.lesser-least.type_inv) in
-    let q = is (got w32 c.greater-most.result c.greater-most.type_inv) in
-    reached-next _ _ _ _ _ _ c.loop-x.invariant (rw p c.lesser-least.ensures.0) (rw (p, ← e) c.lesser-least.ensures.1)
-    (rw q c.greater-most.ensures.0) (rw (q, ← e) c.greater-most.ensures.1)
+    let e = is (got w32 x c.min-arg-1.given) in
+    let p = is (got w32 c.min-least.result c.min-least.type_inv) in
+    let q = is (got w32 c.max-most.result c.max-most.type_inv) in
+    reached-next _ _ _ _ _ _ c.loop-x.invariant (rw p c.min-least.ensures.self_bound) (rw (p, ← e) c.min-least.ensures.other_bound)
+    (rw q c.max-most.ensures.self_bound) (rw (q, ← e) c.max-most.ensures.other_bound)
 
 pub returns : goal.returns
 returns c = reached-all _ _ _ _ (omega arith) c.loop-x.invariant

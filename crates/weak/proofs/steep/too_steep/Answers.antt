@@ -62,7 +62,7 @@ slice_bounds-contour_steep-count-in-loop-x-2 c =
 pub contour_steep-requires : goal.contour_steep-requires
 contour_steep-requires c =
     let l = c.loop-x in
-    let n = c.wide-end.result + 1 - l.start in
+    let n = c.from-end.result + 1 - l.start in
     record {
       currents_len = (
         part_length c.args.currents.now c.args.originals.now n l.start c.requires.currents_length,
@@ -75,15 +75,15 @@ contour_steep-requires c =
 pub returns-then-contour_steep : goal.returns-then-contour_steep
 returns-then-contour_steep c = let l = c.loop-x in
     let a = c.args in
-    clear-found a.originals.now a.currents.now a.touched.now a.ends.now c.requires.marks_length l.x-index l.start c.wide-end.result
-    c.wide-end.ensures
+    clear-found a.originals.now a.currents.now a.touched.now a.ends.now c.requires.marks_length l.x-index l.start c.from-end.result
+    c.from-end.ensures
     c.loop-x-test.true l.invariant.search l.invariant.ends _ c.contour_steep.ensures c.if-contour_steep.true
 
 pub loop-x-preserved : goal.loop-x-preserved
 loop-x-preserved c = let l = c.loop-x in
     let a = c.args in
-    clear_next a.originals.now a.currents.now a.touched.now a.ends.now c.requires.marks_length l.x-index l.start c.wide-end.result
-    c.wide-end.ensures
+    clear_next a.originals.now a.currents.now a.touched.now a.ends.now c.requires.marks_length l.x-index l.start c.from-end.result
+    c.from-end.ensures
     c.loop-x-test.true l.invariant.search l.invariant.ends _ c.contour_steep.ensures c.if-contour_steep.false l.invariant
 
 pub returns : goal.returns

@@ -63,7 +63,7 @@ slice_bounds-align_contour-count-in-loop-x-2 c =
 pub align_contour-requires : goal.align_contour-requires
 align_contour-requires c =
     let l = c.loop-x in
-    let n = c.wide-end.result + 1 - l.start in
+    let n = c.from-end.result + 1 - l.start in
     record {
       currents_len = (
         part_length l.currents c.args.originals.now n l.start (l.invariant.len ∙ c.requires.accepted.currents_length),
@@ -74,7 +74,7 @@ align_contour-requires c =
         coordinates-part c.args.originals.now n l.start c.requires.accepted.originals,
         λ i. rw l.invariant.rest (coordinates-part c.args.currents.now n l.start c.requires.accepted.currents i),
         rw l.invariant.rest (own-gentle c.args.originals.now c.args.currents.now c.args.touched.now c.args.ends.now
-            c.requires.accepted.marks_length l.x-index l.start c.wide-end.result c.wide-end.ensures c.loop-x-test.true l.invariant.search
+            c.requires.accepted.marks_length l.x-index l.start c.from-end.result c.from-end.ensures c.loop-x-test.true l.invariant.search
             l.invariant.ends c.requires.gentle_all),
       );
     }
@@ -83,8 +83,8 @@ pub loop-x-preserved : goal.loop-x-preserved
 loop-x-preserved c = let l = c.loop-x in
     let a = c.args in
     sofar-next a.originals.now a.currents.now a.touched.now a.ends.now c.requires.accepted.currents_length c.requires.accepted.marks_length l.x-index
-    l.start c.wide-end.result l.currents _
-    c.wide-end.ensures c.loop-x-test.true l.invariant c.align_contour.ensures
+    l.start c.from-end.result l.currents _
+    c.from-end.ensures c.loop-x-test.true l.invariant c.align_contour.ensures
 
 pub shape_of-currents : goal.shape_of-currents
 shape_of-currents c = c.loop-x.invariant.len

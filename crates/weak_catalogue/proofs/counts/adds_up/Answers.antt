@@ -6,13 +6,13 @@ use Rattle.weak_catalogue.proofs.Adding.{total-none, adds-over, adds_on}
 use Rattle.weak_catalogue.proofs.counts.adds_up.Goals as goal
 
 pub returns-then-left-count : goal.returns-then-left-count
-returns-then-left-count c = sym (c.loop-x.invariant ∙ adds-over c.loop-x.left c.args.counts.now c.loop-x.x-index c.wide-count.result (omega arith) c.wide-count.ensures
+returns-then-left-count c = sym (c.loop-x.invariant ∙ adds-over c.loop-x.left c.args.counts.now c.loop-x.x-index c.from-count.result (omega arith) c.from-count.ensures
     (omega arith))
 
 pub loop-x-preserved : goal.loop-x-preserved
 loop-x-preserved c =
-    c.loop-x.invariant ∙ adds_on c.loop-x.left c.args.counts.now c.loop-x.x-index c.wide-count.result (omega arith)
-    c.wide-count.ensures (omega arith)
+    c.loop-x.invariant ∙ adds_on c.loop-x.left c.args.counts.now c.loop-x.x-index c.from-count.result (omega arith)
+    c.from-count.ensures (omega arith)
 
 pub returns : goal.returns
 returns c = sym (c.loop-x.invariant ∙ ap (eqb c.loop-x.left) (total-none c.args.counts.now c.loop-x.x-index (omega arith)))

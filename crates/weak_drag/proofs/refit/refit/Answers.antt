@@ -24,8 +24,8 @@ overflow_add-end c =
     let t : List ℕ = c.args.touched.now in
     let es : List ℕ = c.args.ends.now in
     let more : c.loop-x.x-index < length es = c.loop-x-test.true in
-    let end_is : c.wide-end.result + 1 ≡ get_or es c.loop-x.x-index 0 + 1 = ap (λ (x : ℕ). x + 1) c.wide-end.ensures in
-    let high : c.wide-end.result + 1 ≤ length t = turn-high t es c.loop-x.start c.loop-x.x-index (c.wide-end.result + 1) more end_is c.loop-x.invariant.1 in
+    let end_is : c.from-end.result + 1 ≡ get_or es c.loop-x.x-index 0 + 1 = ap (λ (x : ℕ). x + 1) c.from-end.ensures in
+    let high : c.from-end.result + 1 ≤ length t = turn-high t es c.loop-x.start c.loop-x.x-index (c.from-end.result + 1) more end_is c.loop-x.invariant.1 in
     omega (arith, high, c.requires.accepted.points, c.requires.accepted.marks_length)
 
 pub refit_contour-requires : goal.refit_contour-requires
@@ -33,10 +33,10 @@ refit_contour-requires c =
     let t : List ℕ = c.args.touched.now in
     let es : List ℕ = c.args.ends.now in
     let more : c.loop-x.x-index < length es = c.loop-x-test.true in
-    let end_is : c.wide-end.result + 1 ≡ get_or es c.loop-x.x-index 0 + 1 = ap (λ (x : ℕ). x + 1) c.wide-end.ensures in
-    let high : c.wide-end.result + 1 ≤ length t = turn-high t es c.loop-x.start c.loop-x.x-index (c.wide-end.result + 1) more end_is c.loop-x.invariant.1 in
-    let on : (i : ℕ) → c.loop-x.start ≤ i → i < c.wide-end.result + 1 → contour_of 0 es i ≡ some (contour c.loop-x.start (c.wide-end.result + 1)) = on-contour t es c.loop-x.start c.loop-x.x-index (c.wide-end.result + 1) more end_is c.loop-x.invariant.1 in
-    let gentle : GentleOn c.args.originals.now c.args.currents.now t c.loop-x.start (c.wide-end.result + 1) = gentle-here c.args.originals.now c.args.currents.now t es c.loop-x.start (c.wide-end.result + 1) c.requires.gentle_all
+    let end_is : c.from-end.result + 1 ≡ get_or es c.loop-x.x-index 0 + 1 = ap (λ (x : ℕ). x + 1) c.from-end.ensures in
+    let high : c.from-end.result + 1 ≤ length t = turn-high t es c.loop-x.start c.loop-x.x-index (c.from-end.result + 1) more end_is c.loop-x.invariant.1 in
+    let on : (i : ℕ) → c.loop-x.start ≤ i → i < c.from-end.result + 1 → contour_of 0 es i ≡ some (contour c.loop-x.start (c.from-end.result + 1)) = on-contour t es c.loop-x.start c.loop-x.x-index (c.from-end.result + 1) more end_is c.loop-x.invariant.1 in
+    let gentle : GentleOn c.args.originals.now c.args.currents.now t c.loop-x.start (c.from-end.result + 1) = gentle-here c.args.originals.now c.args.currents.now t es c.loop-x.start (c.from-end.result + 1) c.requires.gentle_all
     (omega (arith, high, c.requires.accepted.marks_length)) on in
     let a = c.requires.accepted in
     let v = c.loop-x in
@@ -47,7 +47,7 @@ refit_contour-requires c =
       coordinates = (
         a.originals,
         subst Coordinates (sym e) a.currents,
-        subst (λ (x : List ℤ). GentleOn c.args.originals.now x t v.start (c.wide-end.result + 1)) (sym e) gentle,
+        subst (λ (x : List ℤ). GentleOn c.args.originals.now x t v.start (c.from-end.result + 1)) (sym e) gentle,
       );
     }
 
@@ -59,22 +59,22 @@ returns-then-p-end c =
     let t : List ℕ = c.args.touched.now in
     let es : List ℕ = c.args.ends.now in
     let more : c.loop-x.x-index < length es = c.loop-x-test.true in
-    let end_is : c.wide-end.result + 1 ≡ get_or es c.loop-x.x-index 0 + 1 = ap (λ (x : ℕ). x + 1) c.wide-end.ensures in
-    let on : (i : ℕ) → c.loop-x.start ≤ i → i < c.wide-end.result + 1 → contour_of 0 es i ≡ some (contour c.loop-x.start (c.wide-end.result + 1)) = on-contour t es c.loop-x.start c.loop-x.x-index (c.wide-end.result + 1) more end_is c.loop-x.invariant.1 in
+    let end_is : c.from-end.result + 1 ≡ get_or es c.loop-x.x-index 0 + 1 = ap (λ (x : ℕ). x + 1) c.from-end.ensures in
+    let on : (i : ℕ) → c.loop-x.start ≤ i → i < c.from-end.result + 1 → contour_of 0 es i ≡ some (contour c.loop-x.start (c.from-end.result + 1)) = on-contour t es c.loop-x.start c.loop-x.x-index (c.from-end.result + 1) more end_is c.loop-x.invariant.1 in
     let v = c.loop-x in
     done-contour t es (length c.args.originals.now) c.args.p c.requires.accepted.ends c.args.originals.now c.args.currents.now v.start
-    (c.wide-end.result + 1)
+    (c.from-end.result + 1)
     (on c.args.p v.invariant.2 c.if-p-end.true) _
-    (refitted-as c.args.originals.now c.args.currents.now v.currents t v.start (c.wide-end.result + 1) c.args.p _ v.invariant.0
+    (refitted-as c.args.originals.now c.args.currents.now v.currents t v.start (c.from-end.result + 1) c.args.p _ v.invariant.0
     c.refit_contour.ensures)
 
 pub loop-x-preserved : goal.loop-x-preserved
 loop-x-preserved c =
     let es : List ℕ = c.args.ends.now in
     let more : c.loop-x.x-index < length es = c.loop-x-test.true in
-    let end_is : c.wide-end.result + 1 ≡ get_or es c.loop-x.x-index 0 + 1 = ap (λ (x : ℕ). x + 1) c.wide-end.ensures in
+    let end_is : c.from-end.result + 1 ≡ get_or es c.loop-x.x-index 0 + 1 = ap (λ (x : ℕ). x + 1) c.from-end.ensures in
     let v = c.loop-x in
-    (v.invariant.0, passed-next c.args.touched.now es v.start v.x-index (c.wide-end.result + 1) more end_is v.invariant.1, omega (arith, c.if-p-end.false))
+    (v.invariant.0, passed-next c.args.touched.now es v.start v.x-index (c.from-end.result + 1) more end_is v.invariant.1, omega (arith, c.if-p-end.false))
 
 pub shape_of-currents : goal.shape_of-currents
 shape_of-currents c = ap length c.loop-x.invariant.0

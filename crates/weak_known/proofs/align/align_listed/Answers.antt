@@ -25,12 +25,12 @@ align_round-requires c =
     let r = end-at _ _ _ _ c.loop-x-test.true c.loop-x.invariant.ends in
     let l = c.loop-x in
     let a = c.args in
-    let said : Says a.touched.now a.before.now a.behind.now l.start (c.wide-end.result + 1) =
-    says a.originals.now a.currents.now a.touched.now a.ends.now l.x-index l.start c.wide-end.result l.currents c.wide-end.ensures
+    let said : Says a.touched.now a.before.now a.behind.now l.start (c.from-end.result + 1) =
+    says a.originals.now a.currents.now a.touched.now a.ends.now l.x-index l.start c.from-end.result l.currents c.from-end.ensures
     c.loop-x-test.true l.invariant a.before.now a.behind.now c.requires.accepted.marks_length c.requires.before_len.2 in
-    let accepted : CoordinatesOn l.currents l.start (c.wide-end.result + 1) =
-    coordinates-on a.originals.now a.currents.now a.touched.now a.ends.now l.x-index l.start c.wide-end.result l.currents
-    c.wide-end.ensures c.loop-x-test.true l.invariant c.requires.accepted.currents in
+    let accepted : CoordinatesOn l.currents l.start (c.from-end.result + 1) =
+    coordinates-on a.originals.now a.currents.now a.touched.now a.ends.now l.x-index l.start c.from-end.result l.currents
+    c.from-end.ensures c.loop-x-test.true l.invariant c.requires.accepted.currents in
     record {
       currents_len = (
         l.invariant.len ∙ c.requires.accepted.currents_length,
@@ -40,10 +40,10 @@ align_round-requires c =
       );
       s_le_e = (omega arith, omega arith, omega arith);
       coordinates = (c.requires.accepted.originals, accepted);
-      gentle_on = gentle-on a.originals.now a.currents.now a.touched.now a.ends.now l.x-index l.start c.wide-end.result l.currents
-          c.wide-end.ensures c.loop-x-test.true l.invariant c.requires.gentle_all;
+      gentle_on = gentle-on a.originals.now a.currents.now a.touched.now a.ends.now l.x-index l.start c.from-end.result l.currents
+          c.from-end.ensures c.loop-x-test.true l.invariant c.requires.gentle_all;
       two_on = (
-        shown-two a.touched.now l.start (c.wide-end.result + 1) (omega arith) (omega arith) a.before.now a.behind.now
+        shown-two a.touched.now l.start (c.from-end.result + 1) (omega arith) (omega arith) a.before.now a.behind.now
             (sym c.show_two.ensures ∙ c.if-show_two.true) said,
         said,
       );
@@ -54,18 +54,18 @@ align_lone-requires c =
     let r = end-at _ _ _ _ c.loop-x-test.true c.loop-x.invariant.ends in
     let l = c.loop-x in
     let a = c.args in
-    let said : Says a.touched.now a.before.now a.behind.now l.start (c.wide-end.result + 1) =
-    says a.originals.now a.currents.now a.touched.now a.ends.now l.x-index l.start c.wide-end.result l.currents c.wide-end.ensures
+    let said : Says a.touched.now a.before.now a.behind.now l.start (c.from-end.result + 1) =
+    says a.originals.now a.currents.now a.touched.now a.ends.now l.x-index l.start c.from-end.result l.currents c.from-end.ensures
     c.loop-x-test.true l.invariant a.before.now a.behind.now c.requires.accepted.marks_length c.requires.before_len.2 in
-    let accepted : CoordinatesOn l.currents l.start (c.wide-end.result + 1) =
-    coordinates-on a.originals.now a.currents.now a.touched.now a.ends.now l.x-index l.start c.wide-end.result l.currents
-    c.wide-end.ensures c.loop-x-test.true l.invariant c.requires.accepted.currents in
+    let accepted : CoordinatesOn l.currents l.start (c.from-end.result + 1) =
+    coordinates-on a.originals.now a.currents.now a.touched.now a.ends.now l.x-index l.start c.from-end.result l.currents
+    c.from-end.ensures c.loop-x-test.true l.invariant c.requires.accepted.currents in
     record {
       currents_len = (l.invariant.len ∙ c.requires.accepted.currents_length, c.requires.accepted.marks_length, omega arith, omega arith);
       coordinates = (
         c.requires.accepted.originals,
         accepted,
-        shown-lone a.touched.now l.start (c.wide-end.result + 1) (omega arith) (omega arith) a.before.now a.behind.now
+        shown-lone a.touched.now l.start (c.from-end.result + 1) (omega arith) (omega arith) a.before.now a.behind.now
             (sym c.show_two.ensures ∙ c.if-show_two.false) said,
       );
     }
@@ -76,10 +76,10 @@ loop-x-preserved c =
     let a = c.args in
     elim c.if-show_two.branch [
       | then-show_two w ↦ rw (w.currents-is, w.start-is)
-          (sofar-round a.originals.now a.currents.now a.touched.now a.ends.now l.x-index l.start c.wide-end.result l.currents c.wide-end.ensures
+          (sofar-round a.originals.now a.currents.now a.touched.now a.ends.now l.x-index l.start c.from-end.result l.currents c.from-end.ensures
           c.loop-x-test.true l.invariant _ c.requires.accepted.currents_length w.align_round.ensures)
       | else-show_two w ↦ rw (w.currents-is, w.start-is)
-          (sofar-round a.originals.now a.currents.now a.touched.now a.ends.now l.x-index l.start c.wide-end.result l.currents c.wide-end.ensures
+          (sofar-round a.originals.now a.currents.now a.touched.now a.ends.now l.x-index l.start c.from-end.result l.currents c.from-end.ensures
           c.loop-x-test.true l.invariant _ c.requires.accepted.currents_length w.align_lone.ensures)
     ]
 

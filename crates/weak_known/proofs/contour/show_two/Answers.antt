@@ -7,17 +7,17 @@ use Rattle.weak_known.proofs.contour.show_two.Goals as goal
 
 pub returns-then-first-s : goal.returns-then-first-s
 returns-then-first-s c =
-    let first_is : c.wide-first.result ≡ first_shown c.args.behind.now c.args.s = c.wide-first.ensures ∙ c.shown.ensures in
+    let first_is : c.from-first.result ≡ first_shown c.args.behind.now c.args.s = c.from-first.ensures ∙ c.shown.ensures in
     two-low _ _ _ _ _ first_is c.if-first-s.true
 
 pub returns-then-last-first : goal.returns-then-last-first
 returns-then-last-first c =
-    let first_is : c.wide-first.result ≡ first_shown c.args.behind.now c.args.s = c.wide-first.ensures ∙ c.shown.ensures in
-    let last_is : c.wide-last.result ≡ last_shown c.args.before.now c.args.e = c.wide-last.ensures ∙ c.shown-2.ensures in
+    let first_is : c.from-first.result ≡ first_shown c.args.behind.now c.args.s = c.from-first.ensures ∙ c.shown.ensures in
+    let last_is : c.from-last.result ≡ last_shown c.args.before.now c.args.e = c.from-last.ensures ∙ c.shown-2.ensures in
     two-same _ _ _ _ _ _ first_is last_is (omega (arith, c.if-first-s.false)) c.if-last-first.true
 
 pub returns : goal.returns
 returns c =
-    let first_is : c.wide-first.result ≡ first_shown c.args.behind.now c.args.s = c.wide-first.ensures ∙ c.shown.ensures in
-    let last_is : c.wide-last.result ≡ last_shown c.args.before.now c.args.e = c.wide-last.ensures ∙ c.shown-2.ensures in
+    let first_is : c.from-first.result ≡ first_shown c.args.behind.now c.args.s = c.from-first.ensures ∙ c.shown.ensures in
+    let last_is : c.from-last.result ≡ last_shown c.args.before.now c.args.e = c.from-last.ensures ∙ c.shown-2.ensures in
     two-rest _ _ _ _ _ _ first_is last_is (omega (arith, c.if-first-s.false)) (omega (arith, c.if-last-first.false))

@@ -15,5 +15,5 @@ returns-then-word-lt0 c = names-none c.args.word (omega (arith, signed))
 pub returns : goal.returns
 returns c =
     let s = c in
-    c.least.ensures ∙ ap (λ (n : ℕ). min n most_edges) (c.size_of.ensures ∙ ap up (is s.ranges.word))
+    c.min.ensures ∙ ap (λ (n : ℕ). min n most_edges) (c.size_of.ensures ∙ ap up (is s.ranges.word))
     ∙ names-one s.args.word (omega (arith, signed))

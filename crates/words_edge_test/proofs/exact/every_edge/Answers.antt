@@ -15,7 +15,7 @@ use Rattle.words_edge_test.proofs.Refusals.{edge-tested}
 use Rattle.words_edge_test.proofs.exact.every_edge.Goals as goal
 
 pub loop-i-init : goal.loop-i-init
-loop-i-init c = (omega arith, c.least-n.ensures, every-none _)
+loop-i-init c = (omega arith, c.min-n.ensures, every-none _)
 
 pub overflow_mul-i : goal.overflow_mul-i
 overflow_mul-i c = omega arith

@@ -14,7 +14,7 @@ use Rattle.words_segment_test.proofs.Refusals.{segment-tested}
 use Rattle.words_segment_test.proofs.exact.every_segment.Goals as goal
 
 pub loop-i-init : goal.loop-i-init
-loop-i-init c = (omega arith, c.least-n.ensures, every-none _)
+loop-i-init c = (omega arith, c.min-n.ensures, every-none _)
 
 pub overflow_mul-i : goal.overflow_mul-i
 overflow_mul-i c = omega arith

@@ -1,14 +1,11 @@
 -- `words_segment_test::test::exact_refusal` meets its contract.
-use mathlib.Core.Path.{◌≡◌, sym, ap, ◌∙◌}
-use mathlib.Core.Bool.{Bool, ◌&&◌}
+use mathlib.Core.Path.{refl, sym, ap, ◌∙◌}
 use native.Mathlib.Omega.{arith}
-use Rattle.axis.specs.Refusals.{segments_numbers}
 use Rattle.refusals.specs.Outcome.{answer_of}
 use Rattle.refusals.proofs.Outcomes.{exit-answer, number-above}
-use Rattle.words.specs.Segment.{flat_segments}
 use Rattle.words_call.proofs.Lents.{refused-first, passed_first}
 use Rattle.words_call.proofs.Tested.{tested-own, tested-index, tested-range, tested-none}
-use borrow.Author.Rules.{rules}
+use Rattle.words_edge_test.proofs.Answers.{both-hold, one-fails}
 use Rattle.words_segment_test.proofs.test.exact_refusal.Goals as goal
 
 pub returns-in_err-segments_refusal : goal.returns-in_err-segments_refusal
@@ -26,16 +23,16 @@ returns-then-not-indexed_hold c =
     passed_first _ c.in_ok-segments_refusal.ensures (omega arith)
     (tested-index (answer_of c.args.own) _ _ (omega (arith, own)) (sym c.indexed_hold.ensures ∙ c.if-not-indexed_hold.true))
 
-pub returns-then-both : goal.returns-then-both
-returns-then-both c =
+pub returns-then-passed : goal.returns-then-passed
+returns-then-passed c =
     let own = ap answer_of c.in_ok-own.was in
-    let numbers : c.both.result ≡ (segments_numbers (flat_segments c.args.words.now) && c.args.passed) = c.both.ensures ∙ ap (λ (t : Bool). t && c.args.passed) c.numbers_hold.ensures in
     passed_first _ c.in_ok-segments_refusal.ensures (omega arith)
-    (tested-none (answer_of c.args.own) _ _ (omega (arith, own)) (sym c.indexed_hold.ensures ∙ c.if-not-indexed_hold.false) (sym numbers ∙ c.if-both.true))
+    (tested-none (answer_of c.args.own) _ _ (omega (arith, own)) (sym c.indexed_hold.ensures ∙ c.if-not-indexed_hold.false)
+    (both-hold c.numbers_hold.ensures refl (c.if-numbers_hold.true, c.if-passed.true)))
 
 pub returns : goal.returns
 returns c =
     let own = ap answer_of c.in_ok-own.was in
-    let numbers : c.both.result ≡ (segments_numbers (flat_segments c.args.words.now) && c.args.passed) = c.both.ensures ∙ ap (λ (t : Bool). t && c.args.passed) c.numbers_hold.ensures in
     passed_first _ c.in_ok-segments_refusal.ensures (omega arith)
-    (tested-range (answer_of c.args.own) _ _ (omega (arith, own)) (sym c.indexed_hold.ensures ∙ c.if-not-indexed_hold.false) (sym numbers ∙ c.if-both.false))
+    (tested-range (answer_of c.args.own) _ _ (omega (arith, own)) (sym c.indexed_hold.ensures ∙ c.if-not-indexed_hold.false)
+    (one-fails c.numbers_hold.ensures refl c.else-numbers_hold.either))

@@ -2,7 +2,7 @@
 use borrow.Author.Rules.{rules}
 use borrow.Author.Tests.{not-false}
 use native.Mathlib.Omega.{arith}
-use mathlib.Core.Path.{◌≡◌, sym}
+use mathlib.Core.Path.{◌≡◌, refl, sym}
 use mathlib.Core.Bool.{true}
 use Prim.Native.Nat.{ℕ, ◌-◌, ◌≤◌}
 use Rattle.axis.specs.Refusals.{every, edge_segments}
@@ -14,6 +14,7 @@ use Rattle.words_call.specs.Lent.{edges_of}
 use Rattle.words_call.proofs.Holding.{clash}
 use Rattle.words_edge.proofs.Wholes.{edges-len}
 use Rattle.words_tables_test.specs.Held.{indices_to}
+use Rattle.words_edge_test.proofs.Answers.{both-hold}
 use Rattle.words_tables_test.proofs.Tables.{ends_named}
 use Rattle.words_tables_test.proofs.hold.segments_named.Goals as goal
 
@@ -35,8 +36,8 @@ overflow_mul-i-in-loop-i c = omega (arith, c.requires.0.few)
 pub in_at-last-requires : goal.in_at-last-requires
 in_at-last-requires c = omega (arith, c.loop-i-test.true)
 
-pub returns-then-not-both : goal.returns-then-not-both
-returns-then-not-both c = λ h. absurd (clash h)
+pub returns-then-not-last : goal.returns-then-not-last
+returns-then-not-last c = λ h. absurd (clash h)
 
 pub overflow_add-i : goal.overflow_add-i
 overflow_add-i c = omega arith
@@ -56,7 +57,7 @@ loop-i-preserved c =
       v.1,
       every_more _ _ v.2
           (ends_named s.args.edges.now l.loop-i.i s.requires.0 (omega arith) _ s.requires.1 v.1 j.in_at-first.ensures k.in_at-last.ensures
-          t.both.ensures (c.if-not-both.false)),
+          refl (both-hold refl refl c.if-not-last.false)),
     )
 
 pub returns : goal.returns

@@ -22,6 +22,8 @@ use Rattle.stems_words.proofs.Lending.{and-answer}
 use Rattle.zones_stems_words.proofs.Lending.{TestedJoined, blues-ready, stems-ready, joined-refused, joined-done}
 use native.Mathlib.Omega.{arith}
 use borrow.Author.Rules.{rules}
+use Rattle.words_edge_test.proofs.Answers.{second-asked, first-fails}
+use Rattle.zones_stems_words.proofs.lend.lend_joined.Goals.{then-are_choices, else-are_choices}
 use Rattle.zones_stems_words.proofs.lend.lend_joined.Goals as goal
 
 pub returns-in_err-edges_test : goal.returns-in_err-edges_test
@@ -32,7 +34,7 @@ returns-in_err-edges_test c =
     let ruled = and-answer _ c.require.result (record { refused = then-last none-tested c.require-order.ensures turned; numbers = refl }) c.require.ensures c.rule_holds.ensures c.and-right.ensures in
     record {
       own = answer_of c.and-own.result;
-      others = c.both-others.result;
+      others = c.if-are_choices.others;
       dim_is = c.dimension_of-axis.ensures ∙ ap dimension_of (is c.ranges.dim);
       group_is = c.group_of-script.ensures ∙ ap group_of (is c.ranges.group);
       width_is = c.rule_of-width.ensures ∙ ap rule_of (is c.ranges.rule);
@@ -42,9 +44,12 @@ returns-in_err-edges_test c =
             numbers = refl;
           };
       others_are =
-          by₂ ◌&&◌ c.both-others.ensures
-          (by₃ choices c.are_choices.ensures (is c.ranges.dim) (is c.ranges.group) (is c.ranges.stem_adjust))
-          (by₂ (both_in choice) c.both_in.ensures (is c.ranges.top_to_bottom) (is c.ranges.rule));
+          let first = by₃ choices c.are_choices.ensures (is c.ranges.dim) (is c.ranges.group) (is c.ranges.stem_adjust) in
+          elim c.if-are_choices.branch [
+            | then-are_choices w ↦ second-asked w.if-are_choices.true w.others-is first
+                (by₂ (both_in choice) w.both_in-others.ensures (is c.ranges.top_to_bottom) (is c.ranges.rule))
+            | else-are_choices w ↦ first-fails (both_in choice c.args.top_to_bottom c.args.rule) w.if-are_choices.false w.others-is first
+          ];
       answer = exit-answer _ _ c.from_residual.ensures.1 ∙ c.in_err-edges_test.ensures;
     } in
     let a = c.args in
@@ -59,7 +64,7 @@ where_zoned_in-start-requires c =
     let ruled = and-answer _ c.require.result (record { refused = then-last none-tested c.require-order.ensures turned; numbers = refl }) c.require.ensures c.rule_holds.ensures c.and-right.ensures in
     record {
       own = answer_of c.and-own.result;
-      others = c.both-others.result;
+      others = c.if-are_choices.others;
       dim_is = c.dimension_of-axis.ensures ∙ ap dimension_of (is c.ranges.dim);
       group_is = c.group_of-script.ensures ∙ ap group_of (is c.ranges.group);
       width_is = c.rule_of-width.ensures ∙ ap rule_of (is c.ranges.rule);
@@ -69,9 +74,12 @@ where_zoned_in-start-requires c =
             numbers = refl;
           };
       others_are =
-          by₂ ◌&&◌ c.both-others.ensures
-          (by₃ choices c.are_choices.ensures (is c.ranges.dim) (is c.ranges.group) (is c.ranges.stem_adjust))
-          (by₂ (both_in choice) c.both_in.ensures (is c.ranges.top_to_bottom) (is c.ranges.rule));
+          let first = by₃ choices c.are_choices.ensures (is c.ranges.dim) (is c.ranges.group) (is c.ranges.stem_adjust) in
+          elim c.if-are_choices.branch [
+            | then-are_choices w ↦ second-asked w.if-are_choices.true w.others-is first
+                (by₂ (both_in choice) w.both_in-others.ensures (is c.ranges.top_to_bottom) (is c.ranges.rule))
+            | else-are_choices w ↦ first-fails (both_in choice c.args.top_to_bottom c.args.rule) w.if-are_choices.false w.others-is first
+          ];
       answer = c.in_ok-edges_test.ensures;
     } in
     let a = c.args in
@@ -86,7 +94,7 @@ stems_in-passed-requires c =
     let ruled = and-answer _ c.require.result (record { refused = then-last none-tested c.require-order.ensures turned; numbers = refl }) c.require.ensures c.rule_holds.ensures c.and-right.ensures in
     record {
       own = answer_of c.and-own.result;
-      others = c.both-others.result;
+      others = c.if-are_choices.others;
       dim_is = c.dimension_of-axis.ensures ∙ ap dimension_of (is c.ranges.dim);
       group_is = c.group_of-script.ensures ∙ ap group_of (is c.ranges.group);
       width_is = c.rule_of-width.ensures ∙ ap rule_of (is c.ranges.rule);
@@ -96,9 +104,12 @@ stems_in-passed-requires c =
             numbers = refl;
           };
       others_are =
-          by₂ ◌&&◌ c.both-others.ensures
-          (by₃ choices c.are_choices.ensures (is c.ranges.dim) (is c.ranges.group) (is c.ranges.stem_adjust))
-          (by₂ (both_in choice) c.both_in.ensures (is c.ranges.top_to_bottom) (is c.ranges.rule));
+          let first = by₃ choices c.are_choices.ensures (is c.ranges.dim) (is c.ranges.group) (is c.ranges.stem_adjust) in
+          elim c.if-are_choices.branch [
+            | then-are_choices w ↦ second-asked w.if-are_choices.true w.others-is first
+                (by₂ (both_in choice) w.both_in-others.ensures (is c.ranges.top_to_bottom) (is c.ranges.rule))
+            | else-are_choices w ↦ first-fails (both_in choice c.args.top_to_bottom c.args.rule) w.if-are_choices.false w.others-is first
+          ];
       answer = c.in_ok-edges_test.ensures;
     } in
     let a = c.args in
@@ -114,7 +125,7 @@ returns c =
     let ruled = and-answer _ c.require.result (record { refused = then-last none-tested c.require-order.ensures turned; numbers = refl }) c.require.ensures c.rule_holds.ensures c.and-right.ensures in
     record {
       own = answer_of c.and-own.result;
-      others = c.both-others.result;
+      others = c.if-are_choices.others;
       dim_is = c.dimension_of-axis.ensures ∙ ap dimension_of (is c.ranges.dim);
       group_is = c.group_of-script.ensures ∙ ap group_of (is c.ranges.group);
       width_is = c.rule_of-width.ensures ∙ ap rule_of (is c.ranges.rule);
@@ -124,9 +135,12 @@ returns c =
             numbers = refl;
           };
       others_are =
-          by₂ ◌&&◌ c.both-others.ensures
-          (by₃ choices c.are_choices.ensures (is c.ranges.dim) (is c.ranges.group) (is c.ranges.stem_adjust))
-          (by₂ (both_in choice) c.both_in.ensures (is c.ranges.top_to_bottom) (is c.ranges.rule));
+          let first = by₃ choices c.are_choices.ensures (is c.ranges.dim) (is c.ranges.group) (is c.ranges.stem_adjust) in
+          elim c.if-are_choices.branch [
+            | then-are_choices w ↦ second-asked w.if-are_choices.true w.others-is first
+                (by₂ (both_in choice) w.both_in-others.ensures (is c.ranges.top_to_bottom) (is c.ranges.rule))
+            | else-are_choices w ↦ first-fails (both_in choice c.args.top_to_bottom c.args.rule) w.if-are_choices.false w.others-is first
+          ];
       answer = c.in_ok-edges_test.ensures;
     } in
     let count-word-is : to_z w32 (of_z w32 c.count_word.result) ≡ pos c.stems_in-passed.result.count =
