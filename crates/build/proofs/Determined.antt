@@ -1,5 +1,5 @@
 -- The outcome of the call: for refused segments, for accepted ones, what is built within its limits, and that the promise determines the outcome.
-use Rattle.std.specs.Prelude.{None}
+use Rattle.std.specs.Prelude.{None, Result}
 use mathlib.Core.Path.{◌≡◌, refl, sym, ◌∙◌}
 use mathlib.Core.Bool.{Bool, not}
 use mathlib.Core.List.{List, [], ◌∷◌}
@@ -7,7 +7,9 @@ use Prim.Native.Nat.{ℕ, suc, ◌<◌}
 use native.Mathlib.Omega.{arith}
 use lib.IntN.{ℤ, pos}
 use Rattle.signed.specs.Range.{Between}
+use Rattle.refusals.specs.declared.order.Refusal.{Refusal}
 use Rattle.refusals.specs.Refusal.{refusal}
+use Rattle.refusals.proofs.Outcomes.{with-answer-one}
 use Rattle.fixed.specs.Point.{mul_fix}
 use Rattle.axis.specs.declared.edge.Axis.{Axis}
 use Rattle.axis.specs.declared.kinds.Group.{Group}
@@ -25,7 +27,8 @@ use Rattle.build_join.proofs.Members.{times-head}
 use Rattle.build_join.proofs.Steps.{of-edge, of-len}
 use Rattle.build_properties.specs.Properties.{edge_properties}
 use Rattle.build_properties.proofs.Kept.{within-kept}
-use Rattle.build.specs.Answer.{Built}
+use Rattle.build.specs.declared.built.Built as Both
+use Rattle.build.specs.Answer.{Built, built_of}
 use Rattle.build.specs.declared.numbers.Thresholds.{Thresholds}
 use Rattle.build.specs.Building.{building_tests, is_cjk, rules_of, last_state, built_segments, built_edges, beside, built, compute_edges, ComputesEdges}
 use Rattle.build.proofs.Handing.{built-rows, few-edges, ready}
@@ -77,6 +80,13 @@ module _ (t : Segments) (r : Rules) (W : SegmentsWithin t) (J : Joinable t r) wh
   pub properties-within : AxisWithin most_pos (edge_properties (built_edges t r (last_state t r)) (built_segments t (last_state t r)))
   properties-within = within-kept _ _ (ready t r (shown t r (last_state t r)) refl W) most_pos edges-within
 
+-- ---- the call
+-- the record tells a result from every other, beside what was given
+pub built-one : (t : Segments) (old : Axis) (r s : Result Both.Built Refusal) → built_of t old r ≡ built_of t old s → r ≡ s
+built-one t old =
+    with-answer-one (built_of t old) (λ (b : Built). b.answer) (λ x. refl) (λ r. refl)
+    (λ x y e. λ j. record { segments = (e j).segments; axis = (e j).axis })
+
 module _ (t : Segments) (old : Axis) (group : Group) (ttb : Bool) (scale : ℤ) (by : Thresholds) where
   abbrev rules : Rules
   rules = rules_of old.dim old.major_dir (is_cjk group) scale by
@@ -94,3 +104,8 @@ module _ (t : Segments) (old : Axis) (group : Group) (ttb : Bool) (scale : ℤ) 
   -- two outcomes that the promise of `compute_edges` allows coincide
   pub determined : (a b : Built) → ComputesEdges t old group ttb scale by a → ComputesEdges t old group ttb scale by b → a ≡ b
   determined a b p q = p ∙ sym q
+
+  -- and so do two results
+  pub determined-result : {r s : Result Both.Built Refusal} → ComputesEdges t old group ttb scale by (built_of t old r)
+      → ComputesEdges t old group ttb scale by (built_of t old s) → r ≡ s
+  determined-result {r} {s} p q = built-one t old r s (determined (built_of t old r) (built_of t old s) p q)

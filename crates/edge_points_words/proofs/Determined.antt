@@ -1,5 +1,5 @@
 -- What the call leaves: it is determined; with a refusal everything is as it was; and a point that no walk leads over keeps its current and its mark.
-use Rattle.std.specs.Prelude.{None, Some}
+use Rattle.std.specs.Prelude.{None, Some, Result}
 use mathlib.Core.Path.{◌≡◌, refl, sym, subst, ◌∙◌}
 use mathlib.Core.Bool.{Bool, true, false, cond}
 use mathlib.Core.List.{List, []}
@@ -8,7 +8,9 @@ use Prim.Native.Nat.{ℕ, zero, suc, ◌<◌}
 use native.Mathlib.Omega.{arith}
 use lib.Dec.{eqb}
 use lib.IntN.{ℤ}
+use Rattle.refusals.specs.declared.order.Refusal.{Refusal}
 use Rattle.refusals.specs.Refusal.{answered}
+use Rattle.refusals.specs.Outcome.{answer_of}
 use Rattle.axis.specs.declared.edge.Edge.{Edge}
 use Rattle.axis.specs.declared.edge.Axis.{Axis}
 use Rattle.axis.specs.Link.{Link}
@@ -22,7 +24,7 @@ use Rattle.weak.specs.Weak.{contour_of}
 use Rattle.words.specs.Field.{choice_of}
 use Rattle.words.specs.Segment.{flat_segments}
 use Rattle.words_call.specs.Lent.{edges_of}
-use Rattle.words_call.proofs.Determined.{lent-determined}
+use Rattle.words_call.proofs.Determined.{lent-determined, lent-determined-result}
 use Rattle.words_call.proofs.Kept.{not_new}
 use Rattle.edge_points.specs.EdgePoints.{Points, move_points, walked, moves, move_segment, along_edge, visit_segment, move_all, edge_answer, edge_result}
 use Rattle.edge_points.proofs.Moves.{currents_long, marks_long, current-kept, mark-kept}
@@ -85,6 +87,11 @@ module _ (ws es : List ℤ) (snap alone : ℤ) (ends : List ℕ) (s : Points) wh
   pub determined : {r r' : ℕ} {now now' : Points} → EdgePointsLent ws es snap alone ends s r now → EdgePointsLent ws es snap alone ends s r' now'
       → (r ≡ r') × (now ≡ now')
   determined a b = lent-determined a b
+
+  -- and so do two results
+  pub determined-result : {r r' : Result (Unit {0}) Refusal} {now now' : Points}
+      → EdgePointsLent ws es snap alone ends s (answer_of r) now → EdgePointsLent ws es snap alone ends s (answer_of r') now' → (r ≡ r') × (now ≡ now')
+  determined-result {r} {r'} a b = lent-determined-result {r = r} {r' = r'} a b
 
   abbrev new : Points
   new = edge_result (choice_of snap) (choice_of alone) (edges_of es) (flat_segments ws) s ends

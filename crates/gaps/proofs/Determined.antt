@@ -1,5 +1,5 @@
 -- The outcome of the call: that the promise determines it, for what is refused, how few pairs are counted, and what an accepted axis is told of its pairs.
-use Rattle.std.specs.Prelude.{None, Some}
+use Rattle.std.specs.Prelude.{None, Some, Result}
 use mathlib.Core.Path.{◌≡◌, refl, sym, ap, subst, ◌∙◌}
 use mathlib.Core.Bool.{Bool, true, false, not}
 use mathlib.Core.Logic.{⊎_elim}
@@ -8,8 +8,10 @@ use native.Mathlib.Omega.{arith}
 use borrow.Author.Tests.{ltb-true, lt-ltb}
 use lib.Dec.{ltb}
 use lib.IntN.{ℤ, pos}
+use Rattle.refusals.specs.declared.order.Refusal.{Refusal}
 use Rattle.refusals.specs.Refusal.{refusal, answered}
 use Rattle.refusals.proofs.Answers.{none-refused, worked}
+use Rattle.refusals.proofs.Outcomes.{with-answer-one}
 use Rattle.refusals.proofs.Tests.{no-refusal}
 use Rattle.signed.proofs.Choices.{clash}
 use Rattle.signed.proofs.Signed.{lt-or-le}
@@ -19,16 +21,27 @@ use Rattle.axis.specs.Handed.{EdgesAccepted}
 use Rattle.axis.specs.Limits.{most_units}
 use Rattle.axis.specs.Link.{is_linked}
 use Rattle.axis.specs.Refusals.{inside}
-use Rattle.gaps.specs.Answer.{Gaps}
+use Rattle.gaps.specs.declared.find.Gaps as Found
+use Rattle.gaps.specs.Answer.{Gaps, gaps_of}
 use Rattle.gaps.specs.Gaps.{is_done, not_done, IsPair, lost_gap, lost_stem, lost, no_pair, pair_to, ends, counted, first_of, pair_at, found_to, found_in}
 use Rattle.gaps.specs.Gaps.{gaps_tests, refused_by, lost_gaps, FindsLostGaps, LostPair, FirstLost}
 use Rattle.gaps.proofs.Ends.{starts_first, ends-pair, pair_ends, first_ends, gap-or-stem, lost-is, is_lost}
 use Rattle.gaps.proofs.Firsts.{counted-fewer, counted-parts, counted_none, counted-first, IsFirst, First, first_is}
 
+-- the record tells a result from every other
+pub gaps-one : (r s : Result Found.Gaps Refusal) → gaps_of r ≡ gaps_of s → r ≡ s
+gaps-one =
+    with-answer-one gaps_of (λ (g : Gaps). g.answer) (λ x. refl) (λ r. refl)
+    (λ x y e. λ j. record { count = (e j).count; pair = (e j).pair; stems = (e j).stems; not_done = (e j).not_done })
+
 module _ (axis : Axis) (least : ℤ) (linked : Bool) where
   -- two outcomes that the promise of `lost_gaps` allows coincide
   pub determined : {r s : Gaps} → FindsLostGaps axis least linked r → FindsLostGaps axis least linked s → r ≡ s
   determined p q = p ∙ sym q
+
+  -- and so do two results
+  pub determined-result : {r s : Result Found.Gaps Refusal} → FindsLostGaps axis least linked (gaps_of r) → FindsLostGaps axis least linked (gaps_of s) → r ≡ s
+  determined-result {r} {s} p q = gaps-one r s (determined p q)
 
   -- a refusal hands back its number, and finds nothing
   pub refused : (k : ℕ) → refusal (gaps_tests axis least) ≡ suc k → lost_gaps axis least linked ≡ refused_by (suc k)

@@ -1,16 +1,23 @@
 -- The outcome of the call: for refused segments, for accepted ones, and that the promise determines it.
-use mathlib.Core.Path.{◌≡◌, sym, ◌∙◌}
+use Rattle.std.specs.Prelude.{Result}
+use mathlib.Core.Path.{◌≡◌, refl, sym, ◌∙◌, ap}
 use Prim.Native.Nat.{ℕ, suc}
 use native.Mathlib.Omega.{arith}
 use lib.IntN.{ℤ}
+use Rattle.refusals.specs.declared.order.Refusal.{Refusal}
 use Rattle.refusals.specs.Refusal.{refusal}
+use Rattle.refusals.proofs.Outcomes.{with-answer-one}
 use Rattle.axis.specs.declared.kinds.Direction.{Direction}
 use Rattle.axis.specs.declared.segment.Segments.{Segments}
 use Rattle.link.specs.Rounds.{linked}
 use Rattle.link.proofs.Unchanged.{OnlyLinked, linked-only}
-use Rattle.link.specs.Answer.{Linked}
+use Rattle.link.specs.Answer.{Linked, linked_of}
 use Rattle.link.specs.Linking.{thresholds_of, linking_tests, beside, link_segments_cjk, LinksSegmentsCjk}
 use Rattle.link.proofs.Calls.{accepted}
+
+-- the record tells a result from every other, beside the segments that were given
+pub linked-one : (given : Segments) (r s : Result Segments Refusal) → linked_of given r ≡ linked_of given s → r ≡ s
+linked-one given = with-answer-one (linked_of given) (λ (l : Linked). l.answer) (λ x. refl) (λ r. refl) (λ x y e. ap (λ (l : Linked). l.segments) e)
 
 module _ (t : Segments) (major : Direction) (upem scale : ℤ) where
   -- a refusal hands back its number and the segments as they were
@@ -30,3 +37,8 @@ module _ (t : Segments) (major : Direction) (upem scale : ℤ) where
   -- two outcomes that the promise of `link_segments_cjk` allows coincide
   pub determined : (a b : Linked) → LinksSegmentsCjk t major upem scale a → LinksSegmentsCjk t major upem scale b → a ≡ b
   determined a b p q = p ∙ sym q
+
+  -- and so do two results
+  pub determined-result : {r s : Result Segments Refusal} → LinksSegmentsCjk t major upem scale (linked_of t r)
+      → LinksSegmentsCjk t major upem scale (linked_of t s) → r ≡ s
+  determined-result {r} {s} p q = linked-one t r s (determined (linked_of t r) (linked_of t s) p q)

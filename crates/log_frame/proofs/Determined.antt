@@ -1,11 +1,14 @@
 -- The outcomes of both calls as the code comes to them, and that each promise determines its outcome.
-use mathlib.Core.Path.{◌≡◌, sym, ap, ◌∙◌}
+use Rattle.std.specs.Prelude.{Result}
+use mathlib.Core.Path.{◌≡◌, refl, sym, ap, ◌∙◌}
 use mathlib.Core.List.{List, ◌++◌}
 use Prim.Native.Nat.{ℕ, ◌+◌, ◌*◌, ◌<◌}
 use native.Mathlib.Omega.{arith}
 use lib.ListN.{length, drop}
 use lib.IntN.{ℤ}
+use Rattle.refusals.specs.declared.order.Refusal.{Refusal}
 use Rattle.refusals.specs.Refusal.{refusal}
+use Rattle.refusals.proofs.Outcomes.{with-answer-one}
 use Rattle.refusals.proofs.Tests.{answered-no, answered-yes}
 use Rattle.words.specs.Word.{firsts}
 use Rattle.log_digits.specs.Digits.{Bytes, byte_at}
@@ -14,8 +17,9 @@ use Rattle.log_frame.specs.Frame.{Frame, frame_of, frame_digits, frame_in, point
 use Rattle.log_frame.specs.Write.{WritesFrame, write_tests, written_by, frame_written, line_written}
 use Rattle.log_frame.specs.Read.{ReadsFrame, read_tests, read_by, over, over_rooms, frame_read, rooms_read}
 use Rattle.log_frame.specs.Steps.{PointsRead}
-use Rattle.log_frame.specs.Answer.{Written}
-use Rattle.log_frame.specs.Answer.{ReadFrame}
+use Rattle.log_frame.specs.declared.read.Counts.{Counts}
+use Rattle.log_frame.specs.Answer.{Written, written_of}
+use Rattle.log_frame.specs.Answer.{ReadFrame, read_of}
 
 -- ---- writing
 module _ (f : Frame) (line : List ℕ) where
@@ -78,3 +82,24 @@ writes-determined f line a b = (a.handed ∙ sym b.handed, a.leaves ∙ sym b.le
 pub reads-determined : (line : List ℕ) (rooms : Frame) {r s : ReadFrame} {left left' : Frame} → ReadsFrame line rooms r left → ReadsFrame line rooms s left'
     → (r ≡ s) × (left ≡ left')
 reads-determined line rooms a b = (a.handed ∙ sym b.handed, a.leaves ∙ sym b.leaves)
+
+-- ---- what the calls hand back
+-- the record tells a result from every other
+pub written-one : (r s : Result ℕ Refusal) → written_of r ≡ written_of s → r ≡ s
+written-one = with-answer-one written_of (λ (w : Written). w.answer) (λ x. refl) (λ r. refl) (λ x y e. ap (λ (w : Written). w.digits) e)
+
+pub read-one : (r s : Result Counts Refusal) → read_of r ≡ read_of s → r ≡ s
+read-one =
+    with-answer-one read_of (λ (f : ReadFrame). f.answer) (λ x. refl) (λ r. refl)
+    (λ x y e. λ j. record { points = (e j).points; contours = (e j).contours })
+
+-- so two results that a promise allows coincide, with what is written beside them
+-- `write_frame`
+pub writes-determined-result : (f : Frame) (line : List ℕ) {r s : Result ℕ Refusal} {left left' : List ℕ}
+    → WritesFrame f line (written_of r) left → WritesFrame f line (written_of s) left' → (r ≡ s) × (left ≡ left')
+writes-determined-result f line {r} {s} a b = let e = writes-determined f line a b in (written-one r s e.0, e.1)
+
+-- `read_frame`
+pub reads-determined-result : (line : List ℕ) (rooms : Frame) {r s : Result Counts Refusal} {left left' : Frame}
+    → ReadsFrame line rooms (read_of r) left → ReadsFrame line rooms (read_of s) left' → (r ≡ s) × (left ≡ left')
+reads-determined-result line rooms {r} {s} a b = let e = reads-determined line rooms a b in (read-one r s e.0, e.1)

@@ -1,4 +1,5 @@
 -- What the call leaves: with a refusal everything as it was; of the edges every word but those of first and last; and how many segments there are.
+use Rattle.std.specs.Prelude.{Result}
 use mathlib.Core.Path.{◌≡◌, refl, ap, ◌∙◌}
 use mathlib.Core.Bool.{Bool, true, false, cond, ◌&&◌}
 use mathlib.Core.List.{List, [], ◌∷◌}
@@ -10,7 +11,9 @@ use lib.Dec.{eqb}
 use lib.IntN.{ℤ, pos}
 use lib.ListN.{length, set}
 use Rattle.signed.proofs.Signed.{lt-or-le}
+use Rattle.refusals.specs.declared.order.Refusal.{Refusal}
 use Rattle.refusals.specs.Refusal.{refusal}
+use Rattle.refusals.specs.Outcome.{answer_of}
 use Rattle.refusals.proofs.Tests.{and_second, all_hold, no-refusal}
 use Rattle.axis.specs.declared.edge.Edge.{Edge}
 use Rattle.axis.specs.declared.kinds.Dimension.TheVariants as Dimensions
@@ -28,7 +31,7 @@ use Rattle.words.specs.Segment.{segment_size, segments_in, flat_segments}
 use Rattle.words_shape.specs.Shape.{edges_shown}
 use Rattle.words_call.specs.Kept.{KeptBut, of_edges, is_one_of}
 use Rattle.words_call.specs.Lent.{refused_or, edges_front, edges_of}
-use Rattle.words_call.proofs.Determined.{lent-determined}
+use Rattle.words_call.proofs.Determined.{lent-determined, lent-determined-result}
 use Rattle.words_call.proofs.Kept.{SameEdges, edges-left, passed, not_new}
 use Rattle.words_call.proofs.Moved.{none_of, word-beside}
 use Rattle.words_edge.proofs.Wholes.{edges-len, axis-long}
@@ -41,6 +44,11 @@ module _ (ws es : List ℤ) (count : ℤ) where
   -- two outcomes that the promise of `lend_packing` allows coincide
   pub determined : {r r' : ℕ} {now now' : List ℤ × (List ℤ × ℤ)} → PackedLent ws es count r now → PackedLent ws es count r' now' → (r ≡ r') × (now ≡ now')
   determined a b = lent-determined a b
+
+  -- and so do two results
+  pub determined-result : {r r' : Result (Unit {0}) Refusal} {now now' : List ℤ × (List ℤ × ℤ)}
+      → PackedLent ws es count (answer_of r) now → PackedLent ws es count (answer_of r') now' → (r ≡ r') × (now ≡ now')
+  determined-result {r} {r'} a b = lent-determined-result {r = r} {r' = r'} a b
 
   -- a refusal leaves segments, edges and the count as they were
   pub refused-left : {r : ℕ} {now : List ℤ × (List ℤ × ℤ)} → PackedLent ws es count r now → 0 < r → now ≡ (ws, (es, count))

@@ -2,5 +2,5 @@
 -- says.
 pub mod Tests
 pub mod Answers
--- what outcomes say of tests, and the answer behind a question mark
+-- what outcomes say of tests, the answer behind a question mark, and outcomes told apart
 pub mod Outcomes

@@ -1,6 +1,7 @@
--- What the outcome of a test says of the refusal by a list of tests, and the answer behind a `?`.
-use Rattle.std.specs.Prelude.{◌≡◌, Bool, true, false, List, [], ◌∷◌, ◌++◌, ℕ, ltb, Result, Ok, Err}
-use Rattle.std.proofs.Common.{refl, sym, ap, ◌∙◌, ◌<◌, lit<}
+-- What the outcome of a test says of the refusal by a list of tests, the answer behind a `?`, and that what a promise says of an outcome tells it from every
+-- other.
+use Rattle.std.specs.Prelude.{◌≡◌, Bool, true, false, List, [], ◌∷◌, ◌++◌, ℕ, ◌-◌, ltb, get_or, Result, Ok, Err}
+use Rattle.std.proofs.Common.{refl, sym, ap, ◌∙◌, ◌<◌, lit<, arith}
 use Rattle.std.specs.Result.{IsErrAnd}
 use Rattle.refusals.specs.declared.order.Refusal.{Refusal}
 use Rattle.refusals.specs.declared.order.Refusal.TheVariants as Refusals
@@ -88,3 +89,43 @@ then-last t q e = (tested t q e).refused
 pub exit : {T : Type 0} (e : Refusal) (o : Result T Refusal) → IsErrAnd o (λ (y : Refusal). y ≡ e) → o ≡ Err e
 exit e (Ok x) h = absurd h
 exit e (Err y) h = ap Err h
+
+-- ---- outcomes told apart
+-- the refusals by 1 to 10
+abbrev in_order : List Refusal
+in_order =
+    Refusals.TooLong ∷ Refusals.BadParameter ∷ Refusals.BadIndex ∷ Refusals.OutOfRange ∷ Refusals.NoRoom ∷ Refusals.NotFrame ∷ Refusals.BrokenRing
+    ∷ Refusals.TooSteep ∷ Refusals.Unmatched ∷ Refusals.Retired ∷ []
+
+-- the refusal by a number
+abbrev refusal_of : ℕ → Refusal
+refusal_of n = get_or in_order (n - 1) Refusals.NotWords
+
+number-back : (r : Refusal) → refusal_of (number_of r) ≡ r
+number-back Refusals.TooLong = refl
+number-back Refusals.BadParameter = refl
+number-back Refusals.BadIndex = refl
+number-back Refusals.OutOfRange = refl
+number-back Refusals.NoRoom = refl
+number-back Refusals.NotFrame = refl
+number-back Refusals.BrokenRing = refl
+number-back Refusals.TooSteep = refl
+number-back Refusals.Unmatched = refl
+number-back Refusals.Retired = refl
+number-back Refusals.NotWords = refl
+
+-- no two refusals share a number
+pub number-one : (r s : Refusal) → number_of r ≡ number_of s → r ≡ s
+number-one r s e = sym (number-back r) ∙ ap refusal_of e ∙ number-back s
+
+-- what has the answer, and what is handed back where nothing is refused, is that of one outcome
+pub with-answer-one : {T A : Type 0} (f : Result T Refusal → A) (answer : A → ℕ) → ((x : T) → answer (f (Ok x)) ≡ 0)
+    → ((r : Refusal) → answer (f (Err r)) ≡ number_of r) → ((x y : T) → f (Ok x) ≡ f (Ok y) → x ≡ y) → (r s : Result T Refusal) → f r ≡ f s → r ≡ s
+with-answer-one f answer a b h (Ok x) (Ok y) e = ap Ok (h x y e)
+with-answer-one f answer a b h (Ok x) (Err s) e = let k : 0 ≡ number_of s = sym (a x) ∙ ap answer e ∙ b s in absurd (omega (arith, k, number-above s))
+with-answer-one f answer a b h (Err r) (Ok y) e = let k : number_of r ≡ 0 = sym (b r) ∙ ap answer e ∙ a y in absurd (omega (arith, k, number-above r))
+with-answer-one f answer a b h (Err r) (Err s) e = ap Err (number-one r s (sym (b r) ∙ ap answer e ∙ b s))
+
+-- and where nothing is handed back, the answer alone is
+pub answer-one : (r s : Result (Unit {0}) Refusal) → answer_of r ≡ answer_of s → r ≡ s
+answer-one = with-answer-one answer_of (λ (n : ℕ). n) (λ x. refl) (λ r. refl) (λ x y e. refl)

@@ -1,4 +1,5 @@
 -- The outcome of the call: it is determined; what it may change; and that the points of an accepted outline keep their order.
+use Rattle.std.specs.Prelude.{Result}
 use mathlib.Core.Path.{◌≡◌, refl, sym, ap, subst, ◌∙◌}
 use mathlib.Core.Bool.{true, false, cond, ◌||◌}
 use mathlib.Core.List.{List, append-nil}
@@ -10,7 +11,9 @@ use lib.Dec.{eqb}
 use lib.ListN.{length, get_or}
 use lib.IntN.{ℤ, pos}
 use lib.Signed.{◌≤ℤ◌, ◌<ℤ◌}
+use Rattle.refusals.specs.declared.order.Refusal.{Refusal}
 use Rattle.refusals.specs.Refusal.{refusal, answered}
+use Rattle.refusals.specs.Outcome.{answer_of}
 use Rattle.refusals.proofs.Tests.{and_first, all_hold}
 use Rattle.axis.specs.declared.edge.Axis.{Axis}
 use Rattle.axis.specs.Edge.{edge_at}
@@ -22,7 +25,7 @@ use Rattle.words.proofs.Places.{firsts_at}
 use Rattle.words.proofs.Tables.{firsts-length}
 use Rattle.words_shape.specs.Shape.{edges_shown}
 use Rattle.words_call.specs.Lent.{edges_front, edges_of}
-use Rattle.words_call.proofs.Determined.{lent-determined}
+use Rattle.words_call.proofs.Determined.{lent-determined, lent-determined-result}
 use Rattle.words_call.proofs.Kept.{passed, not_new}
 use Rattle.words_edge.proofs.Wholes.{shown-whole, edges-len}
 use Rattle.strong.specs.declared.place.Place.{Place}
@@ -38,6 +41,12 @@ pub determined :
     (ws f o c : List ℤ) (t w : List ℕ) {r r' : ℕ} {now now' : List ℤ × List ℕ} → StrongLent ws f o c t w r now → StrongLent ws f o c t w r' now'
     → (r ≡ r') × (now ≡ now')
 determined ws f o c t w a b = lent-determined a b
+
+-- and so do two results
+pub determined-result :
+    (ws f o c : List ℤ) (t w : List ℕ) {r r' : Result (Unit {0}) Refusal} {now now' : List ℤ × List ℕ} → StrongLent ws f o c t w (answer_of r) now
+    → StrongLent ws f o c t w (answer_of r') now' → (r ≡ r') × (now ≡ now')
+determined-result ws f o c t w {r} {r'} a b = lent-determined-result {r = r} {r' = r'} a b
 
 -- a refusal leaves both lists as they were
 pub refused-left : (ws f o c : List ℤ) (t w : List ℕ) {r : ℕ} {now : List ℤ × List ℕ} → StrongLent ws f o c t w r now → 0 < r → now ≡ (c, t)

@@ -1,20 +1,30 @@
 -- The outcome of the call: for refused tables, for accepted ones, that the promise determines it, and what is handed back.
+use Rattle.std.specs.Prelude.{Result}
 use mathlib.Core.Path.{◌≡◌, refl, sym, ap, subst, ◌∙◌}
 use Prim.Native.Nat.{ℕ, suc, ◌<◌}
+use Rattle.refusals.specs.declared.order.Refusal.{Refusal}
 use Rattle.refusals.specs.Refusal.{refusal}
 use Rattle.refusals.proofs.Answers.{none-refused}
+use Rattle.refusals.proofs.Outcomes.{with-answer-one}
 use Rattle.axis.specs.declared.edge.Edge.{Edge}
 use Rattle.axis.specs.declared.edge.Axis.{Axis}
 use Rattle.axis.specs.declared.segment.Segments.{Segments}
 use Rattle.axis.specs.Edge.{edge_at}
 use Rattle.axis.specs.Handed.{TypedAxis, Typed}
 use Rattle.axis.specs.Ring.{members, Sound}
-use Rattle.turn.specs.Answer.{Turned}
+use Rattle.turn.specs.declared.turn.Turned as Both
+use Rattle.turn.specs.Answer.{Turned, turned_of}
 use Rattle.turn.specs.Turning.{turned_index, turned_axis, turned_segments, turning_tests, beside, turn_over, TurnsOver}
 use Rattle.turn.proofs.Calls.{Taken, taken, not-refused}
 use Rattle.turn.proofs.Rings as Rings
 use Rattle.turn.proofs.Places.{turned-edge-at}
 use Rattle.turn.proofs.Twice.{edges_whole, taken-again, axis-twice, segments-twice}
+
+-- the record tells a result from every other, beside what was given
+pub turned-one : (axis : Axis) (t : Segments) (r s : Result Both.Turned Refusal) → turned_of axis t r ≡ turned_of axis t s → r ≡ s
+turned-one axis t =
+    with-answer-one (turned_of axis t) (λ (x : Turned). x.answer) (λ x. refl) (λ r. refl)
+    (λ x y e. λ j. record { axis = (e j).axis; segments = (e j).segments })
 
 module _ (axis : Axis) (t : Segments) where
   -- a refusal hands back its number, and the axis and the segments as they were
@@ -37,6 +47,10 @@ module _ (axis : Axis) (t : Segments) where
   -- two outcomes that the promise of `turn_over` allows coincide
   pub determined : (x y : Turned) → TurnsOver axis t x → TurnsOver axis t y → x ≡ y
   determined x y p q = p ∙ sym q
+
+  -- and so do two results
+  pub determined-result : {r s : Result Both.Turned Refusal} → TurnsOver axis t (turned_of axis t r) → TurnsOver axis t (turned_of axis t s) → r ≡ s
+  determined-result {r} {s} p q = turned-one axis t r s (determined (turned_of axis t r) (turned_of axis t s) p q)
 
 -- ---- what an accepted call hands back
 module _ (axis : Axis) (t : Segments) (w : TypedAxis axis) (v : Typed t) (e : (turn_over axis t).answer ≡ 0) where

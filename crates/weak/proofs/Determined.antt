@@ -1,4 +1,5 @@
 -- The outcome of the call: what it is for a refused outline and for an accepted one, and that it is determined.
+use Rattle.std.specs.Prelude.{Result}
 use mathlib.Core.Path.{◌≡◌, refl, sym, ◌∙◌, ap}
 use mathlib.Core.List.{List}
 use Prim.Native.Nat.{ℕ, zero, suc, ◌+◌, ◌<◌}
@@ -8,8 +9,11 @@ use lib.ListN.{length}
 use lib.Seq.{ext_get_or}
 use lib.IntN.{ℤ, pos}
 use Rattle.weak_contour.specs.Contour.{at}
+use Rattle.refusals.specs.declared.order.Refusal.{Refusal}
 use Rattle.refusals.specs.Refusal.{refusal, answered}
+use Rattle.refusals.specs.Outcome.{answer_of}
 use Rattle.refusals.proofs.Tests.{answered-no}
+use Rattle.refusals.proofs.Outcomes.{answer-one}
 use Rattle.weak.specs.Weak.{weak_tests, aligned_at, list_of, result, Outcome}
 use Rattle.weak.specs.Steps.{AllDone}
 
@@ -60,3 +64,8 @@ module _ (o c : List ℤ) (t es : List ℕ) where
 -- ---- two outcomes that the promise of `align_weak_points` allows coincide
 pub determined : (o c : List ℤ) (t es : List ℕ) (a b : ℕ) (d e : List ℤ) → Outcome o c t es a d → Outcome o c t es b e → (a ≡ b) × (d ≡ e)
 determined o c t es a b d e x y = (x.answer ∙ sym y.answer, x.currents ∙ sym y.currents)
+
+-- and so do two results, with the currents left
+pub determined-result : (o c : List ℤ) (t es : List ℕ) {r s : Result (Unit {0}) Refusal} {d e : List ℤ}
+    → Outcome o c t es (answer_of r) d → Outcome o c t es (answer_of s) e → (r ≡ s) × (d ≡ e)
+determined-result o c t es {r} {s} {d} {e} x y = let w = determined o c t es (answer_of r) (answer_of s) d e x y in (answer-one r s w.0, w.1)

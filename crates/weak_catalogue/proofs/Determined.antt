@@ -1,4 +1,5 @@
 -- The outcome of the call: what it is for a refused catalogue and for an accepted one, and that it is determined.
+use Rattle.std.specs.Prelude.{Result}
 use mathlib.Core.Path.{◌≡◌, refl, sym, ◌∙◌}
 use mathlib.Core.List.{List}
 use Prim.Native.Nat.{ℕ, ◌<◌}
@@ -6,8 +7,11 @@ use native.Mathlib.Omega.{arith}
 use borrow.Author.Tests.{eqb-true}
 use lib.ListN.{length}
 use lib.IntN.{ℤ}
+use Rattle.refusals.specs.declared.order.Refusal.{Refusal}
 use Rattle.refusals.specs.Refusal.{refusal}
+use Rattle.refusals.specs.Outcome.{answer_of}
 use Rattle.refusals.proofs.Tests.{all_hold, answered-no, answered-yes}
+use Rattle.refusals.proofs.Outcomes.{answer-one}
 use Rattle.weak_catalogue.specs.Catalogue.{total, catalogue_tests, answers_of, currents_of, Catalogued}
 use Rattle.weak_catalogue.specs.Steps.{AddsUp, EachDone}
 
@@ -47,3 +51,9 @@ pub determined :
     (o c : List ℤ) (t es ns ks bs : List ℕ) {a a' : ℕ} {d d' : List ℤ} {rs rs' : List ℕ}
     → Catalogued o c t es ns ks bs a d rs → Catalogued o c t es ns ks bs a' d' rs' → (a ≡ a') × ((d ≡ d') × (rs ≡ rs'))
 determined o c t es ns ks bs x y = (x.answer ∙ sym y.answer, (x.currents ∙ sym y.currents, x.answers ∙ sym y.answers))
+
+-- and so do two results, with what is left
+pub determined-result :
+    (o c : List ℤ) (t es ns ks bs : List ℕ) {r r' : Result (Unit {0}) Refusal} {d d' : List ℤ} {rs rs' : List ℕ}
+    → Catalogued o c t es ns ks bs (answer_of r) d rs → Catalogued o c t es ns ks bs (answer_of r') d' rs' → (r ≡ r') × ((d ≡ d') × (rs ≡ rs'))
+determined-result o c t es ns ks bs {r} {r'} x y = let w = determined o c t es ns ks bs x y in (answer-one r r' w.0, w.1)

@@ -1,4 +1,5 @@
 -- A drag: what it comes to, that its promise determines it, that on an aligned buffer with one place set it is the full alignment, and what it is on any other.
+use Rattle.std.specs.Prelude.{Result}
 use mathlib.Core.Path.{◌≡◌, refl, sym, subst, ◌∙◌, ap}
 use mathlib.Core.Bool.{Bool, true, false, cond, ◌&&◌, ◌||◌, not}
 use mathlib.Core.List.{List, ◌∷◌}
@@ -10,8 +11,11 @@ use lib.Dec.{eqb}
 use lib.ListN.{length, set, length-set}
 use lib.Seq.{ext_get_or, get_or-set_other}
 use lib.IntN.{ℤ, pos}
+use Rattle.refusals.specs.declared.order.Refusal.{Refusal}
 use Rattle.refusals.specs.Refusal.{refusal, answered}
+use Rattle.refusals.specs.Outcome.{answer_of}
 use Rattle.refusals.proofs.Tests.{answered-no, answered-yes}
+use Rattle.refusals.proofs.Outcomes.{answer-one}
 use Rattle.weak_contour.specs.Contour.{at, is_touched}
 use Rattle.weak.specs.Weak.{contour_of, aligned_at, list_of, weak_tests, result}
 use Rattle.weak.proofs.Determined.{result-at, result-length, length-list_of, at-list_of}
@@ -133,6 +137,11 @@ module _ (o c d : List ℤ) (t es : List ℕ) (p : ℕ) (e : Dragged o c t es p 
 -- two outcomes that the promise allows coincide
 pub determined : (o c : List ℤ) (t es : List ℕ) (p a b : ℕ) (d e : List ℤ) → Dragged o c t es p a d → Dragged o c t es p b e → (a ≡ b) × (d ≡ e)
 determined o c t es p a b d e x y = (x.answer ∙ sym y.answer, x.currents ∙ sym y.currents)
+
+-- and so do two results, with the currents left
+pub determined-result : (o c : List ℤ) (t es : List ℕ) (p : ℕ) {r s : Result (Unit {0}) Refusal} {d e : List ℤ}
+    → Dragged o c t es p (answer_of r) d → Dragged o c t es p (answer_of s) e → (r ≡ s) × (d ≡ e)
+determined-result o c t es p {r} {s} {d} {e} x y = let w = determined o c t es p (answer_of r) (answer_of s) d e x y in (answer-one r s w.0, w.1)
 
 -- the point named by another number that is the same
 pub dragged-as : (o c : List ℤ) (t es : List ℕ) (p q a : ℕ) (d : List ℤ) → p ≡ q → Dragged o c t es p a d → Dragged o c t es q a d

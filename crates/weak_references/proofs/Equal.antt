@@ -1,6 +1,7 @@
 -- What both calls come to: a refusal, or the work; that their promises determine their outcomes; and that a list that was remembered is never refused by 9, at
 -- no
 -- size: alignment with it is alignment without.
+use Rattle.std.specs.Prelude.{Result}
 use mathlib.Core.Path.{◌≡◌, refl, sym, ap, ◌∙◌}
 use mathlib.Core.List.{List}
 use mathlib.Core.Bool.{true}
@@ -9,8 +10,11 @@ use native.Mathlib.Decide.{dec_lt, ℕ_discrete}
 use native.Mathlib.Omega.{arith}
 use lib.ListN.{length}
 use lib.IntN.{ℤ}
+use Rattle.refusals.specs.declared.order.Refusal.{Refusal}
 use Rattle.refusals.specs.Refusal.{refusal, answered}
+use Rattle.refusals.specs.Outcome.{answer_of}
 use Rattle.refusals.proofs.Tests.{own_first, answered-no, answered-yes}
+use Rattle.refusals.proofs.Outcomes.{answer-one}
 use Rattle.weak_contour.specs.Limits.{most_points}
 use Rattle.weak.specs.Weak.{list_tests, number_tests, weak_tests, result, Outcome}
 use Rattle.weak.specs.Steps.{AllDone}
@@ -46,6 +50,12 @@ pub remembered-determined :
     (t es b h : List ℕ) {a a' : ℕ} {x x' y y' : List ℕ} → Remembered t es b h a x y → Remembered t es b h a' x' y' → (a ≡ a') × ((x ≡ x') × (y ≡ y'))
 remembered-determined t es b h p q = (p.answer ∙ sym q.answer, (p.before ∙ sym q.before, p.behind ∙ sym q.behind))
 
+-- and so do two results, with the lists left
+pub remembered-determined-result :
+    (t es b h : List ℕ) {r s : Result (Unit {0}) Refusal} {x x' y y' : List ℕ} → Remembered t es b h (answer_of r) x y → Remembered t es b h (answer_of s) x' y'
+    → (r ≡ s) × ((x ≡ x') × (y ≡ y'))
+remembered-determined-result t es b h {r} {s} p q = let w = remembered-determined t es b h p q in (answer-one r s w.0, w.1)
+
 -- ---- aligning
 module _ (o c : List ℤ) (t es b h : List ℕ) where
   pub with-refused : (a : ℕ) → a ≡ refusal (with_tests o c t es b h) → 0 < a → AlignedWith o c t es b h a c
@@ -61,6 +71,11 @@ module _ (o c : List ℤ) (t es b h : List ℕ) where
 pub aligned-determined : (o c : List ℤ) (t es b h : List ℕ) {a a' : ℕ} {d d' : List ℤ} → AlignedWith o c t es b h a d → AlignedWith o c t es b h a' d'
     → (a ≡ a') × (d ≡ d')
 aligned-determined o c t es b h p q = (p.answer ∙ sym q.answer, p.currents ∙ sym q.currents)
+
+-- and so do two results, with the currents left
+pub aligned-determined-result : (o c : List ℤ) (t es b h : List ℕ) {r s : Result (Unit {0}) Refusal} {d d' : List ℤ}
+    → AlignedWith o c t es b h (answer_of r) d → AlignedWith o c t es b h (answer_of s) d' → (r ≡ s) × (d ≡ d')
+aligned-determined-result o c t es b h {r} {s} p q = let w = aligned-determined o c t es b h p q in (answer-one r s w.0, w.1)
 
 -- ---- a list that matches: what is answered and left is what `align_weak_points` owes, refusals too
 refused-same : (o c : List ℤ) (t es : List ℕ) (k : ℕ) → k ≡ refusal (weak_tests o c t es) → answered k (λ _. c) (result o c t es) ≡ result o c t es
