@@ -9,6 +9,7 @@ ghost use Rattle.fit_points_words.specs.Row.{Ready};
 ghost use Rattle.fit_back_words.specs.Back.{EdgesBack, PointsBack};
 ghost use Rattle.fit.specs.Answer.{edges_of};
 
+use super::copied::copy_marks;
 use fit::numbers::Numbers;
 use fit::outcome::FittedEdges;
 use fit_edges_words::row::fit_edges;
@@ -55,7 +56,7 @@ pub fn points_back(
         (answer_of result) (points currents.old touched.old) (points currents.new touched.new) }
 {
     copy(currents, spare);
-    marks.copy_from_slice(touched);
+    copy_marks(touched, marks);
     let moved = fit_points(
         segments, edges, by, fonts, originals, currents, touched, weak, ends,
     );
@@ -63,6 +64,6 @@ pub fn points_back(
         return moved;
     }
     copy(spare, currents);
-    touched.copy_from_slice(marks);
+    copy_marks(marks, touched);
     moved
 }

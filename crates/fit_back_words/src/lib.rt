@@ -2,5 +2,6 @@
 #![tactic(auto)]
 
 mod back;
+mod copied;
 pub mod rooms;
 mod tell;

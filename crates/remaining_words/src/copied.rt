@@ -7,13 +7,17 @@ use axis::kinds::Group;
 use remaining::kinds::Progress;
 use remaining_pass_words::pass::pass_in;
 use words::edge::TABLE_WORDS;
+use words::word::read_word;
 
-// Copies words over as many others.
+// Copies words over as many others. Word by word: for the library's method an archive would want `memmove` from outside, where there is a system too.
 pub fn copy(from: &[i32], to: &mut [i32])
     requires { length to.old ≡ length from.now }
     ensures { to.new ≡ from.now }
 {
-    to.copy_from_slice(from);
+    let n = from.len();
+    for i in 0..n {
+        to[i] = read_word(from, i);
+    }
 }
 
 // Aligns a copy of the edges, and then them.

@@ -4,18 +4,37 @@ use mathlib.Core.List.{List, [], ◌++◌, append_assoc}
 use Prim.Native.Nat.{ℕ, ◌+◌, ◌≤◌, ◌<◌}
 use native.Mathlib.Numerals.{add-one}
 use native.Mathlib.Omega.{arith}
-use borrow.Rule.Slice.PartMut.{put_mid}
 use lib.ListN.{length, get_or, take, drop, set, length-append, length-take, length-set}
 use lib.Seq.{take_all, take_at, drop-append-add, drop-drop, paste, paste-zero, paste-suc, length-paste}
 use lib.IntN.{ℤ, pos}
 use Rattle.words.specs.Word.{written}
 
--- ---- what is written
--- a part of the buffer that holds the words now
-pub put_mid-written : (out ws ys : List ℤ) (at k : ℕ) → ys ≡ ws → k ≡ length ws → put_mid at k out ys ≡ written out at ws
-unfolding written
-put_mid-written out ws ys at k e q = rw (e, q, drop-drop) (sym (append_assoc (take at out) ws (drop (at + length ws) out)))
+-- ---- a loop that writes
+-- what it has written so far: the first i words
+pub record Pasted (ws out₀ out : List ℤ) (at i : ℕ) : Type 0 where
+  pub within : i ≤ length ws
+  pub kept : length out ≡ length out₀
+  pub so_far : out ≡ paste out₀ at ws i
 
+pub pasted-none : (ws out : List ℤ) (at : ℕ) → Pasted ws out out at 0
+pasted-none ws out at = record { within = omega arith; kept = refl; so_far = paste-zero out at ws }
+
+pub pasted-more :
+    {ws out₀ out : List ℤ} {at i : ℕ} (w : ℤ) → Pasted ws out₀ out at i → i < length ws → at + length ws ≤ length out₀ → w ≡ get_or ws i (pos 0)
+    → Pasted ws out₀ (set out (at + i) w) at (i + 1)
+pasted-more {ws} {out₀} {out} {at} {i} w p h room e = record {
+  within = omega arith;
+  kept = length-set out (at + i) w ∙ p.kept;
+  so_far = rw (e, p.so_far, add-one) (paste-suc out₀ at ws i (pos 0) (omega arith) h);
+}
+
+pub pasted-all : {ws out₀ out : List ℤ} {at i : ℕ} → Pasted ws out₀ out at i → length ws ≤ i → out ≡ written out₀ at ws
+unfolding written
+pasted-all {ws} {out₀} {out} {at} {i} p h =
+    let e : i ≡ length ws = omega (arith, p.within) in
+    p.so_far ∙ rw (e, take_all (length ws) ws (omega arith))
+
+-- ---- what is written
 pub written-length : (out ws : List ℤ) (at : ℕ) → at + length ws ≤ length out → length (written out at ws) ≡ length out
 unfolding written
 written-length out ws at h =

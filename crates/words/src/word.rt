@@ -45,10 +45,14 @@ pub fn count_word(count: usize) -> i32
     (count % 65536) as i32
 }
 
-// Writes words from a place on.
+// Writes words from a place on. Word by word: for the library's method an archive would want `memmove` from outside, where there is a system too.
 pub fn write_words(out: &mut [i32], at: usize, words: &[i32])
     requires { at + length words.now ≤ length out.old }
     ensures { out.new ≡ written out.old at words.now }
 {
-    out[at..at + words.len()].copy_from_slice(words);
+    let n = words.len();
+    for i in 0..n {
+        let word = words[i];
+        out[at + i] = word;
+    }
 }

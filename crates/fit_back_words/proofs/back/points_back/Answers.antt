@@ -14,4 +14,4 @@ pub returns : goal.returns
 returns c =
     let n = told-above c.fit_points-moved.result (sym c.is_ok.ensures.value ∙ c.if-is_ok.false) in
     points-put c.fit_points-moved.ensures (λ z. omega (arith, n, z))
-    (λ j. points ((c.copy-2.ensures ∙ c.copy.ensures) j) ((c.copy_from_slice-2.ensures.after ∙ c.copy_from_slice.ensures.after) j))
+    (λ j. points ((c.copy-2.ensures ∙ c.copy.ensures) j) ((c.copy_marks-2.ensures ∙ c.copy_marks.ensures) j))
